@@ -1,0 +1,26 @@
+-- What the type of settings keeps.
+use Rattle.std.specs.Prelude.{◌≡◌, ℕ, ◌≤◌, Option, IsTrue, Bool, true, false, is_some, not}
+use Rattle.mode_set.specs.declared.modes.Shape.{Shape}
+use Rattle.mode_set.specs.declared.modes.Shape.TheVariants.{Qpsk, Qam16, Qam64}
+use Rattle.mode_set.specs.declared.modes.Hierarchy.{Hierarchy}
+use Rattle.mode_set.specs.declared.modes.Hierarchy.TheVariants.{Flat, Alpha1, Alpha2, Alpha4}
+use Rattle.mode_set.specs.declared.modes.Rate.{Rate}
+
+abbrev pub is_flat : Hierarchy → Bool
+is_flat Flat = true
+is_flat Alpha1 = false
+is_flat Alpha2 = false
+is_flat Alpha4 = false
+
+abbrev pub is_qpsk : Shape → Bool
+is_qpsk Qpsk = true
+is_qpsk Qam16 = false
+is_qpsk Qam64 = false
+
+-- QPSK stands without a hierarchy, the LP rate stands exactly with one, and the numbers are in range
+pub record IsKept (shape : Shape) (hierarchy : Hierarchy) (rate_lp : Option Rate) (workers max_symbols : ℕ) : Type 0 where
+  pub qpsk : IsTrue (is_qpsk shape) → IsTrue (is_flat hierarchy)
+  pub lp : is_some rate_lp ≡ not (is_flat hierarchy)
+  pub some_worker : 1 ≤ workers
+  pub few_workers : workers ≤ 16
+  pub some_symbol : 1 ≤ max_symbols

@@ -1,0 +1,33 @@
+// The settings of a transmission.
+ghost use Rattle.mode_set.specs.Kept.{IsKept};
+
+use crate::{Guard, Hierarchy, Mode, Rate, Shape, Start};
+
+/// The settings of a transmission and of its reception.
+///
+/// QPSK stands without a hierarchy, `rate_lp` is there exactly with one, `workers` is 1 to 16 and
+/// `max_symbols` is at least 1.
+#[derive(Clone, Copy, Debug, PartialEq, Eq)]
+pub struct Settings {
+    /// The number of carriers.
+    pub mode: Mode,
+    /// The constellation of the data cells.
+    pub shape: Shape,
+    /// Whether there are two streams.
+    pub hierarchy: Hierarchy,
+    /// The inner code's rate of the HP stream, or of the only one.
+    pub rate_hp: Rate,
+    /// The inner code's rate of the LP stream.
+    pub rate_lp: Option<Rate>,
+    /// The guard interval that is signalled.
+    pub guard: Guard,
+    /// The cell identifier that is signalled, if one is.
+    pub cell_id: Option<u16>,
+    /// The register that the receiver begins with.
+    pub start: Start,
+    /// The most threads that decode the outer words of a symbol, 1 to 16.
+    pub workers: u8,
+    /// The most OFDM symbols that are sent or received.
+    pub max_symbols: u32,
+    ghost kept: { IsKept shape hierarchy rate_lp workers max_symbols },
+}
