@@ -76,3 +76,14 @@ back_table i l = eqb-true _ _ (all_below_at (λ i. eqb (get_or LOGARITHMS (get_o
 pub powers_differ : (i j : ℕ) → i < 255 → j < 255 → power i ≡ power j → i ≡ j
 powers_differ i j l m e =
     sym (back_table i l) ∙ ap (λ z. get_or LOGARITHMS z 0) (powers_are i (omega arith) ∙ e ∙ sym (powers_are j (omega arith))) ∙ back_table j m
+
+pub product_power : (a e : ℕ) → a < 256 → e < 256 → get_or POWERS (get_or LOGARITHMS a 0 + e) 0 ≡ mul a (power e)
+product_power a e l m = go (eqb a 0) refl
+  where
+    go : (s : Bool) → eqb a 0 ≡ s → get_or POWERS (get_or LOGARITHMS a 0 + e) 0 ≡ mul a (power e)
+    go true q =
+        zeros_from (get_or LOGARITHMS a 0 + e) (omega (arith, ap (λ z. get_or LOGARITHMS z 0) (eqb-true a 0 q), logarithm_of_zero)) (omega (arith, logarithm_within a l))
+        ∙ sym (mul_zero_left (power e)) ∙ ap (λ z. mul z (power e)) (sym (eqb-true a 0 q))
+    go false q =
+        powers_are (get_or LOGARITHMS a 0 + e) (omega (arith, logarithm_below a l (eqb-false a 0 q)))
+        ∙ power_add (get_or LOGARITHMS a 0) e ∙ ap (λ z. mul z (power e)) (logarithm_is a l (eqb-false a 0 q))

@@ -33,6 +33,14 @@ impl Elem {
         Elem(power_at(sum as usize))
     }
 
+    /// The product with a power of λ, which saves a look-up.
+    pub fn times_power(self, exponent: u8) -> Elem
+        ensures { result.0 ≡ field.mul self.0 (field.power exponent) }
+    {
+        let sum = logarithm_at(self.0) + exponent as u16;
+        Elem(power_at(sum as usize))
+    }
+
     /// The inverse of an element other than 0.
     pub fn inv(self) -> Elem
         requires { self.0 ≢ 0 }
@@ -73,6 +81,7 @@ mod tests {
         assert_eq!(rt; Elem(2).inv().0, 142);
         assert_eq!(rt; Elem(2).mul(Elem(128)).0, 29);
         assert_eq!(rt; Elem(3).mul(Elem(0)).0, 0);
+        assert_eq!(rt; Elem(142).times_power(255).0, 142);
         assert_eq!(rt; Elem(83).add(Elem(202)).0, 153);
     }
 }

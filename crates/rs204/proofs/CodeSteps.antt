@@ -5,7 +5,8 @@ use Rattle.std.proofs.lemmas.List.{take_more, take_more_set, drop_more, reverse-
 use lib.Bits.{xor_comm, xor_zero_r}
 use Rattle.gf256.specs.Field.{mul, power}
 use Rattle.gf256.proofs.FieldLaws.{mul_zero_right}
-use Rattle.rs204.specs.Codes.{plus, value_at}
+use Rattle.rs204.specs.Codes.{plus}
+use Rattle.rs204.specs.Polynomials.{value_at}
 use Rattle.rs204.specs.Decoding.{chosen, is_root}
 use Rattle.std.proofs.lemmas.Bool.{eq-eqb, ne_eqb}
 use Rattle.std.proofs.Common.{◌⊎◌, inl, inr, length-set}

@@ -12,7 +12,8 @@ use Rattle.gf256.proofs.TableRules.{powers_differ as powers_apart}
 use Rattle.gf256.proofs.FieldLaws.{mul_comm, mul_assoc, mul_small, mul_zero_left, mul_zero_right, one_small, power_add, power_zero, mul_xor_right, xor_equal, power_small}
 use Rattle.rs204.proofs.Below.{all_below_at}
 use Rattle.rs204.proofs.Independent.{raise, Term, sum_at, Small, Distinct, Apart, AllZero, independent}
-use Rattle.rs204.specs.Codes.{plus, AreBytes, IsCodeword, distance, value_at}
+use Rattle.rs204.specs.Codes.{plus, AreBytes, IsCodeword, distance}
+use Rattle.rs204.specs.Polynomials.{value_at}
 use Rattle.rs204.proofs.Polynomials.{value_small, value_plus, codeword_root, plus_bytes}
 
 -- ---- the powers are different

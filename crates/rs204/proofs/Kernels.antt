@@ -9,7 +9,8 @@ use Rattle.std.proofs.lemmas.Bool.{cases_lt, cond_both, eqb-true, eqb-false, eq-
 use lib.Bits.{xor_self, xor_zero_r}
 use Rattle.gf256.specs.Field.{mul}
 use Rattle.std.proofs.lemmas.List.{length-map}
-use Rattle.rs204.specs.Codes.{plus, along, AreBytes}
+use Rattle.rs204.specs.Codes.{plus, AreBytes}
+use Rattle.rs204.specs.Polynomials.{along}
 use Rattle.rs204.specs.Kernels.{vector, IsKernel}
 use Rattle.rs204.proofs.Distance.{length-plus}
 use Rattle.rs204.proofs.Polynomials.{plus_bytes, map_bytes}

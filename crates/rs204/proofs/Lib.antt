@@ -7,4 +7,6 @@ pub mod CodeSteps
 pub mod Kernels
 pub mod Solving
 pub mod Near
-pub mod Encoding
+pub mod Horner
+pub mod Dividing
+pub mod Codewords

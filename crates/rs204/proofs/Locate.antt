@@ -6,7 +6,8 @@ use Rattle.gf256.specs.Field.{mul, power}
 use Rattle.gf256.proofs.FieldLaws.{mul_comm, mul_assoc, mul_xor_left, mul_small, mul_no_zero, mul_zero_right, xor_four, mul_xor_right}
 use Rattle.rs204.proofs.Independent.{raise, raise_small, Term, sum_at, Small, Distinct, Apart, AllZero, independent, zero_sum, sum_small}
 use Rattle.rs204.specs.Decoding.{Differ, AllDiffer}
-use Rattle.rs204.specs.Codes.{first_powers, AreBytes, IsCodeword, value_at, along}
+use Rattle.rs204.specs.Codes.{first_powers, AreBytes, IsCodeword}
+use Rattle.rs204.specs.Polynomials.{value_at, along}
 use Rattle.rs204.proofs.Polynomials.{value_small, first_bytes, factor_all, AreRoots}
 use Rattle.rs204.proofs.Distance.{powers_differ, reverse_bytes}
 
@@ -14,15 +15,15 @@ first_differ : (m n : ℕ) → n ≤ m → m < 255 → Differ (power m) (first_p
 first_differ m zero l k = tt
 first_differ m (suc n) l k = (λ e. powers_differ n m (omega arith) k (sym e), first_differ m n (omega arith) k)
 
-first_all_differ : (n : ℕ) → n ≤ 255 → AllDiffer (first_powers n)
+pub first_all_differ : (n : ℕ) → n ≤ 255 → AllDiffer (first_powers n)
 first_all_differ zero l = tt
 first_all_differ (suc n) l = (first_differ n n (omega arith) (omega arith), first_all_differ n (omega arith))
 
-first_roots : (n : ℕ) (p : List ℕ) → ((i : ℕ) → i < n → value_at (power i) p ≡ 0) → AreRoots (first_powers n) p
+pub first_roots : (n : ℕ) (p : List ℕ) → ((i : ℕ) → i < n → value_at (power i) p ≡ 0) → AreRoots (first_powers n) p
 first_roots zero p h = tt
 first_roots (suc n) p h = (h n (omega arith), first_roots n p (λ i l. h i (omega arith)))
 
-length-first : (n : ℕ) → length (first_powers n) ≡ n
+pub length-first : (n : ℕ) → length (first_powers n) ≡ n
 length-first zero = refl
 length-first (suc n) = ap suc (length-first n)
 

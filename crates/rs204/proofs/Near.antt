@@ -10,7 +10,8 @@ use Rattle.gf256.specs.Field.{mul, power}
 use Rattle.gf256.proofs.FieldLaws.{mul_comm, mul_small, mul_zero_left, mul_zero_right, mul_assoc, one_left, power_zero, xor_small, mul_xor_right, one_right, xor_equal, power_small}
 use Rattle.rs204.proofs.Independent as terms
 use Rattle.rs204.proofs.Independent.{Term}
-use Rattle.rs204.specs.Codes.{plus, AreBytes, IsCodeword, distance, value_at}
+use Rattle.rs204.specs.Codes.{plus, AreBytes, IsCodeword, distance}
+use Rattle.rs204.specs.Polynomials.{value_at}
 use Rattle.rs204.specs.Decoding.{Differ, AllDiffer, raise, moment, Solves, chosen, is_root, corrected, IsLocator}
 use Rattle.rs204.proofs.Polynomials.{value_small, value_plus, codeword_root, plus_bytes, AreRoots, AreZero, too_many}
 use Rattle.rs204.proofs.Distance.{powers_differ, power_times, terms, terms_small, length-terms, terms_distinct, sum_terms, weight, weight_reverse, reverse_bytes, length-plus, same_word}

@@ -7,7 +7,8 @@ use lib.Bits.{xor_comm, xor_assoc, xor_self, xor_zero_r}
 use Rattle.gf256.specs.Field.{mul, power}
 use Rattle.gf256.proofs.FieldLaws.{mul_comm, mul_assoc, mul_xor_left, mul_small, mul_no_zero, mul_zero_left, mul_zero_right, one_small, power_small, xor_four, xor_small, mul_xor_right, xor_equal}
 use Rattle.rs204.specs.Decoding.{Differ, AllDiffer}
-use Rattle.rs204.specs.Codes.{plus, with_root, with_roots, first_powers, AreBytes, IsCodeword, value_at}
+use Rattle.rs204.specs.Codes.{plus, with_root, with_roots, first_powers, AreBytes, IsCodeword}
+use Rattle.rs204.specs.Polynomials.{value_at}
 
 pub value_small : (x : ℕ) (p : List ℕ) → x < 256 → AreBytes p → value_at x p < 256
 value_small x [] l s = lit< tt

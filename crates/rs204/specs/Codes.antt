@@ -1,8 +1,9 @@
--- Words of the code RS(204, 188). A polynomial is the list of its coefficients, that of x^0 first.
-use Rattle.std.specs.Prelude.{◌≡◌, ℕ, zero, suc, ◌+◌, ◌<◌, ◌==◌, cond, List, [], ◌∷◌, map, reverse, length, bit_xor}
+-- Words of the code RS(204,188) (EN 300 744, 4.3.2). A polynomial is the list of its coefficients, that of x^0 first.
+use Rattle.std.specs.Prelude.{◌≡◌, ℕ, zero, suc, ◌+◌, ◌<◌, ◌==◌, cond, List, [], ◌∷◌, ◌++◌, map, replicate, reverse, length, bit_xor}
 use Rattle.std.specs.List.{AllByRecursion}
 use Rattle.gf256.specs.Field.{mul, power}
 
+-- the sum of two polynomials, coefficient by coefficient
 abbrev pub plus : List ℕ → List ℕ → List ℕ
 plus [] q = q
 plus (a ∷ p) [] = a ∷ p
@@ -17,7 +18,7 @@ abbrev pub with_roots : List ℕ → List ℕ → List ℕ
 with_roots [] q = q
 with_roots (a ∷ rs) q = with_root a (with_roots rs q)
 
--- the powers 0 to n - 1 of the element 2
+-- the powers n - 1 to 0 of λ
 abbrev pub first_powers : ℕ → List ℕ
 first_powers zero = []
 first_powers (suc n) = power n ∷ first_powers n
@@ -25,7 +26,7 @@ first_powers (suc n) = power n ∷ first_powers n
 abbrev pub AreBytes : List ℕ → Type 0
 AreBytes = AllByRecursion (λ b. b < 256)
 
--- 204 bytes, the coefficient of x^203 first, whose polynomial is a multiple of the generator, the product of x + 2^i for i below 16
+-- 204 bytes, the coefficient of x^203 first, whose polynomial is a multiple of the generator, the product of x + λ^i for i below 16
 pub record IsCodeword (word : List ℕ) : Type 0 where
   pub long : length word ≡ 204
   pub bytes : AreBytes word
@@ -39,12 +40,16 @@ distance [] w = 0
 distance (a ∷ v) [] = 0
 distance (a ∷ v) (b ∷ w) = cond (a == b) 0 1 + distance v w
 
--- the value of a polynomial
-abbrev pub value_at : ℕ → List ℕ → ℕ
-value_at x [] = 0
-value_at x (a ∷ p) = bit_xor a (mul x (value_at x p))
+-- the coefficients of the generator behind that of x^16, which is 1: those of x^15 down to x^0
+abbrev pub generator_tail : List ℕ
+generator_tail = 59 ∷ 13 ∷ 104 ∷ 189 ∷ 68 ∷ 209 ∷ 30 ∷ 8 ∷ 163 ∷ 65 ∷ 41 ∷ 229 ∷ 98 ∷ 50 ∷ 36 ∷ 59 ∷ []
 
--- the sum of the coefficients, each times a value further on
-abbrev pub along : List ℕ → (ℕ → ℕ) → ℕ → ℕ
-along [] s i = 0
-along (c ∷ cs) s i = bit_xor (mul c (s i)) (along cs s (suc i))
+-- the rest after n steps of a long division by the generator, coefficients from the highest down: each step takes the leading coefficient's multiple of the generator away
+unfoldable pub rest_of : ℕ → List ℕ → List ℕ
+rest_of zero p = p
+rest_of (suc n) [] = []
+rest_of (suc n) (a ∷ p) = rest_of n (plus (map (mul a) generator_tail) p)
+
+-- the message and the sixteen bytes that make it a codeword: the rest of the message times x^16
+unfoldable pub codeword : List ℕ → List ℕ
+codeword message = message ++ rest_of 188 (message ++ replicate 16 0)

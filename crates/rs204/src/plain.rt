@@ -1,8 +1,9 @@
-// The decoder and the encoder by the definitions: slow, and the measure of the fast ones.
+// The decoder by the definitions: slow, and the measure of the fast one.
 
 ghost use Rattle.std.specs.Prelude.{◌≡◌, [], ◌∷◌, ◌≢◌, ◌+◌, ◌-◌, ◌<◌, ◌≤◌, ℕ, List, length, map, reverse, slice_index, bit_xor, take, MatchOption, IfSome, IsTrue, ◌↔◌};
 ghost use Rattle.gf256.specs.Field as field;
-ghost use Rattle.rs204.specs.Codes.{AreBytes, IsCodeword, along, distance, plus, value_at};
+ghost use Rattle.rs204.specs.Codes.{AreBytes, IsCodeword, distance, plus};
+ghost use Rattle.rs204.specs.Polynomials.{along, value_at};
 ghost use Rattle.rs204.specs.Kernels.{IsKernel, vector};
 ghost use Rattle.rs204.specs.Decoding.{AllDiffer, Differ, IsLocator, Solves, Unscales, chosen, corrected, is_root};
 ghost use Rattle.rs204.specs.Decoded.{Decoded};
@@ -167,7 +168,7 @@ fn all_zero(values: &[u8; 16]) -> bool
 }
 
 /// At how many places two words differ.
-fn places_apart(a: &[u8; 204], b: &[u8; 204]) -> u8
+pub(crate) fn places_apart(a: &[u8; 204], b: &[u8; 204]) -> u8
     ensures { result ≡ distance a.now b.now }
 {
     let mut count = 0u8;
@@ -251,7 +252,7 @@ fn powers(places: &Places) -> [u8; 8]
 }
 
 /// The word with its errors taken out, where a codeword is near.
-fn repair(word: &[u8; 204], values: &[u8; 16]) -> Option<[u8; 204]>
+pub(crate) fn repair(word: &[u8; 204], values: &[u8; 16]) -> Option<[u8; 204]>
     requires { (i : ℕ) → i < 16 → slice_index values.now i ≡ value_at (field.power i) (reverse word.now) }
     ensures near { (c : List ℕ) → IsCodeword c → distance word.now c ≤ 8 → result ≡ Some c }
     ensures word { IfSome result (λ w. (length w ≡ 204) × ((i : ℕ) → slice_index w i < 256)) }
@@ -290,40 +291,4 @@ pub fn decode(word: &mut [u8; 204]) -> Outcome
     }
     *word = fixed;
     Outcome::Corrected(count)
-}
-
-/// The coefficients of the generator, that of x^16 first.
-const GENERATOR: [u8; 17] = [
-    1, 59, 13, 104, 189, 68, 209, 30, 8, 163, 65, 41, 229, 98, 50, 36, 59,
-];
-
-/// The register, which ends with a 0, after one more byte of the message.
-fn feed(register: &[u8; 17], byte: u8) -> [u8; 17]
-    requires { slice_index register.now 16 ≡ 0 }
-    ensures step { byte ∷ take 16 result ≡ plus register.now (map (field.mul (bit_xor byte (slice_index register.now 0))) GENERATOR) }
-    ensures long { length result ≡ 17 }
-    ensures bytes { AreBytes result }
-    ensures end { slice_index result 16 ≡ 0 }
-{
-    let factor = byte ^ register[0];
-    let mut next = [0u8; 17];
-    for k in 0..16usize {
-        next[k] = register[k + 1] ^ mul(factor, GENERATOR[k + 1]);
-    }
-    next
-}
-
-/// The message, and the sixteen bytes that make it a codeword.
-pub fn encode(message: &[u8; 188]) -> [u8; 204]
-    ensures codeword { IsCodeword result }
-    ensures message { take 188 result ≡ message.now }
-{
-    let mut register = [0u8; 17];
-    for byte in message {
-        register = feed(&register, *byte);
-    }
-    let mut word = [0u8; 204];
-    word[..188].copy_from_slice(message);
-    word[188..].copy_from_slice(&register[..16]);
-    word
 }

@@ -1,7 +1,6 @@
 // Outcomes of words, against values from outside.
 
-use crate::plain::{decode, encode};
-use crate::Outcome;
+use crate::{Outcome, decode, encode};
 use std::test::Fail;
 
 // The coefficients of the generator, that of x^16 first.

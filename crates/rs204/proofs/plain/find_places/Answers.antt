@@ -1,6 +1,6 @@
 use Rattle.std.proofs.Common.{refl, sym, ◌∙◌, ap, inl, inr, arith, ◌≡◌, replicate}
 use Rattle.std.proofs.lemmas.Bool.{eq-eqb}
-use Rattle.rs204.specs.Codes.{value_at}
+use Rattle.rs204.specs.Polynomials.{value_at}
 use Rattle.rs204.specs.Decoding.{chosen, is_root}
 use Rattle.rs204.specs.declared.plain.Places.{Places}
 use Rattle.rs204.proofs.CodeSteps.{found_next, found_many, found_zero}

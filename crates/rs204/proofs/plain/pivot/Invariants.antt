@@ -1,6 +1,6 @@
 use Rattle.std.proofs.Common.{◌≡◌, ◌<◌, ℕ}
 use Rattle.std.specs.Prelude.{slice_index}
-use Rattle.rs204.specs.Codes.{along}
+use Rattle.rs204.specs.Polynomials.{along}
 use Rattle.rs204.specs.Kernels.{vector}
 use Rattle.rs204.proofs.plain.pivot.Given as goal
 

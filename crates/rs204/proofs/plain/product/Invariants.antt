@@ -1,6 +1,6 @@
 use Rattle.std.proofs.Common.{◌≡◌, ◌+◌, drop}
 use Rattle.std.specs.Prelude.{bit_xor, slice_index}
-use Rattle.rs204.specs.Codes.{along}
+use Rattle.rs204.specs.Polynomials.{along}
 use Rattle.rs204.proofs.plain.product.Given as goal
 
 abbrev pub invariant-loop-j : goal.invariant-loop-j

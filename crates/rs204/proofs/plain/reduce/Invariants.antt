@@ -1,7 +1,8 @@
 use Rattle.std.proofs.Common.{◌≡◌, ◌<◌, ◌≤◌, ℕ, map, length}
 use Rattle.std.specs.Prelude.{slice_index}
 use Rattle.gf256.specs.Field as field
-use Rattle.rs204.specs.Codes.{along, plus}
+use Rattle.rs204.specs.Codes.{plus}
+use Rattle.rs204.specs.Polynomials.{along}
 use Rattle.rs204.specs.Kernels.{vector}
 use Rattle.rs204.proofs.plain.reduce.Given as goal
 

@@ -1,6 +1,6 @@
 use Rattle.std.proofs.Common.{◌≡◌, ◌<◌, ℕ, get_or, length, reverse}
 use Rattle.gf256.specs.Field as field
-use Rattle.rs204.specs.Codes.{value_at}
+use Rattle.rs204.specs.Polynomials.{value_at}
 use Rattle.rs204.proofs.plain.syndromes.Given as goal
 
 abbrev pub invariant-loop-i : goal.invariant-loop-i

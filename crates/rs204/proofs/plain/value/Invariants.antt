@@ -1,5 +1,5 @@
 use Rattle.std.proofs.Common.{◌≡◌, take, reverse}
-use Rattle.rs204.specs.Codes.{value_at}
+use Rattle.rs204.specs.Polynomials.{value_at}
 use Rattle.rs204.proofs.plain.value.Given as goal
 
 abbrev pub invariant-loop-byte : goal.invariant-loop-byte

@@ -1,5 +1,5 @@
 use Rattle.std.proofs.Common.{◌≡◌, ◌-◌, drop}
-use Rattle.rs204.specs.Codes.{value_at}
+use Rattle.rs204.specs.Polynomials.{value_at}
 use Rattle.rs204.proofs.plain.value_of.Given as goal
 
 abbrev pub invariant-loop-k : goal.invariant-loop-k
