@@ -110,7 +110,7 @@ stepped register byte leading entry result (a ∷ p) lb ll e f r h =
       long = length-plus m (p ++ byte ∷ []) size ∙ length-map generator_tail (mul a);
       bytes_are = plus_bytes m (p ++ byte ∷ []) t s;
       is = r ∙ ap₂ bit_xor (sym behind) (f ∙ multiples_table leading ll ∙ ap (λ z. number (map (mul z) generator_tail)) first)
-      ∙ xor_comm (number (p ++ byte ∷ [])) (number m) ∙ sym (number_plus m (p ++ byte ∷ []) size t s);
+          ∙ xor_comm (number (p ++ byte ∷ [])) (number m) ∙ sym (number_plus m (p ++ byte ∷ []) size t s);
     }
 
 -- ---- the whole division

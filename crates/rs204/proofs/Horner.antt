@@ -76,4 +76,3 @@ put_behind m y z l k =
     let front : take 188 (m ++ z) ≡ m = ap (λ n. take n (m ++ z)) (sym l) ∙ take-append_seam m z in
     let none : drop 16 (drop 188 (m ++ z)) ≡ [] = drop_all 16 (drop 188 (m ++ z)) (omega (arith, length-drop 188 (m ++ z), length-append m z)) in
     ap₂ (λ (a b : List ℕ). a ++ (y ++ b)) front none ∙ ap (λ b. m ++ b) (append-nil y)
-

@@ -107,6 +107,6 @@ independent zero (t ∷ ts) e s d h = absurd (omega arith)
 independent (suc n) [] e s d h = tt
 independent (suc n) (t ∷ ts) e s d h =
     let w = independent n (scaled t.0 ts) (omega (arith, length-scaled t.0 ts)) (scaled_small t.0 ts s.0 s.2) (scaled_distinct t.0 ts d.1)
-              (λ i l. tail_sum i t ts s (h (suc i) (omega arith)) (h i (omega arith))) in
+    (λ i l. tail_sum i t ts s (h (suc i) (omega arith)) (h i (omega arith))) in
     let z = zero_back t.0 ts s.0 s.2 d.0 w in
     (sym (one_right t.1 s.1) ∙ sym (xor_zero_r (mul t.1 1)) ∙ ap (bit_xor (mul t.1 1)) (sym (zero_sum 0 ts z)) ∙ h 0 (omega arith), z)
