@@ -17,7 +17,8 @@ use Rattle.inner_decoder.specs.Tracking.{Tracks}
 use Rattle.inner_decoder.specs.Metrics.{IsBest}
 use Rattle.code_paths.specs.Paths.{Unreached}
 use Rattle.survivor_ring.specs.Survivors.{AreAlike, IsAlike}
-use Rattle.code_paths.proofs.Order.{weight, weight-lt, weight-append, weight_same, NotAfter, not_after, or_before}
+use Rattle.code_paths.specs.Trial.{weight}
+use Rattle.code_paths.proofs.Order.{weight-lt, weight-append, weight_same, NotAfter, not_after, or_before}
 use Rattle.code_paths.proofs.Unique.{least_to_unique, least_unique}
 use Rattle.code_paths.proofs.Registers.{register_from, IsRegister, number_of}
 

@@ -21,7 +21,7 @@ use Rattle.code_paths.specs.Paths.{Unreached}
 use Rattle.survivor_ring.specs.Survivors.{IsPushed, AreAlike, IsAlike, GivesAway}
 use Rattle.inner_decoder.proofs.Follow.{tracks_step}
 use Rattle.code_paths.proofs.Cuts.{cut_more, cut_end, cut_unique, quiet_none}
-use Rattle.code_paths.proofs.Order.{weight}
+use Rattle.code_paths.specs.Trial.{weight}
 use Rattle.inner_decoder.proofs.Fresh.{power_only}
 use Rattle.inner_decoder.proofs.Shares.{shared_is, tracks_give, best_least, waits_long, tracked}
 use Rattle.code_paths.proofs.Registers.{number_of}
