@@ -1,3 +1,4 @@
 pub mod Kept
 pub mod StreamTable
 pub mod Levels
+pub mod Rows
