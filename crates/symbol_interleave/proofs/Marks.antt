@@ -1,13 +1,14 @@
 -- H has each payload place once.
-use Rattle.std.proofs.Common.{◌≡◌, ℕ, zero, suc, ◌+◌, ◌-◌, ◌%◌, ◌^◌, ◌<◌, ◌≤◌, List, [], ◌∷◌, length, refl, sym, ap, ◌∙◌, subst, arith, Bool, true, false, not, ◌&&◌, eqb, ◌⊎◌, inl, inr, ltb}
+use Rattle.std.proofs.Common.{◌≡◌, ℕ, zero, suc, ◌+◌, ◌-◌, ◌%◌, ◌^◌, ◌<◌, ◌≤◌, List, [], ◌∷◌, length, get_or, refl, sym, ap, ◌∙◌, subst, arith, Bool, true, false, not, ◌&&◌, eqb, ◌⊎◌, inl, inr, ltb}
 use Rattle.std.specs.Prelude.{slice_index, bit_or, ◌≢◌, nat_lt}
 use Rattle.std.specs.Int.{bit_at}
 use Rattle.std.specs.List.{position_or_len, list_all}
 use Rattle.std.proofs.lemmas.Bool.{eqb-true, eq-eqb, and_parts, ltb-true, cases_eq, cases_lt}
+use Rattle.std.proofs.lemmas.List.{get_or_default}
 use Rattle.std.proofs.lemmas.List.Sums.{position_or_len_is}
 use Rattle.std.proofs.lemmas.Nat.Bits.{bit_at_or, bit_at-pow_same, bit_at-pow_other, bit_at-lt, bit_at_ones, bit_at-zero}
 use Rattle.spec_words.specs.Bits.{is_set}
-use Rattle.symbol_interleave.specs.Carried.{h, words_from, carried, place_of_word, IsPermutationBelow, HIsAPermutation, PlacesAndWordsAgree}
+use Rattle.symbol_interleave.specs.Carried.{h, words_from, carried, place_of_word, AreTables, IsInverse, IsPermutationBelow, HIsAPermutation, PlacesAndWordsAgree}
 use Rattle.mode_set.specs.StreamTable.{payload}
 use Rattle.mode_set.specs.declared.modes.Mode.{Mode}
 use Rattle.mode_set.specs.declared.modes.Mode.TheVariants.{M2k, M8k}
@@ -136,3 +137,56 @@ stands_at_found m q low =
 pub places_and_words_agree : PlacesAndWordsAgree
 places_and_words_agree m true n l = ((found_at m n l), (stands_at_found m n l).1)
 places_and_words_agree m false n l = ((stands_at_found m n l).1, found_at m n l)
+
+-- the inverse of H, at a payload place, is the word that is found there
+pub inverse_at : (m : Mode) (ws : List ℕ) (q : ℕ) → IsInverse (h m) ws → q < payload m → slice_index ws q ≡ position_or_len (λ a. eqb a q) (h m)
+inverse_at m ws q inverse low =
+    let s = stands_at_found m q low in
+    let w : ℕ = position_or_len (λ a. eqb a q) (h m) in
+    let here : w < length (h m) = omega (arith, s.0, many m) in
+    sym (ap (slice_index ws) s.1) ∙ inverse.back w here
+
+-- what a look-up in the two tables gives
+pub record IsWord (m : Mode) (q w : ℕ) : Type 0 where
+  pub word : w ≡ position_or_len (λ a. eqb a q) (h m)
+  pub low : w < payload m
+  pub back : slice_index (h m) w ≡ q
+
+pub record IsPlace (m : Mode) (w q : ℕ) : Type 0 where
+  pub place : q ≡ slice_index (h m) w
+  pub low : q < payload m
+  pub back : position_or_len (λ a. eqb a q) (h m) ≡ w
+
+pub places_long : (m : Mode) (ps ws : List ℕ) → AreTables m ps ws → length ps ≡ payload m
+places_long m ps ws tables = ap (λ (zs : List ℕ). length zs) tables.is_h ∙ many m
+
+pub words_long : (m : Mode) (ps ws : List ℕ) → AreTables m ps ws → length ws ≡ payload m
+words_long m ps ws tables = tables.inverse.long ∙ many m
+
+-- a read gives the element with itself as the default
+pub word_is : (m : Mode) (ps ws : List ℕ) (q w : ℕ) → AreTables m ps ws → q < payload m → w ≡ get_or ws q w → IsWord m q w
+word_is m ps ws q w tables low e =
+    let s = stands_at_found m q low in
+    let here : q < length ws = omega (arith, words_long m ps ws tables, low) in
+    let word : w ≡ position_or_len (λ a. eqb a q) (h m) = e ∙ get_or_default ws q w 0 here ∙ inverse_at m ws q tables.inverse low in
+    record { word = word; low = omega (arith, word, s.0); back = ap (slice_index (h m)) word ∙ s.1 }
+
+pub place_is : (m : Mode) (ps ws : List ℕ) (w q : ℕ) → AreTables m ps ws → w < payload m → q ≡ get_or ps w q → IsPlace m w q
+place_is m ps ws w q tables low e =
+    let here : w < length ps = omega (arith, places_long m ps ws tables, low) in
+    let place : q ≡ slice_index (h m) w = e ∙ get_or_default ps w q 0 here ∙ ap (λ (zs : List ℕ). slice_index zs w) tables.is_h in
+    record {
+      place = place;
+      low = omega (arith, place, (h_is_a_permutation m).below w low);
+      back = ap (λ (z : ℕ). position_or_len (λ a. eqb a z) (h m)) place ∙ found_at m w low;
+    }
+
+pub few : (m : Mode) → length (h m) < 65536
+few m = go m (many m)
+  where
+    go : (m : Mode) → length (h m) ≡ payload m → length (h m) < 65536
+    go M2k e = omega (arith, e)
+    go M8k e = omega (arith, e)
+
+pub permutes : (m : Mode) → IsPermutationBelow (length (h m)) (h m)
+permutes m = subst (λ (n : ℕ). IsPermutationBelow n (h m)) (sym (many m)) (h_is_a_permutation m)

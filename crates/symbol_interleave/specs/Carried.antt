@@ -70,6 +70,11 @@ pub record IsInverse (xs ys : List ℕ) : Type 0 where
   pub long : length ys ≡ length xs
   pub back : (i : ℕ) → i < length xs → slice_index ys (slice_index xs i) ≡ i
 
+-- the two tables of a mode: H, and its inverse
+pub record AreTables (m : Mode) (places words : List ℕ) : Type 0 where
+  pub is_h : places ≡ h m
+  pub inverse : IsInverse (h m) words
+
 -- H is a permutation of the payload places, in both modes
 abbrev pub HIsAPermutation : Type 0
 HIsAPermutation = (m : Mode) → IsPermutationBelow (payload m) (h m)

@@ -4,9 +4,8 @@ ghost use Rattle.std.specs.Int.{bit_at};
 ghost use Rattle.mode_set.specs.StreamTable.{payload};
 ghost use Rattle.symbol_interleave.specs.Carried.{IsInverse, IsPermutationBelow, address, bits, feedback, h as list_h, moved, next_word, wiring};
 
-use std::alloc::{AllocError, Global};
-
 use mode_set::Mode;
+use std::alloc::{AllocError, Global};
 
 // The places to which the bits of a word go, from bit 0 on (EN 300 744, 4.3.4.2, tables of the bit
 // permutations).
@@ -77,15 +76,6 @@ fn top_bit(mode: Mode) -> u32
     }
 }
 
-fn payload_of(mode: Mode) -> u32
-    ensures { result ≡ payload mode }
-{
-    match mode {
-        Mode::M2k => 1512,
-        Mode::M8k => 6048,
-    }
-}
-
 fn wired(mode: Mode, word: u32) -> u32
     ensures is { result ≡ moved word (wiring mode) }
     ensures small { result < 65536 }
@@ -117,12 +107,12 @@ fn push_below(list: &mut Vec<u16>, address: u32, limit: u32) -> Result<(), Alloc
 pub fn places(alloc: Global, mode: Mode) -> Result<Vec<u16>, AllocError>
     ensures { IfOk result (λ list. list.items ≡ list_h mode) }
 {
-    let mut list = Vec::with_capacity(alloc, payload_of(mode) as usize)?;
+    let mut list = Vec::with_capacity(alloc, mode.payload() as usize)?;
     list.push(0)?;
     list.push(top_bit(mode) as u16)?;
     let mut word = 1;
     for index in 2..2 * top_bit(mode) {
-        push_below(&mut list, address_of(mode, index, word), payload_of(mode))?;
+        push_below(&mut list, address_of(mode, index, word), mode.payload())?;
         word = next(mode, word);
     }
     Ok(list)

@@ -4,3 +4,8 @@
 
 mod addresses;
 pub mod laws;
+mod permutation;
+#[cfg(test)]
+mod tests;
+
+pub use permutation::Permutation;

@@ -11,7 +11,7 @@ loop-index-init c = record {
 pub loop-index-preserved : goal.loop-index-preserved
 loop-index-preserved c = record {
   small = c.next-word.ensures.small;
-  rest = step c.args.mode _ _ c.loop-index.index c.loop-index.word _ _ _ (omega (arith, c.top_bit-index-end.ensures, c.loop-index-test.true)) c.address_of.ensures c.payload_of-in-loop-index.ensures c.next-word.ensures.is c.in_ok-push_below.ensures c.loop-index.invariant.rest;
+  rest = step c.args.mode _ _ c.loop-index.index c.loop-index.word _ _ _ (omega (arith, c.top_bit-index-end.ensures, c.loop-index-test.true)) c.address_of.ensures c.payload-in-loop-index.ensures c.next-word.ensures.is c.in_ok-push_below.ensures c.loop-index.invariant.rest;
 }
 
 pub returns : goal.returns
