@@ -1,7 +1,10 @@
 -- The recurrence of the reference sequence.
-use Rattle.std.proofs.Common.{◌≡◌, ℕ, zero, suc, ◌+◌, ◌*◌, ◌/◌, ◌%◌, ◌<◌, List, [], ◌∷◌, ◌++◌, drop, refl, sym, ap, ◌∙◌, subst, arith, Bool, true, ◌&&◌}
+use Rattle.std.proofs.Common.{◌≡◌, ℕ, zero, suc, ◌+◌, ◌*◌, ◌/◌, ◌%◌, ◌<◌, List, [], ◌∷◌, ◌++◌, drop, length, replicate, refl, sym, ap, ◌∙◌, subst, arith, Bool, true, false, ◌&&◌}
 use Rattle.std.specs.Bool.{beq}
+use Rattle.std.proofs.Math.ListN.{get_or-append, length-append}
+use Rattle.std.proofs.Math.Seq.{get_or-append_seam}
 use Rattle.std.proofs.lemmas.Bool.{and_parts}
+use Rattle.std.proofs.lemmas.List.{get_or-replicate}
 use Rattle.spec_words.specs.Bits.{bit, xor}
 use Rattle.pilots.specs.Reference.{eleven_from, reference}
 use Rattle.pilots.specs.Tables.{in_set, reference_words}
@@ -52,3 +55,55 @@ held_at k =
     let split : k / 2047 * 2047 + k % 2047 ≡ k = omega arith in
     subst (λ (z : ℕ). in_set reference_words z ≡ reference z) here (holds-at 2047 0 held (k % 2047) (omega arith))
     ∙ sym (many_on (k / 2047) (k % 2047)) ∙ ap reference split
+
+moved : (xs : List Bool) (y : Bool) (i : ℕ) → suc i < length xs → bit (drop 1 xs ++ y ∷ []) i ≡ bit xs (suc i)
+moved [] y i l = absurd (omega (arith, l))
+moved (x ∷ xs) y i l = get_or-append xs (y ∷ []) false i (omega (arith, l))
+
+last : (xs : List Bool) (y : Bool) (i : ℕ) → suc i ≡ length xs → bit (drop 1 xs ++ y ∷ []) i ≡ y
+last [] y i e = absurd (omega (arith, e))
+last (x ∷ xs) y i e = let here : i ≡ length xs = omega (arith, e) in ap (λ (z : ℕ). bit (xs ++ y ∷ []) z) here ∙ get_or-append_seam xs y [] false
+
+longer : (xs : List Bool) (y : Bool) → length xs ≡ 11 → length (drop 1 xs ++ y ∷ []) ≡ 11
+longer [] y e = absurd (omega (arith, e))
+longer (x ∷ xs) y e = omega (arith, e, length-append xs (y ∷ []))
+
+long : (k : ℕ) → length (eleven_from k) ≡ 11
+unfolding eleven_from
+long zero = refl
+long (suc k) = longer (eleven_from k) (xor (bit (eleven_from k) 0) (bit (eleven_from k) 2)) (long k)
+
+shifted : (k i : ℕ) → suc i < 11 → bit (eleven_from (suc k)) i ≡ bit (eleven_from k) (suc i)
+unfolding eleven_from
+shifted k i l = moved (eleven_from k) (xor (bit (eleven_from k) 0) (bit (eleven_from k) 2)) i (omega (arith, l, long k))
+
+newest : (k : ℕ) → bit (eleven_from (suc k)) 10 ≡ xor (bit (eleven_from k) 0) (bit (eleven_from k) 2)
+unfolding eleven_from
+newest k = last (eleven_from k) (xor (bit (eleven_from k) 0) (bit (eleven_from k) 2)) 10 (omega (arith, long k))
+
+-- bit i of the eleven from k on is w_(k+i)
+within : (i k : ℕ) → i < 11 → reference (i + k) ≡ bit (eleven_from k) i
+unfolding reference
+within zero k l = let same : zero + k ≡ k = omega arith in ap (λ (z : ℕ). bit (eleven_from z) 0) same
+within (suc i) k l =
+    let next : suc i + k ≡ i + suc k = omega arith in
+    ap reference next ∙ within i (suc k) (omega (arith, l)) ∙ shifted k i l
+
+-- w_(k+11) is the sum of w_(k+2) and w_k
+pub rule : (k : ℕ) → reference (11 + k) ≡ xor (reference (0 + k)) (reference (2 + k))
+rule k =
+    let one_on : 11 + k ≡ 10 + suc k = omega arith in
+    let sum : reference (11 + k) ≡ xor (bit (eleven_from k) 0) (bit (eleven_from k) 2) = ap reference one_on ∙ within 10 (suc k) (omega arith) ∙ newest k in
+    sum ∙ ap (λ (z : Bool). xor z (bit (eleven_from k) 2)) (sym (within 0 k (omega arith))) ∙ ap (xor (reference (0 + k))) (sym (within 2 k (omega arith)))
+
+pub rule_on : (k : ℕ) → reference (k + 11) ≡ xor (reference k) (reference (k + 2))
+rule_on k =
+    let a : k + 11 ≡ 11 + k = omega arith in
+    let b : 0 + k ≡ k = omega arith in
+    let c : 2 + k ≡ k + 2 = omega arith in
+    ap reference a ∙ rule k ∙ ap (λ (z : ℕ). xor (reference z) (reference (2 + k))) b ∙ ap (λ (z : ℕ). xor (reference k) (reference z)) c
+
+-- it begins with eleven ones
+pub begins_with_ones : (k : ℕ) → k < 11 → reference k ≡ true
+unfolding eleven_from
+begins_with_ones k l = let here : k ≡ k + 0 = omega arith in ap reference here ∙ within k 0 l ∙ get_or-replicate 11 k true false l

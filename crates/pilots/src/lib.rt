@@ -14,6 +14,7 @@ mod sets;
 pub use carrier_kind::CarrierKind;
 pub use kinds::{carrier, kind, tps_carriers};
 pub use laws::{
-    kinds_repeat, payload_carriers_are_numbered, symbols_have_as_many_payload_carriers,
+    kinds_repeat, payload_carriers_are_numbered, reference_recurs,
+    symbols_have_as_many_payload_carriers,
 };
 pub use sequence::reference;
