@@ -1,9 +1,9 @@
 -- Bytes spelled by bits.
-use Rattle.std.proofs.Common.{◌≡◌, ℕ, zero, suc, ◌+◌, ◌-◌, ◌*◌, ◌/◌, ◌%◌, ◌<◌, Bool, true, eqb, List, [], ◌∷◌, ◌++◌, map, refl, sym, ◌∙◌, ap, ap₂, arith}
+use Rattle.std.proofs.Common.{◌≡◌, ℕ, zero, suc, ◌+◌, ◌-◌, ◌*◌, ◌/◌, ◌%◌, ◌<◌, Bool, true, eqb, List, [], ◌∷◌, ◌++◌, map, refl, ◌∙◌, ap, ap₂, arith}
 use Rattle.std.specs.List.{range_with_len}
 use Rattle.std.proofs.lemmas.Bool.{eqb-true, agree_below_at}
 use Rattle.spec_words.specs.Words.{numbers}
-use Rattle.spec_words.specs.Bits.{is_set, spelled}
+use Rattle.spec_words.specs.Bits.{is_set}
 use Rattle.forney.specs.Values.{values}
 use Rattle.outer_chain.specs.Bits.{digit, bytes_of, bit_of_stream, ByteOfBits, FirstBits, MoreBits}
 

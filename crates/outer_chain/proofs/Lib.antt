@@ -5,3 +5,7 @@ pub mod BurstPlaces
 pub mod OwnWords
 pub mod WordLaws
 pub mod BitBytes
+pub mod Filling
+pub mod Taking
+pub mod DecodedWords
+pub mod Finishing

@@ -1,5 +1,5 @@
 -- The words of a sender's own bytes, and what they give.
-use Rattle.std.proofs.Common.{◌≡◌, ℕ, zero, suc, ◌+◌, ◌-◌, ◌*◌, ◌/◌, ◌%◌, ◌<◌, ◌≤◌, ◌⊎◌, inl, inr, Bool, true, false, cond, eqb, List, [], ◌∷◌, ◌++◌, length, get_or, take, refl, sym, ◌∙◌, ap, ap₂, subst, arith, lit<, replicate}
+use Rattle.std.proofs.Common.{◌≡◌, ℕ, zero, suc, ◌+◌, ◌-◌, ◌*◌, ◌/◌, ◌%◌, ◌<◌, ◌≤◌, inl, inr, Bool, true, false, cond, eqb, List, [], ◌∷◌, ◌++◌, length, get_or, take, refl, sym, ◌∙◌, ap, ap₂, subst, arith, lit<, replicate}
 use Rattle.std.specs.Prelude.{Option, Some, None, bit_xor}
 use Rattle.std.proofs.lemmas.Bool.{cases_lt, eqb-true}
 use Rattle.std.proofs.lemmas.List.{get_or_past}
@@ -8,11 +8,11 @@ use Rattle.ts_packet.specs.Packet.{IsPacket, null_packet}
 use Rattle.dispersal.specs.Packet.{dispersed, undone, xor_from}
 use Rattle.dispersal.specs.Sequence.{sequence_byte}
 use Rattle.dispersal.proofs.Sequence_laws.{spelled_small}
-use Rattle.rs204.specs.Codes.{AreBytes, IsCodeword, distance, codeword}
+use Rattle.rs204.specs.Codes.{AreBytes, distance}
 use Rattle.rs204.specs.Laws.{IsCodewordOf}
 use Rattle.rs204.proofs.Codewords.{message_code}
 use Rattle.forney.specs.Values.{values, stream_of}
-use Rattle.forney.specs.Interleaving.{interleaved, deinterleaved}
+use Rattle.forney.specs.Interleaving.{deinterleaved}
 use Rattle.forney.proofs.ValueLists.{length-values, values_same}
 use Rattle.forney.proofs.DelayLines.{back, over, first_deinterleaved}
 use Rattle.outer_chain.specs.Words.{word_at, word_count, IsNear, begins_group, phase_of, phase_before, written, packets_to, Packets}

@@ -6,11 +6,11 @@ use Rattle.std.specs.Prelude.{Option, Some, None}
 use Rattle.std.proofs.lemmas.Bool.{cond_both, eqb-false}
 use Rattle.rs204.specs.Codes.{distance, AreBytes}
 use Rattle.forney.specs.Values.{values, stream_of}
-use Rattle.forney.specs.Interleaving.{deinterleaved, interleaved}
+use Rattle.forney.specs.Interleaving.{deinterleaved}
 use Rattle.forney.proofs.ValueLists.{values_same}
 use Rattle.forney.proofs.DelayLines.{delayed_append}
-use Rattle.outer_chain.specs.Words.{word_at, word_count, IsNear, phase_of, phase_before, written, packets_to, Packets, Tally, Tallies, tally_to, count, is_clean, has}
-use Rattle.outer_chain.specs.Sent.{ArePackets, packet_at, code_at, coded_byte, outer_byte, outer_bytes}
+use Rattle.outer_chain.specs.Words.{word_at, word_count, IsNear, phase_of, phase_before, written, packets_to, Tally, tally_to, count, is_clean, has}
+use Rattle.outer_chain.specs.Sent.{ArePackets, code_at, coded_byte, outer_byte, outer_bytes}
 use Rattle.outer_chain.specs.Laws.{OuterAreBytes, OwnBytes, OwnTally, BurstNear, BurstPhases, BurstPackets, OneNear, OnePackets, OneTally, MorePackets}
 use Rattle.outer_chain.proofs.NearWords.{near_is}
 use Rattle.outer_chain.proofs.OwnWords.{code_of, own_word, phases, no_burst, received_count, received_near, same_packets, length-word_at}

@@ -1,5 +1,5 @@
 -- Bytes of bits, the most significant bit first.
-use Rattle.std.specs.Prelude.{◌≡◌, ℕ, ◌+◌, ◌-◌, ◌*◌, ◌/◌, ◌%◌, ◌<◌, Bool, cond, List, [], ◌∷◌, ◌++◌, map}
+use Rattle.std.specs.Prelude.{◌≡◌, ℕ, ◌+◌, ◌-◌, ◌/◌, ◌%◌, ◌<◌, Bool, cond, List, [], ◌∷◌, ◌++◌, map}
 use Rattle.spec_words.specs.Words.{numbers}
 use Rattle.spec_words.specs.Bits.{is_set, spelled}
 use Rattle.forney.specs.Values.{values}

@@ -1,7 +1,7 @@
 -- The laws of received words, each the clause of a public function of the module laws.
 use Rattle.std.specs.Prelude.{◌≡◌, ℕ, ◌+◌, ◌-◌, ◌/◌, ◌%◌, ◌<◌, Option, Some, List, ◌++◌, length, take}
 use Rattle.rs204.specs.Codes.{AreBytes}
-use Rattle.outer_chain.specs.Words.{word_at, word_count, IsNear, phase_before, Packets, Tally, Tallies}
+use Rattle.outer_chain.specs.Words.{word_at, IsNear, phase_before, Packets, Tally, Tallies}
 use Rattle.outer_chain.specs.Sent.{ArePackets, code_at, outer_bytes, first_packets}
 use Rattle.outer_chain.specs.Bursts.{Bursts}
 

@@ -1,5 +1,5 @@
 -- What decoding a word tells.
-use Rattle.std.specs.Prelude.{◌≡◌, ℕ, ◌↔◌, Bool, true, false, Option, Some, None, List, length}
+use Rattle.std.specs.Prelude.{◌≡◌, ℕ, ◌↔◌, true, Option, Some, None, List, length}
 use Rattle.rs204.specs.Codes.{IsCodeword}
 use Rattle.rs204.specs.Decoded.{Decoded}
 use Rattle.rs204.specs.declared.outcome.Outcome.{Outcome}
