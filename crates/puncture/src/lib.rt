@@ -1,0 +1,10 @@
+//! Puncturing of the inner code at the five rates, and back (EN 300 744, 4.3.3).
+#![tactic(auto)]
+
+mod laws;
+mod rule;
+mod table;
+
+pub use laws::steps_send_in_order;
+pub use rule::sent;
+pub use table::Sent;
