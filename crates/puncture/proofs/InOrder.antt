@@ -201,7 +201,7 @@ in_period R3of4 = at_R3of4
 in_period R5of6 = at_R5of6
 in_period R7of8 = at_R7of8
 
-some_step : (r : Rate) → 0 < steps_in_period r
+pub some_step : (r : Rate) → 0 < steps_in_period r
 some_step R1of2 = omega arith
 some_step R2of3 = omega arith
 some_step R3of4 = omega arith

@@ -1,5 +1,5 @@
 -- The sent bits of each step (EN 300 744, 4.3.3).
-use Rattle.std.specs.Prelude.{◌≡◌, ℕ, ◌+◌, ◌-◌, ◌*◌, ◌/◌, ◌%◌, ◌==◌, nat_le, Bool, true, false, if◌then◌else◌, List, [], ◌∷◌, ◌++◌, count_by, position, Option, option_map}
+use Rattle.std.specs.Prelude.{◌≡◌, ℕ, ◌+◌, ◌-◌, ◌*◌, ◌/◌, ◌%◌, ◌==◌, nat_le, Bool, true, false, if◌then◌else◌, List, [], ◌∷◌, ◌++◌, count_by, position, Option, option_map, slice_index_or}
 use Rattle.std.specs.List.{list_any}
 use Rattle.mode_set.specs.StreamTable.{steps_in_period, sent_in_period}
 use Rattle.mode_set.specs.declared.modes.Rate.{Rate}
@@ -26,13 +26,30 @@ is_sent r xy t = list_any (same_coded (xy (t % steps_in_period r + 1))) (sent r)
 abbrev pub number_of : Rate → (ℕ → Coded) → ℕ → Option ℕ
 number_of r xy t = option_map (λ i. t / steps_in_period r * sent_in_period r + i) (position (same_coded (xy (t % steps_in_period r + 1))) (sent r))
 
+-- sent bit n as a coded bit of its period
+abbrev pub sent_as : Rate → ℕ → Coded
+sent_as r n = slice_index_or (sent r) (n % sent_in_period r) (X 1)
+
+-- whether it is an X or a Y
+abbrev pub kind_of : Coded → ℕ → Coded
+kind_of (X j) = X
+kind_of (Y j) = Y
+
+-- the step of sent bit n
+abbrev pub step_of : Rate → ℕ → ℕ
+step_of r n = n / sent_in_period r * steps_in_period r + (step_in_period (sent_as r n) - 1)
+
 -- how many bits are sent in the first t steps of a stream
 abbrev pub sent_before : Rate → ℕ → ℕ
 sent_before r t = t / steps_in_period r * sent_in_period r + count_by (λ c. nat_le (step_in_period c) (t % steps_in_period r)) (sent r)
 
--- what is sent of a step with these coded bits, X before Y
+-- what is sent of two coded bits, X before Y
+abbrev pub bits_sent : Bool → Bool → Bool → Bool → List Bool
+bits_sent x_goes y_goes x y = (if x_goes then x ∷ [] else []) ++ (if y_goes then y ∷ [] else [])
+
+-- what is sent of step t with these coded bits
 abbrev pub bits_of_step : Rate → ℕ → Bool → Bool → List Bool
-bits_of_step r t x y = (if is_sent r X t then x ∷ [] else []) ++ (if is_sent r Y t then y ∷ [] else [])
+bits_of_step r t x y = bits_sent (is_sent r X t) (is_sent r Y t) x y
 
 -- what an answer of the code says
 abbrev pub has_x : Sent → Bool
@@ -51,6 +68,6 @@ pub record Place : Type 0 where
   pub step : ℕ
 
 -- the place after t steps of a stream of that rate
-pub record IsAfter (p : Place) (r : Rate) (t : ℕ) : Type 0 where
+pub record IsAtStep (p : Place) (r : Rate) (t : ℕ) : Type 0 where
   pub rate : p.rate ≡ r
   pub step : p.step ≡ t % steps_in_period r

@@ -2,9 +2,11 @@
 #![tactic(auto)]
 
 mod laws;
+mod puncturer;
 mod rule;
 mod table;
 
-pub use laws::steps_send_in_order;
+pub use laws::{steps_are_numbered, steps_send_in_order};
+pub use puncturer::Puncturer;
 pub use rule::sent;
 pub use table::Sent;
