@@ -1,5 +1,5 @@
 -- The sent bits of each step (EN 300 744, 4.3.3).
-use Rattle.std.specs.Prelude.{◌≡◌, ℕ, ◌+◌, ◌-◌, ◌*◌, ◌/◌, ◌%◌, ◌==◌, nat_le, Bool, true, false, if◌then◌else◌, List, [], ◌∷◌, ◌++◌, count_by, position, Option, option_map, slice_index_or}
+use Rattle.std.specs.Prelude.{◌≡◌, ℕ, ◌+◌, ◌-◌, ◌*◌, ◌/◌, ◌%◌, ◌==◌, nat_le, Bool, true, false, if◌then◌else◌, List, [], ◌∷◌, ◌++◌, count_by, position, Option, Some, None, option_map, slice_index_or}
 use Rattle.std.specs.List.{list_any}
 use Rattle.mode_set.specs.StreamTable.{steps_in_period, sent_in_period}
 use Rattle.mode_set.specs.declared.modes.Rate.{Rate}
@@ -50,6 +50,22 @@ bits_sent x_goes y_goes x y = (if x_goes then x ∷ [] else []) ++ (if y_goes th
 -- what is sent of step t with these coded bits
 abbrev pub bits_of_step : Rate → ℕ → Bool → Bool → List Bool
 bits_of_step r t x y = bits_sent (is_sent r X t) (is_sent r Y t) x y
+
+-- how many bits are sent of step t
+abbrev pub needed : Rate → ℕ → ℕ
+needed r t = (if is_sent r X t then 1 else 0) + (if is_sent r Y t then 1 else 0)
+
+-- the costs of the X and of the Y of step t, where these are the costs of its sent bits: an unsent bit costs nothing
+abbrev pub costs_of_x : Rate → ℕ → ℕ × ℕ → ℕ × ℕ → ℕ × ℕ
+costs_of_x r t first second = if is_sent r X t then first else (0, 0)
+
+abbrev pub costs_of_y : Rate → ℕ → ℕ × ℕ → ℕ × ℕ → ℕ × ℕ
+costs_of_y r t first second = if is_sent r Y t then (if is_sent r X t then second else first) else (0, 0)
+
+-- the costs of a coded bit, by the number that it has among the sent ones
+abbrev pub costs_at : (ℕ → ℕ × ℕ) → Option ℕ → ℕ × ℕ
+costs_at costs None = (0, 0)
+costs_at costs (Some n) = costs n
 
 -- what an answer of the code says
 abbrev pub has_x : Sent → Bool
