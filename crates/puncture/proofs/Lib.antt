@@ -2,3 +2,5 @@ pub mod InOrder
 pub mod Numbered
 pub mod Pushed
 pub mod Costs
+pub mod Spelling
+pub mod Eight

@@ -40,3 +40,7 @@ sent_bit r path n = coded_bit path (steps_in_period r * (n / sent_in_period r)) 
 -- the sent bits of a path from number a on, those from number b on left out
 abbrev pub sent_bits : Rate → (ℕ → Bool) → ℕ → ℕ → List Bool
 sent_bits r path a b = map (sent_bit r path) (range_with_len a (b - a))
+
+-- so many bits of a path, from bit t on
+abbrev pub bits_from : (ℕ → Bool) → ℕ → ℕ → List Bool
+bits_from path t n = map path (range_with_len t n)

@@ -1,6 +1,7 @@
 //! Puncturing of the inner code at the five rates, and back (EN 300 744, 4.3.3).
 #![tactic(auto)]
 
+mod coder;
 mod depuncturer;
 mod laws;
 mod puncturer;
