@@ -4,3 +4,5 @@ pub mod Pushed
 pub mod Costs
 pub mod Spelling
 pub mod Eight
+pub mod Runs
+pub mod CoderLaws

@@ -104,3 +104,55 @@ fn push_bits<const N: usize>(bits: Bits, to: &mut BitBuf<N>)
     }
     push_few(bits.word, left, to);
 }
+
+/// The inner code at one rate, a byte at a time: the encoder and its puncturer in one (EN 300 744, 4.3.3).
+///
+/// It is seen as its rate, the steps of the period that are done, and the encoder's register.
+#[derive(Debug, Drop)]
+pub struct PuncturedEncoder {
+    encoder: Encoder,
+    rate: Rate,
+    place: u8,
+}
+
+impl Model for PuncturedEncoder {
+    ghost use Rattle.std.specs.Prelude.{◌<◌};
+    ghost use Rattle.mode_set.specs.StreamTable.{steps_in_period};
+    ghost use Rattle.puncture.specs.Steps.{Coder};
+
+    ghost Value = { Coder };
+
+    ghost view = { λ c. record { rate = c.rate; step = c.place; register = c.encoder } };
+
+    ghost invariant = { λ c. c.place < steps_in_period c.rate };
+}
+
+impl PuncturedEncoder {
+    /// The coder before the first byte of any stream: the register is six zeros.
+    pub fn start(rate: Rate) -> PuncturedEncoder
+        ensures { (bytes : ℕ → ℕ) → IsAtPath result rate (path_of bytes) 0 }
+    {
+        PuncturedEncoder {
+            encoder: Encoder::start(),
+            rate,
+            place: 0,
+        }
+    }
+
+    /// Codes a byte, the most significant bit first, and appends what is sent of its eight steps, 8 to 16 bits. There
+    /// must be room for sixteen.
+    pub fn push_byte<const N: usize>(&mut self, byte: u8, to: &mut BitBuf<N>)
+        requires room { length to.old + 16 ≤ 8 * N }
+        ensures few { length to.new ≤ length to.old + 16 }
+        ensures next { (r : AnyRate) (path : ℕ → Bool) (t : ℕ) → IsAtPath self.old r path t
+            → spelled 8 byte ≡ bits_from path (t + 6) 8 → IsAtPath self.new r path (t + 8) }
+        ensures sent { (r : AnyRate) (path : ℕ → Bool) (t : ℕ) → IsAtPath self.old r path t
+            → spelled 8 byte ≡ bits_from path (t + 6) 8
+            → to.new ≡ to.old ++ sent_bits r path (sent_before r t) (sent_before r (t + 8)) }
+    {
+        let (x, y) = self.encoder.step_byte(byte);
+        let (bits, place) = punctured(self.rate, self.place, x, y);
+        self.place = place;
+        push_bits(bits, to);
+    }
+}

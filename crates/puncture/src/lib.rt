@@ -8,6 +8,7 @@ mod puncturer;
 mod rule;
 mod table;
 
+pub use coder::PuncturedEncoder;
 pub use depuncturer::Depuncturer;
 pub use laws::{steps_are_numbered, steps_send_in_order};
 pub use puncturer::Puncturer;
