@@ -1,5 +1,5 @@
 -- A coder at a path codes the next byte of it.
-use Rattle.std.proofs.Common.{◌≡◌, ℕ, zero, suc, ◌+◌, ◌-◌, ◌<◌, ◌%◌, Bool, false, List, [], ◌∷◌, ◌++◌, map, drop, get_or, refl, sym, ap, ◌∙◌, arith}
+use Rattle.std.proofs.Common.{◌≡◌, ℕ, zero, suc, ◌+◌, ◌<◌, ◌%◌, Bool, false, List, ◌++◌, map, drop, get_or, sym, ap, ◌∙◌, arith}
 use Rattle.std.specs.List.{range_with_len}
 use Rattle.spec_words.specs.Bits.{bit, spelled}
 use Rattle.conv_code.specs.Coded.{xs_of, ys_of}
@@ -9,7 +9,7 @@ use Rattle.puncture.specs.SentBits.{bits_from, sent_bits}
 use Rattle.puncture.specs.Steps.{sent_before, bits_of_steps, Coder, IsAtPath}
 use Rattle.puncture.proofs.Runs.{run_append, run_of_steps}
 
-run_at : (f : ℕ → Bool) (a n i : ℕ) → i < n → get_or (map f (range_with_len a n)) i false ≡ f (a + i)
+pub run_at : (f : ℕ → Bool) (a n i : ℕ) → i < n → get_or (map f (range_with_len a n)) i false ≡ f (a + i)
 run_at f a zero i l = absurd (omega arith)
 run_at f a (suc n) zero l = let e : a + 0 ≡ a = omega arith in sym (ap f e)
 run_at f a (suc n) (suc i) l = let e : a + 1 + i ≡ a + suc i = omega arith in run_at f (a + 1) n i (omega arith) ∙ ap f e

@@ -1,5 +1,5 @@
 -- What is sent of a run of steps.
-use Rattle.std.proofs.Common.{◌≡◌, ℕ, zero, suc, ◌+◌, ◌-◌, ◌<◌, ◌≤◌, ◌%◌, Bool, List, [], ◌∷◌, ◌++◌, append_assoc, append-nil, refl, sym, ap, ◌∙◌, arith}
+use Rattle.std.proofs.Common.{◌≡◌, ℕ, suc, ◌+◌, ◌%◌, Bool, List, ◌++◌, append_assoc, append-nil, refl, sym}
 use Rattle.std.proofs.Math.Nat.{mod-mod}
 use Rattle.spec_words.specs.Bits.{is_set, spelled}
 use Rattle.mode_set.specs.StreamTable.{steps_in_period}

@@ -6,3 +6,5 @@ pub mod Spelling
 pub mod Eight
 pub mod Runs
 pub mod CoderLaws
+pub mod Stepped
+pub mod Paths

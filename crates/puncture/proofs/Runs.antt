@@ -1,14 +1,13 @@
 -- Runs of sent bits, and the sent bits of a run of steps.
-use Rattle.std.proofs.Common.{◌≡◌, ℕ, zero, suc, ◌+◌, ◌-◌, ◌*◌, ◌<◌, ◌≤◌, ◌%◌, Bool, true, false, if◌then◌else◌, List, [], ◌∷◌, ◌++◌, map, length, drop, get_or, append_assoc, append-nil, refl, sym, ap, ◌∙◌, arith}
+use Rattle.std.proofs.Common.{◌≡◌, ℕ, zero, suc, ◌+◌, ◌-◌, ◌<◌, ◌≤◌, Bool, false, if◌then◌else◌, List, ◌∷◌, ◌++◌, map, drop, refl, ap, ◌∙◌, arith}
 use Rattle.std.specs.List.{range_with_len}
 use Rattle.std.proofs.lemmas.List.{get_or-drop}
-use Rattle.spec_words.specs.Bits.{bit, xor}
+use Rattle.spec_words.specs.Bits.{bit}
 use Rattle.code_paths.specs.Paths.{parity_x, parity_y}
 use Rattle.conv_code.specs.Coded.{xs_of, ys_of}
 use Rattle.mode_set.specs.declared.modes.Rate.{Rate}
-use Rattle.puncture.specs.SentBits.{X, Y, window, sent_bit, sent_bits}
-use Rattle.puncture.specs.Steps.{is_sent, sent_before, bits_of_step, bits_of_steps}
-use Rattle.puncture.specs.Laws.{IsNumbered}
+use Rattle.puncture.specs.SentBits.{window, sent_bit, sent_bits}
+use Rattle.puncture.specs.Steps.{sent_before, bits_of_step, bits_of_steps}
 use Rattle.puncture.proofs.InOrder.{in_order}
 use Rattle.puncture.proofs.Numbered.{numbered}
 

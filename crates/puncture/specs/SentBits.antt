@@ -1,6 +1,6 @@
 -- Puncturing: which coded bits are sent, and in which order (EN 300 744, 4.3.3).
-use Rattle.std.specs.Prelude.{ℕ, ◌+◌, ◌-◌, ◌*◌, ◌/◌, ◌%◌, ◌==◌, nat_le, nat_lt, Bool, true, false, if◌then◌else◌, List, [], ◌∷◌, ◌++◌, map, count_by, position, Option, option_map, slice_index_or}
-use Rattle.std.specs.List.{list_any, range_with_len}
+use Rattle.std.specs.Prelude.{ℕ, ◌+◌, ◌-◌, ◌*◌, ◌/◌, ◌%◌, nat_lt, Bool, false, if◌then◌else◌, List, [], ◌∷◌, map, slice_index_or}
+use Rattle.std.specs.List.{range_with_len}
 use Rattle.spec_words.specs.Bits.{is_set}
 use Rattle.code_paths.specs.Paths.{parity_x, parity_y}
 use Rattle.mode_set.specs.StreamTable.{steps_in_period, sent_in_period}

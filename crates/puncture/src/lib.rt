@@ -10,7 +10,15 @@ mod table;
 
 pub use coder::PuncturedEncoder;
 pub use depuncturer::Depuncturer;
-pub use laws::{steps_are_numbered, steps_send_in_order};
+pub use laws::{
+    bytes_are_paths,
+    lists_are_paths,
+    periods_shift,
+    sent_bits_are_runs,
+    sent_bits_have_steps,
+    steps_are_numbered,
+    steps_send_in_order,
+};
 pub use puncturer::Puncturer;
 pub use rule::sent;
 pub use table::Sent;

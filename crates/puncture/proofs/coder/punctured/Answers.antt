@@ -1,8 +1,8 @@
 -- Each turn moves one step over.
-use Rattle.std.proofs.Common.{◌≡◌, suc, ◌+◌, ◌-◌, ◌%◌, ◌++◌, ap, ◌∙◌, arith, sym}
+use Rattle.std.proofs.Common.{◌≡◌, suc, ◌+◌, ◌-◌, ◌%◌, ap, ◌∙◌, arith}
 use Rattle.spec_words.specs.Bits.{is_set, spelled}
 use Rattle.mode_set.specs.StreamTable.{steps_in_period}
-use Rattle.puncture.specs.Steps.{bits_of_steps, has_x, has_y}
+use Rattle.puncture.specs.Steps.{has_x, has_y}
 use Rattle.puncture.proofs.Eight.{step_moved, no_steps}
 use Rattle.puncture.proofs.coder.punctured.Goals as goal
 

@@ -1,6 +1,5 @@
 -- A coder at a path codes the next byte of it.
 use Rattle.std.proofs.Common.{◌++◌, ◌+◌, ◌%◌, ap, ◌∙◌, sym, subst}
-use Rattle.spec_words.specs.Bits.{spelled}
 use Rattle.mode_set.specs.StreamTable.{steps_in_period}
 use Rattle.puncture.specs.Steps.{IsAtPath}
 use Rattle.puncture.proofs.CoderLaws.{place, sent, register}
