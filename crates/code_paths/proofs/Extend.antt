@@ -10,7 +10,8 @@ use Rattle.spec_words.specs.Bits.{bit}
 use Rattle.code_paths.specs.Paths.{parity_x, parity_y, IsEarlier, total, step_cost, Before, IsPath, Starts, LeastTo}
 use Rattle.code_paths.specs.Paths.{Unreached}
 use Rattle.code_paths.specs.Laws.{longer_total, ExtendsTo}
-use Rattle.code_paths.proofs.Order.{digit, weight, weight-lt, weight-append, NotAfter, not_after, or_before}
+use Rattle.code_paths.specs.Trial.{digit, weight}
+use Rattle.code_paths.proofs.Order.{weight-lt, weight-append, NotAfter, not_after, or_before}
 
 -- a step reads the first seven bits alone
 pub step_front : (x : CostPair) (p q : List Bool) → 7 ≤ length p → step_cost x (p ++ q) ≡ step_cost x p

@@ -8,7 +8,8 @@ use Rattle.std.specs.declared.option.Option.TheVariants.{None, Some}
 use Rattle.code_paths.specs.declared.costs.CostPair.{CostPair}
 use Rattle.code_paths.specs.Paths.{total, step_cost, LeastTo, Least, IsPath, Starts, Before}
 use Rattle.code_paths.specs.Streams.{IsPrefix, IsCommon, Shared, IsOverdue, IsQuiet, Part, end_of, IsPart, IsCut, bits_of, ends_of, Given, Ended, Reports}
-use Rattle.code_paths.proofs.Order.{weight, weight-append, weight_same, NotAfter, not_after, or_before}
+use Rattle.code_paths.specs.Trial.{weight}
+use Rattle.code_paths.proofs.Order.{weight-append, weight_same, NotAfter, not_after, or_before}
 use Rattle.code_paths.proofs.Extend.{step_front}
 use Rattle.code_paths.proofs.Unique.{least_to_unique, least_unique}
 use Rattle.code_paths.proofs.Cuts.{no_part, same_part, same_costs, same_rest, cut_unique}

@@ -6,3 +6,4 @@ pub mod Cuts
 pub mod Grows
 pub mod Sent
 pub mod Shown
+pub mod TryAll

@@ -4,18 +4,10 @@ use Rattle.std.proofs.Math.Nat.{pow-suc}
 use Rattle.code_paths.specs.declared.costs.CostPair.{CostPair}
 use Rattle.std.proofs.lemmas.Bool.{cases_order}
 use Rattle.spec_words.specs.Bits.{bit}
+use Rattle.code_paths.specs.Trial.{digit, weight}
 use Rattle.code_paths.specs.Paths.{IsEarlier, total, step_cost, Before}
 
-abbrev pub digit : Bool → ℕ
-digit true = 1
-digit false = 0
-
--- a list of bits as a number, the last bit the highest
-abbrev pub weight : List Bool → ℕ
-weight [] = 0
-weight (b ∷ p) = digit b + 2 * weight p
-
-digit_small : (b : Bool) → digit b ≤ 1
+pub digit_small : (b : Bool) → digit b ≤ 1
 digit_small true = omega arith
 digit_small false = omega arith
 

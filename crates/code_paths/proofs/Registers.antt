@@ -4,7 +4,8 @@ use Rattle.std.proofs.lemmas.Bool.{cases_lt, eqb-true, and_parts, agree_below, a
 use Rattle.code_paths.specs.States.{register}
 use Rattle.spec_words.specs.Bits.{is_set}
 use Rattle.code_paths.specs.States.{even_of, odd_of}
-use Rattle.code_paths.proofs.Order.{weight, digit, weight_same, weight-lt}
+use Rattle.code_paths.specs.Trial.{weight, digit}
+use Rattle.code_paths.proofs.Order.{weight_same, weight-lt}
 
 abbrev pub all_below : (ℕ → Bool) → ℕ → Bool
 all_below t zero = true

@@ -4,3 +4,4 @@ pub mod States
 pub mod Streams
 pub mod Favoured
 pub mod Laws
+pub mod Trial

@@ -8,6 +8,7 @@
 
 mod costs;
 mod laws;
+mod trial;
 
 pub use costs::CostPair;
 pub use laws::{
@@ -22,3 +23,4 @@ pub use laws::{
     reports_once,
     shared_begins_least,
 };
+pub use trial::{least_path, least_path_to, path_cost};

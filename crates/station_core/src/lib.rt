@@ -16,3 +16,6 @@ pub use memory::{Failing, MemoryStation};
 pub use ports::{InPort, OutPort};
 pub use station::{Failed, Station};
 
+
+#[cfg(test)]
+mod tests;
