@@ -1,0 +1,10 @@
+//! What the two values of a coded bit cost, by the cell that carries it: squared distances to the
+//! constellation's points (EN 300 744, 4.3.5; the scale and the cap are this project's own).
+#![tactic(auto)]
+
+mod axis;
+pub mod laws;
+mod metric;
+
+pub use axis::{AxisCosts, AxisMetric};
+pub use metric::costs;
