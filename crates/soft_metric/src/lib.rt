@@ -5,6 +5,8 @@
 mod axis;
 pub mod laws;
 mod metric;
+#[cfg(test)]
+mod tests;
 
-pub use axis::{AxisCosts, AxisMetric};
+pub use axis::AxisMetric;
 pub use metric::costs;
