@@ -1,0 +1,4 @@
+pub mod InOrder
+pub mod Numbered
+pub mod Pushed
+pub mod Costs
