@@ -1,0 +1,4 @@
+pub mod Sequence_laws
+pub mod Register
+pub mod Mixed
+pub mod Table_bytes

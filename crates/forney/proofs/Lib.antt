@@ -1,0 +1,2 @@
+pub mod ValueLists
+pub mod DelayLines

@@ -1,0 +1,4 @@
+pub mod Values
+pub mod Interleaving
+pub mod Delays
+pub mod Laws

@@ -1,0 +1,25 @@
+// Four thousand bytes through both interleavers, against the index formulas.
+
+use crate::{Deinterleaver, Interleaver};
+use std::test::Fail;
+
+// Byte `place - delay` of the coded stream, and 0 before it.
+fn coded(place: usize, delay: usize) -> u8 {
+    if place < delay {
+        0
+    } else {
+        ((place - delay) % 251) as u8
+    }
+}
+
+#[test]
+fn four_thousand_bytes(rt: HostRuntime) -> Result<(), Fail> {
+    let mut interleaver = Interleaver::new(rt.alloc())?;
+    let mut deinterleaver = Deinterleaver::new(rt.alloc())?;
+    for place in 0..4000usize {
+        let sent = interleaver.step(coded(place, 0));
+        assert_eq!(rt; sent, coded(place, 204 * (place % 12)));
+        assert_eq!(rt; deinterleaver.step(sent), coded(place, 2244));
+    }
+    Ok(())
+}

@@ -1,0 +1,4 @@
+pub mod Steps
+pub mod Product
+pub mod FieldLaws
+pub mod TableRules

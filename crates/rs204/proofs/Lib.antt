@@ -1,0 +1,12 @@
+pub mod Below
+pub mod Independent
+pub mod Polynomials
+pub mod Distance
+pub mod Locate
+pub mod CodeSteps
+pub mod Kernels
+pub mod Solving
+pub mod Near
+pub mod Horner
+pub mod Dividing
+pub mod Codewords

@@ -1,0 +1,23 @@
+-- The laws of the code, each the clause of a public function of the module laws.
+use Rattle.std.specs.Prelude.{◌≡◌, ◌≢◌, ℕ, ◌+◌, ◌≤◌, List, length, take}
+use Rattle.rs204.specs.Codes.{AreBytes, IsCodeword, codeword, distance}
+
+-- two codewords differ in at least 17 places
+abbrev pub CodewordsApart : Type 0
+CodewordsApart = (v w : List ℕ) → IsCodeword v → IsCodeword w → v ≢ w → 17 ≤ distance v w
+
+-- so at most one codeword is within eight places of a word
+abbrev pub OneIsNear : Type 0
+OneIsNear = (word v w : List ℕ) → length word ≡ 204 → IsCodeword v → IsCodeword w → distance word v ≤ 8 → distance word w ≤ 8 → v ≡ w
+
+-- the codeword of a message begins with it and is a codeword
+pub record IsCodewordOf (message word : List ℕ) : Type 0 where
+  pub code : IsCodeword word
+  pub begins : take 188 word ≡ message
+
+abbrev pub MessageHasCodeword : Type 0
+MessageHasCodeword = (message : List ℕ) → length message ≡ 188 → AreBytes message → IsCodewordOf message (codeword message)
+
+-- and no other word is
+abbrev pub CodewordIsOne : Type 0
+CodewordIsOne = (message word : List ℕ) → IsCodewordOf message word → word ≡ codeword message

@@ -1,0 +1,13 @@
+-- Values of polynomials, by which a word is decoded. A polynomial is the list of its coefficients, that of x^0 first.
+use Rattle.std.specs.Prelude.{ℕ, suc, List, [], ◌∷◌, bit_xor}
+use Rattle.gf256.specs.Field.{mul}
+
+-- the value of a polynomial
+abbrev pub value_at : ℕ → List ℕ → ℕ
+value_at x [] = 0
+value_at x (a ∷ p) = bit_xor a (mul x (value_at x p))
+
+-- the sum of the coefficients, each times a value further on
+abbrev pub along : List ℕ → (ℕ → ℕ) → ℕ → ℕ
+along [] s i = 0
+along (c ∷ cs) s i = bit_xor (mul c (s i)) (along cs s (suc i))

@@ -1,0 +1,23 @@
+//! The outer code RS(204,188), t = 8, shortened from (255,239) (EN 300 744, 4.3.2).
+//!
+//! A word of 204 bytes is a polynomial over the field of 256 elements, byte 0 being the coefficient
+//! of x^203. A codeword is a multiple of the generator, the product of x + λ^i for i from 0 to 15.
+//! [`encode`] gives the codeword of a message, and [`decode`] the codeword within eight places of a
+//! word, where there is one, exactly.
+#![tactic(auto)]
+
+mod bytes;
+mod decoder;
+mod division;
+mod encoder;
+pub mod laws;
+mod multiples;
+mod outcome;
+pub mod plain;
+
+pub use decoder::decode;
+pub use encoder::encode;
+pub use outcome::Outcome;
+
+#[cfg(test)]
+mod tests;

@@ -1,0 +1,10 @@
+-- When a count of faults says that the outside has failed.
+use Rattle.std.specs.Prelude.{ℕ, ◌+◌, ◌-◌, ◌^◌, ◌≤◌, min}
+
+-- the greatest number that a count of faults can show
+abbrev pub greatest_count : ℕ
+greatest_count = 2 ^ 64 - 1
+
+-- A count that never falls has risen between two moments, or stands at the greatest number that it can show.
+abbrev pub Rose : ℕ → ℕ → Type 0
+Rose before now = min (before + 1) (2 ^ 64 - 1) ≤ now

@@ -1,0 +1,115 @@
+// A port of a station in memory that is written. Its memory is taken at the beginning.
+ghost use Rattle.std.specs.Prelude.{◌≡◌, ◌≤◌, ◌<◌, ◌↔◌, ◌⊎◌, ◌+◌, ◌/◌, ◌++◌, ℕ, length, take, vec_capacity, true, OnOk, OnErr, IfOk, IsTrue, IsErr};
+ghost use Rattle.station_core.specs.Causes.{Rose, greatest_count};
+
+use crate::Failed;
+use std::alloc::{AllocError, Global};
+
+// A port that is written.
+#[derive(Drop)]
+pub struct Writing<'a> {
+    pub asked: Option<&'a str>,
+    pub created: bool,
+    pub closed: bool,
+    pub bytes: Vec<u8>,
+    pub room: u32,
+    ghost fits: { room ≤ vec_capacity bytes },
+}
+
+impl<'a> Writing<'a> {
+    ghost use Rattle.station_core.specs.Meaning.{asked_sink, created_sink, written_sink, closed_sink, no_sink};
+    ghost use Rattle.station_core.specs.Sinks.{sink_of};
+    ghost use Rattle.std.specs.Prelude.{◌≡◌, ◌≤◌, ◌<◌, ◌↔◌, ◌⊎◌, ◌+◌, ◌/◌, ◌++◌, ℕ, length, take, true, OnOk, OnErr, IfOk, IsTrue, IsErr};
+    ghost use Rattle.station_core.specs.Causes.{Rose, greatest_count};
+
+    // A port at which nothing was asked, with room for so many bytes.
+    pub fn new(alloc: Global, room: u32) -> Result<Writing<'a>, AllocError>
+        ensures new { IfOk result (λ w. sink_of w ≡ no_sink) }
+        ensures room { IfOk result (λ w. w.room ≡ room) }
+    {
+        Ok(Writing {
+            asked: None,
+            created: false,
+            closed: false,
+            bytes: Vec::with_capacity(alloc, room as usize)?,
+            room,
+        })
+    }
+
+    // Makes the output, or fails as it is told to.
+    pub fn create(&mut self, fails: bool, name: &'a str, faults: &mut u64) -> Result<(), Failed>
+        ensures ok { OnOk result (sink_of self.new ≡ created_sink name.now (sink_of self.old)) }
+        ensures err { OnErr result (sink_of self.new ≡ asked_sink name.now (sink_of self.old)) }
+        ensures exact { IsErr result ↔ IsTrue fails }
+        ensures room { self.new.room ≡ self.old.room }
+        ensures uncounted { OnOk result (faults.new ≡ faults.old) }
+        ensures cause { OnErr result (Rose faults.old faults.new) }
+        ensures later { faults.old ≤ faults.new }
+        ensures bounded { OnErr result (faults.new ≤ greatest_count) }
+    {
+        self.asked = Some(name);
+        if fails {
+            return Err(count_fault(faults));
+        }
+        self.created = true;
+        self.closed = false;
+        self.bytes.clear();
+        Ok(())
+    }
+
+    // Writes all the bytes, half of them where it is told to fail, none where there is no room.
+    pub fn write(&mut self, fails: bool, bytes: &[u8], faults: &mut u64) -> Result<(), Failed>
+        ensures ok { OnOk result (sink_of self.new ≡ written_sink true bytes.now (sink_of self.old)) }
+        ensures err { OnErr result ((n : ℕ) × (sink_of self.new ≡ written_sink true (take n bytes.now) (sink_of self.old))) }
+        ensures exact { IsErr result ↔ (IsTrue fails ⊎ (self.old.room < length self.old.bytes.items + length bytes.now)) }
+        ensures half { IsTrue fails → length self.old.bytes.items + length bytes.now ≤ self.old.room
+            → self.new.bytes.items ≡ self.old.bytes.items ++ take (length bytes.now / 2) bytes.now }
+        ensures no_room { self.old.room < length self.old.bytes.items + length bytes.now → self.new.bytes.items ≡ self.old.bytes.items }
+        ensures room { self.new.room ≡ self.old.room }
+        ensures uncounted { OnOk result (faults.new ≡ faults.old) }
+        ensures cause { OnErr result (Rose faults.old faults.new) }
+        ensures later { faults.old ≤ faults.new }
+        ensures bounded { OnErr result (faults.new ≤ greatest_count) }
+    {
+        let room = self.room as usize;
+        let used = self.bytes.len();
+        if used > room || bytes.len() > room - used {
+            return Err(count_fault(faults));
+        }
+        if fails {
+            let _ = self.bytes.extend_from_slice(&bytes[..bytes.len() / 2]);
+            return Err(count_fault(faults));
+        }
+        match self.bytes.extend_from_slice(bytes) {
+            Ok(()) => Ok(()),
+            Err(_) => Err(count_fault(faults)),
+        }
+    }
+
+    // Closes the output, and fails as it is told to.
+    pub fn close(&mut self, fails: bool, faults: &mut u64) -> Result<(), Failed>
+        ensures closed { sink_of self.new ≡ closed_sink (sink_of self.old) }
+        ensures exact { IsErr result ↔ IsTrue fails }
+        ensures room { self.new.room ≡ self.old.room }
+        ensures uncounted { OnOk result (faults.new ≡ faults.old) }
+        ensures cause { OnErr result (Rose faults.old faults.new) }
+        ensures later { faults.old ≤ faults.new }
+        ensures bounded { OnErr result (faults.new ≤ greatest_count) }
+    {
+        self.closed = true;
+        if fails {
+            return Err(count_fault(faults));
+        }
+        Ok(())
+    }
+}
+
+// Counts a fault, up to the greatest number.
+pub fn count_fault(faults: &mut u64) -> Failed
+    ensures rose { Rose faults.old faults.new }
+    ensures later { faults.old ≤ faults.new }
+    ensures bounded { faults.new ≤ greatest_count }
+{
+    *faults = faults.saturating_add(1);
+    Failed
+}

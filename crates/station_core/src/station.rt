@@ -1,0 +1,90 @@
+// The trait of the outside.
+ghost use Rattle.std.specs.Prelude.{◌≡◌, ◌<◌, ◌≤◌, ◌↔◌, ◌≢◌, ℕ, true, false, [], List, length, take, None, Some, IfOk, OnOk, OnErr, IsTrue};
+ghost use Rattle.station_core.specs.Causes.{Rose, greatest_count};
+ghost use Rattle.station_core.specs.Meaning.{Meaning, source_at, sink_at, with_source, with_sink, with_read_faults, with_write_faults, asked_source, attached_source, read_source, asked_sink, created_sink, written_sink, closed_sink};
+ghost use Rattle.station_core.specs.declared.ports.OutPort.TheVariants.{Report};
+
+use crate::{InPort, OutPort};
+
+/// A call on the outside has failed, and the station has counted it.
+#[derive(Clone, Copy, Debug, PartialEq, Eq)]
+pub struct Failed;
+
+/// The outside of a command: the files that it reads and writes, and its report.
+///
+/// Contracts see a station as its `meaning`: whether it tells its contents, what it has under a
+/// name, each port, and two counts of faults, which never fall and stand still at 2^64 - 1. A call
+/// changes only what its clauses `ok` and `err` name: everything else of the meaning stays. It
+/// answers `Failed` only where the count of its kind rose, and no call that answers `Ok` changes a
+/// count.
+pub trait Station<'a> {
+    ghost meaning: { Self → Meaning };
+
+    /// Opens the file of this name, to be read at `port`. Nothing was asked there before.
+    ///
+    /// Where it answers `Failed` the port is not attached.
+    fn attach(&mut self, port: InPort, name: &'a str) -> Result<(), Failed>
+        requires { (source_at port (meaning self.old)).asked ≡ None }
+        ensures ok { OnOk result (meaning self.new ≡ with_source port (attached_source name.now ((meaning self.old).file name.now) (source_at port (meaning self.old))) (meaning self.old)) }
+        ensures err { OnErr result (meaning self.new ≡ with_read_faults (meaning self.new).read_faults
+            (with_source port (asked_source name.now (source_at port (meaning self.old))) (meaning self.old))) }
+        ensures cause { OnErr result (Rose (meaning self.old).read_faults (meaning self.new).read_faults) }
+        ensures later { (meaning self.old).read_faults ≤ (meaning self.new).read_faults }
+        ensures bounded { OnErr result ((meaning self.new).read_faults ≤ greatest_count) };
+
+    /// Reads some bytes into the front of the buffer, which is not empty: none exactly at the end.
+    ///
+    /// The port is attached. Where it answers `Failed` nothing is taken from what is left.
+    fn read(&mut self, port: InPort, buf: &mut [u8]) -> Result<usize, Failed>
+        requires attached { (source_at port (meaning self.old)).attached ≡ true }
+        requires room { 0 < length buf.old }
+        ensures bound { IfOk result (λ n. n ≤ length buf.new) }
+        ensures ok { IfOk result (λ n. meaning self.new ≡ with_source port (read_source n (source_at port (meaning self.old))) (meaning self.old)) }
+        ensures bytes { IfOk result (λ n. IsTrue (meaning self.old).tells → take n buf.new ≡ take n (source_at port (meaning self.old)).left) }
+        ensures some { IfOk result (λ n. IsTrue (meaning self.old).tells → n ≤ length (source_at port (meaning self.old)).left) }
+        ensures end { IfOk result (λ n. IsTrue (meaning self.old).tells → n ≡ 0 → (source_at port (meaning self.old)).left ≡ []) }
+        ensures err { OnErr result (meaning self.new ≡ with_read_faults (meaning self.new).read_faults (meaning self.old)) }
+        ensures cause { OnErr result (Rose (meaning self.old).read_faults (meaning self.new).read_faults) }
+        ensures later { (meaning self.old).read_faults ≤ (meaning self.new).read_faults }
+        ensures bounded { OnErr result ((meaning self.new).read_faults ≤ greatest_count) };
+
+    /// Makes a file of this name, to be written at `port`: any port but Report, where nothing was
+    /// asked before.
+    ///
+    /// Where it answers `Failed` the port is not created.
+    fn create(&mut self, port: OutPort, name: &'a str) -> Result<(), Failed>
+        requires asked { (sink_at port (meaning self.old)).asked ≡ None }
+        requires port { port ≢ Report }
+        ensures ok { OnOk result (meaning self.new ≡ with_sink port (created_sink name.now (sink_at port (meaning self.old))) (meaning self.old)) }
+        ensures err { OnErr result (meaning self.new ≡ with_write_faults (meaning self.new).write_faults
+            (with_sink port (asked_sink name.now (sink_at port (meaning self.old))) (meaning self.old))) }
+        ensures cause { OnErr result (Rose (meaning self.old).write_faults (meaning self.new).write_faults) }
+        ensures later { (meaning self.old).write_faults ≤ (meaning self.new).write_faults }
+        ensures bounded { OnErr result ((meaning self.new).write_faults ≤ greatest_count) };
+
+    /// Writes the bytes behind those written before: all of them or, where it answers `Failed`,
+    /// some from the front.
+    ///
+    /// The port is created and not closed.
+    fn write(&mut self, port: OutPort, bytes: &[u8]) -> Result<(), Failed>
+        requires created { (sink_at port (meaning self.old)).created ≡ true }
+        requires open { (sink_at port (meaning self.old)).closed ≡ false }
+        ensures ok { OnOk result (meaning self.new ≡ with_sink port (written_sink (meaning self.old).tells bytes.now (sink_at port (meaning self.old))) (meaning self.old)) }
+        ensures err { OnErr result ((n : ℕ) × (meaning self.new ≡ with_write_faults (meaning self.new).write_faults
+            (with_sink port (written_sink (meaning self.old).tells (take n bytes.now) (sink_at port (meaning self.old))) (meaning self.old)))) }
+        ensures cause { OnErr result (Rose (meaning self.old).write_faults (meaning self.new).write_faults) }
+        ensures later { (meaning self.old).write_faults ≤ (meaning self.new).write_faults }
+        ensures bounded { OnErr result ((meaning self.new).write_faults ≤ greatest_count) };
+
+    /// Ends the writing. The port is created and not closed; it is closed afterwards also where
+    /// the answer is `Failed`.
+    fn close(&mut self, port: OutPort) -> Result<(), Failed>
+        requires created { (sink_at port (meaning self.old)).created ≡ true }
+        requires open { (sink_at port (meaning self.old)).closed ≡ false }
+        ensures ok { OnOk result (meaning self.new ≡ with_sink port (closed_sink (sink_at port (meaning self.old))) (meaning self.old)) }
+        ensures err { OnErr result (meaning self.new ≡ with_write_faults (meaning self.new).write_faults
+            (with_sink port (closed_sink (sink_at port (meaning self.old))) (meaning self.old))) }
+        ensures cause { OnErr result (Rose (meaning self.old).write_faults (meaning self.new).write_faults) }
+        ensures later { (meaning self.old).write_faults ≤ (meaning self.new).write_faults }
+        ensures bounded { OnErr result ((meaning self.new).write_faults ≤ greatest_count) };
+}
