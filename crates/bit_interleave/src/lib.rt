@@ -1,0 +1,10 @@
+//! Where the coded bits of a symbol stand in the labels of its words: demultiplexing and the bit
+//! interleavers in one formula (EN 300 744, 4.3.4.1).
+#![tactic(auto)]
+
+pub mod laws;
+mod places;
+#[cfg(test)]
+mod tests;
+
+pub use places::{bit_at, place};

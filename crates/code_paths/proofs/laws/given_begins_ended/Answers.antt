@@ -1,0 +1,5 @@
+use Rattle.code_paths.proofs.Grows.{given_begins_ended}
+use Rattle.code_paths.proofs.laws.given_begins_ended.Goals as goal
+
+pub returns : goal.returns
+returns c = given_begins_ended

@@ -1,0 +1,14 @@
+-- Lists of three words.
+use Rattle.std.proofs.Common.{◌≡◌, List, [], ◌∷◌, length, get_or, map, refl, ap, sym, ◌∙◌, arith, ◌≤◌, ◌<◌}
+
+pub three : {X : Type 0} (xs : List X) (a b c : X) → length xs ≡ 3 → a ≡ get_or xs 0 a → b ≡ get_or xs 1 b → c ≡ get_or xs 2 c → xs ≡ a ∷ b ∷ c ∷ []
+three [] a b c long p q r = absurd (omega arith)
+three (x ∷ []) a b c long p q r = absurd (omega arith)
+three (x ∷ y ∷ []) a b c long p q r = absurd (omega arith)
+three (x ∷ y ∷ z ∷ []) a b c long p q r = λ i. sym p i ∷ sym q i ∷ sym r i ∷ []
+three (x ∷ y ∷ z ∷ w ∷ ws) a b c long p q r = absurd (omega arith)
+
+-- the first word
+pub first_is : {X Y : Type 0} (f : X → Y) (xs : List X) (a : X) (y : Y) (ys : List Y) → map f xs ≡ y ∷ ys → a ≡ get_or xs 0 a → f a ≡ y
+first_is f [] a y ys e p = cc
+first_is f (x ∷ xs) a y ys e p = let e' : f x ∷ map f xs ≡ y ∷ ys = e in let p' : a ≡ x = p in cc

@@ -1,0 +1,8 @@
+-- What one test of the words finds.
+use Rattle.std.specs.Prelude.{◌≡◌, ℕ, List, [], ◌∷◌, Option, None, Some}
+use denote.Ref.{Bor}
+
+-- the two words behind a name, if there are just these three
+abbrev pub TwoAfter : List (List ℕ) → List ℕ → Option (Bor (List ℕ) × Bor (List ℕ)) → Type 0
+TwoAfter words name None = (a b : List ℕ) → words ≡ name ∷ a ∷ b ∷ [] → ⊥
+TwoAfter words name (Some two) = words ≡ name ∷ two.0.now ∷ two.1.now ∷ []

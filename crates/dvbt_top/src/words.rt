@@ -1,0 +1,33 @@
+// From the words to the form.
+ghost use Rattle.std.specs.Prelude.{◌≡◌, map, string_bytes};
+ghost use Rattle.std.specs.Option.{option_map};
+ghost use Rattle.dvbt_top.specs.Command.{command_of, command};
+ghost use Rattle.dvbt_top.specs.Words.{TwoAfter};
+
+use crate::form::Form;
+
+// The two words behind this name, if there are just these three.
+fn two_after<'a>(words: &'a [String], name: &str) -> Option<(&'a str, &'a str)>
+    ensures { TwoAfter (map string_bytes words.now) name.now result }
+{
+    if words.len() != 3 {
+        return None;
+    }
+    if words[0].as_str() != name {
+        return None;
+    }
+    Some((words[1].as_str(), words[2].as_str()))
+}
+
+/// The form of the words, if they are of one. A word is taken as it stands; there are no options.
+pub fn form_of<'a>(words: &'a [String]) -> Option<Form<'a>>
+    ensures { option_map command result ≡ command_of (map string_bytes words.now) }
+{
+    if let Some((input, output)) = two_after(words, "disperse") {
+        return Some(Form::Disperse { input, output });
+    }
+    if let Some((input, output)) = two_after(words, "outer") {
+        return Some(Form::Outer { input, output });
+    }
+    None
+}

@@ -1,0 +1,11 @@
+use Rattle.std.proofs.Common.{◌≡◌, ◌∙◌, ◌+◌, ◌<◌, ◌≤◌, ℕ, arith, sym, ap, subst, subst₂, refl, [], ◌∷◌, ◌++◌, length, take, length-take-le}
+use Rattle.std.specs.Prelude.{slice_index}
+use Rattle.inner_decoder.specs.Seen.{DecoderState}
+use Rattle.inner_decoder.specs.Tracking.{Stands}
+use Rattle.inner_decoder.proofs.Stand.{finished_all}
+use Rattle.inner_decoder.proofs.Rows64.{from_rows}
+use Rattle.inner_decoder.proofs.decoder.Decoder.finish.Goals as goal
+
+pub returns-clause-finished : goal.returns-clause-finished
+returns-clause-finished g c = λ a s b h.
+    finished_all g.row.L c.self.inside.metric _ _ _ c.best-last.result _ _ c.best-last.ensures c.force.ensures.given a s b (from_rows g.row.L _ (g.V.Survivors.list c.self.inside.survivors.inner.value) _ _ a s b (subst (λ (z : DecoderState). Stands g.row.L z a s b) (sym c.self.view_is) h))

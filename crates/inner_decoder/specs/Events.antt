@@ -1,0 +1,12 @@
+-- The steps that reports name.
+use Rattle.std.specs.Prelude.{ℕ, List, map}
+use Rattle.std.specs.declared.option.Option.{Option}
+use Rattle.std.specs.declared.option.Option.TheVariants.{None, Some}
+use Rattle.inner_decoder.specs.declared.decoder.Unmerged.{Unmerged}
+
+abbrev pub at_of : Option Unmerged → Option ℕ
+at_of None = None
+at_of (Some e) = Some e.at
+
+abbrev pub ats : List Unmerged → List ℕ
+ats es = map (λ (e : Unmerged). e.at) es

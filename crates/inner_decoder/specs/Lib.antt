@@ -1,0 +1,6 @@
+pub mod Seen
+pub mod Metrics
+pub mod Tracking
+pub mod Starts
+pub mod Events
+pub mod Running

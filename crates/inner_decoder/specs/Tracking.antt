@@ -1,0 +1,62 @@
+-- What a decoder has made of a stream of costs.
+use Rattle.std.specs.Prelude.{◌≡◌, ℕ, ◌+◌, ◌<◌, ◌≤◌, Bool, false, List, [], ◌∷◌, ◌++◌, length, drop, slice_index, IsTrue}
+use Rattle.std.specs.declared.option.Option.{Option}
+use Rattle.std.specs.Option.{option_to_list, IfSome}
+use Rattle.code_paths.specs.declared.costs.CostPair.{CostPair}
+use Rattle.acs_plain.specs.declared.sums.Sums.{Sums}
+use Rattle.code_paths.specs.Paths.{LeastTo, Unreached, total}
+use Rattle.code_paths.specs.States.{register}
+use Rattle.acs_plain.specs.Steps.{alive, SomeAlive}
+use Rattle.code_paths.specs.Streams.{Part, IsCut, IsPrefix, bits_of, Reports, Given, Ended}
+use Rattle.inner_decoder.specs.Seen.{DecoderState, row_of}
+
+-- The alive states are those that a path of the open part reaches. The sums are the totals of the least paths, less one
+-- number. The bits of these paths are those of the part that were given out, and those that wait.
+pub record Tracks (b : Option (List Bool)) (d : List CostPair) (gave : List Bool) (sums : Sums) (waits : ℕ → List Bool) (waiting : ℕ) : Type 0 where
+  pub less : ℕ
+  pub path : ℕ → List Bool
+  pub long : length gave + waiting ≡ length d
+  pub least : (n : ℕ) → n < 64 → IsTrue (alive sums n) → LeastTo b d (register n) (path n)
+  pub cost : (n : ℕ) → n < 64 → IsTrue (alive sums n) → slice_index sums.cost n + less ≡ total d (path n)
+  pub bits : (n : ℕ) → n < 64 → IsTrue (alive sums n) → drop 6 (path n) ≡ gave ++ waits n
+  pub none : (n : ℕ) → n < 64 → alive sums n ≡ false → Unreached b d (register n)
+
+-- Sums, waiting bits and a number of steps are what comes of the costs c from the start a where the bits g were given out.
+pub record StandsBy (most : ℕ) (sums : Sums) (waits : ℕ → List Bool) (waiting steps : ℕ) (a : Option (List Bool)) (c : List CostPair) (g : List Bool) : Type 0 where
+  pub parts : List Part
+  pub start : Option (List Bool)
+  pub costs : List CostPair
+  pub gave : List Bool
+  pub cut : IsCut most a c parts start costs
+  pub tracks : Tracks start costs gave sums waits waiting
+  pub some : SomeAlive sums
+  pub few : waiting ≤ most
+  pub counts : steps ≡ length c
+  pub is : g ≡ bits_of parts ++ gave
+
+-- The decoder d stands for the start a, the costs c that it took, and the bits g that it appended.
+abbrev pub Stands : ℕ → DecoderState → Option (List Bool) → List CostPair → List Bool → Type 0
+Stands most d a c g = StandsBy most d.sums (row_of d.rows) d.waiting d.steps a c g
+
+-- What a step on x makes of it: bits are appended, of which all so far begin the bits given; r is the report, which is one
+-- exactly where the defined reports have one more, and then exactly the bits given are appended.
+pub record Stepped (most : ℕ) (d : DecoderState) (a : Option (List Bool)) (c : List CostPair) (g : List Bool) (x : CostPair) (old new : List Bool) (r : Option ℕ) : Type 0 where
+  pub more : List Bool
+  pub appended : new ≡ old ++ more
+  pub stands : Stands most d a (c ++ x ∷ []) (g ++ more)
+  pub begins : (h : List Bool) → Given most a (c ++ x ∷ []) h → IsPrefix (g ++ more) h
+  pub reports : (rs : List ℕ) → Reports most a c rs → Reports most a (c ++ x ∷ []) (rs ++ option_to_list r)
+  pub whole : IfSome r (λ _. Given most a (c ++ x ∷ []) (g ++ more))
+
+-- what a call makes of it that appends all that is shared: exactly the bits given
+pub record Gave (most : ℕ) (d : DecoderState) (a : Option (List Bool)) (c : List CostPair) (g : List Bool) (old new : List Bool) : Type 0 where
+  pub more : List Bool
+  pub appended : new ≡ old ++ more
+  pub stands : Stands most d a c (g ++ more)
+  pub whole : Given most a c (g ++ more)
+
+-- what the last call makes of it: exactly the bits at the end
+pub record Finished (most : ℕ) (a : Option (List Bool)) (c : List CostPair) (g : List Bool) (old new : List Bool) : Type 0 where
+  pub more : List Bool
+  pub appended : new ≡ old ++ more
+  pub whole : Ended most a c (g ++ more)

@@ -1,0 +1,159 @@
+// The decoder.
+ghost use Rattle.std.specs.Prelude.{◌≡◌, ◌+◌, ◌*◌, ◌<◌, ◌≤◌, ◌^◌, ℕ, Bool, List, [], false, true, length, IfOk};
+ghost use Rattle.std.specs.declared.option.Option.{Option};
+ghost use Rattle.std.specs.Option.{option_to_list};
+ghost use Rattle.code_paths.specs.declared.costs.CostPair.{CostPair};
+ghost use Rattle.code_paths.specs.Streams.{Reports};
+ghost use Rattle.inner_decoder.specs.Tracking.{Stands, Stepped, Gave, Finished};
+ghost use Rattle.inner_decoder.specs.Events.{at_of};
+
+use crate::held::Held;
+use crate::metric::Metric;
+use acs_plain::Acs;
+use bit_pack::WaitBuf;
+use conv_code::CostPair;
+use std::alloc::{AllocError, Global};
+use std::marker::{Model, PhantomData};
+use survivor_ring::Survivors;
+
+/// What the register of the inner code was before a stream's first step.
+#[derive(Clone, Copy, Debug, Drop, PartialEq, Eq)]
+pub enum StartState {
+    /// Six zeros: the stream is decoded from the transmission's beginning.
+    Zero,
+    /// Any of the 64 registers.
+    Any,
+}
+
+/// A report: more steps than the path memory holds were not shared. The bits of the least path of this moment were given
+/// out, and decoding goes on from its register alone.
+#[derive(Clone, Copy, Debug, Default, Drop, PartialEq, Eq)]
+pub struct Unmerged {
+    /// The number of steps since the stream's start, this one included.
+    pub at: u64,
+}
+
+/// A decoder of a stream of cost pairs with a path memory of `L` steps, 1 to 2048.
+///
+/// It stands for a start, the list of the cost pairs that it took, and the list of the bits that it appended. It gives a
+/// bit once the least paths to all alive registers agree on it. No call but `new` takes memory.
+#[derive(Drop)]
+pub struct Decoder<A: Acs, V: Survivors<L>, const L: usize> {
+    metric: Metric,
+    survivors: Held<V, L>,
+    steps: u64,
+    ended: bool,
+    acs: PhantomData<A>,
+}
+
+impl<A: Acs, V: Survivors<L>, const L: usize> Model for Decoder<A, V, L> {
+    ghost use Rattle.inner_decoder.specs.Seen.{DecoderState, IsTied, rows_below};
+
+    ghost Value = { DecoderState };
+
+    ghost view = { λ d. record { sums = d.metric; rows = rows_below (V.list d.survivors.inner.value) 64; waiting = V.count d.survivors.inner.value; steps = d.steps; ended = d.ended } };
+
+    ghost invariant = { λ d. IsTied (V.states d.survivors.inner.value) d.metric.alive (V.count d.survivors.inner.value) L };
+}
+
+impl<A: Acs, V: Survivors<L>, const L: usize> Decoder<A, V, L> {
+    ghost use Rattle.inner_decoder.specs.Starts.{start_of};
+
+    /// A decoder that has taken no pair. The only error is want of memory.
+    pub fn new(alloc: Global, start: StartState) -> Result<Self, AllocError>
+        requires some { 0 < L }
+        requires few { L ≤ 2048 }
+        ensures going { IfOk result (λ d. d.ended ≡ false) }
+        ensures steps { IfOk result (λ d. d.steps ≡ 0) }
+        ensures waiting { IfOk result (λ d. d.waiting ≡ 0) }
+        ensures stands { IfOk result (λ d. Stands L d (start_of start) [] []) }
+        ensures reports { Reports L (start_of start) [] [] }
+    {
+        let metric = match start {
+            StartState::Zero => Metric::only(0),
+            StartState::Any => Metric::any(),
+        };
+        let survivors = Held::new(alloc, metric.alive())?;
+        Ok(Decoder {
+            metric,
+            survivors,
+            steps: 0,
+            ended: false,
+            acs: PhantomData,
+        })
+    }
+
+    /// Takes the next pair, and appends bits that all alive paths share. It answers a report exactly at the steps of the
+    /// defined reports, and has then appended all waiting bits of the least path.
+    ///
+    /// There must be room for `L + 1` bits, and fewer than 2^62 steps so far; the decoder has not ended.
+    pub fn step(&mut self, pair: CostPair, to: &mut WaitBuf) -> Option<Unmerged>
+        requires going { self.old.ended ≡ false }
+        requires steps { self.old.steps < 2 ^ 62 }
+        requires room { length to.old + L < 36864 }
+        ensures going { self.new.ended ≡ false }
+        ensures steps { self.new.steps ≡ self.old.steps + 1 }
+        ensures few { self.new.waiting ≤ L }
+        ensures amount { length to.new + self.new.waiting ≡ length to.old + self.old.waiting + 1 }
+        ensures spaced { self.new.waiting + (L + 1) * length (option_to_list result) ≤ self.old.waiting + 1 }
+        ensures stepped { (a : Option (List Bool)) (c : List CostPair) (g : List Bool) → Stands L self.old a c g → Stepped L self.new a c g pair to.old to.new (at_of result) }
+    {
+        let decisions = self.metric.step::<A>(pair);
+        self.survivors.push(decisions, self.metric.alive());
+        self.steps += 1;
+        if (self.survivors.waiting() as usize) <= L {
+            return None;
+        }
+        let shared = self.survivors.shared();
+        if shared > 0 {
+            self.survivors.give(shared, to);
+            return None;
+        }
+        let end = self.metric.best();
+        self.survivors.force(end, to);
+        self.metric = Metric::only(end);
+        Some(Unmerged { at: self.steps })
+    }
+
+    /// Appends the bits that all alive paths share: all bits appended are then exactly the bits given of the definition.
+    ///
+    /// There must be room for `L` bits; the decoder has not ended.
+    pub fn give(&mut self, to: &mut WaitBuf)
+        requires going { self.old.ended ≡ false }
+        requires room { length to.old + L ≤ 36864 }
+        ensures going { self.new.ended ≡ false }
+        ensures steps { self.new.steps ≡ self.old.steps }
+        ensures few { self.new.waiting ≤ L }
+        ensures amount { length to.new + self.new.waiting ≡ length to.old + self.old.waiting }
+        ensures gave { (a : Option (List Bool)) (c : List CostPair) (g : List Bool) → Stands L self.old a c g → Gave L self.new a c g to.old to.new }
+    {
+        let shared = self.survivors.shared();
+        self.survivors.give(shared, to);
+    }
+
+    /// Appends the waiting bits of the least path: all bits appended are then exactly the bits at the end of the
+    /// definition, and the decoder has ended.
+    ///
+    /// There must be room for `L` bits; the decoder has not ended.
+    pub fn finish(&mut self, to: &mut WaitBuf)
+        requires going { self.old.ended ≡ false }
+        requires room { length to.old + L ≤ 36864 }
+        ensures ended { self.new.ended ≡ true }
+        ensures steps { self.new.steps ≡ self.old.steps }
+        ensures waiting { self.new.waiting ≡ 0 }
+        ensures amount { length to.new ≡ length to.old + self.old.waiting }
+        ensures finished { (a : Option (List Bool)) (c : List CostPair) (g : List Bool) → Stands L self.old a c g → Finished L a c g to.old to.new }
+    {
+        let last = self.metric.best();
+        self.survivors.force(last, to);
+        self.metric = Metric::only(last);
+        self.ended = true;
+    }
+
+    /// Was `finish` called?
+    pub fn ended(&self) -> bool
+        ensures ended { result ≡ self.now.ended }
+    {
+        self.ended
+    }
+}

@@ -1,0 +1,45 @@
+// Survivors in a box.
+ghost use Rattle.std.specs.Prelude.{ℕ, Bool, List};
+
+use bit_pack::WaitBuf;
+use std::alloc::{AllocError, Global};
+use survivor_ring::Survivors;
+
+/// Survivors in a box, so that the size of what holds them does not depend on their type.
+#[derive(Drop)]
+pub(crate) struct Held<V: Survivors<L>, const L: usize> {
+    pub(crate) inner: Box<V>,
+}
+
+impl<V: Survivors<L>, const L: usize> Survivors<L> for Held<V, L> {
+    ghost states = { λ h. V.states h.inner.value };
+
+    ghost count = { λ h. V.count h.inner.value };
+
+    ghost list = { λ h. V.list h.inner.value };
+
+    fn new(alloc: Global, alive: u64) -> Result<Self, AllocError> {
+        let inner = Box::new(alloc, V::new(alloc, alive)?)?;
+        Ok(Held { inner })
+    }
+
+    fn waiting(&self) -> u32 {
+        self.inner.waiting()
+    }
+
+    fn push(&mut self, decisions: u64, alive: u64) {
+        self.inner.push(decisions, alive);
+    }
+
+    fn shared(&self) -> u32 {
+        self.inner.shared()
+    }
+
+    fn give(&mut self, number: u32, to: &mut WaitBuf) {
+        self.inner.give(number, to);
+    }
+
+    fn force(&mut self, end: u8, to: &mut WaitBuf) {
+        self.inner.force(end, to);
+    }
+}

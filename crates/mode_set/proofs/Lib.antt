@@ -1,0 +1,3 @@
+mod Unknown
+mod Reasons
+mod Periods

@@ -1,0 +1,57 @@
+// The keys of a settings document.
+ghost use Rattle.std.specs.Prelude.{◌≡◌, is_some};
+ghost use Rattle.mode_set.specs.Keys.{key_text, is_key};
+
+/// A key of a settings document, in the order in which the keys are tried.
+#[derive(Clone, Copy, Debug, PartialEq, Eq)]
+pub enum Key {
+    Mode,
+    Constellation,
+    Hierarchy,
+    RateHp,
+    RateLp,
+    Guard,
+    CellId,
+    Start,
+    Workers,
+    MaxSymbols,
+}
+
+impl Key {
+    /// The key as it stands in a document, and as the program prints it.
+    pub fn text(self) -> &'static str
+        ensures { result.now ≡ key_text self }
+    {
+        match self {
+            Key::Mode => "mode",
+            Key::Constellation => "constellation",
+            Key::Hierarchy => "hierarchy",
+            Key::RateHp => "rate_hp",
+            Key::RateLp => "rate_lp",
+            Key::Guard => "guard",
+            Key::CellId => "cell_id",
+            Key::Start => "start",
+            Key::Workers => "workers",
+            Key::MaxSymbols => "max_symbols",
+        }
+    }
+}
+
+// Whether the text is one of the ten keys.
+pub(crate) fn is_known(text: &str) -> bool
+    ensures { result ≡ is_key text.now }
+{
+    matches!(
+        text,
+        "mode"
+            | "constellation"
+            | "hierarchy"
+            | "rate_hp"
+            | "rate_lp"
+            | "guard"
+            | "cell_id"
+            | "start"
+            | "workers"
+            | "max_symbols"
+    )
+}

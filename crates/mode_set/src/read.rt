@@ -1,0 +1,214 @@
+// Settings out of a TOML document.
+ghost use Rattle.std.specs.Prelude.{◌≡◌, ℕ, IsSomeAnd, ◌≢◌, ◌+◌, ◌<◌, ◌≤◌, ◌^◌, pos, Some, None, option_map, IfOk, IfSome, IfErr, MatchResult, not, position, string_bytes, Ok, Err};
+ghost use Rattle.toml.specs.Data.{get_member};
+ghost use Rattle.toml.specs.View.{view, table_view};
+ghost use Rattle.mode_set.specs.Values.{a_word, a_number};
+ghost use Rattle.mode_set.specs.Document.{at, accepted, first_unknown, required, with_default, if_present, cell_id_in, keys_of, unknown, first_of, reasons, States, IsStatedBy, refusal, document};
+ghost use Rattle.mode_set.specs.Causes.{IsMissing, HasWrongValue, Clashes};
+ghost use Rattle.mode_set.specs.declared.key.Key.{Key as AnyKey};
+ghost use Rattle.std.specs.Result.{result_err};
+ghost use Rattle.std.specs.List.Sorted.{IsStrictlySortedBy};
+ghost use Rattle.std.specs.Cmp.Lexicographic.{slice_cmp};
+ghost use Rattle.std.specs.Ordering.{nat_cmp};
+ghost use Rattle.std.specs.String.{string_cmp};
+ghost use Rattle.std.specs.BTreeMap.{keys};
+ghost use Rattle.mode_set.specs.Keys.{is_key};
+
+use crate::key::is_known;
+use crate::words::Word;
+use crate::{Guard, Hierarchy, Key, Mode, Rate, Settings, SettingsError, Shape, Start};
+use std::alloc::Global;
+use toml::{Table, Value};
+
+// What stands at a key.
+fn value_at<'a>(table: &'a Table, key: Key) -> Option<&'a Value>
+    ensures { option_map (λ v. view v.now) result ≡ at key (table_view table.now) }
+{
+    table.get(key.text())
+}
+
+// A value that a word chooses.
+fn word_of<T: Word>(value: &Value, key: Key) -> Result<T, SettingsError>
+    ensures { result ≡ accepted key (a_word T.words (view value.now)) }
+{
+    match value.as_str() {
+        Some(text) => T::from_word(text).ok_or(SettingsError::Value(key)),
+        None => Err(SettingsError::Value(key)),
+    }
+}
+
+// A whole number from least to most.
+fn number_of(value: &Value, key: Key, least: u32, most: u32) -> Result<u32, SettingsError>
+    ensures value { result ≡ accepted key (a_number least most (view value.now)) }
+    ensures within { IfOk result (λ n. n ≤ most) }
+{
+    match value.as_integer() {
+        Some(n) if n >= least as i64 && n <= most as i64 => Ok(n as u32),
+        _ => Err(SettingsError::Value(key)),
+    }
+}
+
+// The value of a key that has to be there, which a word chooses.
+fn required_word<T: Word>(table: &Table, key: Key) -> Result<T, SettingsError>
+    ensures { result ≡ required key (a_word T.words) (at key (table_view table.now)) }
+{
+    match value_at(table, key) {
+        Some(value) => word_of(value, key),
+        None => Err(SettingsError::Missing(key)),
+    }
+}
+
+// The value of a key that has a default, which a word chooses.
+fn word_or<T: Word>(table: &Table, key: Key, default: T) -> Result<T, SettingsError>
+    ensures { result ≡ with_default key default (a_word T.words) (at key (table_view table.now)) }
+{
+    match value_at(table, key) {
+        Some(value) => word_of(value, key),
+        None => Ok(default),
+    }
+}
+
+// The value of a key that may be absent, which a word chooses.
+fn word_if_present<T: Word>(table: &Table, key: Key) -> Result<Option<T>, SettingsError>
+    ensures { result ≡ if_present key (a_word T.words) (at key (table_view table.now)) }
+{
+    match value_at(table, key) {
+        Some(value) => Ok(Some(word_of(value, key)?)),
+        None => Ok(None),
+    }
+}
+
+// The number of a key that has a default.
+fn number_or(
+    table: &Table,
+    key: Key,
+    default: u32,
+    least: u32,
+    most: u32,
+) -> Result<u32, SettingsError>
+    requires { default ≤ most }
+    ensures value { result ≡ with_default key default (a_number least most) (at key (table_view table.now)) }
+    ensures within { IfOk result (λ n. n ≤ most) }
+{
+    match value_at(table, key) {
+        Some(value) => number_of(value, key, least, most),
+        None => Ok(default),
+    }
+}
+
+// The number of a key that may be absent.
+fn cell_id(table: &Table) -> Result<Option<u16>, SettingsError>
+    ensures { result ≡ cell_id_in (table_view table.now) }
+{
+    match value_at(table, Key::CellId) {
+        Some(value) => Ok(Some(number_of(value, Key::CellId, 0, 65535)? as u16)),
+        None => Ok(None),
+    }
+}
+
+// The place of the first key that is none of the ten.
+fn place_of_unknown(table: &Table) -> Option<usize>
+    ensures place { result ≡ position (λ k. not (is_key (string_bytes k))) (keys table.now) }
+    ensures ordered { IsStrictlySortedBy string_cmp (keys table.now) }
+{
+    table.keys().position(|key| !is_known(key.as_str()))
+}
+
+// The same of the document.
+fn first_unknown_key(table: &Table) -> Option<usize>
+    ensures place { result ≡ first_unknown (table_view table.now) }
+    ensures few { IfSome result (λ n. n ≤ 10) }
+    ensures byte_order { IsStrictlySortedBy (slice_cmp nat_cmp) (keys_of (table_view table.now)) }
+{
+    place_of_unknown(table)
+}
+
+// The document has no other key than the ten.
+fn check_keys(table: &Table) -> Result<(), SettingsError>
+    ensures unknown { result_err result ≡ unknown (first_unknown (table_view table.now)) }
+    ensures byte_order { IsStrictlySortedBy (slice_cmp nat_cmp) (keys_of (table_view table.now)) }
+{
+    match first_unknown_key(table) {
+        Some(place) => Err(SettingsError::Unknown(place as u32)),
+        None => Ok(()),
+    }
+}
+
+// The settings that the document's table states.
+fn settings_of(table: &Table) -> Result<Settings, SettingsError>
+    ensures reason { result_err result ≡ first_of (reasons (table_view table.now)) }
+    ensures states { IfOk result (States (table_view table.now)) }
+    ensures byte_order { IsStrictlySortedBy (slice_cmp nat_cmp) (keys_of (table_view table.now)) }
+{
+    check_keys(table)?;
+    let mode = required_word(table, Key::Mode)?;
+    let shape: Shape = required_word(table, Key::Constellation)?;
+    let hierarchy = word_or(table, Key::Hierarchy, Hierarchy::Flat)?;
+    let rate_hp = required_word(table, Key::RateHp)?;
+    let rate_lp = word_if_present(table, Key::RateLp)?;
+    let guard = required_word(table, Key::Guard)?;
+    let cell_id = cell_id(table)?;
+    let start = word_or(table, Key::Start, Start::Zero)?;
+    let workers = number_or(table, Key::Workers, 1, 1, 16)? as u8;
+    let max_symbols = number_or(table, Key::MaxSymbols, 1000000, 1, u32::MAX)?;
+    if shape.is_qpsk() && !hierarchy.is_flat() {
+        return Err(SettingsError::Clash(Key::Hierarchy));
+    }
+    if rate_lp.is_some() == hierarchy.is_flat() {
+        return Err(SettingsError::Clash(Key::RateLp));
+    }
+    Ok(Settings {
+        mode,
+        shape,
+        hierarchy,
+        rate_hp,
+        rate_lp,
+        guard,
+        cell_id,
+        start,
+        workers,
+        max_symbols,
+    })
+}
+
+// The table of a document.
+fn table_of(alloc: Global, bytes: &[u8]) -> Result<Table, SettingsError>
+    ensures ok { IfOk result (λ t. document bytes.now ≡ Some (table_view t)) }
+    ensures err { IfErr result (λ e. e ≢ SettingsError.Memory → (e ≡ SettingsError.NotToml) × (document bytes.now ≡ None)) }
+{
+    match toml::table_from_slice(alloc, bytes) {
+        Ok(table) => Ok(table),
+        Err(error) if error.is_memory() => Err(SettingsError::Memory),
+        Err(_) => Err(SettingsError::NotToml),
+    }
+}
+
+impl Settings {
+    /// Reads the settings of a TOML document.
+    ///
+    /// Of the reasons to refuse it the first is answered, in the order of `SettingsError`: no TOML, an
+    /// unknown key, then the keys in the order of `Key`, then the two clashes. Memory may be wanting
+    /// at any point.
+    pub fn read(alloc: Global, bytes: &[u8]) -> Result<Settings, SettingsError>
+        ensures record { IfOk result (λ s. IsStatedBy s bytes.now) }
+        ensures first_reason { result ≢ Err SettingsError.Memory → result_err result ≡ refusal bytes.now }
+
+        // What each answer says of the document, which follows from these two.
+        ensures not_toml { result ≡ Err SettingsError.NotToml → document bytes.now ≡ None }
+        ensures unknown { (n : ℕ) → result ≡ Err (SettingsError.Unknown n)
+            → IsSomeAnd (document bytes.now) (λ ms. first_unknown ms ≡ Some n) }
+        ensures missing { (k : AnyKey) → result ≡ Err (SettingsError.Missing k)
+            → IsSomeAnd (document bytes.now) (IsMissing k) }
+        ensures value { (k : AnyKey) → result ≡ Err (SettingsError.Value k)
+            → IsSomeAnd (document bytes.now) (HasWrongValue k) }
+        ensures clash { (k : AnyKey) → result ≡ Err (SettingsError.Clash k)
+            → IsSomeAnd (document bytes.now) (Clashes k) }
+        ensures byte_order { result ≢ Err SettingsError.Memory
+            → IfSome (document bytes.now) (λ ms. IsStrictlySortedBy (slice_cmp nat_cmp) (keys_of ms)) }
+    {
+        match table_of(alloc, bytes) {
+            Ok(table) => settings_of(&table),
+            Err(error) => Err(error),
+        }
+    }
+}

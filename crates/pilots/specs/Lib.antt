@@ -1,0 +1,3 @@
+pub mod Carriers
+pub mod Reference
+pub mod Tables

@@ -1,0 +1,151 @@
+// The kind of a carrier, and the payload carriers by their numbers.
+ghost use Rattle.std.specs.Prelude.{◌≡◌, ℕ, ◌<◌, slice_index};
+ghost use Rattle.mode_set.specs.StreamTable.{carriers, payload};
+ghost use Rattle.pilots.specs.Carriers.{kind, payload_carriers, tps_carriers};
+ghost use Rattle.pilots.specs.Tables.{in_set, rank, continual_set, tps_set, payload_set, below_words, payload_places};
+
+use crate::CarrierKind;
+use crate::payload_carriers::PAYLOAD_CARRIERS;
+use crate::sets::{BELOW, CONTINUAL, PAYLOAD, TPS, TPS_2K, TPS_8K};
+use mode_set::Mode;
+
+// The pilots and the TPS carriers repeat after so many carriers ..
+const PERIOD: u32 = 1704;
+
+// .. of which so many are payload carriers in every symbol.
+const PAYLOAD_IN_PERIOD: u32 = 1512;
+
+fn is_in(set: &[u64; 27], place: u32) -> bool
+    requires { place < 1704 }
+    ensures { result ≡ in_set set.now place }
+{
+    set[(place / 64) as usize] >> (place % 64) & 1 == 1
+}
+
+// The members of a set below a place; `below` has those below the first place of each word.
+fn members_below(set: &[u64; 27], below: &[u16; 27], place: u32) -> u32
+    requires { place < 1704 }
+    ensures { result ≡ rank set.now below.now place }
+{
+    let word = (place / 64) as usize;
+    let lower = set[word] & ((1 << (place % 64)) - 1);
+    u32::from(below[word]) + lower.count_ones()
+}
+
+fn continual() -> &'static [u64; 27]
+    ensures { result.now ≡ continual_set }
+{
+    &CONTINUAL
+}
+
+fn tps() -> &'static [u64; 27]
+    ensures { result.now ≡ tps_set }
+{
+    &TPS
+}
+
+// The set of the payload carriers of a symbol, and how many stand below each of its words.
+fn payload(symbol: usize) -> (&'static [u64; 27], &'static [u16; 27])
+    requires { symbol < 4 }
+    ensures set { result.0.now ≡ payload_set symbol }
+    ensures below { result.1.now ≡ below_words symbol }
+{
+    (&PAYLOAD[symbol], &BELOW[symbol])
+}
+
+/// What carrier `k` of symbol `l` of a frame is for (EN 300 744, 4.4). A carrier that is both a
+/// continual and a scattered pilot is `Continual`. The number of a payload carrier is below the
+/// mode's count of them.
+pub fn kind(mode: Mode, l: u8, k: u32) -> CarrierKind
+    requires symbol { l < 68 }
+    requires carrier { k < carriers mode }
+    ensures kind { result ≡ kind mode l k }
+    ensures number { (q : ℕ) → result ≡ CarrierKind.Payload q → q < payload mode }
+{
+    let symbol = l as usize % 4;
+    let place = k % PERIOD;
+    if is_in(continual(), place) {
+        return CarrierKind::Continual;
+    }
+    if place % 12 == 3 * symbol as u32 {
+        return CarrierKind::Scattered;
+    }
+    if is_in(tps(), place) {
+        return CarrierKind::Tps;
+    }
+    let (set, below) = payload(symbol);
+    CarrierKind::Payload(k / PERIOD * PAYLOAD_IN_PERIOD + members_below(set, below, place))
+}
+
+// The payload carriers of a symbol within a period.
+fn payload_in_period(symbol: usize) -> &'static [u16; 1512]
+    requires { symbol < 4 }
+    ensures { result.now ≡ payload_places symbol }
+{
+    &PAYLOAD_CARRIERS[symbol]
+}
+
+/// The payload carrier of symbol `l` of a frame that has exactly `q` payload carriers below it.
+pub fn carrier(mode: Mode, l: u8, q: u32) -> u32
+    requires symbol { l < 68 }
+    requires number { q < payload mode }
+    ensures kind { kind mode l result ≡ CarrierKind.Payload q }
+    ensures within { result < carriers mode }
+    ensures listed { result ≡ slice_index (payload_carriers mode l) q }
+{
+    let place = payload_in_period(l as usize % 4)[(q % PAYLOAD_IN_PERIOD) as usize];
+    q / PAYLOAD_IN_PERIOD * PERIOD + u32::from(place)
+}
+
+/// The TPS carriers of a symbol, rising: 17 in the 2K mode, 68 in the 8K mode (EN 300 744, 4.6.2).
+pub fn tps_carriers(mode: Mode) -> &'static [u16]
+    ensures { result.now ≡ tps_carriers mode }
+{
+    match mode {
+        Mode::M2k => &TPS_2K,
+        Mode::M8k => &TPS_8K,
+    }
+}
+
+#[cfg(test)]
+mod tests {
+    use super::{carrier, kind, tps_carriers};
+    use crate::CarrierKind::{Continual, Payload, Scattered, Tps};
+    use mode_set::Mode;
+    use std::rt::HostRuntime;
+
+    // Carriers of EN 300 744, 4.5.3, 4.5.4 and 4.6.2, and the ends of both modes.
+    #[test]
+    fn carriers_of_the_standard(rt: HostRuntime) {
+        assert!(&rt; kind(Mode::M2k, 0, 0) == Continual);
+        assert!(&rt; kind(Mode::M2k, 0, 1) == Payload(0));
+        assert!(&rt; kind(Mode::M2k, 0, 12) == Scattered);
+        assert!(&rt; kind(Mode::M2k, 0, 13) == Payload(11));
+        assert!(&rt; kind(Mode::M2k, 0, 34) == Tps);
+        assert!(&rt; kind(Mode::M2k, 0, 48) == Continual);
+        assert!(&rt; kind(Mode::M2k, 67, 1703) == Payload(1511));
+        assert!(&rt; kind(Mode::M2k, 3, 1704) == Continual);
+        assert!(&rt; kind(Mode::M8k, 2, 1704) == Continual);
+        assert!(&rt; kind(Mode::M8k, 65, 6815) == Payload(6047));
+        assert!(&rt; kind(Mode::M8k, 66, 6799) == Tps);
+        assert!(&rt; carrier(Mode::M2k, 0, 11) == 13);
+        assert!(&rt; carrier(Mode::M8k, 67, 6047) == 6815);
+        assert!(&rt; tps_carriers(Mode::M8k).len() == 68);
+    }
+
+    // Along all symbols of a frame the payload carriers are numbered on without a gap.
+    #[test]
+    fn payload_carriers_of_a_frame(rt: HostRuntime) {
+        for l in 0..68u8 {
+            let mut next = 0;
+            for k in 0..1705u32 {
+                if let Payload(q) = kind(Mode::M2k, l, k) {
+                    assert!(&rt; q == next);
+                    assert!(&rt; carrier(Mode::M2k, l, q) == k);
+                    next = q + 1;
+                }
+            }
+            assert!(&rt; next == 1512);
+        }
+    }
+}

@@ -1,0 +1,20 @@
+//! What each carrier of an OFDM symbol is for: continual and scattered pilots, TPS carriers and
+//! payload carriers, and the reference sequence that sets the signs of the pilots.
+//!
+//! EN 300 744, 4.4, 4.5 and 4.6.2.
+#![tactic(auto)]
+
+mod carrier_kind;
+mod kinds;
+mod laws;
+mod payload_carriers;
+mod sequence;
+mod sets;
+
+pub use carrier_kind::CarrierKind;
+pub use kinds::{carrier, kind, tps_carriers};
+pub use laws::{
+    kinds_repeat, payload_carriers_are_numbered, reference_recurs,
+    symbols_have_as_many_payload_carriers,
+};
+pub use sequence::reference;

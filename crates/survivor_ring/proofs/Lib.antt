@@ -1,0 +1,3 @@
+pub mod RowSteps
+mod Words
+mod Walks

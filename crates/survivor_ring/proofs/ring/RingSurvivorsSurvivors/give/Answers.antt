@@ -1,0 +1,9 @@
+use Rattle.std.proofs.Common.{rules, ◌≡◌, ◌∙◌, sym, ap, refl, subst, arith, length, [], take}
+use Rattle.survivor_ring.proofs.Walks.{traces_dropped, given_any}
+use Rattle.survivor_ring.proofs.ring.RingSurvivorsSurvivors.give.Goals as goal
+
+pub returns-clause-list : goal.returns-clause-list
+returns-clause-list g c = λ n l t. traces_dropped c.args.self.now.words.items _ c.args.number n c.drop_words.ensures.items
+
+pub returns-clause-given : goal.returns-clause-given
+returns-clause-given g c = given_any c.args.self.now.words.items c.args.self.now.states c.lowest.result c.args.number c.trace_back.new.bits _ _ c.lowest.ensures.below c.lowest.ensures.lives c.requires.within c.trace_back.ensures.bits c.append.ensures c.requires.alike

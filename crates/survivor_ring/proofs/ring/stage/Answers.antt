@@ -1,0 +1,6 @@
+use Rattle.std.proofs.Common.{rules, ◌≡◌, ◌∙◌, sym, ap, refl, subst, arith}
+use Rattle.survivor_ring.proofs.Words.{folded_is, staged, spread_is, before_are}
+use Rattle.survivor_ring.proofs.ring.stage.Goals as goal
+
+pub returns : goal.returns
+returns c = staged c.args.word c.args.shift c.args.mask

@@ -1,0 +1,44 @@
+-- The bits that decision words stand for.
+use Rattle.std.specs.Prelude.{◌≡◌, ℕ, zero, suc, ◌+◌, ◌-◌, ◌*◌, ◌/◌, ◌%◌, ◌<◌, ◌≤◌, ◌==◌, Bool, true, false, cond, not, ◌&&◌, ◌||◌, List, [], ◌∷◌, ◌++◌, length, IsTrue, ◌⊎◌}
+use Rattle.std.specs.Bool.{nat_lt}
+use Rattle.spec_words.specs.Bits.{is_set}
+use Rattle.code_paths.specs.States.{before}
+
+-- the state from which words lead to a state, the oldest word first
+abbrev pub root : List ℕ → ℕ → ℕ
+root [] n = n
+root (d ∷ ws) n = before d (root ws n)
+
+-- the bits of the states on the way
+abbrev pub trace : List ℕ → ℕ → List Bool
+trace [] n = []
+trace (d ∷ ws) n = is_set (root ws n) 5 ∷ trace ws n
+
+-- one move of bits to higher places
+abbrev pub moved : (ℕ → Bool) → ℕ → (ℕ → Bool) → ℕ → Bool
+moved mask shift f k = mask k && (f k || (not (nat_lt k shift) && f (k - shift)))
+
+-- a state of the set and its decision lead back to m
+abbrev pub leads : ℕ → ℕ → ℕ → ℕ → Bool
+leads set word m n = is_set set n && cond (m % 2 == 1) (is_set word n) (not (is_set word n))
+
+pub record AreBefore (set word result : ℕ) : Type 0 where
+  pub each : (m : ℕ) → m < 64 → is_set result m ≡ (leads set word m (m / 2) || leads set word m (m / 2 + 32))
+
+-- two states of a set that differ in the newest bit
+pub record IsSplit (set : ℕ) : Type 0 where
+  pub low : ℕ
+  pub high : ℕ
+  pub low_below : low < 64
+  pub high_below : high < 64
+  pub low_in : IsTrue (is_set set low)
+  pub high_in : IsTrue (is_set set high)
+  pub low_bit : is_set low 5 ≡ false
+  pub high_bit : is_set high 5 ≡ true
+
+pub record IsUniform (set : ℕ) : Type 0 where
+  pub same : (m n : ℕ) → m < 64 → n < 64 → IsTrue (is_set set m) → IsTrue (is_set set n) → is_set m 5 ≡ is_set n 5
+
+-- the words of a set are uniform, and the answer stays, or they are not, and it is the index
+abbrev pub Chosen : ℕ → ℕ → ℕ → ℕ → Type 0
+Chosen set index old new = (IsUniform set × (new ≡ old)) ⊎ (IsSplit set × (new ≡ index))

@@ -1,0 +1,187 @@
+// Survivors as decision words.
+ghost use Rattle.std.specs.Prelude.{◌≡◌, ◌≢◌, ◌+◌, ◌-◌, ◌*◌, ◌/◌, ◌%◌, ◌<◌, ◌≤◌, ◌==◌, ℕ, Bool, List, [], ◌∷◌, ◌++◌, ◌&&◌, ◌||◌, not, cond, length, take, drop, IfOk, IsTrue, ◌↔◌};
+ghost use Rattle.spec_words.specs.Bits.{is_set};
+ghost use Rattle.code_paths.specs.States.{before};
+ghost use Rattle.survivor_ring.specs.Survivors.{AreAlike, IsAlike};
+ghost use Rattle.survivor_ring.specs.Ring.{root, trace, moved, AreBefore, IsSplit, IsUniform, Chosen};
+ghost use Rattle.std.specs.Prelude.{slice_index, IsFalse, ◌^◌};
+
+use crate::Survivors;
+use crate::bits::{append, lowest};
+use bit_pack::WaitBuf;
+use circular_buffer::HeapCircularBuffer;
+use std::alloc::{AllocError, Global};
+
+/// The bits of both halves.
+fn folded(word: u64) -> u32
+    ensures { (k : ℕ) → k < 32 → is_set result k ≡ (is_set word k || is_set word (k + 32)) }
+{
+    ((word | word >> 32) & 0xFFFF_FFFF) as u32
+}
+
+fn stage(word: u64, shift: u8, mask: u64) -> u64
+    requires { shift < 64 }
+    ensures { (k : ℕ) → k < 64 → is_set result k ≡ moved (is_set mask) shift (is_set word) k }
+{
+    (word | word << shift) & mask
+}
+
+/// Each bit goes to twice its place.
+fn spread(word: u32) -> u64
+    ensures { (k : ℕ) → k < 64 → is_set result k ≡ ((k % 2 == 0) && is_set word (k / 2)) }
+{
+    let a = stage(word as u64, 16, 0x0000_FFFF_0000_FFFF);
+    let b = stage(a, 8, 0x00FF_00FF_00FF_00FF);
+    let c = stage(b, 4, 0x0F0F_0F0F_0F0F_0F0F);
+    let d = stage(c, 2, 0x3333_3333_3333_3333);
+    stage(d, 1, 0x5555_5555_5555_5555)
+}
+
+/// The states from which a word leads to the states of a set.
+fn ancestors(set: u64, word: u64) -> u64
+    ensures { AreBefore set word result }
+{
+    spread(folded(set & !word)) | spread(folded(set & word)) << 1
+}
+
+fn is_uniform(set: u64) -> bool
+    ensures yes { IsTrue result → IsUniform set }
+    ensures no { IsFalse result → IsSplit set }
+{
+    set >> 32 == 0 || set & 0xFFFF_FFFF == 0
+}
+
+fn lowered(set: u64, index: usize, answer: usize) -> usize
+    ensures { Chosen set index answer result }
+{
+    if is_uniform(set) { answer } else { index }
+}
+
+fn word_at(words: &HeapCircularBuffer<u64>, index: usize) -> u64
+    requires { index < length words.now.items }
+    ensures { result ≡ slice_index words.now.items index }
+{
+    match words.get(index) {
+        Some(word) => *word,
+        None => 0,
+    }
+}
+
+fn step_back(word: u64, state: u8) -> u8
+    requires { state < 64 }
+    ensures is { result ≡ before word state }
+    ensures small { result < 64 }
+{
+    let odd = (word >> state) & 1 == 1;
+    2 * (state % 32) + if odd { 1 } else { 0 }
+}
+
+/// Writes the bits that words stand for.
+fn trace_back(words: &HeapCircularBuffer<u64>, state: u8, bits: &mut [bool])
+    requires state { state < 64 }
+    requires room { length words.now.items ≤ length bits.old }
+    ensures size { length bits.new ≡ length bits.old }
+    ensures bits { take (length words.now.items) bits.new ≡ trace words.now.items state }
+{
+    let count = words.len();
+    let mut now = state;
+    for k in 0..count {
+        let index = count - 1 - k;
+        bits[index] = now >= 32;
+        now = step_back(word_at(words, index), now);
+    }
+}
+
+/// How many bits the states of a set share.
+fn shared_words(words: &HeapCircularBuffer<u64>, states: u64) -> usize
+    requires { states ≢ 0 }
+    ensures { IsAlike states (trace words.now.items) (length words.now.items) result }
+{
+    let count = words.len();
+    let mut set = states;
+    let mut answer = count;
+    for k in 0..count {
+        let index = count - 1 - k;
+        answer = lowered(set, index, answer);
+        set = ancestors(set, word_at(words, index));
+    }
+    answer
+}
+
+fn push_word(words: &mut HeapCircularBuffer<u64>, word: u64)
+    requires { length words.old.items < words.old.capacity }
+    ensures items { words.new.items ≡ words.old.items ++ word ∷ [] }
+    ensures capacity { words.new.capacity ≡ words.old.capacity }
+{
+    words.push_back(word);
+}
+
+fn drop_words(words: &mut HeapCircularBuffer<u64>, number: usize)
+    requires { number ≤ length words.old.items }
+    ensures items { words.new.items ≡ drop number words.old.items }
+    ensures capacity { words.new.capacity ≡ words.old.capacity }
+{
+    words.truncate_front(words.len() - number);
+}
+
+/// Decision words, and the alive states.
+#[derive(Drop)]
+pub struct RingSurvivors<const L: usize> {
+    words: HeapCircularBuffer<u64>,
+    states: u64,
+    ghost capacity: { words.capacity ≡ L + 1 },
+    ghost few: { length words.items ≤ L + 1 },
+    ghost room: { L ≤ 2048 },
+    ghost some: { states ≢ 0 },
+    ghost fits: { states < 2 ^ 64 },
+}
+
+impl<const L: usize> RingSurvivors<L> {
+    /// The decision words, the oldest first.
+    pub fn words(&self) -> &HeapCircularBuffer<u64>
+        ensures { result.now ≡ self.now.words }
+    {
+        &self.words
+    }
+}
+
+impl<const L: usize> Survivors<L> for RingSurvivors<L> {
+    ghost states = { λ v. v.states };
+
+    ghost count = { λ v. length v.words.items };
+
+    ghost list = { λ v. trace v.words.items };
+
+    fn new(alloc: Global, alive: u64) -> Result<Self, AllocError> {
+        let words = HeapCircularBuffer::with_capacity(alloc, L + 1)?;
+        Ok(RingSurvivors { words, states: alive })
+    }
+
+    fn waiting(&self) -> u32 {
+        self.words.len() as u32
+    }
+
+    fn push(&mut self, decisions: u64, alive: u64) {
+        push_word(&mut self.words, decisions);
+        self.states = alive;
+    }
+
+    fn shared(&self) -> u32 {
+        shared_words(&self.words, self.states) as u32
+    }
+
+    fn give(&mut self, number: u32, to: &mut WaitBuf) {
+        let mut bits = [false; 2049];
+        trace_back(&self.words, lowest(self.states) as u8, &mut bits);
+        append(&bits, number as usize, to);
+        drop_words(&mut self.words, number as usize);
+    }
+
+    fn force(&mut self, end: u8, to: &mut WaitBuf) {
+        let mut bits = [false; 2049];
+        trace_back(&self.words, end, &mut bits);
+        append(&bits, self.words.len(), to);
+        self.words.clear();
+        self.states = 1 << end;
+    }
+}

@@ -1,0 +1,70 @@
+// What survivors are.
+ghost use Rattle.std.specs.Prelude.{◌≡◌, ◌≢◌, ◌+◌, ◌-◌, ◌<◌, ◌≤◌, ◌^◌, ℕ, Bool, List, [], ◌++◌, length, drop, IfOk, IsTrue};
+ghost use Rattle.spec_words.specs.Bits.{is_set};
+ghost use Rattle.survivor_ring.specs.Survivors.{IsPushed, IsFollowed, AreAlike, IsAlike, GivesAway};
+
+use bit_pack::WaitBuf;
+use std::alloc::{AllocError, Global};
+
+/// The waiting bits of the paths to the alive states: a list for each state, all of one length, at most `L + 1`.
+///
+/// `L`, the path memory in steps, is 1 to 2048. No call but `new` takes memory.
+pub trait Survivors<const L: usize>: Drop {
+    /// The alive states, as a word whose bit n is that of state n.
+    ghost states: { Self → ℕ };
+
+    /// How many bits wait.
+    ghost count: { Self → ℕ };
+
+    /// The bits that wait for a state, the oldest first.
+    ghost list: { Self → ℕ → List Bool };
+
+    /// Survivors of these alive states, of which there is one at least; no bit waits. The only error is want of memory.
+    fn new(alloc: Global, alive: u64) -> Result<Self, AllocError>
+        requires some { 0 < L }
+        requires few { L ≤ 2048 }
+        requires alive { alive ≢ 0 }
+        ensures states { IfOk result (λ v. states v ≡ alive) }
+        ensures count { IfOk result (λ v. count v ≡ 0) }
+        ensures list { IfOk result (λ v. (n : ℕ) → n < 64 → IsTrue (is_set alive n) → list v n ≡ []) };
+
+    /// How many bits wait, the same number for all states.
+    fn waiting(&self) -> u32
+        ensures number { result ≡ count self.now };
+
+    /// Takes a step. At most `L` bits may wait, `alive` are the states that follow, and the state before that the decision
+    /// word chose for each of them was alive. Each new list is that of the state before, and the newest bit of the state.
+    fn push(&mut self, decisions: u64, alive: u64)
+        requires room { count self.old ≤ L }
+        requires follows { IsFollowed (states self.old) decisions alive }
+        ensures states { states self.new ≡ alive }
+        ensures count { count self.new ≡ count self.old + 1 }
+        ensures list { IsPushed (list self.old) decisions alive (list self.new) };
+
+    /// The length of the longest common prefix of the lists of all alive states.
+    fn shared(&self) -> u32
+        ensures shared { IsAlike (states self.now) (list self.now) (count self.now) result };
+
+    /// Moves the first `number` bits, which all alive states share, behind the bits of `to`. There must be room for them.
+    fn give(&mut self, number: u32, to: &mut WaitBuf)
+        requires within { number ≤ count self.old }
+        requires alike { AreAlike (states self.old) (list self.old) number }
+        requires room { length to.old + number ≤ 36864 }
+        ensures states { states self.new ≡ states self.old }
+        ensures count { count self.new ≡ count self.old - number }
+        ensures list { (n : ℕ) → n < 64 → IsTrue (is_set (states self.old) n) → list self.new n ≡ drop number (list self.old n) }
+        ensures amount { length to.new ≡ length to.old + number }
+        ensures given { GivesAway (states self.old) (list self.old) number to.old to.new };
+
+    /// Moves all bits of the alive state `end` behind the bits of `to`, where there must be room for them. This state alone
+    /// is alive then, and no bit waits.
+    fn force(&mut self, end: u8, to: &mut WaitBuf)
+        requires below { end < 64 }
+        requires lives { IsTrue (is_set (states self.old) end) }
+        requires room { length to.old + count self.old ≤ 36864 }
+        ensures amount { length to.new ≡ length to.old + count self.old }
+        ensures given { to.new ≡ to.old ++ list self.old end }
+        ensures states { states self.new ≡ 2 ^ end }
+        ensures count { count self.new ≡ 0 }
+        ensures list { list self.new end ≡ [] };
+}
