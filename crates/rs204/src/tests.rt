@@ -1,42 +1,87 @@
-// Outcomes of words, against values from outside.
+// Words against values from outside, and the fast decoder against the plain one.
 
-use crate::{Outcome, decode, encode};
+use crate::{Outcome, decode, encode, plain};
+use gf256::Elem;
 use std::test::Fail;
 
-// The coefficients of the generator, that of x^16 first.
-const TABLE: [u8; 17] = [
-    1, 59, 13, 104, 189, 68, 209, 30, 8, 163, 65, 41, 229, 98, 50, 36, 59,
+// The sixteen bytes behind 187 zeros and a one, which are the generator's coefficients behind its
+// first.
+const PARITY_OF_ONE: [u8; 16] = [
+    0x3B, 0x0D, 0x68, 0xBD, 0x44, 0xD1, 0x1E, 0x08, 0xA3, 0x41, 0x29, 0xE5, 0x62, 0x32, 0x24, 0x3B,
 ];
 
+// The coefficients of the product of x + λ^i for i below 8, which as errors are near no codeword.
+const NEAR_NONE: [u8; 9] = [0x01, 0xFF, 0x0B, 0x51, 0x36, 0xEF, 0xAD, 0xC8, 0x18];
+
 #[test]
-fn one_at_the_end(rt: HostRuntime) -> Result<(), Fail> {
+fn parity_of_a_single_one(rt: HostRuntime) -> Result<(), Fail> {
     let mut message = [0u8; 188];
     message[187] = 1;
     let word = encode(&message);
-    for i in 0..17usize {
-        assert_eq!(rt; word[187 + i], TABLE[i]);
-    }
+    assert_eq!(rt; &word[..188], message.as_slice());
+    assert_eq!(rt; &word[188..], PARITY_OF_ONE.as_slice());
     Ok(())
 }
 
 #[test]
-fn eight_errors(rt: HostRuntime) -> Result<(), Fail> {
-    let mut word = [0u8; 204];
-    for i in 0..17usize {
-        word[187 + i] = TABLE[i];
-    }
-    let sent = word;
-    assert!(rt; matches!(decode(&mut word), Outcome::Clean));
+fn outcomes_of_words(rt: HostRuntime) -> Result<(), Fail> {
+    let zeros = [0u8; 204];
+    let mut word = zeros;
+    assert_eq!(rt; decode(&mut word), Outcome::Clean);
     for i in 0..8usize {
         word[20 * i + 7] ^= 91;
     }
-    assert!(rt; matches!(decode(&mut word), Outcome::Corrected(8)));
-    for i in 0..204usize {
-        assert_eq!(rt; word[i], sent[i]);
+    assert_eq!(rt; decode(&mut word), Outcome::Corrected(8));
+    assert_eq!(rt; word.as_slice(), zeros.as_slice());
+
+    let mut product = [0u8; 9];
+    product[0] = 1;
+    for i in 0..8u8 {
+        for k in (0..8usize).rev() {
+            product[k + 1] ^= Elem(product[k]).times_power(i).0;
+        }
     }
-    for i in 0..9usize {
-        word[20 * i + 7] ^= 91;
+    assert_eq!(rt; product.as_slice(), NEAR_NONE.as_slice());
+    for k in 0..9usize {
+        word[195 + k] ^= product[k];
     }
-    assert!(rt; matches!(decode(&mut word), Outcome::Bad));
+    let received = word;
+    assert_eq!(rt; decode(&mut word), Outcome::Bad);
+    assert_eq!(rt; word.as_slice(), received.as_slice());
+    Ok(())
+}
+
+// The next number of a plain congruential sequence.
+fn after(seed: u32) -> u32 {
+    seed.wrapping_mul(1664525).wrapping_add(1013904223)
+}
+
+// Codewords of drawn messages with 0 to 12 drawn errors, by both decoders.
+#[test]
+fn drawn_errors_by_both_decoders(rt: HostRuntime) -> Result<(), Fail> {
+    let mut seed = 1u32;
+    for errors in 0..13usize {
+        let mut message = [0u8; 188];
+        for i in 0..188usize {
+            seed = after(seed);
+            message[i] = (seed >> 24) as u8;
+        }
+        let sent = encode(&message);
+        let mut word = sent;
+        for k in 0..errors {
+            seed = after(seed);
+            word[16 * k + (seed >> 28) as usize] ^= 1 + ((seed >> 16) % 255) as u8;
+        }
+        let mut slow = word;
+        let outcome = decode(&mut word);
+        assert_eq!(rt; outcome, plain::decode(&mut slow));
+        assert_eq!(rt; word.as_slice(), slow.as_slice());
+        if errors == 0 {
+            assert_eq!(rt; outcome, Outcome::Clean);
+        } else if errors <= 8 {
+            assert_eq!(rt; outcome, Outcome::Corrected(errors as u8));
+            assert_eq!(rt; word.as_slice(), sent.as_slice());
+        }
+    }
     Ok(())
 }
