@@ -27,8 +27,8 @@ module _ (p : Coder) (r : Rate) (path : ℕ → Bool) (t byte : ℕ) (at : IsAtP
   pub sent : (x y : ℕ) (bits : List Bool) → spelled 8 x ≡ xs_of 8 (p.register ++ spelled 8 byte) → spelled 8 y ≡ ys_of 8 (p.register ++ spelled 8 byte)
       → bits ≡ bits_of_steps p.rate t (spelled 8 x) (spelled 8 y) → bits ≡ sent_bits r path (sent_before r t) (sent_before r (t + 8))
   sent x y bits x_is y_is made = made ∙ ap (λ s. bits_of_steps s t (spelled 8 x) (spelled 8 y)) at.rate
-    ∙ ap (λ z. bits_of_steps r t z (spelled 8 y)) x_is ∙ ap (λ z. bits_of_steps r t (xs_of 8 (p.register ++ spelled 8 byte)) z) y_is
-    ∙ run_of_steps r path 8 t (p.register ++ spelled 8 byte) place_of
+      ∙ ap (λ z. bits_of_steps r t z (spelled 8 y)) x_is ∙ ap (λ z. bits_of_steps r t (xs_of 8 (p.register ++ spelled 8 byte)) z) y_is
+      ∙ run_of_steps r path 8 t (p.register ++ spelled 8 byte) place_of
 
   pub register : (new : List Bool) → new ≡ drop 8 (p.register ++ spelled 8 byte) → new ≡ bits_from path (t + 8) 6
   register new e =

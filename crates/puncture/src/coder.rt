@@ -70,7 +70,12 @@ fn punctured(rate: Rate, start: u8, x: u8, y: u8) -> (Bits, u8)
     let mut place = start;
     for step in 0..8u8 {
         let sent = sent_in_place(rate, place);
-        bits = with_sent(bits, sent, bit_of(x as u16, 7 - step), bit_of(y as u16, 7 - step));
+        bits = with_sent(
+            bits,
+            sent,
+            bit_of(x as u16, 7 - step),
+            bit_of(y as u16, 7 - step),
+        );
         place = next_place(rate, place);
     }
     (bits, place)
