@@ -1,5 +1,5 @@
 -- A coder at a path codes the next byte of it.
-use Rattle.std.proofs.Common.{◌≡◌, ℕ, zero, suc, ◌+◌, ◌<◌, ◌%◌, Bool, false, List, ◌++◌, map, drop, get_or, sym, ap, ◌∙◌, arith}
+use Rattle.std.proofs.Common.{subst, ◌≡◌, ℕ, zero, suc, ◌+◌, ◌<◌, ◌%◌, Bool, false, List, ◌++◌, map, drop, get_or, sym, ap, ◌∙◌, arith}
 use Rattle.std.specs.List.{range_with_len}
 use Rattle.spec_words.specs.Bits.{bit, spelled}
 use Rattle.conv_code.specs.Coded.{xs_of, ys_of}
@@ -34,3 +34,6 @@ module _ (p : Coder) (r : Rate) (path : ℕ → Bool) (t byte : ℕ) (at : IsAtP
   register new e =
       let start : t + 1 + 1 + 1 + 1 + 1 + 1 + 1 + 1 ≡ t + 8 = omega arith in
       e ∙ ap (λ z. drop 8 z) whole ∙ ap (λ s. map path (range_with_len s 6)) start
+
+pub at_same : (p : Coder) (r : Rate) (path : ℕ → Bool) (t u : ℕ) → t ≡ u → IsAtPath p r path t → IsAtPath p r path u
+at_same p r path t u e at = subst (IsAtPath p r path) e at

@@ -146,6 +146,8 @@ impl PuncturedEncoder {
 
     /// Codes a byte, the most significant bit first, and appends what is sent of its eight steps, 8 to 16 bits. There
     /// must be room for sixteen.
+    ///
+    /// A queue that holds sent bits of the path goes on to hold them. `of_bytes` says so of byte `m` of a stream of bytes.
     pub fn push_byte<const N: usize>(&mut self, byte: u8, to: &mut BitBuf<N>)
         requires room { length to.old + 16 ≤ 8 * N }
         ensures few { length to.new ≤ length to.old + 16 }
@@ -154,6 +156,14 @@ impl PuncturedEncoder {
         ensures sent { (r : AnyRate) (path : ℕ → Bool) (t : ℕ) → IsAtPath self.old r path t
             → spelled 8 byte ≡ bits_from path (t + 6) 8
             → to.new ≡ to.old ++ sent_bits r path (sent_before r t) (sent_before r (t + 8)) }
+        ensures holds { (r : AnyRate) (path : ℕ → Bool) (t a : ℕ) → IsAtPath self.old r path t
+            → spelled 8 byte ≡ bits_from path (t + 6) 8
+            → a ≤ sent_before r t → to.old ≡ sent_bits r path a (sent_before r t)
+            → to.new ≡ sent_bits r path a (sent_before r (t + 8)) }
+        ensures of_bytes { (r : AnyRate) (bytes : ℕ → ℕ) (m a : ℕ) → IsAtPath self.old r (path_of bytes) (8 * m) → byte ≡ bytes m
+            → a ≤ sent_before r (8 * m) → to.old ≡ sent_bits r (path_of bytes) a (sent_before r (8 * m))
+            → IsAtPath self.new r (path_of bytes) (8 * (m + 1))
+            × (to.new ≡ sent_bits r (path_of bytes) a (sent_before r (8 * (m + 1)))) }
     {
         let (x, y) = self.encoder.step_byte(byte);
         let (bits, place) = punctured(self.rate, self.place, x, y);

@@ -72,7 +72,8 @@ impl Puncturer {
 
     /// Appends what is sent of a step, whose X and Y are given. There must be room for two bits.
     ///
-    /// Where they are the coded bits of step `t` of a path, its next sent bits are appended.
+    /// Where they are the coded bits of step `t` of a path, its next sent bits are appended. So a queue that holds sent
+    /// bits of the path, from any number on, goes on to hold them.
     pub fn push<const N: usize>(&mut self, coded: (bool, bool), to: &mut BitBuf<N>)
         requires room { length to.old + 2 ≤ 8 * N }
         ensures bits { to.new ≡ to.old ++ bits_of_step self.old.rate self.old.step coded.0 coded.1 }
@@ -81,6 +82,10 @@ impl Puncturer {
         ensures sent { (r : AnyRate) (path : ℕ → Bool) (t : ℕ) → IsAtStep self.old r t
             → coded.0 ≡ parity_x (window path t) → coded.1 ≡ parity_y (window path t)
             → to.new ≡ to.old ++ sent_bits r path (sent_before r t) (sent_before r (t + 1)) }
+        ensures holds { (r : AnyRate) (path : ℕ → Bool) (t a : ℕ) → IsAtStep self.old r t
+            → coded.0 ≡ parity_x (window path t) → coded.1 ≡ parity_y (window path t)
+            → a ≤ sent_before r t → to.old ≡ sent_bits r path a (sent_before r t)
+            → to.new ≡ sent_bits r path a (sent_before r (t + 1)) }
     {
         push_sent(sent_in_place(self.rate, self.place), coded, to);
         self.place = next_place(self.rate, self.place);
