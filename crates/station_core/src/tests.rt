@@ -57,7 +57,10 @@ fn reads_of_at_most_two_bytes(rt: HostRuntime) -> Result<(), Fail> {
 #[test]
 fn half_a_write_and_no_room(rt: HostRuntime) -> Result<(), Fail> {
     let alloc = rt.alloc();
-    let failing = vec![in alloc; Failing::Write(OutPort::Hp, 2), Failing::Close(OutPort::Hp, 1)]?;
+    let failing = vec![in alloc;
+        Failing::Write(OutPort::Hp, 2),
+        Failing::Close(OutPort::Hp, 1),
+    ]?;
     let mut station = MemoryStation::new(alloc, files(alloc)?, 2, 6, failing)?;
     assert!(rt; station.create(OutPort::Hp, "out").is_ok());
     assert!(rt; put(&mut station, &[1, 2]));
@@ -65,7 +68,10 @@ fn half_a_write_and_no_room(rt: HostRuntime) -> Result<(), Fail> {
     assert_eq!(rt; station.written(OutPort::Hp), [1u8, 2, 3].as_slice());
     assert!(rt; !put(&mut station, &[6, 7, 8, 9]));
     assert!(rt; put(&mut station, &[6, 7, 8]));
-    assert_eq!(rt; station.written(OutPort::Hp), [1u8, 2, 3, 6, 7, 8].as_slice());
+    assert_eq!(rt;
+        station.written(OutPort::Hp),
+        [1u8, 2, 3, 6, 7, 8].as_slice()
+    );
     assert!(rt; station.close(OutPort::Hp).is_err());
     Ok(())
 }

@@ -1,6 +1,6 @@
 use Rattle.std.proofs.Common.{◌∙◌, sym}
 use Rattle.acs_plain.proofs.Loops.{with_bit_fits, with_bit_before, with_bit_here, unset_above}
-use Rattle.acs_plain.proofs.plain.with_bit.Goals as goal
+use Rattle.acs_plain.proofs.sums.with_bit.Goals as goal
 
 pub returns-then-on-clause-fits : goal.returns-then-on-clause-fits
 returns-then-on-clause-fits c = with_bit_fits c.args.word c.args.place c.requires.low c.requires.place
