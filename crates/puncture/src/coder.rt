@@ -135,7 +135,8 @@ impl Model for PuncturedEncoder {
 impl PuncturedEncoder {
     /// The coder before the first byte of any stream: the register is six zeros.
     pub fn start(rate: Rate) -> PuncturedEncoder
-        ensures { (bytes : ℕ → ℕ) → IsAtPath result rate (path_of bytes) 0 }
+        ensures at { (bytes : ℕ → ℕ) → IsAtPath result rate (path_of bytes) 0 }
+        ensures none { (path : ℕ → Bool) → sent_bits rate path 0 (sent_before rate 0) ≡ [] }
     {
         PuncturedEncoder {
             encoder: Encoder::start(),

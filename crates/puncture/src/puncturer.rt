@@ -1,5 +1,5 @@
 // Puncturing, step by step.
-ghost use Rattle.std.specs.Prelude.{◌≡◌, ◌+◌, ◌*◌, ◌<◌, ◌≤◌, ◌%◌, ℕ, Bool, ◌++◌, length};
+ghost use Rattle.std.specs.Prelude.{◌≡◌, ◌+◌, ◌*◌, ◌<◌, ◌≤◌, ◌%◌, ℕ, Bool, [], ◌++◌, length};
 ghost use Rattle.code_paths.specs.Paths.{parity_x, parity_y};
 ghost use Rattle.puncture.specs.SentBits.{window, sent_bits};
 ghost use Rattle.puncture.specs.Steps.{sent_before, bits_sent, bits_of_step, IsAtStep, has_x, has_y};
@@ -65,7 +65,8 @@ impl Model for Puncturer {
 impl Puncturer {
     /// The puncturer before the first step of a stream.
     pub fn start(rate: Rate) -> Puncturer
-        ensures { IsAtStep result rate 0 }
+        ensures at { IsAtStep result rate 0 }
+        ensures none { (path : ℕ → Bool) → sent_bits rate path 0 (sent_before rate 0) ≡ [] }
     {
         Puncturer { rate, place: 0 }
     }
