@@ -32,8 +32,7 @@ returns-clause-holds g c = λ r path t a at is first held.
 pub returns-clause-of_bytes : goal.returns-clause-of_bytes
 returns-clause-of_bytes g c = λ r bytes m a at is first held.
     let spelt : spelled 8 c.args.byte ≡ bits_from (path_of bytes) (8 * m + 6) 8 = ap (spelled 8) is ∙ byte_is_path bytes m in
-    let next : 8 * m + 8 ≡ 8 * (m + 1) = omega arith in
-    (
+    let next : 8 * m + 8 ≡ 8 * (m + 1) = omega arith in (
       at_same _ r (path_of bytes) (8 * m + 8) (8 * (m + 1)) next (returns-clause-next g c r (path_of bytes) (8 * m) at spelt),
-      returns-clause-holds g c r (path_of bytes) (8 * m) a at spelt first held ∙ ap (λ t. sent_bits r (path_of bytes) a (sent_before r t)) next
+      returns-clause-holds g c r (path_of bytes) (8 * m) a at spelt first held ∙ ap (λ t. sent_bits r (path_of bytes) a (sent_before r t)) next,
     )
