@@ -5,7 +5,6 @@
 #![tactic(auto)]
 
 #[cfg(test)]
-mod trials;
-
-#[cfg(test)]
 mod tests;
+#[cfg(test)]
+mod trials;

@@ -25,7 +25,11 @@ pub fn pairs_of(alloc: Global, digits: &str) -> Result<Vec<CostPair>, AllocError
 
 /// The letter for a number of bits.
 fn letter(number: usize) -> char {
-    if number < 26 { (b'a' + number as u8) as char } else { '?' }
+    if number < 26 {
+        (b'a' + number as u8) as char
+    } else {
+        '?'
+    }
 }
 
 fn bit_letter(bit: bool) -> char {

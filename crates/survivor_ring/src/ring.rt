@@ -165,7 +165,10 @@ impl<const L: usize> Survivors<L> for RingSurvivors<L> {
 
     fn new(alloc: Global, alive: u64) -> Result<Self, AllocError> {
         let words = HeapCircularBuffer::with_capacity(alloc, L + 1)?;
-        Ok(RingSurvivors { words, states: alive })
+        Ok(RingSurvivors {
+            words,
+            states: alive,
+        })
     }
 
     fn waiting(&self) -> u32 {

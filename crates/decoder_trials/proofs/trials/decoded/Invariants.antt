@@ -7,5 +7,5 @@ invariant-loop-k g l = record {
   going : l.decoder.ended ≡ false;
   steps : l.decoder.steps ≡ l.k;
   few : l.decoder.waiting ≤ g.row.L;
-  amount : length l.to + l.decoder.waiting ≡ l.k
+  amount : length l.to + l.decoder.waiting ≡ l.k;
 }

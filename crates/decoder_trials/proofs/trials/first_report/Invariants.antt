@@ -7,5 +7,5 @@ invariant-loop-k g l = record {
   going : l.decoder.ended ≡ false;
   steps : l.decoder.steps ≡ l._k;
   few : l.decoder.waiting ≤ 2048;
-  amount : length l.to + l.decoder.waiting ≡ l._k
+  amount : length l.to + l.decoder.waiting ≡ l._k;
 }
