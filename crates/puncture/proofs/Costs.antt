@@ -1,5 +1,5 @@
 -- The costs of a step are those of its bits among the sent ones.
-use Rattle.std.proofs.Common.{◌≡◌, ℕ, ◌+◌, ◌%◌, Bool, true, false, if◌then◌else◌, Some, None, refl, sym, ap, ◌∙◌, arith}
+use Rattle.std.proofs.Common.{◌≡◌, ℕ, ◌+◌, Bool, true, false, if◌then◌else◌, Some, None, refl, ap, ◌∙◌, arith}
 use Rattle.std.proofs.Math.Nat.{mod-mod}
 use Rattle.mode_set.specs.StreamTable.{steps_in_period}
 use Rattle.mode_set.specs.declared.modes.Rate.{Rate}

@@ -1,5 +1,5 @@
 -- Each step sends the next bits of its path.
-use Rattle.std.proofs.Common.{◌≡◌, ℕ, zero, suc, ◌+◌, ◌-◌, ◌*◌, ◌/◌, ◌%◌, ◌<◌, ◌≤◌, nat_le, Bool, true, false, List, [], ◌∷◌, ◌++◌, map, refl, sym, ap, subst, ◌∙◌, arith}
+use Rattle.std.proofs.Common.{◌≡◌, ℕ, zero, suc, ◌+◌, ◌-◌, ◌*◌, ◌/◌, ◌%◌, ◌<◌, nat_le, Bool, [], ◌∷◌, map, refl, ap, subst, ◌∙◌, arith}
 use Rattle.std.specs.Prelude.{count_by, slice_index_or}
 use Rattle.std.specs.List.{range_with_len}
 use Rattle.std.proofs.lemmas.Nat.{div-mul-add, mod-mul-add, div-add-mod', mod_below}
@@ -7,7 +7,7 @@ use Rattle.code_paths.specs.Paths.{parity_x, parity_y}
 use Rattle.mode_set.specs.StreamTable.{steps_in_period, sent_in_period}
 use Rattle.mode_set.specs.declared.modes.Rate.{Rate}
 use Rattle.mode_set.specs.declared.modes.Rate.TheVariants.{R1of2, R2of3, R3of4, R5of6, R7of8}
-use Rattle.puncture.specs.SentBits.{X, Y, sent, window, coded_bit, sent_bit, sent_bits}
+use Rattle.puncture.specs.SentBits.{X, sent, window, coded_bit, sent_bit, sent_bits}
 use Rattle.puncture.specs.Steps.{step_in_period, sent_before, bits_of_step}
 
 -- the bits sent in the first i steps of a period

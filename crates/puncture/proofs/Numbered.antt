@@ -1,14 +1,12 @@
 -- The numbers of the sent bits, step by step.
-use Rattle.std.proofs.Common.{◌≡◌, ℕ, zero, suc, ◌+◌, ◌-◌, ◌*◌, ◌/◌, ◌%◌, ◌<◌, ◌≤◌, nat_le, Bool, true, false, ◌||◌, if◌then◌else◌, List, [], ◌∷◌, ◌++◌, map, length, Option, Some, None, option_map, refl, sym, ap, subst, ◌∙◌, arith}
-use Rattle.std.specs.Prelude.{slice_index_or}
+use Rattle.std.proofs.Common.{◌≡◌, ℕ, zero, suc, ◌+◌, ◌*◌, ◌/◌, ◌%◌, ◌<◌, Some, refl, ap, subst, ◌∙◌, arith}
 use Rattle.std.proofs.lemmas.Nat.{div-mul-add, mod-mul-add, div-add-mod', mod_below}
-use Rattle.mode_set.specs.StreamTable.{steps_in_period, sent_in_period}
+use Rattle.mode_set.specs.StreamTable.{steps_in_period}
 use Rattle.mode_set.specs.declared.modes.Rate.{Rate}
 use Rattle.mode_set.specs.declared.modes.Rate.TheVariants.{R1of2, R2of3, R3of4, R5of6, R7of8}
-use Rattle.puncture.specs.SentBits.{Coded, X, Y, sent}
-use Rattle.puncture.specs.Steps.{is_sent, number_of, sent_before, sent_as, step_of, kind_of, step_in_period}
+use Rattle.puncture.specs.Steps.{sent_before}
 use Rattle.puncture.specs.Laws.{IsNumbered}
-use Rattle.puncture.proofs.InOrder.{count, before, some_step}
+use Rattle.puncture.proofs.InOrder.{before, some_step}
 
 -- what is said of step i of a period, in place of step q * k + i of a stream
 abbrev pub IsNumberedAt : Rate → ℕ → ℕ → Type 0

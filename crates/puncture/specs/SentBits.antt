@@ -1,6 +1,6 @@
 -- Puncturing: which coded bits are sent, and in which order (EN 300 744, 4.3.3).
-use Rattle.std.specs.Prelude.{ℕ, ◌+◌, ◌-◌, ◌*◌, ◌/◌, ◌%◌, ◌==◌, nat_le, nat_lt, Bool, true, false, if◌then◌else◌, List, [], ◌∷◌, ◌++◌, map, count_by, position, Option, option_map, slice_index_or}
-use Rattle.std.specs.List.{list_any, range_with_len}
+use Rattle.std.specs.Prelude.{ℕ, ◌+◌, ◌-◌, ◌*◌, ◌/◌, ◌%◌, nat_lt, Bool, false, if◌then◌else◌, List, [], ◌∷◌, map, slice_index_or}
+use Rattle.std.specs.List.{range_with_len}
 use Rattle.spec_words.specs.Bits.{is_set}
 use Rattle.code_paths.specs.Paths.{parity_x, parity_y}
 use Rattle.mode_set.specs.StreamTable.{steps_in_period, sent_in_period}
@@ -40,3 +40,7 @@ sent_bit r path n = coded_bit path (steps_in_period r * (n / sent_in_period r)) 
 -- the sent bits of a path from number a on, those from number b on left out
 abbrev pub sent_bits : Rate → (ℕ → Bool) → ℕ → ℕ → List Bool
 sent_bits r path a b = map (sent_bit r path) (range_with_len a (b - a))
+
+-- so many bits of a path, from bit t on
+abbrev pub bits_from : (ℕ → Bool) → ℕ → ℕ → List Bool
+bits_from path t n = map path (range_with_len t n)

@@ -3,7 +3,7 @@ use Rattle.std.specs.Prelude.{◌≡◌, ℕ, ◌+◌, ◌-◌, ◌*◌, ◌/◌
 use Rattle.std.specs.List.{list_any}
 use Rattle.mode_set.specs.StreamTable.{steps_in_period, sent_in_period}
 use Rattle.mode_set.specs.declared.modes.Rate.{Rate}
-use Rattle.puncture.specs.SentBits.{Coded, X, Y, sent}
+use Rattle.puncture.specs.SentBits.{Coded, X, Y, sent, bits_from}
 use Rattle.puncture.specs.declared.table.Sent.{Sent}
 use Rattle.puncture.specs.declared.table.Sent.TheVariants.{Both, OnlyX, OnlyY}
 
@@ -51,6 +51,12 @@ bits_sent x_goes y_goes x y = (if x_goes then x ∷ [] else []) ++ (if y_goes th
 abbrev pub bits_of_step : Rate → ℕ → Bool → Bool → List Bool
 bits_of_step r t x y = bits_sent (is_sent r X t) (is_sent r Y t) x y
 
+-- what is sent of the steps from t on, whose X and Y these are
+unfoldable pub bits_of_steps : Rate → ℕ → List Bool → List Bool → List Bool
+bits_of_steps r t [] ys = []
+bits_of_steps r t (x ∷ xs) [] = []
+bits_of_steps r t (x ∷ xs) (y ∷ ys) = bits_of_step r t x y ++ bits_of_steps r (t + 1) xs ys
+
 -- how many bits are sent of step t
 abbrev pub needed : Rate → ℕ → ℕ
 needed r t = (if is_sent r X t then 1 else 0) + (if is_sent r Y t then 1 else 0)
@@ -87,3 +93,15 @@ pub record Place : Type 0 where
 pub record IsAtStep (p : Place) (r : Rate) (t : ℕ) : Type 0 where
   pub rate : p.rate ≡ r
   pub step : p.step ≡ t % steps_in_period r
+
+-- an encoder with its puncturer: the rate, the steps of the period that are done, the register with its oldest bit first
+pub record Coder : Type 0 where
+  pub rate : Rate
+  pub step : ℕ
+  pub register : List Bool
+
+-- the coder before step t of a path
+pub record IsAtPath (c : Coder) (r : Rate) (path : ℕ → Bool) (t : ℕ) : Type 0 where
+  pub rate : c.rate ≡ r
+  pub step : c.step ≡ t % steps_in_period r
+  pub register : c.register ≡ bits_from path t 6

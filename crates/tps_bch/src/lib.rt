@@ -1,0 +1,115 @@
+//! The BCH code that protects the TPS bits of a frame: 53 bits, 14 parity bits, two errors corrected.
+//!
+//! EN 300 744, 4.6.3.
+#![tactic(auto)]
+
+ghost use Rattle.std.specs.Prelude.{◌≡◌, ◌<◌, not, slice_set, ◌++◌, ◌≤◌, ℕ, List, Bool};
+ghost use Rattle.spec_words.specs.Bits.{bit};
+ghost use Rattle.tps_bch.specs.Bch.{tps_parity, IsTpsWord, IsCorrected, IsFar, AreApart, bit_distance};
+
+mod syndromes;
+
+use syndromes::{place_of, places_of, syndrome};
+
+/// What a correction found.
+#[derive(Clone, Copy, Debug, PartialEq, Eq)]
+pub enum TpsOutcome {
+    /// A word of the code stood so many places away, 0 to 2.
+    Read(u8),
+    /// None stands within two places.
+    Unreadable,
+}
+
+/// The parity bits s54 to s67 of the bits s1 to s53: both together are a multiple of the generator.
+pub fn parity(info: &[bool; 53]) -> [bool; 14]
+    ensures rest { result ≡ tps_parity info.now }
+    ensures word { IsTpsWord (info.now ++ result) }
+{
+    let rest = syndrome(info);
+    let mut bits = [false; 14];
+    for (i, bit) in bits.iter_mut().enumerate() {
+        *bit = rest >> (13 - i) & 1 == 1;
+    }
+    bits
+}
+
+fn flip(word: &mut [bool; 67], place: usize)
+    requires { place < 67 }
+    ensures { word.new ≡ slice_set word.old place (not (bit word.old place)) }
+{
+    word[place] = !word[place];
+}
+
+/// Puts the word of the code that stands within two places in place of the bits s1 to s67, if there
+/// is one, and answers at how many places they differed; else it leaves them as they are.
+pub fn correct(word: &mut [bool; 67]) -> TpsOutcome
+    ensures read { (n : ℕ) → result ≡ TpsOutcome.Read n → IsCorrected word.old word.new n }
+    ensures unreadable { result ≡ TpsOutcome.Unreadable → (word.new ≡ word.old) × IsFar word.old }
+    ensures nearest { (w : List Bool) → IsTpsWord w → bit_distance word.old w ≤ 2 → (result ≡ TpsOutcome.Read (bit_distance word.old w)) × (word.new ≡ w) }
+{
+    let syndrome = syndrome(word);
+    if syndrome == 0 {
+        return TpsOutcome::Read(0);
+    }
+    if let Some(i) = place_of(syndrome) {
+        flip(word, i);
+        return TpsOutcome::Read(1);
+    }
+    if let Some((i, j)) = places_of(syndrome) {
+        flip(word, i);
+        flip(word, j);
+        return TpsOutcome::Read(2);
+    }
+    TpsOutcome::Unreadable
+}
+
+/// Any two words of the code differ in at least five places, so at most one stands within two places
+/// of given bits.
+pub fn words_are_apart()
+    ensures { AreApart }
+{}
+
+#[cfg(test)]
+mod tests {
+    use super::{TpsOutcome, correct, parity};
+    use std::rt::HostRuntime;
+
+    // The parity of 52 zeros and then a 1 is x^14 divided by the generator: 00001101110111.
+    #[test]
+    fn parity_of_the_last_bit(rt: HostRuntime) {
+        let mut info = [false; 53];
+        info[52] = true;
+        let expected = [
+            false, false, false, false, true, true, false, true, true, true, false, true, true,
+            true,
+        ];
+        assert!(&rt; parity(&info) == expected);
+    }
+
+    // Every error in one or two bits of the zero word is undone.
+    #[test]
+    fn two_errors_are_undone(rt: HostRuntime) {
+        for i in 0..67usize {
+            for j in 0..67usize {
+                let mut word = [false; 67];
+                word[i] = true;
+                word[j] = true;
+                let errors = if i == j { 1 } else { 2 };
+                assert!(&rt; correct(&mut word) == TpsOutcome::Read(errors));
+                assert!(&rt; word == [false; 67]);
+            }
+        }
+    }
+
+    // x^7 + x^3 + 1, flips of s60, s64 and s67, divides the generator: it is within two bits of no word.
+    #[test]
+    fn three_errors_stay(rt: HostRuntime) {
+        let mut word = [false; 67];
+        word[59] = true;
+        word[63] = true;
+        word[66] = true;
+        let before = word;
+        assert!(&rt; correct(&mut word) == TpsOutcome::Unreadable);
+        assert!(&rt; word == before);
+    }
+}
