@@ -2,6 +2,7 @@
 use Rattle.std.proofs.Common.{◌≡◌, ℕ, zero, suc, ◌+◌, ◌*◌, ◌%◌, ◌^◌, ◌<◌, ◌≤◌, ◌-◌, Bool, true, false, cond, ◌||◌, List, length, get_or, ◌⊎◌, inl, inr, refl, sym, ap, ◌∙◌, subst, arith, eqb, ◌≢◌, below_more, get_or-set_other, get_or-set_same, length-set}
 use Rattle.std.specs.Prelude.{slice_index, slice_set, IsTrue, bit_or}
 use Rattle.std.specs.Int.{bit_at, w64}
+use Rattle.std.proofs.lemmas.Bool.{agree_below, agree_below_at}
 use Rattle.std.proofs.lemmas.Nat.{or_lt, pow_below, one_shl}
 use Rattle.std.proofs.lemmas.Nat.Bits.{bit_at_set_same, bit_at_set_other, bit_at_above}
 use Rattle.std.proofs.Math.Nat.{pow-suc}
@@ -72,3 +73,14 @@ step_at_end old pair low n set answer costs e h = record {
   choice = λ k w t. h.choice k (omega arith) t;
   cost = λ k w t. h.cost k (omega arith) t;
 }
+
+-- where all states are alive all are after a step
+all_ones : (n : ℕ) → n < 64 → is_set 18446744073709551615 n ≡ true
+all_ones n l = agree_below_at (λ n. is_set 18446744073709551615 n) (λ n. true) 64 n refl l
+
+pub all_follow : (sums : Sums) → sums.alive ≡ 18446744073709551615 → (n : ℕ) → n < 64 → is_set 18446744073709551615 n ≡ (alive sums (even_of n) || alive sums (odd_of n))
+all_follow sums e n l = all_ones n l ∙ sym (ap (λ z. is_set z (even_of n) || is_set z (odd_of n)) e ∙ ap (λ b. b || is_set 18446744073709551615 (odd_of n)) (all_ones (even_of n) (omega arith)))
+
+pub followers_more : (sums : Sums) (n old new : ℕ) (b : Bool) → ((k : ℕ) → k < n → is_set old k ≡ (alive sums (even_of k) || alive sums (odd_of k))) → ((k : ℕ) → k < n → is_set new k ≡ is_set old k) → is_set new n ≡ b → b ≡ (alive sums (even_of n) || alive sums (odd_of n))
+    → (k : ℕ) → k < n + 1 → is_set new k ≡ (alive sums (even_of k) || alive sums (odd_of k))
+followers_more sums n old new b f g h e = below_more (λ k. is_set new k ≡ (alive sums (even_of k) || alive sums (odd_of k))) n (λ k l. g k l ∙ f k l) (h ∙ e)

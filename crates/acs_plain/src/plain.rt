@@ -1,10 +1,10 @@
 // The step state by state.
-ghost use Rattle.std.specs.Prelude.{◌≡◌, ◌≤◌, ◌<◌, ℕ, ◌+◌, ◌++◌, ◌∷◌, [], true, IsTrue, ◌||◌, slice_index, if◌then◌else◌, ◌^◌};
-ghost use Rattle.spec_words.specs.Bits.{is_set};
+ghost use Rattle.std.specs.Prelude.{◌≡◌, ◌≤◌, ◌<◌, ℕ, ◌+◌, ◌++◌, ◌∷◌, [], true, IsTrue, ◌||◌, slice_index, if◌then◌else◌};
 ghost use Rattle.code_paths.specs.Paths.{step_cost};
 ghost use Rattle.code_paths.specs.States.{register, even_of, odd_of};
 ghost use Rattle.acs_plain.specs.Steps.{IsStep, alive, way, takes_odd};
 
+use crate::sums::with_bit;
 use crate::{Acs, Sums};
 use conv_code::{CostPair, branch};
 
@@ -70,17 +70,6 @@ fn choose(old: &Sums, low: u32, pair: CostPair, state: u8) -> Choice
             cost: 0,
         }
     }
-}
-
-/// A word with one more bit.
-fn with_bit(word: u64, place: u8, on: bool) -> u64
-    requires place { place < 64 }
-    requires low { word < 2 ^ place }
-    ensures fits { result < 2 ^ (place + 1) }
-    ensures before { (k : ℕ) → k < place → is_set result k ≡ is_set word k }
-    ensures here { is_set result place ≡ on }
-{
-    if on { word | 1 << place } else { word }
 }
 
 /// The step as a loop over the states.

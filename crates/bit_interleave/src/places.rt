@@ -5,7 +5,7 @@ ghost use Rattle.mode_set.specs.StreamTable.{has_stream, label_bits, payload, wi
 ghost use Rattle.mode_set.specs.declared.modes.Mode.{Mode};
 ghost use Rattle.bit_interleave.specs.Place.{first_place, offset, place_in_label, stream_at, word_of_bit};
 
-use mode_set::{Hierarchy, Shape, Stream};
+use mode_set::{Hierarchy, Shape, Stream, stream_width};
 
 // The offsets of the bit interleavers I0 to I5 (EN 300 744, 4.3.4.1).
 fn offset_of(e: u32) -> u32
@@ -23,48 +23,12 @@ fn offset_of(e: u32) -> u32
     }
 }
 
-fn flat(hierarchy: Hierarchy) -> bool
-    ensures { result ≡ is_flat hierarchy }
-{
-    match hierarchy {
-        Hierarchy::Flat => true,
-        Hierarchy::Alpha1 | Hierarchy::Alpha2 | Hierarchy::Alpha4 => false,
-    }
-}
-
-fn bits_of_label(shape: Shape) -> u32
-    ensures { result ≡ label_bits shape }
-{
-    match shape {
-        Shape::Qpsk => 2,
-        Shape::Qam16 => 4,
-        Shape::Qam64 => 6,
-    }
-}
-
-fn width_of(shape: Shape, hierarchy: Hierarchy, stream: Stream) -> u32
-    ensures { result ≡ width shape hierarchy stream }
-{
-    match stream {
-        Stream::Hp => if flat(hierarchy) {
-            bits_of_label(shape)
-        } else {
-            2
-        },
-        Stream::Lp => if flat(hierarchy) {
-            0
-        } else {
-            bits_of_label(shape) - 2
-        },
-    }
-}
-
 fn first_of(hierarchy: Hierarchy, stream: Stream) -> u32
     ensures { result ≡ first_place hierarchy stream }
 {
     match stream {
         Stream::Hp => 0,
-        Stream::Lp => if flat(hierarchy) { 0 } else { 2 },
+        Stream::Lp => if hierarchy.is_flat() { 0 } else { 2 },
     }
 }
 
@@ -85,7 +49,7 @@ pub fn place(shape: Shape, hierarchy: Hierarchy, stream: Stream, bit: u32) -> (u
     ensures in_label { result.0 < label_bits shape }
     ensures in_symbol { (mode : Mode) → bit < payload mode * width shape hierarchy stream → result.1 < payload mode }
 {
-    let width = width_of(shape, hierarchy, stream);
+    let width = stream_width(shape, hierarchy, stream) as u32;
     let half = width / 2;
     let number = bit % width;
     let e = number / half + 2 * (number % half) + first_of(hierarchy, stream);
@@ -110,14 +74,13 @@ pub fn bit_at(shape: Shape, hierarchy: Hierarchy, e: u8, word: u32) -> (Stream, 
     ensures within { (mode : Mode) → word < payload mode → result.1 < payload mode * width shape hierarchy result.0 }
 {
     let e = e as u32;
-    let stream = if flat(hierarchy) || e < 2 {
+    let stream = if hierarchy.is_flat() || e < 2 {
         Stream::Hp
     } else {
         Stream::Lp
     };
-    let width = width_of(shape, hierarchy, stream);
+    let half = stream_width(shape, hierarchy, stream) as u32 / 2;
     let index = 126 * (word / 126) + (word + offset_of(e)) % 126;
     let e = e - first_of(hierarchy, stream);
-    let number = width / 2 * (e % 2) + e / 2;
-    (stream, width * index + number)
+    (stream, 2 * half * index + half * (e % 2) + e / 2)
 }

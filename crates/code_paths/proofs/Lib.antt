@@ -7,3 +7,4 @@ pub mod Grows
 pub mod Sent
 pub mod Shown
 pub mod TryAll
+pub mod Words

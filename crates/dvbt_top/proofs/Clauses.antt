@@ -8,7 +8,7 @@ use Rattle.mode_set.specs.declared.modes.Stream.{Stream}
 use Rattle.station_core.specs.Causes.{Rose}
 use Rattle.dvbt_top.specs.declared.work.Counts.{Counts}
 use Rattle.dvbt_top.specs.declared.work.Refusal.{Refusal}
-use Rattle.dvbt_top.specs.declared.work.Refusal.TheVariants.{Usage, ReadFault, WriteFault, NotSync, Limit}
+use Rattle.dvbt_top.specs.declared.work.Refusal.TheVariants.{Usage, ReadFault, WriteFault, NotSync, Memory, Limit}
 use Rattle.dvbt_top.specs.Packets.{whole_packets, first_packets, accepted}
 use Rattle.dvbt_top.specs.Coding.{AcceptsFirst, counts_of}
 use Rattle.dvbt_top.specs.Causes.{HasCause}
@@ -39,6 +39,7 @@ module _ (coded : List (List ℕ) → List ℕ) (limit : ℕ) (input output : Li
         ap (λ (x : Meaning). x.report.written) tells ∙ ran.0.report t ∙ empty (closing_line counts) t ∙ ap closing_line codes.0,
       )
   done_by mid (Err Usage) ran tells is t = absurd (omega arith)
+  done_by mid (Err Memory) ran tells is t = absurd (omega arith)
   done_by mid (Err ReadFault) ran tells is t = absurd (omega arith)
   done_by mid (Err WriteFault) ran tells is t = absurd (omega arith)
   done_by mid (Err (NotSync stream n)) ran tells is t = absurd (omega arith)
@@ -61,6 +62,7 @@ module _ (coded : List (List ℕ) → List ℕ) (limit : ℕ) (input output : Li
       → outcome_status o ≡ status_of (packet_refusal limit file)
   others_by mid (Ok counts) cause ran a b t = ap status_of (sym (no_refusal limit file (ran.1 t).1))
   others_by mid (Err Usage) cause ran a b t = absurd cause
+  others_by mid (Err Memory) cause ran a b t = absurd cause
   others_by mid (Err ReadFault) cause ran a b t = absurd (a refl)
   others_by mid (Err WriteFault) cause ran a b t = absurd (b refl)
   others_by mid (Err (NotSync stream n)) cause ran a b t = let c = ran.2 t in ap status_of (sym (not_sync limit file n c.1 c.2 c.3 c.4))
@@ -74,6 +76,7 @@ module _ (coded : List (List ℕ) → List ℕ) (limit : ℕ) (input output : Li
   reads_by : (mid : Meaning) (o : Result Counts Refusal) → HasCause old mid o → Tells mid new o → outcome_status o ≡ 5 → Rose old.read_faults new.read_faults
   reads_by mid (Ok counts) cause tells is = absurd (omega arith)
   reads_by mid (Err Usage) cause tells is = absurd cause
+  reads_by mid (Err Memory) cause tells is = absurd cause
   reads_by mid (Err ReadFault) cause tells is = subst (λ (n : ℕ). Rose old.read_faults n) (sym (ap (λ (x : Meaning). x.read_faults) tells.others)) cause.0
   reads_by mid (Err WriteFault) cause tells is = absurd (omega arith)
   reads_by mid (Err (NotSync stream n)) cause tells is = absurd (omega arith)
@@ -85,6 +88,7 @@ module _ (coded : List (List ℕ) → List ℕ) (limit : ℕ) (input output : Li
   writes_by : (mid : Meaning) (o : Result Counts Refusal) → HasCause old mid o → Tells mid new o → outcome_status o ≡ 6 → Rose old.write_faults new.write_faults
   writes_by mid (Ok counts) cause tells is = absurd (omega arith)
   writes_by mid (Err Usage) cause tells is = absurd cause
+  writes_by mid (Err Memory) cause tells is = absurd cause
   writes_by mid (Err ReadFault) cause tells is = absurd (omega arith)
   writes_by mid (Err WriteFault) cause tells is = omega (arith, cause.1, tells.later)
   writes_by mid (Err (NotSync stream n)) cause tells is = absurd (omega arith)
@@ -97,6 +101,7 @@ module _ (coded : List (List ℕ) → List ℕ) (limit : ℕ) (input output : Li
   usage_by : (mid : Meaning) (o : Result Counts Refusal) → HasCause old mid o → outcome_status o ≢ 2
   usage_by mid (Ok counts) cause is = absurd (omega arith)
   usage_by mid (Err Usage) cause is = absurd cause
+  usage_by mid (Err Memory) cause is = absurd cause
   usage_by mid (Err ReadFault) cause is = absurd (omega arith)
   usage_by mid (Err WriteFault) cause is = absurd (omega arith)
   usage_by mid (Err (NotSync stream n)) cause is = absurd (omega arith)
@@ -105,12 +110,26 @@ module _ (coded : List (List ℕ) → List ℕ) (limit : ℕ) (input output : Li
   pub usage : (status : ℕ) → RunsCoding coded limit input output old new status → status ≢ 2
   usage status r is = usage_by r.mid r.outcome r.cause (sym r.status_is ∙ is)
 
+  -- nor that of want of memory
+  memory_by : (mid : Meaning) (o : Result Counts Refusal) → HasCause old mid o → outcome_status o ≢ 7
+  memory_by mid (Ok counts) cause is = absurd (omega arith)
+  memory_by mid (Err Usage) cause is = absurd cause
+  memory_by mid (Err Memory) cause is = absurd cause
+  memory_by mid (Err ReadFault) cause is = absurd (omega arith)
+  memory_by mid (Err WriteFault) cause is = absurd (omega arith)
+  memory_by mid (Err (NotSync stream n)) cause is = absurd (omega arith)
+  memory_by mid (Err (Limit n)) cause is = absurd (omega arith)
+
+  pub memory : (status : ℕ) → RunsCoding coded limit input output old new status → status ≢ 7
+  memory status r is = memory_by r.mid r.outcome r.cause (sym r.status_is ∙ is)
+
   -- what stands after a refused packet, or one past the limit
   refused_by : (mid : Meaning) (o : Result Counts Refusal) → Ran coded limit input old mid o → Tells mid new o → (outcome_status o ≡ 4) ⊎ (outcome_status o ≡ 8) → old.tells ≡ true → new.bytes_out.written ≡ whole_output
-  refused_by mid (Ok counts) ran tells is t = elim is [ | inl e ↦ absurd (omega arith) | inr e ↦ absurd (omega arith) ]
-  refused_by mid (Err Usage) ran tells is t = elim is [ | inl e ↦ absurd (omega arith) | inr e ↦ absurd (omega arith) ]
-  refused_by mid (Err ReadFault) ran tells is t = elim is [ | inl e ↦ absurd (omega arith) | inr e ↦ absurd (omega arith) ]
-  refused_by mid (Err WriteFault) ran tells is t = elim is [ | inl e ↦ absurd (omega arith) | inr e ↦ absurd (omega arith) ]
+  refused_by mid (Ok counts) ran tells is t = elim is [ inl e ↦ absurd (omega arith) | inr e ↦ absurd (omega arith) ]
+  refused_by mid (Err Usage) ran tells is t = elim is [ inl e ↦ absurd (omega arith) | inr e ↦ absurd (omega arith) ]
+  refused_by mid (Err Memory) ran tells is t = elim is [ inl e ↦ absurd (omega arith) | inr e ↦ absurd (omega arith) ]
+  refused_by mid (Err ReadFault) ran tells is t = elim is [ inl e ↦ absurd (omega arith) | inr e ↦ absurd (omega arith) ]
+  refused_by mid (Err WriteFault) ran tells is t = elim is [ inl e ↦ absurd (omega arith) | inr e ↦ absurd (omega arith) ]
   refused_by mid (Err (NotSync stream n)) ran tells is t =
       let c = ran.2 t in
       ap (λ (x : Meaning). x.bytes_out.written) tells.others ∙ c.5 ∙ ap (λ (m : ℕ). coded (first_packets m file)) (sym (not_sync_at limit file n c.1 c.2 c.4))
@@ -119,7 +138,7 @@ module _ (coded : List (List ℕ) → List ℕ) (limit : ℕ) (input output : Li
       ap (λ (x : Meaning). x.bytes_out.written) tells.others ∙ c.3 ∙ ap (λ (m : ℕ). coded (first_packets m file)) (sym (limit_at n c.0 c.1 c.2).1)
 
   pub refused : (status : ℕ) → RunsCoding coded limit input output old new status → old.tells ≡ true → (status ≡ 4) ⊎ (status ≡ 8) → new.bytes_out.written ≡ whole_output
-  refused status r t is = refused_by r.mid r.outcome r.ran r.tells (elim is [ | inl e ↦ inl (sym r.status_is ∙ e) | inr e ↦ inr (sym r.status_is ∙ e) ]) t
+  refused status r t is = refused_by r.mid r.outcome r.ran r.tells (elim is [ inl e ↦ inl (sym r.status_is ∙ e) | inr e ↦ inr (sym r.status_is ∙ e) ]) t
 
   -- what stands after a failed read: what the whole packets taken give, all of which are accepted
   abbrev pub taken : ℕ
@@ -131,6 +150,7 @@ module _ (coded : List (List ℕ) → List ℕ) (limit : ℕ) (input output : Li
   so_far_by : (mid : Meaning) (o : Result Counts Refusal) → Ran coded limit input old mid o → Tells mid new o → outcome_status o ≡ 5 → old.tells ≡ true → new.bytes_out.created ≡ true → SoFar
   so_far_by mid (Ok counts) ran tells is t made = absurd (omega arith)
   so_far_by mid (Err Usage) ran tells is t made = absurd (omega arith)
+  so_far_by mid (Err Memory) ran tells is t made = absurd (omega arith)
   so_far_by mid (Err ReadFault) ran tells is t made =
       let c = ran.1 t (sym (ap (λ (x : Meaning). x.bytes_out.created) tells.others) ∙ made) in
       let left : new.hp.left ≡ mid.hp.left = ap (λ (x : Meaning). x.hp.left) tells.others in
@@ -153,6 +173,7 @@ module _ (coded : List (List ℕ) → List ℕ) (limit : ℕ) (input output : Li
       → (mid : Meaning) (o : Result Counts Refusal) → Ran coded limit input old mid o → Tells mid new o → outcome_status o ≡ 6 → old.tells ≡ true → new.bytes_out.created ≡ true → Front
   front_by grows mid (Ok counts) ran tells is t made = absurd (omega arith)
   front_by grows mid (Err Usage) ran tells is t made = absurd (omega arith)
+  front_by grows mid (Err Memory) ran tells is t made = absurd (omega arith)
   front_by grows mid (Err ReadFault) ran tells is t made = absurd (omega arith)
   front_by grows mid (Err WriteFault) ran tells is t made =
       let c = ran.0 t (sym (ap (λ (x : Meaning). x.bytes_out.created) tells.others) ∙ made) in
@@ -167,10 +188,11 @@ module _ (coded : List (List ℕ) → List ℕ) (limit : ℕ) (input output : Li
 
   -- the report of a run that was refused
   abbrev pub named_text : ℕ → List ℕ
-  named_text status = if status == 5 then refusal_text ReadFault else if status == 6 then refusal_text WriteFault else text_if_refused (packet_refusal limit file)
+  named_text status = if status == 5 then refusal_text ReadFault else if status == 6 then refusal_text WriteFault else if status == 7 then refusal_text Memory else text_if_refused (packet_refusal limit file)
 
   named_by : (mid : Meaning) (r : Refusal) → HasCause {T = Counts} old mid (Err r) → Ran coded limit input old mid (Err r) → refusal_status r ≢ 6 → old.tells ≡ true → named_text (refusal_status r) ≡ refusal_text r
   named_by mid Usage cause ran b t = absurd cause
+  named_by mid Memory cause ran b t = absurd cause
   named_by mid ReadFault cause ran b t = refl
   named_by mid WriteFault cause ran b t = absurd (b refl)
   named_by mid (NotSync stream n) cause ran b t = let c = ran.2 t in ap text_if_refused (not_sync limit file n c.1 c.2 c.3 c.4) ∙ ap (λ (s : Stream). refusal_text (NotSync s n)) (sym c.0)
@@ -178,6 +200,7 @@ module _ (coded : List (List ℕ) → List ℕ) (limit : ℕ) (input output : Li
 
   kept_report : (mid : Meaning) (r : Refusal) → Ran coded limit input old mid (Err r) → refusal_status r ≢ 6 → mid.report ≡ old.report
   kept_report mid Usage ran b = ran.0
+  kept_report mid Memory ran b = ran.0
   kept_report mid ReadFault ran b = ran.0
   kept_report mid WriteFault ran b = absurd (b refl)
   kept_report mid (NotSync stream n) ran b = ran.0
@@ -188,6 +211,7 @@ module _ (coded : List (List ℕ) → List ℕ) (limit : ℕ) (input output : Li
 
   later_cause : (mid : Meaning) (r : Refusal) → HasCause {T = Counts} old mid (Err r) → old.write_faults ≤ mid.write_faults
   later_cause mid Usage cause = absurd cause
+  later_cause mid Memory cause = absurd cause
   later_cause mid ReadFault cause = cause.2
   later_cause mid WriteFault cause = cause.2
   later_cause mid (NotSync stream n) cause = cause.1
@@ -221,6 +245,7 @@ module _ (coded : List (List ℕ) → List ℕ) (limit : ℕ) (input output : Li
   lines_by : (mid : Meaning) (o : Result Counts Refusal) → old.tells ≡ mid.tells → Ran coded limit input old mid o → Tells mid new o → outcome_status o ≡ 6 → old.tells ≡ true → Lines
   lines_by mid (Ok counts) same ran tells is t = absurd (omega arith)
   lines_by mid (Err Usage) same ran tells is t = absurd (omega arith)
+  lines_by mid (Err Memory) same ran tells is t = absurd (omega arith)
   lines_by mid (Err ReadFault) same ran tells is t = absurd (omega arith)
   lines_by mid (Err WriteFault) same ran tells is t =
       let line = ran.1 t in

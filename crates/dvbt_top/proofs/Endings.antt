@@ -13,7 +13,6 @@ use Rattle.dvbt_top.specs.Steps.{Ran, OpensAll, Finishes}
 module _ (coded : List (List ℕ) → List ℕ) (limit : ℕ) (input output : List ℕ) (old mid done new : Meaning) (counts : Counts)
     (opened : OpensAll input output old mid (Ok tt)) (keeps : KeepsOthers mid done)
     (work : mid.tells ≡ true → Codes coded limit mid.hp.left mid.bytes_out.written done.hp.left done.bytes_out.written (Ok counts)) where
-
   tells : mid.tells ≡ old.tells
   tells = ap (λ (x : Meaning). x.tells) opened
 
@@ -53,19 +52,19 @@ module _ (coded : List (List ℕ) → List ℕ) (limit : ℕ) (input output : Li
       )
   finished (Err r) f = subst (λ (x : Refusal). Ran coded limit input old new (Err x)) (sym f.0) (
     (λ t is. let d = contents t in
-      let all = coded (first_packets (whole_packets (old.file input)) (old.file input)) in
-      let whole : take (length all) all ≡ all = take_all (length all) all (omega arith) in (
-        whole_packets (old.file input),
-        length all,
-        omega arith,
-        d.1,
-        ap (λ (x : Meaning). x.bytes_out.written) f.2 ∙ d.3 ∙ sym whole,
-      )),
+        let all = coded (first_packets (whole_packets (old.file input)) (old.file input)) in
+        let whole : take (length all) all ≡ all = take_all (length all) all (omega arith) in (
+          whole_packets (old.file input),
+          length all,
+          omega arith,
+          d.1,
+          ap (λ (x : Meaning). x.bytes_out.written) f.2 ∙ d.3 ∙ sym whole,
+        )),
     (λ t. (
       f.1,
       ap (λ (x : Meaning). x.report.written) f.2
-      ∙ ap (λ (b : Bool). if b then done.report.written ++ take f.1 (closing_line counts) else done.report.written) (tells' ∙ t)
-      ∙ ap (λ (l : List ℕ). l ++ take f.1 (closing_line counts)) same_report
-      ∙ ap (λ (c : Counts). old.report.written ++ take f.1 (closing_line c)) (contents t).0,
+          ∙ ap (λ (b : Bool). if b then done.report.written ++ take f.1 (closing_line counts) else done.report.written) (tells' ∙ t)
+          ∙ ap (λ (l : List ℕ). l ++ take f.1 (closing_line counts)) same_report
+          ∙ ap (λ (c : Counts). old.report.written ++ take f.1 (closing_line c)) (contents t).0,
     )),
   )

@@ -3,7 +3,7 @@ use Rattle.std.specs.Prelude.{◌≡◌, ◌≤◌, ℕ, Result, Ok, Err}
 use Rattle.station_core.specs.Meaning.{Meaning}
 use Rattle.station_core.specs.Causes.{Rose}
 use Rattle.dvbt_top.specs.declared.work.Refusal.{Refusal}
-use Rattle.dvbt_top.specs.declared.work.Refusal.TheVariants.{Usage, ReadFault, WriteFault, NotSync, Limit}
+use Rattle.dvbt_top.specs.declared.work.Refusal.TheVariants.{Usage, ReadFault, WriteFault, NotSync, Memory, Limit}
 
 -- both counts of faults are as before
 pub record IsFaultless (old new : Meaning) : Type 0 where
@@ -19,3 +19,4 @@ HasCause old new (Err WriteFault) = (new.read_faults ≡ old.read_faults) × Ros
 HasCause old new (Err (NotSync stream n)) = (new.read_faults ≡ old.read_faults) × (old.write_faults ≤ new.write_faults)
 HasCause old new (Err (Limit n)) = (new.read_faults ≡ old.read_faults) × (old.write_faults ≤ new.write_faults)
 HasCause old new (Err Usage) = ⊥
+HasCause old new (Err Memory) = ⊥

@@ -5,7 +5,7 @@ use Rattle.station_core.specs.Meaning.{Meaning}
 use Rattle.mode_set.specs.declared.modes.Stream.TheVariants.{Hp}
 use Rattle.dvbt_top.specs.declared.work.Counts.{Counts}
 use Rattle.dvbt_top.specs.declared.work.Refusal.{Refusal}
-use Rattle.dvbt_top.specs.declared.work.Refusal.TheVariants.{Usage, ReadFault, WriteFault, NotSync, Limit}
+use Rattle.dvbt_top.specs.declared.work.Refusal.TheVariants.{Usage, ReadFault, WriteFault, NotSync, Memory, Limit}
 use Rattle.dvbt_top.specs.Packets.{first_packets, whole_packets, tail_of, is_sync, is_accepted}
 
 -- nothing but what is left of HP, what is written to Bytes and the counts has changed
@@ -37,6 +37,7 @@ Step number piece input before left after (Err ReadFault) =
 Step number piece input before left after (Err WriteFault) =
     (k : ℕ) × (188 ≤ length input) × (is_sync input 0 ≡ true) × (after ≡ before ++ take k piece)
 Step number piece input before left after (Err Usage) = ⊥
+Step number piece input before left after (Err Memory) = ⊥
 
 -- the packet was taken, and what it gives was written, or a front of it
 abbrev pub OnTaken : Result (Option ℕ) Refusal → Type 0 → Type 0
@@ -54,6 +55,7 @@ EndsAtLimit limit input before left after (Err ReadFault) =
     (k : ℕ) × (k < 188) × (k ≤ length input) × (left ≡ drop k input) × (after ≡ before)
 EndsAtLimit limit input before left after (Err WriteFault) = ⊥
 EndsAtLimit limit input before left after (Err Usage) = ⊥
+EndsAtLimit limit input before left after (Err Memory) = ⊥
 
 -- the first n packets are accepted
 abbrev pub AcceptsFirst : ℕ → List ℕ → ℕ → Type 0
@@ -78,3 +80,4 @@ Codes coded limit input before left after (Err ReadFault) =
 Codes coded limit input before left after (Err WriteFault) =
     (n : ℕ) × (k : ℕ) × (n ≤ whole_packets input) × AcceptsFirst limit input n × (after ≡ before ++ take k (coded (first_packets n input)))
 Codes coded limit input before left after (Err Usage) = ⊥
+Codes coded limit input before left after (Err Memory) = ⊥

@@ -5,8 +5,8 @@ use Rattle.station_core.specs.Meaning.{Meaning, source_at, sink_at}
 use Rattle.station_core.specs.Causes.{Rose}
 use Rattle.station_core.specs.declared.ports.InPort.{InPort}
 use Rattle.station_core.specs.declared.ports.OutPort.{OutPort}
-use Rattle.dvbt_top.specs.declared.work.Refusal.TheVariants.{Usage, ReadFault, WriteFault}
-use Rattle.dvbt_top.specs.Command.{Command, source_name, sink_name}
+use Rattle.dvbt_top.specs.declared.work.Refusal.TheVariants.{Usage, ReadFault, WriteFault, Memory}
+use Rattle.dvbt_top.specs.Command.{Command, TakesMemory, source_name, sink_name}
 use Rattle.dvbt_top.specs.Causes.{IsFaultless}
 use Rattle.dvbt_top.specs.Text.{status_of, refusal_text, text_if_refused}
 use Rattle.dvbt_top.specs.Outcome.{refusal_of, output_of, output_so_far, IsInOrder, lines_of}
@@ -33,12 +33,13 @@ pub record IsDone (limit : ℕ) (c : Command) (old new : Meaning) : Type 0 where
   pub outputs : HoldOutputs limit c old new
   pub report : new.report.written ≡ lines_of old.file c
 
--- 2. Each status has its cause: a fault of the outside, or else what the files come to.
+-- 2. Each status has its cause: a fault of the outside, want of memory, or else what the files come to.
 pub record HasStatus (limit : ℕ) (command : Option Command) (old new : Meaning) (status : ℕ) : Type 0 where
   pub usage : (status ≡ 2) ↔ (command ≡ None)
   pub read_fault : status ≡ 5 → Rose old.read_faults new.read_faults
   pub write_fault : status ≡ 6 → Rose old.write_faults new.write_faults
-  pub others : old.tells ≡ true → status ≢ 5 → status ≢ 6 → IfSome command (λ c. status ≡ status_of (refusal_of limit old.file c))
+  pub memory : status ≡ 7 → IfSome command TakesMemory
+  pub others : old.tells ≡ true → status ≢ 5 → status ≢ 6 → status ≢ 7 → IfSome command (λ c. status ≡ status_of (refusal_of limit old.file c))
 
 -- 3. Only the ports of the form are asked, each by its word. A run that is done has met no fault, has
 -- read its inputs to the end and closed its outputs. At every status but 5 no read has failed.
@@ -51,17 +52,17 @@ pub record AsksOnly (command : Option Command) (old new : Meaning) (status : ℕ
   pub closed : status ≡ 0 → IfSome command (λ c. (port : OutPort) → IsOutput c port → (sink_at port new).closed ≡ true)
   pub reads_kept : status ≢ 5 → new.read_faults ≡ old.read_faults
 
--- the text of a run that was refused: a fault of the outside, or else what the files come to
+-- the text of a run that was refused: a fault of the outside, want of memory, or else what the files come to
 abbrev pub text_of : ℕ → Option Command → (List ℕ → List ℕ) → ℕ → List ℕ
 text_of limit None file status = refusal_text Usage
 text_of limit (Some c) file status =
     if status == 5 then refusal_text ReadFault else if status == 6 then refusal_text WriteFault
-    else text_if_refused (refusal_of limit file c)
+    else if status == 7 then refusal_text Memory else text_if_refused (refusal_of limit file c)
 
 -- 4. What stands after a refusal.
 pub record Stands (limit : ℕ) (command : Option Command) (old new : Meaning) (status : ℕ) : Type 0 where
-  -- words of no form create no output
-  pub none : status ≡ 2 → (port : OutPort) → (sink_at port new).created ≡ (sink_at port old).created
+  -- words of no form and want of memory create no output
+  pub none : status ≡ 2 ⊎ (status ≡ 7) → (port : OutPort) → (sink_at port new).created ≡ (sink_at port old).created
   -- a refused packet, or one past the limit: each output holds what the packets before give
   pub refused : old.tells ≡ true → status ≡ 4 ⊎ (status ≡ 8) → IfSome command (λ c. HoldOutputs limit c old new)
   -- a failed read: each output that was created holds what the whole packets taken give, of which none is refused
@@ -77,7 +78,7 @@ pub record Stands (limit : ℕ) (command : Option Command) (old new : Meaning) (
   -- after a failed write or close it is a front of the closing lines, then a front of the text
   pub lines : old.tells ≡ true → status ≡ 6 → IfSome command (λ c. (j k : ℕ) × (new.report.written ≡ take j (lines_of old.file c) ++ take k (refusal_text WriteFault)))
 
--- 5. Where nothing in the files is refused and nothing fails the run is done.
+-- 5. Where nothing in the files is refused and nothing fails the run is done, or has no memory.
 abbrev pub IsComplete : ℕ → Command → Meaning → Meaning → ℕ → Type 0
 IsComplete limit c old new status = old.tells ≡ true → refusal_of limit old.file c ≡ None
-    → (Rose old.read_faults new.read_faults → ⊥) → (Rose old.write_faults new.write_faults → ⊥) → status ≡ 0
+    → (Rose old.read_faults new.read_faults → ⊥) → (Rose old.write_faults new.write_faults → ⊥) → status ≡ 0 ⊎ ((status ≡ 7) × TakesMemory c)

@@ -4,7 +4,7 @@ use Rattle.std.specs.Prelude.{◌≡◌, ◌⊎◌, ◌<◌, ◌≤◌, ◌-◌,
 use Rattle.station_core.specs.Meaning.{Meaning}
 use Rattle.dvbt_top.specs.declared.work.Counts.{Counts}
 use Rattle.dvbt_top.specs.declared.work.Refusal.{Refusal}
-use Rattle.dvbt_top.specs.declared.work.Refusal.TheVariants.{Usage, ReadFault, WriteFault, NotSync, Limit}
+use Rattle.dvbt_top.specs.declared.work.Refusal.TheVariants.{Usage, ReadFault, WriteFault, NotSync, Memory, Limit}
 use Rattle.dvbt_top.specs.Causes.{HasCause}
 use Rattle.dvbt_top.specs.Coding.{Codes, counts_of}
 use Rattle.dvbt_top.specs.Text.{closing_line, refusal_text, refusal_status}
@@ -52,6 +52,7 @@ OpensAll input output old new (Ok u) =
 OpensAll input output old new (Err (NotSync stream n)) = ⊥
 OpensAll input output old new (Err (Limit n)) = ⊥
 OpensAll input output old new (Err Usage) = ⊥
+OpensAll input output old new (Err Memory) = ⊥
 OpensAll input output old new (Err refusal) =
     (new.report ≡ old.report) × (new.bytes_out.created ≡ old.bytes_out.created)
 

@@ -9,7 +9,9 @@ use ts_packet::Packet;
 /// since its start.
 pub trait Coder {
     ghost coded: { Self → List (List ℕ) → List ℕ };
+
     ghost took: { Self → List (List ℕ) → Type 0 };
+
     ghost piece: { Self → List ℕ };
 
     /// Takes the next packet.

@@ -1,13 +1,18 @@
 // The commands, each over its part of the station, with the clauses of the whole run.
 ghost use Rattle.std.specs.Prelude.{◌≡◌, ℕ, List, [], true, Some};
 ghost use Rattle.station_core.specs.Meaning.{IsFresh};
-ghost use Rattle.dvbt_top.specs.Command.{Command, Disperse};
+ghost use Rattle.dvbt_top.specs.Command.{Disperse, Outer, Code};
 ghost use Rattle.dvbt_top.specs.Runs.{IsDone, HasStatus, AsksOnly, Stands, IsComplete};
 
-use crate::Limits;
 use crate::disperse::Disperser;
+use crate::outer::OuterCoder;
 use crate::packets_command::run_coding;
+use crate::steps::refuse;
+use crate::{Limits, Refusal};
+use outer_chain::OuterTx;
+use outer_chain::laws::sending;
 use station_core::Station;
+use std::alloc::Global;
 
 /// Runs `disperse TS OUT` and gives its status.
 pub fn disperse<'a, S: Station<'a>>(
@@ -18,11 +23,34 @@ pub fn disperse<'a, S: Station<'a>>(
 ) -> u8
     requires fresh { IsFresh (S.meaning station.old) }
     ensures done { result ≡ 0 → (S.meaning station.old).tells ≡ true
-        → IsDone limits.now.packets (Disperse input.now output.now) (S.meaning station.old) (S.meaning station.new) }
-    ensures status { HasStatus limits.now.packets (Some (Disperse input.now output.now)) (S.meaning station.old) (S.meaning station.new) result }
-    ensures asks { AsksOnly (Some (Disperse input.now output.now)) (S.meaning station.old) (S.meaning station.new) result }
-    ensures stands { Stands limits.now.packets (Some (Disperse input.now output.now)) (S.meaning station.old) (S.meaning station.new) result }
-    ensures complete { IsComplete limits.now.packets (Disperse input.now output.now) (S.meaning station.old) (S.meaning station.new) result }
+        → IsDone limits.now.packets (Code Disperse input.now output.now) (S.meaning station.old) (S.meaning station.new) }
+    ensures status { HasStatus limits.now.packets (Some (Code Disperse input.now output.now)) (S.meaning station.old) (S.meaning station.new) result }
+    ensures asks { AsksOnly (Some (Code Disperse input.now output.now)) (S.meaning station.old) (S.meaning station.new) result }
+    ensures stands { Stands limits.now.packets (Some (Code Disperse input.now output.now)) (S.meaning station.old) (S.meaning station.new) result }
+    ensures complete { IsComplete limits.now.packets (Code Disperse input.now output.now) (S.meaning station.old) (S.meaning station.new) result }
 {
     run_coding(input, output, limits, &mut Disperser::start(), station)
+}
+
+/// Runs `outer TS OUT` and gives its status. All its memory is taken before a port is asked.
+pub fn outer<'a, S: Station<'a>>(
+    alloc: Global,
+    input: &'a str,
+    output: &'a str,
+    limits: &Limits,
+    station: &mut S,
+) -> u8
+    requires fresh { IsFresh (S.meaning station.old) }
+    ensures done { result ≡ 0 → (S.meaning station.old).tells ≡ true
+        → IsDone limits.now.packets (Code Outer input.now output.now) (S.meaning station.old) (S.meaning station.new) }
+    ensures status { HasStatus limits.now.packets (Some (Code Outer input.now output.now)) (S.meaning station.old) (S.meaning station.new) result }
+    ensures asks { AsksOnly (Some (Code Outer input.now output.now)) (S.meaning station.old) (S.meaning station.new) result }
+    ensures stands { Stands limits.now.packets (Some (Code Outer input.now output.now)) (S.meaning station.old) (S.meaning station.new) result }
+    ensures complete { IsComplete limits.now.packets (Code Outer input.now output.now) (S.meaning station.old) (S.meaning station.new) result }
+{
+    sending();
+    match OuterTx::new(alloc) {
+        Ok(tx) => run_coding(input, output, limits, &mut OuterCoder::new(tx), station),
+        Err(_) => refuse(&Refusal::Memory, station),
+    }
 }

@@ -74,6 +74,7 @@ pub fn refuse<'a, S: Station<'a>>(refusal: &Refusal, station: &mut S) -> u8
         Refusal::NotSync(_, _) => 4,
         Refusal::ReadFault => 5,
         Refusal::WriteFault => 6,
+        Refusal::Memory => 7,
         Refusal::Limit(_) => 8,
     }
 }

@@ -26,5 +26,8 @@ pub fn form_of<'a>(words: &'a [String]) -> Option<Form<'a>>
     if let Some((input, output)) = two_after(words, "disperse") {
         return Some(Form::Disperse { input, output });
     }
+    if let Some((input, output)) = two_after(words, "outer") {
+        return Some(Form::Outer { input, output });
+    }
     None
 }

@@ -151,7 +151,7 @@ delayed_same f g p d h = elim (cases_lt p d) [
   | inr ge ↦ over f p d ge ∙ h (p - d) (omega arith) ∙ sym (over g p d ge)
 ]
 
-first_value_at : (o : ℕ → ℕ) (n k : ℕ) → k < n → stream_of (values o 0 n) k ≡ o k
+pub first_value_at : (o : ℕ → ℕ) (n k : ℕ) → k < n → stream_of (values o 0 n) k ≡ o k
 first_value_at o n k l = let e : 0 + k ≡ k = omega arith in get_or-values o 0 n k l ∙ ap o e
 
 pub first_interleaved : (o : ℕ → ℕ) (n : ℕ) → interleaved_bytes (values o 0 n) ≡ values (interleaved o) 0 n

@@ -1,2 +1,3 @@
 mod Unknown
 mod Reasons
+mod Periods

@@ -6,3 +6,4 @@ pub mod Keys
 pub mod Values
 pub mod Document
 pub mod Causes
+pub mod Laws

@@ -7,6 +7,7 @@ mod carriers;
 mod constellations;
 mod error;
 mod key;
+mod laws;
 mod modes;
 mod read;
 mod settings;
@@ -21,6 +22,7 @@ pub use constellations::{
 };
 pub use error::SettingsError;
 pub use key::Key;
+pub use laws::{super_frames_have_whole_words, symbols_have_whole_periods};
 pub use modes::{Guard, Hierarchy, Mode, Rate, Shape, Start, Stream};
 pub use settings::Settings;
 pub use streams::stream_width;

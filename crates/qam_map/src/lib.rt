@@ -2,5 +2,10 @@
 #![tactic(auto)]
 
 mod cell;
+mod constellation;
+pub mod laws;
+#[cfg(test)]
+mod tests;
 
 pub use cell::Cell;
+pub use constellation::{map, spacing, tolerance};

@@ -1,19 +1,19 @@
 -- What is left of a division tells codewords, and the codeword of a message.
-use Rattle.std.proofs.Common.{◌≡◌, ◌≢◌, ℕ, zero, suc, ◌+◌, ◌-◌, ◌*◌, ◌<◌, ◌≤◌, ◌⊎◌, inl, inr, Bool, true, false, cond, eqb, List, [], ◌∷◌, ◌++◌, map, reverse, length, get_or, take, drop, replicate, refl, sym, ap, ap₂, ◌∙◌, subst, arith, lit<, lit≤, append-nil, append_assoc, length-append, length-take, length-take-le, length-drop, take-append-drop}
+use Rattle.std.proofs.Common.{◌≡◌, ◌≢◌, ℕ, zero, suc, ◌+◌, ◌<◌, ◌≤◌, ◌⊎◌, inl, inr, Bool, true, false, cond, eqb, List, [], ◌∷◌, ◌++◌, map, reverse, length, take, drop, replicate, refl, sym, ap, ap₂, ◌∙◌, subst, arith, lit<, lit≤, length-append, length-take-le, length-drop, take-append-drop}
 use Rattle.std.specs.Prelude.{bit_xor}
 use Rattle.std.proofs.lemmas.Bool.{cases_lt, eq-eqb, eqb-true}
 use Rattle.std.proofs.lemmas.List.{length-map, length-reverse, reverse-reverse}
 use Rattle.std.proofs.Math.Seq.{take-append_seam}
 use mathlib.Core.List.{reverse_aux}
-use lib.Bits.{xor_comm, xor_assoc, xor_self, xor_zero_r, xor_zero_l}
+use lib.Bits.{xor_self, xor_zero_r}
 use Rattle.gf256.specs.Field.{mul, power}
 use Rattle.gf256.proofs.FieldLaws.{mul_zero_right, one_right, power_small, xor_equal}
 use Rattle.rs204.specs.Codes.{plus, AreBytes, IsCodeword, distance, first_powers, generator_tail, rest_of, codeword}
 use Rattle.rs204.specs.Polynomials.{value_at}
 use Rattle.rs204.specs.Division.{number, Holds}
 use Rattle.rs204.specs.Laws.{IsCodewordOf}
-use Rattle.rs204.proofs.Polynomials.{plus_bytes, map_bytes, codeword_root, first_bytes, too_many, AreZero}
-use Rattle.rs204.proofs.Distance.{length-plus, reverse_bytes, codewords_apart, same_word}
+use Rattle.rs204.proofs.Polynomials.{plus_bytes, codeword_root, first_bytes, too_many, AreZero}
+use Rattle.rs204.proofs.Distance.{reverse_bytes, codewords_apart}
 use Rattle.rs204.proofs.Locate.{codeword_from_roots, first_all_differ, first_roots, length-first}
 use Rattle.rs204.proofs.Horner.{horner, horner_value, horner_append, horner_small, horner_plus, horner_map, generator, generator_bytes, generator_zero, append_bytes, take_bytes}
 use Rattle.rs204.proofs.Dividing.{plus_ahead, zeros_plus, zero_bytes, multiple_bytes}

@@ -1,7 +1,7 @@
 -- Two codewords differ in at least seventeen places.
-use Rattle.std.proofs.Common.{◌≡◌, ℕ, zero, suc, ◌+◌, ◌-◌, ◌*◌, ◌<◌, ◌≤◌, ◌≢◌, ◌⊎◌, inl, inr, Bool, true, false, cond, List, [], ◌∷◌, ◌++◌, reverse, length, refl, sym, ap, ap₂, ◌∙◌, arith, eqb, add_assoc, not, ◌||◌}
+use Rattle.std.proofs.Common.{◌≡◌, ℕ, zero, suc, ◌+◌, ◌*◌, ◌<◌, ◌≤◌, ◌≢◌, Bool, true, false, cond, List, [], ◌∷◌, ◌++◌, reverse, length, refl, sym, ap, ap₂, ◌∙◌, arith, eqb, add_assoc}
 use Rattle.std.specs.Prelude.{bit_xor}
-use Rattle.std.proofs.lemmas.Bool.{eqb-true, eqb-false, or_cases, not-true, cond_both, cond-false, ne_eqb}
+use Rattle.std.proofs.lemmas.Bool.{eqb-true, eqb-false, cond_both, cond-false, ne_eqb}
 use Rattle.std.proofs.lemmas.List.{length-reverse}
 use Rattle.std.proofs.lemmas.Grind.{reverse_onto}
 use mathlib.Core.List.{reverse_aux}
@@ -9,8 +9,7 @@ use native.Mathlib.Nat.{mul-zero, zero-add}
 use lib.Bits.{xor_self}
 use Rattle.gf256.specs.Field.{mul, power}
 use Rattle.gf256.proofs.TableRules.{powers_differ as powers_apart}
-use Rattle.gf256.proofs.FieldLaws.{mul_comm, mul_assoc, mul_small, mul_zero_left, mul_zero_right, one_small, power_add, power_zero, mul_xor_right, xor_equal, power_small}
-use Rattle.rs204.proofs.Below.{all_below_at}
+use Rattle.gf256.proofs.FieldLaws.{mul_comm, mul_assoc, mul_small, mul_zero_left, mul_zero_right, power_add, power_zero, mul_xor_right, xor_equal, power_small}
 use Rattle.rs204.proofs.Independent.{raise, Term, sum_at, Small, Distinct, Apart, AllZero, independent}
 use Rattle.rs204.specs.Codes.{plus, AreBytes, IsCodeword, distance}
 use Rattle.rs204.specs.Polynomials.{value_at}

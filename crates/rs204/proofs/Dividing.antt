@@ -1,5 +1,5 @@
 -- The register that divides by the generator holds what the long division has.
-use Rattle.std.proofs.Common.{◌≡◌, ℕ, zero, suc, ◌+◌, ◌-◌, ◌*◌, ◌/◌, ◌%◌, ◌^◌, ◌<◌, ◌≤◌, ◌⊎◌, inl, inr, Bool, true, List, [], ◌∷◌, ◌++◌, map, length, get_or, take, drop, replicate, refl, sym, ap, ap₂, ◌∙◌, subst, arith, lit<, lit≤, eqb, append-nil, append_assoc, length-append, length-drop}
+use Rattle.std.proofs.Common.{◌≡◌, ℕ, zero, suc, ◌+◌, ◌-◌, ◌*◌, ◌/◌, ◌%◌, ◌^◌, ◌<◌, ◌≤◌, List, [], ◌∷◌, ◌++◌, map, length, get_or, drop, replicate, refl, sym, ap, ap₂, ◌∙◌, subst, arith, lit<, eqb, append-nil, append_assoc, length-append}
 use Rattle.std.specs.Prelude.{bit_xor}
 use Rattle.std.proofs.lemmas.Bool.{eqb-true}
 use Rattle.std.proofs.lemmas.Nat.{xor_block}
@@ -8,11 +8,10 @@ use Rattle.std.proofs.Math.Nat.{mul_assoc as times_assoc, mul_comm as times_comm
 use Rattle.std.specs.Int.{byte_at, bytes_low_first}
 use lib.Bits.{xor_comm, xor_zero_l}
 use Rattle.gf256.specs.Field.{mul, carryless, reduced}
-use Rattle.gf256.proofs.FieldLaws.{xor_small, mul_zero_left}
 use Rattle.rs204.specs.Codes.{plus, AreBytes, generator_tail, rest_of}
 use Rattle.rs204.specs.Division.{number, Holds}
 use Rattle.rs204.specs.declared.multiples.TheConstants.{MULTIPLES}
-use Rattle.rs204.proofs.Below.{all_below, all_below_at}
+use Rattle.rs204.proofs.Below.{all_below_at}
 use Rattle.rs204.proofs.Polynomials.{plus_bytes, map_bytes}
 use Rattle.rs204.proofs.Distance.{length-plus}
 use Rattle.rs204.proofs.Horner.{append_bytes}

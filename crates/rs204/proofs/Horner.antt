@@ -1,20 +1,14 @@
 -- Values of polynomials by their highest coefficients first.
-use Rattle.std.proofs.Common.{◌≡◌, ℕ, zero, suc, ◌+◌, ◌<◌, ◌≤◌, ◌⊎◌, inl, inr, true, List, [], ◌∷◌, ◌++◌, map, reverse, length, get_or, take, drop, refl, sym, ap, ap₂, ◌∙◌, subst, arith, lit<, eqb, append-nil, append_assoc, length-append, length-take, ext_get_or, replicate, add-one, get_or-take, length-drop}
+use Rattle.std.proofs.Common.{◌≡◌, ℕ, zero, suc, ◌<◌, true, List, [], ◌∷◌, ◌++◌, map, reverse, length, take, drop, refl, sym, ap, ap₂, ◌∙◌, arith, lit<, eqb, append-nil, append_assoc, length-append, length-drop}
 use Rattle.std.specs.Prelude.{bit_xor}
-use Rattle.std.proofs.lemmas.Bool.{agree_below_at, eqb-true, cases_lt}
-use Rattle.std.proofs.lemmas.List.{reverse-append, length-map, take_more, take_all, drop_all, get_or_past}
+use Rattle.std.proofs.lemmas.Bool.{agree_below_at, eqb-true}
+use Rattle.std.proofs.lemmas.List.{reverse-append, drop_all}
 use Rattle.std.proofs.Math.Seq.{take-append_seam}
 use borrow.Rule.Slice.PartMut.{put_mid}
-use lib.Bits.{xor_comm, xor_assoc, xor_self, xor_zero_r}
 use Rattle.gf256.specs.Field.{mul, power, carryless, reduced}
-use Rattle.gf256.proofs.FieldLaws.{mul_comm, mul_assoc, mul_small, mul_zero_right, xor_four, xor_small, mul_xor_right, one_right, power_small}
-use Rattle.rs204.specs.Codes.{plus, AreBytes, IsCodeword}
+use Rattle.gf256.proofs.FieldLaws.{mul_comm, mul_assoc, mul_small, xor_four, xor_small, mul_xor_right}
+use Rattle.rs204.specs.Codes.{plus, AreBytes}
 use Rattle.rs204.specs.Polynomials.{value_at}
-use Rattle.rs204.proofs.Polynomials.{value_small, map_bytes}
-use Rattle.rs204.proofs.Distance.{length-plus, reverse_bytes}
-use Rattle.rs204.proofs.Locate.{codeword_from_roots}
-use Rattle.rs204.proofs.CodeSteps.{get_or-sum}
-use Rattle.rs204.proofs.Near.{bytes_of}
 
 -- the value of a polynomial, from its highest coefficient on
 abbrev pub horner : ℕ → ℕ → List ℕ → ℕ

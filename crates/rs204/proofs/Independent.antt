@@ -1,8 +1,8 @@
 -- The powers of different elements are independent.
-use Rattle.std.proofs.Common.{◌≡◌, ℕ, zero, suc, ◌+◌, ◌<◌, ◌≤◌, ◌≢◌, ◌⊎◌, inl, inr, List, [], ◌∷◌, length, refl, sym, ap, ap₂, ◌∙◌, subst, arith, lit<}
+use Rattle.std.proofs.Common.{◌≡◌, ℕ, zero, suc, ◌<◌, ◌≢◌, ◌⊎◌, inl, inr, List, [], ◌∷◌, length, refl, sym, ap, ap₂, ◌∙◌, arith, lit<}
 use Rattle.std.specs.Prelude.{bit_xor}
-use lib.Bits.{xor_comm, xor_assoc, xor_self, xor_zero_r, xor_zero_l, xor_lt}
-use Rattle.gf256.specs.Field.{mul, power}
+use lib.Bits.{xor_self, xor_zero_r}
+use Rattle.gf256.specs.Field.{mul}
 use Rattle.gf256.proofs.FieldLaws.{mul_comm, mul_assoc, mul_xor_left, mul_xor_right, mul_small, mul_no_zero, mul_zero_left, mul_zero_right, one_right, one_small, xor_four, xor_small, xor_equal}
 
 -- an element to a power

@@ -7,7 +7,7 @@ use Rattle.std.proofs.lemmas.List.{take_more, take_all, take_at, map-append, len
 use native.Mathlib.Nat.{mul_comm as times_comm}
 use lib.Bits.{xor_assoc, xor_self, xor_zero_r}
 use Rattle.gf256.specs.Field.{mul, power}
-use Rattle.gf256.proofs.FieldLaws.{mul_comm, mul_small, mul_zero_left, mul_zero_right, mul_assoc, one_left, power_zero, xor_small, mul_xor_right, one_right, xor_equal, power_small}
+use Rattle.gf256.proofs.FieldLaws.{mul_comm, mul_small, mul_zero_left, mul_zero_right, mul_assoc, one_left, power_zero, mul_xor_right, one_right, xor_equal, power_small}
 use Rattle.rs204.proofs.Independent as terms
 use Rattle.rs204.proofs.Independent.{Term}
 use Rattle.rs204.specs.Codes.{plus, AreBytes, IsCodeword, distance}

@@ -5,7 +5,7 @@ use Rattle.std.specs.List.{AllByRecursion}
 use Rattle.std.proofs.lemmas.Bool.{cases_lt}
 use lib.Bits.{xor_comm, xor_assoc, xor_self, xor_zero_r}
 use Rattle.gf256.specs.Field.{mul, power}
-use Rattle.gf256.proofs.FieldLaws.{mul_comm, mul_assoc, mul_xor_left, mul_small, mul_no_zero, mul_zero_left, mul_zero_right, one_small, power_small, xor_four, xor_small, mul_xor_right, xor_equal}
+use Rattle.gf256.proofs.FieldLaws.{mul_comm, mul_assoc, mul_xor_left, mul_small, mul_no_zero, mul_zero_left, mul_zero_right, power_small, xor_four, xor_small, mul_xor_right, xor_equal}
 use Rattle.rs204.specs.Decoding.{Differ, AllDiffer}
 use Rattle.rs204.specs.Codes.{plus, with_root, with_roots, first_powers, AreBytes, IsCodeword}
 use Rattle.rs204.specs.Polynomials.{value_at}

@@ -1,5 +1,5 @@
 -- The laws of the code, each the clause of a public function of the module laws.
-use Rattle.std.specs.Prelude.{◌≡◌, ◌≢◌, ℕ, ◌+◌, ◌≤◌, List, length, take}
+use Rattle.std.specs.Prelude.{◌≡◌, ◌≢◌, ℕ, ◌≤◌, List, length, take}
 use Rattle.rs204.specs.Codes.{AreBytes, IsCodeword, codeword, distance}
 
 -- two codewords differ in at least 17 places

@@ -8,11 +8,13 @@
 
 mod memory;
 mod ports;
-mod source;
 mod sink;
+mod source;
 mod station;
 
 pub use memory::{Failing, MemoryStation};
 pub use ports::{InPort, OutPort};
 pub use station::{Failed, Station};
 
+#[cfg(test)]
+mod tests;

@@ -1,6 +1,5 @@
 // A station in memory.
 ghost use Rattle.std.specs.Prelude.{◌≤◌, ◌↔◌, ◌≡◌, ◌<◌, length, IsTrue, Contains};
-
 ghost use Rattle.station_core.specs.Counted.{next_call, counted};
 
 use crate::sink::Writing;

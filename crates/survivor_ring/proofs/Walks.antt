@@ -9,7 +9,7 @@ use Rattle.code_paths.specs.States.{before}
 use Rattle.survivor_ring.specs.Survivors.{AreAlike, IsAlike, IsPushed, IsFollowed, GivesAway}
 use Rattle.survivor_ring.specs.Ring.{root, trace, leads, AreBefore, IsSplit, IsUniform, Chosen}
 use Rattle.survivor_ring.proofs.RowSteps.{before_below, half_lives, lowest_lives}
-use Rattle.survivor_ring.proofs.Words.{set_shr, set_and, ones32, and_true}
+use Rattle.code_paths.proofs.Words.{set_shr, set_and, ones32, and_true}
 use Rattle.std.proofs.lemmas.Nat.Bits.{bit_at-zero, bit_at_above, bit_at-trailing_zeros}
 use Rattle.std.specs.Int.{trailing_zeros, w64}
 use Rattle.std.proofs.lemmas.Nat.{and_le_r}

@@ -1,4 +1,4 @@
-use Rattle.std.proofs.Common.{◌≡◌, ◌<◌, ℕ, get_or, length, reverse, take}
+use Rattle.std.proofs.Common.{◌≡◌, ◌<◌, ℕ, get_or, reverse, take}
 use Rattle.gf256.specs.Field as field
 use Rattle.rs204.specs.Polynomials.{value_at}
 use Rattle.rs204.proofs.decoder.syndromes.Given as goal

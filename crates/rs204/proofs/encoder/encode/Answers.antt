@@ -1,4 +1,4 @@
-use Rattle.std.proofs.Common.{◌≡◌, ◌++◌, ℕ, List, take, refl, ◌∙◌, sym, ap, ap₂, subst, replicate}
+use Rattle.std.proofs.Common.{◌++◌, ℕ, List, take, refl, ◌∙◌, sym, ap, ap₂, subst, replicate}
 use Rattle.rs204.specs.Codes.{IsCodeword, codeword, rest_of}
 use Rattle.rs204.proofs.Near.{bytes_of}
 use Rattle.rs204.proofs.Horner.{put_behind}

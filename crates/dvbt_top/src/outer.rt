@@ -1,0 +1,41 @@
+// The command `outer`.
+ghost use Rattle.std.specs.Prelude.{◌≡◌, ◌++◌, ◌∷◌, [], List, ℕ};
+ghost use Rattle.outer_chain.specs.Sent.{sent_bytes};
+ghost use Rattle.outer_chain.specs.Sending.{Sends};
+
+use crate::coder::Coder;
+use outer_chain::OuterTx;
+use ts_packet::Packet;
+
+/// Codes packets by the outer code, and interleaves what they give.
+#[derive(Drop)]
+pub struct OuterCoder {
+    tx: OuterTx,
+    // what the packet taken last has given
+    word: [u8; 204],
+}
+
+impl OuterCoder {
+    /// Stands before the first packet.
+    pub fn new(tx: OuterTx) -> OuterCoder
+        ensures { result.tx ≡ tx }
+    {
+        OuterCoder { tx, word: [0; 204] }
+    }
+}
+
+impl Coder for OuterCoder {
+    ghost coded = { λ c packets. sent_bytes packets };
+
+    ghost took = { λ c packets. Sends c.tx packets };
+
+    ghost piece = { λ c. c.word };
+
+    fn take(&mut self, packet: &Packet) {
+        self.word = self.tx.take(packet);
+    }
+
+    fn bytes(&self) -> &[u8] {
+        &self.word
+    }
+}

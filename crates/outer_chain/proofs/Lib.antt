@@ -1,0 +1,11 @@
+pub mod Interleaved
+pub mod Sender
+pub mod NearWords
+pub mod BurstPlaces
+pub mod OwnWords
+pub mod WordLaws
+pub mod BitBytes
+pub mod Filling
+pub mod Taking
+pub mod DecodedWords
+pub mod Finishing

@@ -1,0 +1,48 @@
+use Rattle.std.proofs.Common.{◌≡◌, ◌-◌, ◌++◌, ◌∷◌, [], sym, subst, refl, true≢false, arith}
+use Rattle.outer_chain.specs.Receiving.{Receives}
+use Rattle.outer_chain.proofs.Taking.{made_of, goes_on, no_word_yet, begins_anew, still_starting, word_ends, word_is}
+use Rattle.outer_chain.proofs.rx.OuterRx.take_byte.Goals as goal
+
+pub returns-then-self-lt-LAST-clause-stands : goal.returns-then-self-lt-LAST-clause-stands
+returns-then-self-lt-LAST-clause-stands c = λ bytes h.
+    let r = c.self.inside in
+    let g = subst (λ x. Receives x bytes) (sym c.self.view_is) h in
+    goes_on r.deinterleaver c.step.new.self r.word r.filled r.start c.step.result c.args.byte r.phase bytes c.self.told c.if-self-lt-LAST.true g (c.step.ensures.stands bytes g.delays) (c.step.ensures.given bytes g.delays)
+
+pub returns-then-self-lt-LAST-clause-ends : goal.returns-then-self-lt-LAST-clause-ends
+returns-then-self-lt-LAST-clause-ends c = λ bytes h.
+    let r = c.self.inside in
+    let g = subst (λ x. Receives x bytes) (sym c.self.view_is) h in
+    (λ e. absurd (true≢false (sym e)), λ e. absurd (no_word_yet r.deinterleaver r.word r.filled r.start c.args.byte r.phase bytes c.self.told c.if-self-lt-LAST.true g e))
+
+pub returns-then-self-gt0-clause-stands : goal.returns-then-self-gt0-clause-stands
+returns-then-self-gt0-clause-stands c = λ bytes h.
+    let r = c.self.inside in
+    let g = subst (λ x. Receives x bytes) (sym c.self.view_is) h in
+    begins_anew r.deinterleaver c.step.new.self r.word r.word r.filled r.start c.args.byte r.phase bytes c.self.told c.self.invariant.0 c.if-self-lt-LAST.false g (c.step.ensures.stands bytes g.delays)
+
+pub returns-then-self-gt0-clause-ends : goal.returns-then-self-gt0-clause-ends
+returns-then-self-gt0-clause-ends c = λ bytes h.
+    let r = c.self.inside in
+    let g = subst (λ x. Receives x bytes) (sym c.self.view_is) h in
+    (λ e. absurd (true≢false (sym e)), λ e. absurd (still_starting r.deinterleaver r.word r.filled r.start c.args.byte r.phase bytes c.self.told c.self.invariant.0 c.if-self-lt-LAST.false c.if-self-gt0.true g e))
+
+pub returns-clause-stands : goal.returns-clause-stands
+returns-clause-stands c = λ bytes h.
+    let r = c.self.inside in
+    let g = subst (λ x. Receives x bytes) (sym c.self.view_is) h in
+    let none : r.start - 1 ≡ r.start = omega (arith, c.if-self-gt0.false) in
+    subst (λ s. Receives (made_of c.step.new.self r.word 0 s r.phase) (bytes ++ c.args.byte ∷ [])) none
+    (begins_anew r.deinterleaver c.step.new.self r.word r.word r.filled r.start c.args.byte r.phase bytes c.self.told c.self.invariant.0 c.if-self-lt-LAST.false g (c.step.ensures.stands bytes g.delays))
+
+pub returns-clause-ends : goal.returns-clause-ends
+returns-clause-ends c = λ bytes h.
+    let r = c.self.inside in
+    let g = subst (λ x. Receives x bytes) (sym c.self.view_is) h in
+    (λ e. word_ends r.deinterleaver r.word r.filled r.start c.args.byte r.phase bytes c.self.told c.self.invariant.0 c.if-self-lt-LAST.false c.if-self-gt0.false g, λ e. refl)
+
+pub returns-clause-word : goal.returns-clause-word
+returns-clause-word c = λ bytes h.
+    let r = c.self.inside in
+    let g = subst (λ x. Receives x bytes) (sym c.self.view_is) h in
+    word_is r.deinterleaver r.word r.filled r.start c.step.result c.args.byte r.phase bytes c.self.told c.self.invariant.0 c.if-self-lt-LAST.false c.if-self-gt0.false g (c.step.ensures.given bytes g.delays)

@@ -1,0 +1,10 @@
+pub mod Sent
+pub mod Sending
+pub mod SendingLaws
+pub mod Bits
+pub mod Words
+pub mod Nears
+pub mod Bursts
+pub mod Receiving
+pub mod Running
+pub mod Laws

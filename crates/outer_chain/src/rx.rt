@@ -1,0 +1,146 @@
+// The receiver of the outer code.
+
+ghost use Rattle.std.specs.Prelude.{◌≡◌, ◌<◌, ◌≤◌, ◌+◌, ◌-◌, ◌*◌, ◌%◌, ◌↔◌, ℕ, List, [], ◌∷◌, ◌++◌, length, take, IfOk, IfSome, IsSome, IsTrue};
+ghost use Rattle.outer_chain.specs.Words.{word_at, word_count, phase_of, given_packet, packet_of, has};
+ghost use Rattle.outer_chain.specs.Nears.{near_of};
+ghost use Rattle.outer_chain.specs.Receiving.{EndsWord, Receives};
+
+use crate::slot::WordSlot;
+use dispersal::undo;
+use forney::Deinterleaver;
+use rs204::Outcome;
+use std::alloc::{AllocError, Global};
+use std::marker::Model;
+use ts_packet::Packet;
+
+/// The words that the delay lines take to fill.
+const START_UP: u8 = 11;
+
+/// The last place of a word.
+const LAST: usize = 203;
+
+/// The sync byte of the first packet of a group of eight, inverted.
+const INVERTED_SYNC: u8 = 0xB8;
+
+/// The packets of a group.
+const GROUP: u8 = 8;
+
+/// Takes the interleaved bytes of a stream and gives its packets. It stands for the bytes that it
+/// has had; the phase that contracts see is that of the word that was finished last.
+#[derive(Drop)]
+pub struct OuterRx {
+    deinterleaver: Deinterleaver,
+    word: [u8; 204],
+    filled: usize,
+    start: u8,
+    phase: Option<u8>,
+}
+
+impl Model for OuterRx {
+    ghost use Rattle.std.specs.Prelude.{◌<◌, take};
+    ghost use Rattle.std.specs.Option.{ForSome};
+    ghost use Rattle.outer_chain.specs.Receiving.{Receiver};
+
+    ghost Value = { Receiver };
+
+    ghost view = { λ r. record { delays = r.deinterleaver; begun = take r.filled r.word; start = r.start; phase = r.phase } };
+
+    ghost invariant = { λ r. (r.filled < 204) × ForSome r.phase (λ f. f < 8) };
+}
+
+// Whether the word is a codeword after its decoding.
+fn is_near(outcome: Outcome) -> bool
+    ensures { (word : List ℕ) → result ≡ has (near_of outcome word) }
+{
+    match outcome {
+        Outcome::Clean => true,
+        Outcome::Corrected(_) => true,
+        Outcome::Bad => false,
+    }
+}
+
+// The phase of a word, by that of the word before.
+fn phase_after(slot: &WordSlot, before: Option<u8>) -> Option<u8>
+    requires { IfSome before (λ f. f < 8) }
+    ensures phase { result ≡ phase_of (near_of slot.now.outcome slot.now.word) before }
+    ensures small { IfSome result (λ f. f < 8) }
+{
+    if is_near(slot.outcome) && slot.word[0] == INVERTED_SYNC {
+        return Some(0);
+    }
+    match before {
+        Some(phase) => Some((phase + 1) % GROUP),
+        None => None,
+    }
+}
+
+// The packet of a word at its phase.
+fn packet_at(slot: &WordSlot, phase: u8) -> Packet
+    requires { phase < 8 }
+    ensures { result ≡ packet_of phase slot.now.word (near_of slot.now.outcome slot.now.word) }
+{
+    let mut head = [0u8; 188];
+    head.copy_from_slice(&slot.word[..188]);
+    let mut packet = undo(phase, &head);
+    if !is_near(slot.outcome) {
+        packet.mark_error();
+    }
+    packet
+}
+
+impl OuterRx {
+    /// A receiver that has had no byte and finished no word. The only error is want of memory.
+    pub fn new(alloc: Global) -> Result<OuterRx, AllocError>
+        ensures empty { IfOk result (λ rx. Receives rx []) }
+        ensures phase { IfOk result (λ rx. rx.phase ≡ None) }
+    {
+        Ok(OuterRx {
+            deinterleaver: Deinterleaver::new(alloc)?,
+            word: [0; 204],
+            filled: 0,
+            start: START_UP,
+            phase: None,
+        })
+    }
+
+    /// Takes the next interleaved byte. Gives the word that ends with it, still to be decoded, exactly
+    /// where a word behind the eleven of the start-up ends with it.
+    pub fn take_byte(&mut self, byte: u8) -> Option<WordSlot>
+        ensures stands { (bytes : List ℕ) → Receives self.old bytes → Receives self.new (bytes ++ byte ∷ []) }
+        ensures ends { (bytes : List ℕ) → Receives self.old bytes → IsSome result ↔ EndsWord (bytes ++ byte ∷ []) }
+        ensures word { (bytes : List ℕ) → Receives self.old bytes → IfSome result (λ slot. slot.word ≡ word_at (bytes ++ byte ∷ []) (word_count (bytes ++ byte ∷ []) - 1)) }
+        ensures undecoded { IfSome result (λ slot. slot.outcome ≡ Outcome.Bad) }
+        ensures phase { self.new.phase ≡ self.old.phase }
+    {
+        self.word[self.filled] = self.deinterleaver.step(byte);
+        if self.filled < LAST {
+            self.filled += 1;
+            return None;
+        }
+        self.filled = 0;
+        if self.start > 0 {
+            self.start -= 1;
+            return None;
+        }
+        Some(WordSlot {
+            word: self.word,
+            outcome: Outcome::Bad,
+        })
+    }
+
+    /// The packet of a decoded word, meant for each word in order: none exactly where the word has no
+    /// phase, and marked where the word has no nearest codeword. A nearest codeword that begins with
+    /// the inverted sync byte has phase 0, another word the phase behind that of the word before.
+    pub fn finish_word(&mut self, slot: &WordSlot) -> Option<Packet>
+        ensures phase { self.new.phase ≡ phase_of (near_of slot.now.outcome slot.now.word) self.old.phase }
+        ensures packet { result ≡ given_packet self.new.phase slot.now.word (near_of slot.now.outcome slot.now.word) }
+        ensures stands { (bytes : List ℕ) → Receives self.old bytes → Receives self.new bytes }
+    {
+        let phase = phase_after(slot, self.phase);
+        self.phase = phase;
+        match phase {
+            Some(phase) => Some(packet_at(slot, phase)),
+            None => None,
+        }
+    }
+}

@@ -1,0 +1,23 @@
+// Received words.
+
+ghost use Rattle.rs204.specs.Decoded.{Decoded};
+
+use rs204::{Outcome, decode};
+
+/// A received word of 204 bytes and what became of it, which is `Bad` until it is decoded.
+#[derive(Drop)]
+pub struct WordSlot {
+    /// The word as it was received, or the nearest codeword once it is decoded.
+    pub word: [u8; 204],
+    /// What decoding the word told.
+    pub outcome: Outcome,
+}
+
+impl WordSlot {
+    /// Puts the nearest codeword in the place of the word, where there is one, and tells which.
+    pub fn decode(&mut self)
+        ensures decoded { Decoded self.old.word self.new.word self.new.outcome }
+    {
+        self.outcome = decode(&mut self.word);
+    }
+}

@@ -1,0 +1,95 @@
+// The outer code of a stream, against values from outside.
+
+use crate::{OuterRx, OuterTx, WordSlot};
+use dispersal::Dispersal;
+use rs204::{Outcome, encode};
+use std::test::Fail;
+use ts_packet::Packet;
+
+// The first word of a stream: every twelfth byte is its own, the others are zeros of the start.
+#[test]
+fn first_word_of_a_null_packet(rt: HostRuntime) -> Result<(), Fail> {
+    let mut tx = OuterTx::new(rt.alloc())?;
+    let word = tx.take(&Packet::null());
+    let begins = [0xB8u8, 0, 0, 0, 0, 0, 0, 0, 0, 0, 0, 0, 0x8C];
+    assert_eq!(rt; &word[..13], begins.as_slice());
+    Ok(())
+}
+
+// A packet whose bytes behind the first are this number.
+fn numbered(number: u8) -> Packet {
+    let mut bytes = [number; 188];
+    bytes[0] = 0x47;
+    match Packet::read(&bytes) {
+        Ok(packet) => packet,
+        Err(_) => Packet::null(),
+    }
+}
+
+// The packet that comes back with this byte, if one does.
+fn back(rx: &mut OuterRx, byte: u8) -> Option<Packet> {
+    match rx.take_byte(byte) {
+        Some(slot) => {
+            let mut slot = slot;
+            slot.decode();
+            rx.finish_word(&slot)
+        }
+        None => None,
+    }
+}
+
+// Thirty packets, of whose bytes 96 are inverted from byte 2400 on: nineteen come back, unchanged.
+#[test]
+fn burst_of_96(rt: HostRuntime) -> Result<(), Fail> {
+    let mut tx = OuterTx::new(rt.alloc())?;
+    let mut rx = OuterRx::new(rt.alloc())?;
+    let mut found = 0u8;
+    for number in 0..30u8 {
+        let word = tx.take(&numbered(number));
+        for k in 0..204u16 {
+            let place = 204 * number as u16 + k;
+            let byte = word[k as usize];
+            let byte = if 2400 <= place && place < 2496 {
+                !byte
+            } else {
+                byte
+            };
+            if let Some(packet) = back(&mut rx, byte) {
+                let sent = numbered(found);
+                assert_eq!(rt; packet.bytes().as_slice(), sent.bytes().as_slice());
+                found = found.wrapping_add(1);
+            }
+        }
+    }
+    assert_eq!(rt; found, 19);
+    Ok(())
+}
+
+// A word with nine errors that no codeword is near to comes after a word of phase 0: its null packet
+// comes back marked, and the phase goes on.
+#[test]
+fn bad_word_after_phase_zero(rt: HostRuntime) -> Result<(), Fail> {
+    let pattern = [0x01u8, 0xFF, 0x0B, 0x51, 0x36, 0xEF, 0xAD, 0xC8, 0x18];
+    let mut rx = OuterRx::new(rt.alloc())?;
+    let mut dispersal = Dispersal::start();
+    let first = WordSlot {
+        word: encode(&dispersal.apply(&Packet::null())),
+        outcome: Outcome::Clean,
+    };
+    assert!(rt; rx.finish_word(&first).is_some());
+    let mut second = WordSlot {
+        word: encode(&dispersal.apply(&Packet::null())),
+        outcome: Outcome::Bad,
+    };
+    for k in 0..9usize {
+        second.word[195 + k] ^= pattern[k];
+    }
+    second.decode();
+    assert!(rt; matches!(second.outcome, Outcome::Bad));
+    let begins = [0x47u8, 0x9F, 0xFF, 0x10, 0xFF];
+    match rx.finish_word(&second) {
+        Some(packet) => assert_eq!(rt; &packet.bytes()[..5], begins.as_slice()),
+        None => assert!(rt; false),
+    }
+    Ok(())
+}

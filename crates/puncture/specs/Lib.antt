@@ -1,0 +1,3 @@
+pub mod SentBits
+pub mod Steps
+pub mod Laws

@@ -1,0 +1,126 @@
+// The costs of all bits of one axis.
+ghost use Rattle.std.specs.Prelude.{◌≡◌, ◌+◌, ◌/◌, ◌^◌, ◌<◌, ◌≤◌, ℕ, min, if◌then◌else◌, slice_index, slice_index_or, true, false};
+ghost use Rattle.std.specs.Int.{abs_diff};
+ghost use Rattle.mode_set.specs.Levels.{levels};
+ghost use Rattle.mode_set.specs.StreamTable.{label_bits};
+ghost use Rattle.soft_metric.specs.Costs.{cost, four_levels};
+ghost use Rattle.soft_metric.specs.Squares.{AreAxisCosts, IsSmallPair};
+
+use mode_set::{Hierarchy, Shape};
+use std::marker::Model;
+
+/// The metric of the axes of a constellation. It is seen as the constellation and its hierarchy.
+#[derive(Drop)]
+pub struct AxisMetric {
+    shape: Shape,
+    hierarchy: Hierarchy,
+    // from the outermost to the innermost
+    rings: [u32; 4],
+}
+
+impl Model for AxisMetric {
+    ghost use Rattle.std.specs.Prelude.{◌≡◌};
+    ghost use Rattle.mode_set.specs.Levels.{levels};
+    ghost use Rattle.mode_set.specs.declared.modes.Shape.{Shape};
+    ghost use Rattle.mode_set.specs.declared.modes.Hierarchy.{Hierarchy};
+    ghost use Rattle.soft_metric.specs.Costs.{four_levels};
+
+    ghost Value = { Shape × Hierarchy };
+
+    ghost view = { λ m. (m.shape, m.hierarchy) };
+
+    ghost invariant = { λ m. m.rings ≡ four_levels (levels m.shape m.hierarchy) };
+}
+
+fn levels_of(shape: Shape, hierarchy: Hierarchy) -> [u32; 4]
+    ensures { result ≡ four_levels (levels shape hierarchy) }
+{
+    match shape {
+        Shape::Qpsk => [11585; 4],
+        Shape::Qam16 => match hierarchy {
+            Hierarchy::Flat | Hierarchy::Alpha1 => [15543, 15543, 5181, 5181],
+            Hierarchy::Alpha2 => [14654, 14654, 7327, 7327],
+            Hierarchy::Alpha4 => [13632, 13632, 9088, 9088],
+        },
+        Shape::Qam64 => match hierarchy {
+            Hierarchy::Flat | Hierarchy::Alpha1 => [17697, 12641, 7584, 2528],
+            Hierarchy::Alpha2 => [16921, 12691, 8461, 4230],
+            Hierarchy::Alpha4 => [15766, 12612, 9459, 6306],
+        },
+    }
+}
+
+fn near_square(magnitude: u32, level: u32) -> u32
+    requires magnitude { magnitude ≤ 32768 }
+    requires level { level ≤ 20000 }
+    ensures { result ≡ abs_diff magnitude level ^ 2 }
+{
+    let gap = magnitude.abs_diff(level);
+    gap * gap
+}
+
+fn far_square(magnitude: u32, level: u32) -> u32
+    requires magnitude { magnitude ≤ 32768 }
+    requires level { level ≤ 20000 }
+    ensures { result ≡ (magnitude + level) ^ 2 }
+{
+    let gap = magnitude + level;
+    gap * gap
+}
+
+fn scaled(square: u32) -> u16
+    ensures { result ≡ min 4095 (square / 2 ^ 18) }
+{
+    (square >> 18).min(4095) as u16
+}
+
+fn in_order(positive: bool, near: u16, far: u16) -> (u16, u16)
+    ensures zero { result.0 ≡ (if positive then near else far) }
+    ensures one { result.1 ≡ (if positive then far else near) }
+{
+    if positive { (near, far) } else { (far, near) }
+}
+
+// The costs of an axis with these four levels, from the outermost to the innermost.
+fn costs_of(levels: [u32; 4], positive: bool, magnitude: u32) -> [(u16, u16); 3]
+    requires magnitude { magnitude ≤ 32768 }
+    requires levels { (k : ℕ) → slice_index levels k ≤ 20000 }
+    ensures { AreAxisCosts levels positive magnitude result }
+{
+    let first = near_square(magnitude, levels[0]);
+    let second = near_square(magnitude, levels[1]);
+    let third = near_square(magnitude, levels[2]);
+    let last = near_square(magnitude, levels[3]);
+    let outer = first.min(second);
+    let inner = third.min(last);
+    let near = scaled(outer.min(inner));
+    let far = scaled(far_square(magnitude, levels[3]));
+    [
+        in_order(positive, near, far),
+        (scaled(outer), scaled(inner)),
+        (scaled(first.min(last)), scaled(second.min(third))),
+    ]
+}
+
+impl AxisMetric {
+    /// The metric of a constellation.
+    pub fn new(shape: Shape, hierarchy: Hierarchy) -> AxisMetric
+        ensures { result ≡ (shape, hierarchy) }
+    {
+        AxisMetric {
+            shape,
+            hierarchy,
+            rings: levels_of(shape, hierarchy),
+        }
+    }
+
+    /// The costs of the values 0 and 1 of the bits of an axis with the value `x`: first of the sign,
+    /// place 0 or 1 of the label, then of places 2 or 3, and of places 4 or 5, as far as the label
+    /// has them.
+    pub fn costs(&self, x: i16) -> [(u16, u16); 3]
+        ensures costs { (e : ℕ) → e < label_bits self.now.0 → slice_index_or result (e / 2) (0, 0) ≡ (cost self.now.0 self.now.1 x e false, cost self.now.0 self.now.1 x e true) }
+        ensures small { (k : ℕ) → k < 3 → IsSmallPair (slice_index_or result k (0, 0)) }
+    {
+        costs_of(self.rings, x >= 0, x.unsigned_abs() as u32)
+    }
+}

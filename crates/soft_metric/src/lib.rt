@@ -1,0 +1,12 @@
+//! What the two values of a coded bit cost, by the cell that carries it: squared distances to the
+//! constellation's points (EN 300 744, 4.3.5; the scale and the cap are this project's own).
+#![tactic(auto)]
+
+mod axis;
+pub mod laws;
+mod metric;
+#[cfg(test)]
+mod tests;
+
+pub use axis::AxisMetric;
+pub use metric::costs;
