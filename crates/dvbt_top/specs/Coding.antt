@@ -17,12 +17,6 @@ KeepsOthers old new = new ≡ record old {
   write_faults = new.write_faults;
 }
 
--- after some bytes of a packet were read
-pub record ReadsPacket (left : List ℕ) (n : ℕ) (bytes : List ℕ) : Type 0 where
-  pub within : n ≤ length left
-  pub front : take n bytes ≡ take n left
-  pub all : n < 188 → n ≡ length left
-
 -- One packet of what is left, which gives the piece: what is left then and what is written
 abbrev pub Step : ℕ → List ℕ → List ℕ → List ℕ → List ℕ → List ℕ → Result (Option ℕ) Refusal → Type 0
 Step number piece input before left after (Ok None) =

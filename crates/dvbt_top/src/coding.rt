@@ -4,10 +4,10 @@ ghost use Rattle.dvbt_top.specs.Causes.{HasCause};
 ghost use Rattle.dvbt_top.specs.Coding.{KeepsOthers, OnTaken, Step, EndsAtLimit, Codes};
 
 use crate::coder::Coder;
-use crate::read::read_packet;
+use crate::read::fill;
 use crate::{Counts, Limits, Refusal};
 use mode_set::Stream;
-use station_core::{OutPort, Station};
+use station_core::{InPort, OutPort, Station};
 use ts_packet::{PACKET_LEN, Packet};
 
 // Reads, codes and writes the packet of this number. At the end it gives the length of the tail.
@@ -31,7 +31,7 @@ fn code_next<'a, C: Coder, S: Station<'a>>(
         (S.meaning station.new).hp.left (S.meaning station.new).bytes_out.written result }
 {
     let mut bytes = [0; 188];
-    let filled = match read_packet(station, &mut bytes) {
+    let filled = match fill(station, InPort::Hp, &mut bytes) {
         Ok(filled) => filled,
         Err(_) => return Err(Refusal::ReadFault),
     };
@@ -59,7 +59,7 @@ fn end_at_limit<'a, S: Station<'a>>(limit: u64, station: &mut S) -> Result<Count
         (S.meaning station.new).hp.left (S.meaning station.new).bytes_out.written result }
 {
     let mut bytes = [0; 188];
-    match read_packet(station, &mut bytes) {
+    match fill(station, InPort::Hp, &mut bytes) {
         Ok(filled) => {
             if filled < PACKET_LEN {
                 Ok(Counts {
