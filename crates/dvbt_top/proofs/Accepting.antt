@@ -21,10 +21,10 @@ pub accepted_from : (limit : ℕ) (input : List ℕ) (n : ℕ) → n ≤ whole_p
 unfolding accepted
 accepted_from limit input n within all = first_from (whole_packets input) n (λ i. not (is_accepted limit input i)) within (λ k l. ap not (all k l))
 
-same_number : (n : ℕ) → (n == n) ≡ true
+pub same_number : (n : ℕ) → (n == n) ≡ true
 same_number n = eq-eqb n n refl
 
-other_number : (m n : ℕ) → m < n → (m == n) ≡ false
+pub other_number : (m n : ℕ) → m < n → (m == n) ≡ false
 other_number m n lt = go (m == n) refl
   where
     go : (b : Bool) → (m == n) ≡ b → b ≡ false

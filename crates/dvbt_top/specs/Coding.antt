@@ -1,6 +1,6 @@
 -- The work of a command that codes the packets of HP one after another: what is left of the input and
 -- what was written, by the answer. `coded n input` is what the first n packets of an input give.
-use Rattle.std.specs.Prelude.{length, ◌/◌, ◌≡◌, ◌<◌, ◌≤◌, ◌-◌, ◌++◌, ℕ, List, [], take, drop, Result, Ok, Err, Option, None, Some, true, false, ⊤}
+use Rattle.std.specs.Prelude.{◌⊎◌, length, ◌/◌, ◌≡◌, ◌<◌, ◌≤◌, ◌-◌, ◌++◌, ℕ, List, [], take, drop, Result, Ok, Err, Option, None, Some, true, false, ⊤}
 use Rattle.station_core.specs.Meaning.{Meaning}
 use Rattle.mode_set.specs.declared.modes.Stream.TheVariants.{Hp}
 use Rattle.dvbt_top.specs.declared.work.Counts.{Counts}
@@ -75,3 +75,19 @@ Codes coded limit input before left after (Err WriteFault) =
     (n : ℕ) × (k : ℕ) × (n ≤ whole_packets input) × AcceptsFirst limit input n × (after ≡ before ++ take k (coded (first_packets n input)))
 Codes coded limit input before left after (Err Usage) = ⊥
 Codes coded limit input before left after (Err Memory) = ⊥
+
+-- The end of the coding, which gives the last piece
+abbrev pub EndsCoding : List ℕ → List ℕ → List ℕ → List ℕ → List ℕ → Result (Unit {0}) Refusal → Type 0
+EndsCoding piece input before left after (Ok u) = (left ≡ input) × (after ≡ before ++ piece)
+EndsCoding piece input before left after (Err WriteFault) = (k : ℕ) × (left ≡ input) × (after ≡ before ++ take k piece)
+EndsCoding piece input before left after (Err refusal) = ⊥
+
+-- All packets of an input and the end of their coding: `ended packets` is what packets give in all
+abbrev pub CodesWhole : (List (List ℕ) → List ℕ) → (List (List ℕ) → List ℕ) → ℕ → List ℕ → List ℕ → List ℕ → List ℕ → Result Counts Refusal → Type 0
+CodesWhole coded ended limit input before left after (Ok counts) =
+    (counts ≡ counts_of input) × AcceptsFirst limit input (whole_packets input)
+    × (left ≡ []) × (after ≡ before ++ ended (first_packets (whole_packets input) input))
+CodesWhole coded ended limit input before left after (Err WriteFault) =
+    Codes coded limit input before left after (Err WriteFault)
+    ⊎ (AcceptsFirst limit input (whole_packets input) × ((k : ℕ) × (after ≡ before ++ take k (ended (first_packets (whole_packets input) input)))))
+CodesWhole coded ended limit input before left after (Err refusal) = Codes coded limit input before left after (Err refusal)

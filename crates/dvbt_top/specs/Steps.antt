@@ -1,13 +1,22 @@
 -- The steps of a run of a command that codes the packets of HP, each as a relation of what the station
 -- stood for before and after it. The clauses of the run as a whole follow from them.
-use Rattle.std.specs.Prelude.{◌≡◌, ◌⊎◌, ◌<◌, ◌≤◌, ◌-◌, ◌+◌, ◌^◌, ◌++◌, ℕ, min, true, false, List, [], take, Result, Ok, Err, Some, if◌then◌else◌}
+use Rattle.std.specs.Prelude.{◌≡◌, ◌⊎◌, ◌<◌, ◌≤◌, ◌-◌, ◌+◌, ◌^◌, ◌++◌, ℕ, min, true, false, List, [], take, Result, Ok, Err, Some, None, if◌then◌else◌}
 use Rattle.station_core.specs.Meaning.{Meaning}
 use Rattle.dvbt_top.specs.declared.work.Counts.{Counts}
 use Rattle.dvbt_top.specs.declared.work.Refusal.{Refusal}
 use Rattle.dvbt_top.specs.declared.work.Refusal.TheVariants.{Usage, ReadFault, WriteFault, NotSync, Memory, Limit}
 use Rattle.dvbt_top.specs.Causes.{HasCause}
-use Rattle.dvbt_top.specs.Coding.{Codes, counts_of}
+use Rattle.dvbt_top.specs.Coding.{CodesWhole, counts_of}
 use Rattle.dvbt_top.specs.Text.{closing_line, refusal_text, refusal_status}
+
+-- nothing was asked on HP and Bytes, Report is open, and nothing was written there
+pub record IsReady (m : Meaning) : Type 0 where
+  pub hp : m.hp.asked ≡ None
+  pub bytes : m.bytes_out.asked ≡ None
+  pub not_created : m.bytes_out.created ≡ false
+  pub report : m.report.created ≡ true
+  pub report_open : m.report.closed ≡ false
+  pub report_empty : m.tells ≡ true → m.report.written ≡ []
 
 -- only HP, Bytes, what is written to Report and the counts have changed, and only these names were asked
 pub record AsksPorts (input output : List ℕ) (old new : Meaning) : Type 0 where
@@ -29,18 +38,18 @@ pub record IsFinished (old new : Meaning) (counts : Counts) : Type 0 where
   pub report : old.tells ≡ true → new.report.written ≡ old.report.written ++ closing_line counts
 
 -- What a run leaves, by its outcome. Before the output is created nothing of it is said.
-abbrev pub Ran : (List (List ℕ) → List ℕ) → ℕ → List ℕ → Meaning → Meaning → Result Counts Refusal → Type 0
-Ran coded limit input old new (Ok counts) =
-    IsFinished old new counts × (old.tells ≡ true → Codes coded limit (old.file input) [] new.hp.left new.bytes_out.written (Ok counts))
-Ran coded limit input old new (Err WriteFault) =
-    (old.tells ≡ true → new.bytes_out.created ≡ true → Codes coded limit (old.file input) [] new.hp.left new.bytes_out.written (Err WriteFault))
+abbrev pub Ran : (List (List ℕ) → List ℕ) → (List (List ℕ) → List ℕ) → ℕ → List ℕ → Meaning → Meaning → Result Counts Refusal → Type 0
+Ran coded ended limit input old new (Ok counts) =
+    IsFinished old new counts × (old.tells ≡ true → CodesWhole coded ended limit (old.file input) [] new.hp.left new.bytes_out.written (Ok counts))
+Ran coded ended limit input old new (Err WriteFault) =
+    (old.tells ≡ true → new.bytes_out.created ≡ true → CodesWhole coded ended limit (old.file input) [] new.hp.left new.bytes_out.written (Err WriteFault))
     × (old.tells ≡ true → (k : ℕ) × (new.report.written ≡ old.report.written ++ take k (closing_line (counts_of (old.file input)))))
-Ran coded limit input old new (Err ReadFault) =
+Ran coded ended limit input old new (Err ReadFault) =
     (new.report ≡ old.report)
-    × (old.tells ≡ true → new.bytes_out.created ≡ true → Codes coded limit (old.file input) [] new.hp.left new.bytes_out.written (Err ReadFault))
-Ran coded limit input old new (Err refusal) =
+    × (old.tells ≡ true → new.bytes_out.created ≡ true → CodesWhole coded ended limit (old.file input) [] new.hp.left new.bytes_out.written (Err ReadFault))
+Ran coded ended limit input old new (Err refusal) =
     (new.report ≡ old.report) × (new.bytes_out.created ≡ true)
-    × (old.tells ≡ true → Codes coded limit (old.file input) [] new.hp.left new.bytes_out.written (Err refusal))
+    × (old.tells ≡ true → CodesWhole coded ended limit (old.file input) [] new.hp.left new.bytes_out.written (Err refusal))
 
 -- after the ports were opened, or one was not
 abbrev pub OpensAll : List ℕ → List ℕ → Meaning → Meaning → Result (Unit {0}) Refusal → Type 0
@@ -93,11 +102,11 @@ Tells mid new (Ok counts) = new ≡ mid
 Tells mid new (Err refusal) = WritesText (refusal_text refusal) mid new
 
 -- a run has one outcome: the status, the ports and the report are that outcome's
-pub record RunsCoding (coded : List (List ℕ) → List ℕ) (limit : ℕ) (input output : List ℕ) (old new : Meaning) (status : ℕ) : Type 0 where
+pub record RunsCoding (coded ended : List (List ℕ) → List ℕ) (limit : ℕ) (input output : List ℕ) (old new : Meaning) (status : ℕ) : Type 0 where
   pub outcome : Result Counts Refusal
   pub mid : Meaning
   pub status_is : status ≡ outcome_status outcome
   pub asks : AsksPorts input output old mid
   pub cause : HasCause old mid outcome
-  pub ran : Ran coded limit input old mid outcome
+  pub ran : Ran coded ended limit input old mid outcome
   pub tells : Tells mid new outcome

@@ -5,10 +5,12 @@ use ts_packet::Packet;
 
 /// A coder of the packets of a transport input, one after another.
 ///
-/// `coded packets` is what packets give, and `took packets` says that the coder has taken just these
-/// since its start.
+/// `coded packets` is what packets give as long as more may follow, and `ended packets` what they give
+/// in all. `took packets` says that the coder has taken just these since its start.
 pub trait Coder {
     ghost coded: { Self → List (List ℕ) → List ℕ };
+
+    ghost ended: { Self → List (List ℕ) → List ℕ };
 
     ghost took: { Self → List (List ℕ) → Type 0 };
 
@@ -17,11 +19,17 @@ pub trait Coder {
     /// Takes the next packet.
     fn take(&mut self, packet: &Packet)
         ensures same { (packets : List (List ℕ)) → coded self.new packets ≡ coded self.old packets }
+        ensures same_end { (packets : List (List ℕ)) → ended self.new packets ≡ ended self.old packets }
         ensures takes { (packets : List (List ℕ)) → took self.old packets → took self.new (packets ++ packet.now ∷ []) }
         ensures gives { (packets : List (List ℕ)) → took self.old packets
             → coded self.old (packets ++ packet.now ∷ []) ≡ coded self.old packets ++ piece self.new };
 
-    /// What the packet taken last has given, to be written behind what was written before.
+    /// Ends the stream: no packet follows.
+    fn finish(&mut self)
+        ensures ends { (packets : List (List ℕ)) → took self.old packets
+            → ended self.old packets ≡ coded self.old packets ++ piece self.new };
+
+    /// What the last call has given, to be written behind what was written before.
     fn bytes(&self) -> &[u8]
         ensures { result.now ≡ piece self.now };
 }

@@ -1,7 +1,8 @@
 // The work of a command that codes the packets of HP.
-ghost use Rattle.std.specs.Prelude.{◌≡◌, ◌≤◌, ◌<◌, ◌%◌, ◌+◌, ℕ, List, [], true, false, IsTrue, ◌∷◌, ◌++◌, take};
+ghost use Rattle.std.specs.Prelude.{◌≡◌, ◌≤◌, ◌<◌, ◌%◌, ◌+◌, ℕ, List, [], true, false, IsTrue, IfOk, IfSome, ◌∷◌, ◌++◌, take};
 ghost use Rattle.dvbt_top.specs.Causes.{HasCause};
-ghost use Rattle.dvbt_top.specs.Coding.{KeepsOthers, OnTaken, Step, EndsAtLimit, Codes};
+ghost use Rattle.dvbt_top.specs.Coding.{KeepsOthers, OnTaken, Step, EndsAtLimit, Codes, EndsCoding};
+ghost use Rattle.dvbt_top.specs.Packets.{first_packets};
 
 use crate::coder::Coder;
 use crate::read::fill;
@@ -22,6 +23,8 @@ fn code_next<'a, C: Coder, S: Station<'a>>(
     ensures others { KeepsOthers (S.meaning station.old) (S.meaning station.new) }
     ensures cause { HasCause (S.meaning station.old) (S.meaning station.new) result }
     ensures same { (packets : List (List ℕ)) → C.coded coder.new packets ≡ C.coded coder.old packets }
+    ensures same_end { (packets : List (List ℕ)) → C.ended coder.new packets ≡ C.ended coder.old packets }
+    ensures kept { IfOk result (λ tail. IfSome tail (λ n. coder.new ≡ coder.old)) }
     ensures takes { OnTaken result ((packets : List (List ℕ)) → IsTrue (S.meaning station.old).tells → C.took coder.old packets
         → C.took coder.new (packets ++ take 188 (S.meaning station.old).hp.left ∷ [])) }
     ensures gives { OnTaken result ((packets : List (List ℕ)) → IsTrue (S.meaning station.old).tells → C.took coder.old packets
@@ -90,6 +93,9 @@ pub fn code_packets<'a, C: Coder, S: Station<'a>>(
     requires empty { C.coded coder.old [] ≡ [] }
     ensures others { KeepsOthers (S.meaning station.old) (S.meaning station.new) }
     ensures cause { HasCause (S.meaning station.old) (S.meaning station.new) result }
+    ensures same { (packets : List (List ℕ)) → C.coded coder.new packets ≡ C.coded coder.old packets }
+    ensures same_end { (packets : List (List ℕ)) → C.ended coder.new packets ≡ C.ended coder.old packets }
+    ensures took { IfOk result (λ counts. IsTrue (S.meaning station.old).tells → C.took coder.new (first_packets counts.packets (S.meaning station.old).hp.left)) }
     ensures contents { IsTrue (S.meaning station.old).tells → Codes (C.coded coder.old) limits.now.packets
         (S.meaning station.old).hp.left (S.meaning station.old).bytes_out.written
         (S.meaning station.new).hp.left (S.meaning station.new).bytes_out.written result }
@@ -107,4 +113,29 @@ pub fn code_packets<'a, C: Coder, S: Station<'a>>(
         }
     }
     end_at_limit(limits.packets, station)
+}
+
+/// Ends the coding and writes to Bytes what is left of it.
+pub fn write_end<'a, C: Coder, S: Station<'a>>(
+    coder: &mut C,
+    station: &mut S,
+) -> Result<(), Refusal>
+    requires created { (S.meaning station.old).bytes_out.created ≡ true }
+    requires open { (S.meaning station.old).bytes_out.closed ≡ false }
+    ensures others { KeepsOthers (S.meaning station.old) (S.meaning station.new) }
+    ensures cause { HasCause (S.meaning station.old) (S.meaning station.new) result }
+    ensures gives { (packets : List (List ℕ)) → C.took coder.old packets
+        → C.ended coder.old packets ≡ C.coded coder.old packets ++ C.piece coder.new }
+    ensures contents { IsTrue (S.meaning station.old).tells → EndsCoding (C.piece coder.new)
+        (S.meaning station.old).hp.left (S.meaning station.old).bytes_out.written
+        (S.meaning station.new).hp.left (S.meaning station.new).bytes_out.written result }
+{
+    coder.finish();
+    if coder.bytes().is_empty() {
+        return Ok(());
+    }
+    match station.write(OutPort::Bytes, coder.bytes()) {
+        Ok(()) => Ok(()),
+        Err(_) => Err(Refusal::WriteFault),
+    }
 }

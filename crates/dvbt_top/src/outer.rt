@@ -1,5 +1,5 @@
 // The command `outer`.
-ghost use Rattle.std.specs.Prelude.{◌≡◌, ◌++◌, ◌∷◌, [], List, ℕ};
+ghost use Rattle.std.specs.Prelude.{◌≡◌, ◌++◌, ◌∷◌, [], List, ℕ, if◌then◌else◌};
 ghost use Rattle.outer_chain.specs.Sent.{sent_bytes};
 ghost use Rattle.outer_chain.specs.Sending.{Sends};
 
@@ -13,6 +13,8 @@ pub struct OuterCoder {
     tx: OuterTx,
     // what the packet taken last has given
     word: [u8; 204],
+    // the stream has ended
+    done: bool,
 }
 
 impl OuterCoder {
@@ -20,22 +22,33 @@ impl OuterCoder {
     pub fn new(tx: OuterTx) -> OuterCoder
         ensures { result.tx ≡ tx }
     {
-        OuterCoder { tx, word: [0; 204] }
+        OuterCoder {
+            tx,
+            word: [0; 204],
+            done: false,
+        }
     }
 }
 
 impl Coder for OuterCoder {
     ghost coded = { λ c packets. sent_bytes packets };
 
+    ghost ended = { λ c packets. sent_bytes packets };
+
     ghost took = { λ c packets. Sends c.tx packets };
 
-    ghost piece = { λ c. c.word };
+    ghost piece = { λ c. if c.done then [] else c.word };
 
     fn take(&mut self, packet: &Packet) {
         self.word = self.tx.take(packet);
+        self.done = false;
+    }
+
+    fn finish(&mut self) {
+        self.done = true;
     }
 
     fn bytes(&self) -> &[u8] {
-        &self.word
+        if self.done { &[] } else { &self.word }
     }
 }

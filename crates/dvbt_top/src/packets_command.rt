@@ -1,11 +1,10 @@
 // A whole run of a command that codes the packets of HP.
 ghost use Rattle.std.specs.Prelude.{◌≡◌, ℕ, List, []};
-ghost use Rattle.station_core.specs.Meaning.{IsFresh};
 ghost use Rattle.dvbt_top.specs.Causes.{HasCause};
-ghost use Rattle.dvbt_top.specs.Steps.{AsksPorts, Ran, RunsCoding};
+ghost use Rattle.dvbt_top.specs.Steps.{IsReady, AsksPorts, Ran, RunsCoding};
 
 use crate::coder::Coder;
-use crate::coding::code_packets;
+use crate::coding::{code_packets, write_end};
 use crate::steps::{close_refused, finish, open, refuse};
 use crate::{Counts, Limits, Refusal};
 use station_core::Station;
@@ -18,19 +17,25 @@ fn code_all<'a, C: Coder, S: Station<'a>>(
     coder: &mut C,
     station: &mut S,
 ) -> Result<Counts, Refusal>
-    requires fresh { IsFresh (S.meaning station.old) }
+    requires ready { IsReady (S.meaning station.old) }
     requires new { C.took coder.old [] }
     requires empty { C.coded coder.old [] ≡ [] }
     ensures asks { AsksPorts input.now output.now (S.meaning station.old) (S.meaning station.new) }
     ensures cause { HasCause (S.meaning station.old) (S.meaning station.new) result }
-    ensures ran { Ran (C.coded coder.old) limits.now.packets input.now (S.meaning station.old) (S.meaning station.new) result }
+    ensures ran { Ran (C.coded coder.old) (C.ended coder.old) limits.now.packets input.now (S.meaning station.old) (S.meaning station.new) result }
 {
     match open(input, output, station) {
         Ok(()) => {}
         Err(refusal) => return Err(refusal),
     }
     match code_packets(limits, coder, station) {
-        Ok(counts) => finish(counts, station),
+        Ok(counts) => match write_end(coder, station) {
+            Ok(()) => finish(counts, station),
+            Err(refusal) => {
+                close_refused(station);
+                Err(refusal)
+            }
+        },
         Err(refusal) => {
             close_refused(station);
             Err(refusal)
@@ -46,10 +51,10 @@ pub fn run_coding<'a, C: Coder, S: Station<'a>>(
     coder: &mut C,
     station: &mut S,
 ) -> u8
-    requires fresh { IsFresh (S.meaning station.old) }
+    requires ready { IsReady (S.meaning station.old) }
     requires new { C.took coder.old [] }
     requires empty { C.coded coder.old [] ≡ [] }
-    ensures runs { RunsCoding (C.coded coder.old) limits.now.packets input.now output.now (S.meaning station.old) (S.meaning station.new) result }
+    ensures runs { RunsCoding (C.coded coder.old) (C.ended coder.old) limits.now.packets input.now output.now (S.meaning station.old) (S.meaning station.new) result }
 {
     match code_all(input, output, limits, coder, station) {
         Ok(_) => 0,

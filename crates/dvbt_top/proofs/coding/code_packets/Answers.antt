@@ -12,6 +12,7 @@ loop-number-init g c = record {
   read_faults = refl;
   write_faults = refl;
   same = λ packets. refl;
+  same_end = λ packets. refl;
   took = λ t. c.requires.new;
   contents = λ t. started _ _ _ _ c.requires.empty;
 }
@@ -41,6 +42,7 @@ loop-number-preserved g c =
       read_faults = e.cause.reads ∙ inv.read_faults;
       write_faults = e.cause.writes ∙ inv.write_faults;
       same = λ ps. e.same ps ∙ inv.same ps;
+      same_end = λ ps. e.same_end ps ∙ inv.same_end ps;
       took = λ t. subst (g.C.Coder.took c.code_next.new.coder) (next_packets _ _ _ _ _ _ _ (inv.contents t)) (e.takes packets (tells ∙ t) (inv.took t));
       contents = λ t. goes_on _ _ _ _ _ _ _ (inv.contents t) _ _ _ c.loop-number-test.true
           (gives_first _ _ packets _ _ inv.same (e.gives packets (tells ∙ t) (inv.took t))) (e.contents (tells ∙ t));
