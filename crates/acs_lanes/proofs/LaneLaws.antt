@@ -112,6 +112,7 @@ pub record AreLanes (old new : Sums) (low : ℕ) (pair : CostPair) (z1 o1 : List
 module _ (old new : Sums) (low : ℕ) (pair : CostPair) (z1 o1 : List ℕ) (cost : List ℕ) (d0 d1 : ℕ) (h : AreLanes old new low pair z1 o1 cost d0 d1) where
   newest_low : (n : ℕ) → n < 32 → is_set n 5 ≡ false
   newest_low n l = agree_below_at (λ n. is_set n 5) (λ n. false) 32 n refl l
+
   newest_high : (n : ℕ) → 32 ≤ n → n < 64 → is_set n 5 ≡ true
   newest_high n k l = let q : n - 32 + 32 ≡ n = omega arith in ap (λ z. is_set z 5) (sym q) ∙ agree_below_at (λ n. is_set (n + 32) 5) (λ n. true) 32 (n - 32) refl (omega arith)
 
@@ -156,6 +157,7 @@ module _ (old new : Sums) (low : ℕ) (pair : CostPair) (z1 o1 : List ℕ) (cost
       choose : (n : ℕ) → n < 64 → (alive old (even_of n) || alive old (odd_of n)) ≡ true → (n < 32) ⊎ (32 ≤ n) → is_set (bit_or d0 (d1 * 2 ^ 32 % 2 ^ 64)) n ≡ takes_odd old pair n
       choose n l u (inl k) = set_low_word d0 d1 n k ∙ h.low_odd n k ∙ lane_choice old low pair n _ _ _ _ (lane_low n k) u
       choose n l u (inr k) = set_high_word d0 d1 n h.low_small k l ∙ h.high_odd (n - 32) (omega arith) ∙ lane_choice old low pair n _ _ _ _ (lane_high n k l) u
+
       count : (n : ℕ) → n < 64 → (alive old (even_of n) || alive old (odd_of n)) ≡ true → (n < 32) ⊎ (32 ≤ n) → slice_index cost n + low ≡ way old pair (cond (takes_odd old pair n) (odd_of n) (even_of n)) n
       count n l u (inl k) = ap (λ z. z + low) (h.low_cost n k) ∙ lane_total old low pair n _ _ _ _ (lane_low n k) u
       count n l u (inr k) =

@@ -51,8 +51,14 @@ fn step_costs(pair: CostPair) -> (u32x32, u32x32)
     let (y0, y1) = (pair.y0 as u32, pair.y1 as u32);
     let costs = u32x4::from_array([x0 + y0, x0 + y1, x1 + y0, x1 + y1]);
     // 2X + Y of the even states on 0, and on 1
-    let zero = costs.swizzle([0, 1, 0, 1, 3, 2, 3, 2, 3, 2, 3, 2, 0, 1, 0, 1, 2, 3, 2, 3, 1, 0, 1, 0, 1, 0, 1, 0, 2, 3, 2, 3]);
-    let one = costs.swizzle([3, 2, 3, 2, 0, 1, 0, 1, 0, 1, 0, 1, 3, 2, 3, 2, 1, 0, 1, 0, 2, 3, 2, 3, 2, 3, 2, 3, 1, 0, 1, 0]);
+    let zero = costs.swizzle([
+        0, 1, 0, 1, 3, 2, 3, 2, 3, 2, 3, 2, 0, 1, 0, 1, 2, 3, 2, 3, 1, 0, 1, 0, 1, 0, 1, 0, 2, 3,
+        2, 3,
+    ]);
+    let one = costs.swizzle([
+        3, 2, 3, 2, 0, 1, 0, 1, 0, 1, 0, 1, 3, 2, 3, 2, 1, 0, 1, 0, 2, 3, 2, 3, 2, 3, 2, 3, 1, 0,
+        1, 0,
+    ]);
     (zero, one)
 }
 

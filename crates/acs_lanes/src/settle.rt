@@ -20,7 +20,11 @@ fn relative(sums: &Sums, low: u32, state: u8) -> u32
     ensures lives { IsTrue (alive sums.now state) → result + low ≡ slice_index sums.now.cost state }
     ensures dead { IsFalse (alive sums.now state) → result ≡ far }
 {
-    if sums.is_alive(state) { sums.cost[state as usize] - low } else { 1 << 31 }
+    if sums.is_alive(state) {
+        sums.cost[state as usize] - low
+    } else {
+        1 << 31
+    }
 }
 
 /// The costs of all states relative to the least one.

@@ -57,12 +57,19 @@ fn choose(old: &Sums, low: u32, pair: CostPair, state: u8) -> Choice
         let odd_cost = old.cost[odd as usize] - low + cost_of(pair, odd, input);
         if old.is_alive(even) {
             let even_cost = old.cost[even as usize] - low + cost_of(pair, even, input);
-            if odd_cost < even_cost { reached(true, odd_cost) } else { reached(false, even_cost) }
+            if odd_cost < even_cost {
+                reached(true, odd_cost)
+            } else {
+                reached(false, even_cost)
+            }
         } else {
             reached(true, odd_cost)
         }
     } else if old.is_alive(even) {
-        reached(false, old.cost[even as usize] - low + cost_of(pair, even, input))
+        reached(
+            false,
+            old.cost[even as usize] - low + cost_of(pair, even, input),
+        )
     } else {
         Choice {
             alive: false,

@@ -95,8 +95,10 @@ with_bit_is x b n l = go b
   where
     e : x * 2 % 256 ≡ x % 128 * 2
     e = omega arith
+
     low : spelled n (x % 128) ≡ spelled n x
     low = spelled_mod n 7 x (omega arith)
+
     go : (b : Bool) → spelled (n + 1) (bit_or (x * 2 % 256) (bool_byte b)) ≡ spelled n x ++ b ∷ []
     go true = ap (λ z. spelled (n + 1) (bit_or z 1)) e ∙ ap (spelled (n + 1)) (or_shifted (x % 128) 1 1 (lit< tt)) ∙ spelled_join n 1 (n + 1) (x % 128) 1 refl (lit< tt) ∙ ap (λ z. z ++ true ∷ []) low
     go false = ap (λ z. spelled (n + 1) (bit_or z 0)) e ∙ ap (spelled (n + 1)) (or_shifted (x % 128) 1 0 (lit< tt)) ∙ spelled_join n 1 (n + 1) (x % 128) 0 refl (lit< tt) ∙ ap (λ z. z ++ false ∷ []) low

@@ -42,10 +42,13 @@ not_after_front c m p q t l k e h = go h
   where
     whole : (p : List Bool) → length p ≡ 6 + length c → total (c ++ m) (p ++ t) ≡ total c p + total m (drop (length c) p ++ t)
     whole p l = total_append c m (p ++ t) ∙ ap₂ (λ y z. y + total m z) (total_front c p t (omega arith)) (drop-append-le (length c) p t (omega arith))
+
     rest : total m (drop (length c) p ++ t) ≡ total m (drop (length c) q ++ t)
     rest = ap (λ z. total m (z ++ t)) e
+
     same : 2 ^ length p * weight t ≡ 2 ^ length q * weight t
     same = ap (λ n. 2 ^ n * weight t) (l ∙ sym k)
+
     go : NotAfter (c ++ m) (p ++ t) (q ++ t) → NotAfter c p q
     go (inl n) = inl (omega (arith, n, whole p l, whole q k, rest))
     go (inr n) = inr (omega (arith, n.0, whole p l, whole q k, rest), omega (arith, n.1, weight-append p t, weight-append q t, same))
@@ -57,9 +60,9 @@ front_least a c m p t l h f = record {
   path = record { long = l; start = starts_front a p t (omega (arith, l)) h.start };
   ends = refl;
   first = λ q k e. or_before c p q (l ∙ sym k.long)
-    (not_after_front c m p q t l k.long (sym e)
+      (not_after_front c m p q t l k.long (sym e)
       (f (q ++ t) (record { long = omega (arith, length-append q t, length-append p t, h.long, l, k.long); start = starts_more a q t (omega (arith, k.long)) k.start })
-        (far q k.long ∙ ap (λ z. drop (length m) (z ++ t)) e ∙ sym (far p l))));
+      (far q k.long ∙ ap (λ z. drop (length m) (z ++ t)) e ∙ sym (far p l))));
 }
   where
     far : (q : List Bool) → length q ≡ 6 + length c → drop (length (c ++ m)) (q ++ t) ≡ drop (length m) (drop (length c) q ++ t)
@@ -81,9 +84,9 @@ shared_begins a c m s p h k f =
     let e : front ++ back ≡ p = take-append-drop n p in
     let l : length front ≡ 6 + length c = length-take-le n p (omega (arith, k.long, length-append c m)) in
     let t = front_least a c m front back l (subst (IsPath a (c ++ m)) (sym e) k)
-          (subst (λ z. (q : List Bool) → IsPath a (c ++ m) q → drop (length (c ++ m)) q ≡ drop (length (c ++ m)) z → NotAfter (c ++ m) z q) (sym e) f) in
+    (subst (λ z. (q : List Bool) → IsPath a (c ++ m) q → drop (length (c ++ m)) q ≡ drop (length (c ++ m)) z → NotAfter (c ++ m) z q) (sym e) f) in
     subst (λ z. IsPrefix s (drop 6 z)) e
-      (subst (IsPrefix s) (sym (drop_front front back (omega (arith, l)))) (prefix_more s (drop 6 front) back (h.common (drop (length c) front) front t)))
+    (subst (IsPrefix s) (sym (drop_front front back (omega (arith, l)))) (prefix_more s (drop 6 front) back (h.common (drop (length c) front) front t)))
 
 pub shared_to : (a : Option (List Bool)) (c m : List CostPair) (s e p : List Bool) → Shared a c s → LeastTo a (c ++ m) e p → IsPrefix s (drop 6 p)
 shared_to a c m s e p h k = shared_begins a c m s p h k.path (λ q i f. not_after (c ++ m) p q (omega (arith, k.path.long, i.long)) (k.first q i (f ∙ k.ends)))
@@ -120,8 +123,10 @@ shared_grows a c m s r h k = prefix_from_take s r (go (same_bits (take (length s
   where
     l : length s ≤ length r
     l = k.longest s (λ e p q. shared_to a c m s e p h q)
+
     none : (take (length s) r ≡ s → ⊥) → (e p : List Bool) → LeastTo a (c ++ m) e p → ⊥
     none n e p q = n (prefix_of_prefix s r (drop 6 p) (shared_to a c m s e p h q) (k.common e p q) l)
+
     go : (take (length s) r ≡ s) ⊎ (take (length s) r ≡ s → ⊥) → take (length s) r ≡ s
     go (inl e) = e
     go (inr n) = absurd (omega (arith, k.longest (true ∷ r) (λ e p q. absurd (none n e p q))))
@@ -172,18 +177,18 @@ pub given_grows : (most : ℕ) (a : Option (List Bool)) (c more : List CostPair)
 given_grows most a c more g h x y =
     let w = cut_further most a c more x.parts x.start x.costs y.parts y.start y.costs x.cut y.cut in
     subst₂ IsPrefix (sym x.is) (sym (y.is ∙ ap (λ z. bits_of z ++ y.shared) w.is ∙ ap (λ z. z ++ y.shared) (bits_append x.parts w.parts) ∙ append_assoc (bits_of x.parts) (bits_of w.parts) y.shared))
-      (prefix_under (bits_of x.parts) x.shared (bits_of w.parts ++ y.shared) (go w.parts w.cut))
+    (prefix_under (bits_of x.parts) x.shared (bits_of w.parts ++ y.shared) (go w.parts w.cut))
   where
     go : (qs : List Part) → IsCut most x.start (x.costs ++ more) qs y.start y.costs → IsPrefix x.shared (bits_of qs ++ y.shared)
     go [] k = shared_grows x.start x.costs more x.shared y.shared x.is_shared (subst₂ (λ u v. Shared u v y.shared) k.0 k.1 y.is_shared)
     go (q ∷ qs) k =
         let l = part_longer most x.start x.costs more k.0 q (open_quiet most a c x.parts x.start x.costs x.cut) k.1 k.2 in
         let e : q.costs ≡ x.costs ++ drop (length x.costs) q.costs =
-            sym (take-append-drop (length x.costs) q.costs)
-            ∙ ap (λ z. z ++ drop (length x.costs) q.costs) (sym (take-append-le (length x.costs) q.costs k.0 l) ∙ ap (take (length x.costs)) (sym k.1) ∙ take_at x.costs more (length x.costs) refl) in
+        sym (take-append-drop (length x.costs) q.costs)
+        ∙ ap (λ z. z ++ drop (length x.costs) q.costs) (sym (take-append-le (length x.costs) q.costs k.0 l) ∙ ap (take (length x.costs)) (sym k.1) ∙ take_at x.costs more (length x.costs) refl) in
         subst (IsPrefix x.shared) (sym (append_assoc (drop 6 q.path) (bits_of qs) y.shared))
-          (prefix_more x.shared (drop 6 q.path) (bits_of qs ++ y.shared)
-            (shared_least x.start x.costs (drop (length x.costs) q.costs) x.shared q.path x.is_shared (subst (λ z. Least x.start z q.path) e k.2.least)))
+        (prefix_more x.shared (drop 6 q.path) (bits_of qs ++ y.shared)
+        (shared_least x.start x.costs (drop (length x.costs) q.costs) x.shared q.path x.is_shared (subst (λ z. Least x.start z q.path) e k.2.least)))
 
 ends_append : (n : ℕ) (ps qs : List Part) → (k : ℕ) × (ends_of n (ps ++ qs) ≡ ends_of n ps ++ ends_of k qs)
 ends_append n [] qs = (n, refl)
@@ -230,4 +235,4 @@ given_begins_ended most a c g h x y =
     let u = cut_unique most a c x.parts x.start x.costs y.parts y.start y.costs x.cut y.cut in
     let l : Least x.start (x.costs ++ []) y.path = subst (λ z. Least x.start z y.path) (sym (append-nil x.costs)) (subst₂ (λ v w. Least v w y.path) (sym u.1) (sym u.2) y.least) in
     subst₂ IsPrefix (sym x.is) (ap (λ z. bits_of z ++ drop 6 y.path) u.0 ∙ sym y.is)
-      (prefix_under (bits_of x.parts) x.shared (drop 6 y.path) (shared_least x.start x.costs [] x.shared y.path x.is_shared l))
+    (prefix_under (bits_of x.parts) x.shared (drop 6 y.path) (shared_least x.start x.costs [] x.shared y.path x.is_shared l))

@@ -194,6 +194,7 @@ keeps_sent most = record { given = λ r p bits c h g. given r p bits c h g (cut_
         let sh = subst (λ z. Shared z g.costs g.shared) w.start g.is_shared in
         let f = sh.common (drop (length g.costs) w.tail) w.tail (shown_to w.register g.costs w.tail w.shown) in
         record { rest = f.rest; is = w.bits ∙ ap (λ z. bits_of g.parts ++ z) f.is ∙ sym (append_assoc (bits_of g.parts) g.shared f.rest) ∙ ap (λ z. z ++ f.rest) (sym g.is) }
+
     ended : (r p bits : List Bool) (c : List CostPair) → IsShown r c p → (g : Ended most (Some r) c bits) → Remains p g.parts g.start g.costs → bits ≡ drop 6 p
     ended r p bits c h g w =
         let e = least_unique (Some w.register) g.costs g.path w.tail (subst (λ z. Least z g.costs g.path) w.start g.least) (shown_least w.register g.costs w.tail w.shown) in

@@ -51,6 +51,7 @@ module _ (a e : Option (List Bool)) (c : List CostPair) where
       first : IsTrue any → (q : List Bool) → IsPath a c q → Ends e q → (weight q < weight p) ⊎ (q ≡ p) → (total c best < total c q) ⊎ ((total c best ≡ total c q) × (weight best ≤ weight q))
       first t q i f (inl w) = h.first t q i f w
       first t q i f (inr s) = absurd (none_fits (subst (IsPath a c) s i) (subst (Ends e) s f))
+
       none : any ≡ false → (q : List Bool) → IsPath a c q → Ends e q → (weight q < weight p) ⊎ (q ≡ p) → ⊥
       none t q i f (inl w) = h.none t q i f w
       none t q i f (inr s) = none_fits (subst (IsPath a c) s i) (subst (Ends e) s f)
@@ -68,6 +69,7 @@ module _ (a e : Option (List Bool)) (c : List CostPair) where
       tie : (total c best < total c p) ⊎ (total c p ≤ total c best) → (total c best < total c p) ⊎ ((total c best ≡ total c p) × (weight best ≤ weight p))
       tie (inl w) = inl w
       tie (inr w) = inr (omega (arith, k, h.cost_is y), omega (arith, h.below y))
+
       first : IsTrue any → (q : List Bool) → IsPath a c q → Ends e q → (weight q < weight p) ⊎ (q ≡ p) → (total c best < total c q) ⊎ ((total c best ≡ total c q) × (weight best ≤ weight q))
       first t q i f (inl w) = h.first t q i f w
       first t q i f (inr s) = subst (λ z. (total c best < total c z) ⊎ ((total c best ≡ total c z) × (weight best ≤ weight z))) (sym s) (tie (cases_lt (total c best) (total c p)))
@@ -89,6 +91,7 @@ module _ (a e : Option (List Bool)) (c : List CostPair) where
           go (inl v) = omega (arith, v, k t, h.cost_is t)
           go (inr v) = omega (arith, v.0, k t, h.cost_is t)
       less false t q i f w = absurd (h.none t q i f w)
+
       first : (q : List Bool) → IsPath a c q → Ends e q → (weight q < weight p) ⊎ (q ≡ p) → (total c p < total c q) ⊎ ((total c p ≡ total c q) × (weight p ≤ weight q))
       first q i f (inl w) = inl (less any refl q i f w)
       first q i f (inr s) = inr (sym (ap (total c) s), omega (arith, ap weight s))

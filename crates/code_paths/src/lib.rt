@@ -12,15 +12,7 @@ mod trial;
 
 pub use costs::CostPair;
 pub use laws::{
-    ended_once,
-    given_begins_ended,
-    given_grows,
-    given_once,
-    keeps_sent,
-    pairs_speak,
-    paths_extend,
-    reports_grow,
-    reports_once,
-    shared_begins_least,
+    ended_once, given_begins_ended, given_grows, given_once, keeps_sent, pairs_speak, paths_extend,
+    reports_grow, reports_once, shared_begins_least,
 };
 pub use trial::{least_path, least_path_to, path_cost};

@@ -60,6 +60,7 @@ with_bit_is r b l = go b
   where
     e : r * 2 % 65536 ≡ r * 2
     e = omega arith
+
     go : (b : Bool) → spelled 7 (bit_or (r * 2 % 65536) (bool_byte b)) ≡ spelled 6 r ++ b ∷ []
     go true = ap (λ z. spelled 7 (bit_or z 1)) e ∙ ap (spelled 7) (or_shifted r 1 1 (lit< tt)) ∙ spelled_join 6 1 7 r 1 refl (lit< tt)
     go false = ap (λ z. spelled 7 (bit_or z 0)) e ∙ ap (spelled 7) (or_shifted r 1 0 (lit< tt)) ∙ spelled_join 6 1 7 r 0 refl (lit< tt)

@@ -5,6 +5,7 @@
 //! standard draws; the table's bytes are its.
 #![tactic(auto)]
 
+pub mod laws;
 mod packet;
 mod sequence;
 mod table;

@@ -12,9 +12,9 @@ fn sequence_begins_as_the_standard_gives_it(rt: HostRuntime) -> Result<(), Fail>
     ];
     assert_eq!(rt; &sequence()[..12], begins.as_slice());
     let mut register = Sequence::start();
-    for byte in sequence().iter() {
+    for place in 0..1503usize {
         let made = register.next_byte();
-        assert_eq!(rt; made, *byte);
+        assert_eq!(rt; made, sequence()[place]);
     }
     Ok(())
 }
@@ -31,7 +31,10 @@ fn nine_null_packets_are_dispersed_and_come_back(rt: HostRuntime) -> Result<(), 
     for phase in 1..8u8 {
         let word = dispersal.apply(&packet);
         assert_eq!(rt; word[0], 0x47);
-        assert_eq!(rt; undo(phase, &word).bytes().as_slice(), packet.bytes().as_slice());
+        assert_eq!(rt;
+            undo(phase, &word).bytes().as_slice(),
+            packet.bytes().as_slice()
+        );
     }
     let ninth = dispersal.apply(&packet);
     assert_eq!(rt; ninth.as_slice(), first.as_slice());

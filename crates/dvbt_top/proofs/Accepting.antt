@@ -1,10 +1,9 @@
 -- How many packets of an input are accepted, and the refusal of the next one.
-use Rattle.std.proofs.Common.{◌≡◌, ℕ, ◌+◌, ◌<◌, ◌≤◌, Bool, true, false, not, List, refl, ◌∙◌, sym, ap, subst, arith, Option, None, Some, inl, inr, ◌⊎◌}
+use Rattle.std.proofs.Common.{◌≡◌, ℕ, ◌<◌, ◌≤◌, Bool, true, false, not, List, refl, ◌∙◌, ap, arith, None, Some, inl, inr, ◌⊎◌}
 use Rattle.std.specs.Prelude.{◌&&◌, nat_lt, ◌==◌, if◌then◌else◌}
 use Rattle.std.proofs.lemmas.Bool.{lt-ltb, le-ltb, eq-eqb, eqb-true}
 use Rattle.spec_words.proofs.Counting.{first_is, first_from}
 use Rattle.mode_set.specs.declared.modes.Stream.TheVariants.{Hp}
-use Rattle.dvbt_top.specs.declared.work.Refusal.{Refusal}
 use Rattle.dvbt_top.specs.declared.work.Refusal.TheVariants.{NotSync, Limit}
 use Rattle.dvbt_top.specs.Packets.{whole_packets, is_sync, is_accepted, accepted}
 use Rattle.dvbt_top.specs.Coding.{AcceptsFirst}

@@ -1,6 +1,5 @@
 -- The clauses of a run, from the steps of a command that codes the packets of HP.
-use Rattle.std.proofs.Common.{◌≡◌, ◌≢◌, ◌⊎◌, inl, inr, true, ℕ, ◌+◌, ◌-◌, ◌*◌, ◌/◌, ◌<◌, ◌≤◌, ◌^◌, min, List, [], ◌++◌, length, take, refl, ◌∙◌, sym, ap, subst, arith, Result, Ok, Err, Option, None, Some, if◌then◌else◌}
-use Rattle.std.proofs.lemmas.List.{take_all}
+use Rattle.std.proofs.Common.{◌≡◌, ◌≢◌, ◌⊎◌, inl, inr, true, ℕ, ◌+◌, ◌-◌, ◌/◌, ◌<◌, ◌≤◌, ◌^◌, min, List, ◌++◌, length, take, refl, ◌∙◌, sym, ap, subst, arith, Result, Ok, Err, None, Some, if◌then◌else◌}
 use Rattle.std.proofs.lemmas.Bool.{cases_lt}
 use Rattle.std.specs.Prelude.{◌==◌}
 use Rattle.station_core.specs.Meaning.{Meaning, Sink, IsFresh}
@@ -13,7 +12,7 @@ use Rattle.dvbt_top.specs.Packets.{whole_packets, first_packets, accepted}
 use Rattle.dvbt_top.specs.Coding.{AcceptsFirst, counts_of}
 use Rattle.dvbt_top.specs.Causes.{HasCause}
 use Rattle.dvbt_top.specs.Text.{closing_line, refusal_text, refusal_status, status_of, text_if_refused}
-use Rattle.dvbt_top.specs.Steps.{Ran, Tells, WritesText, outcome_status, RunsCoding}
+use Rattle.dvbt_top.specs.Steps.{Ran, Tells, outcome_status, RunsCoding}
 use Rattle.dvbt_top.specs.Outcome.{packet_refusal}
 use Rattle.dvbt_top.proofs.Accepting.{all_accepted, no_refusal, not_sync_at, not_sync, past_limit_at, past_limit, accepted_from}
 

@@ -1,5 +1,5 @@
 -- The clauses of a run of a command that codes packets.
-use Rattle.std.proofs.Common.{◌≡◌, ◌≢◌, ◌⊎◌, inl, inr, true, false, ℕ, ◌+◌, ◌<◌, ◌≤◌, List, take, ◌∙◌, sym, ap, Some, None}
+use Rattle.std.proofs.Common.{◌≡◌, inl, inr, true, ℕ, List, sym, Some}
 use Rattle.std.specs.Prelude.{IsTrue, is_some}
 use Rattle.std.proofs.lemmas.Bool.{true≢false}
 use Rattle.station_core.specs.Meaning.{Meaning, IsFresh}

@@ -4,9 +4,8 @@ use Rattle.std.proofs.lemmas.List.{take_all}
 use Rattle.station_core.specs.Meaning.{Meaning}
 use Rattle.dvbt_top.specs.declared.work.Counts.{Counts}
 use Rattle.dvbt_top.specs.declared.work.Refusal.{Refusal}
-use Rattle.dvbt_top.specs.declared.work.Refusal.TheVariants.{WriteFault}
 use Rattle.dvbt_top.specs.Packets.{whole_packets, first_packets}
-use Rattle.dvbt_top.specs.Coding.{Codes, KeepsOthers, counts_of}
+use Rattle.dvbt_top.specs.Coding.{Codes, KeepsOthers}
 use Rattle.dvbt_top.specs.Text.{closing_line}
 use Rattle.dvbt_top.specs.Steps.{Ran, OpensAll, Finishes}
 

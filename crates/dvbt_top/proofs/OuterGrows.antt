@@ -1,5 +1,5 @@
 -- The outer bytes of one packet more.
-use Rattle.std.proofs.Common.{◌≡◌, ℕ, zero, suc, ◌+◌, ◌*◌, List, [], ◌∷◌, ◌++◌, length, refl, ◌∙◌, sym, ap, arith, length-append}
+use Rattle.std.proofs.Common.{◌≡◌, ℕ, zero, suc, ◌+◌, ◌*◌, List, [], ◌∷◌, ◌++◌, length, ◌∙◌, ap, arith, length-append}
 use Rattle.forney.specs.Values.{values}
 use Rattle.outer_chain.specs.Sent.{outer_byte, outer_bytes, sent_bytes}
 use Rattle.outer_chain.specs.SendingLaws.{MorePacketsSent}

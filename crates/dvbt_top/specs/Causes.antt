@@ -1,5 +1,5 @@
 -- The cause of each answer of a part of the work, in the two counts of faults.
-use Rattle.std.specs.Prelude.{◌≡◌, ◌≤◌, ℕ, Result, Ok, Err}
+use Rattle.std.specs.Prelude.{◌≡◌, ◌≤◌, Result, Ok, Err}
 use Rattle.station_core.specs.Meaning.{Meaning}
 use Rattle.station_core.specs.Causes.{Rose}
 use Rattle.dvbt_top.specs.declared.work.Refusal.{Refusal}

@@ -1,6 +1,6 @@
 -- The work of a command that codes the packets of HP one after another: what is left of the input and
 -- what was written, by the answer. `coded n input` is what the first n packets of an input give.
-use Rattle.std.specs.Prelude.{length, ◌/◌, ◌%◌, ◌≡◌, ◌<◌, ◌≤◌, ◌-◌, ◌++◌, ℕ, List, [], take, drop, Result, Ok, Err, Option, None, Some, Bool, true, false, ⊤}
+use Rattle.std.specs.Prelude.{length, ◌/◌, ◌≡◌, ◌<◌, ◌≤◌, ◌-◌, ◌++◌, ℕ, List, [], take, drop, Result, Ok, Err, Option, None, Some, true, false, ⊤}
 use Rattle.station_core.specs.Meaning.{Meaning}
 use Rattle.mode_set.specs.declared.modes.Stream.TheVariants.{Hp}
 use Rattle.dvbt_top.specs.declared.work.Counts.{Counts}

@@ -1,5 +1,5 @@
 -- The whole packets of a transport file, and the first of them that a run refuses.
-use Rattle.std.specs.Prelude.{◌≡◌, ◌<◌, ◌*◌, ◌/◌, ◌%◌, ◌==◌, ℕ, zero, suc, Bool, not, List, [], ◌∷◌, ◌++◌, flat_map, length, take, drop, slice_index, nat_lt, ◌&&◌}
+use Rattle.std.specs.Prelude.{◌≡◌, ◌*◌, ◌/◌, ◌%◌, ◌==◌, ℕ, zero, suc, Bool, not, List, [], ◌∷◌, ◌++◌, flat_map, length, take, drop, slice_index, nat_lt, ◌&&◌}
 use Rattle.std.specs.List.{enumerate_from}
 use Rattle.spec_words.specs.Words.{first_below}
 use Rattle.dispersal.specs.Packet.{dispersed}

@@ -1,6 +1,6 @@
 -- The steps of a run of a command that codes the packets of HP, each as a relation of what the station
 -- stood for before and after it. The clauses of the run as a whole follow from them.
-use Rattle.std.specs.Prelude.{◌≡◌, ◌⊎◌, ◌<◌, ◌≤◌, ◌-◌, ◌+◌, ◌^◌, ◌++◌, ℕ, min, Bool, true, false, List, [], take, Result, Ok, Err, Some, if◌then◌else◌}
+use Rattle.std.specs.Prelude.{◌≡◌, ◌⊎◌, ◌<◌, ◌≤◌, ◌-◌, ◌+◌, ◌^◌, ◌++◌, ℕ, min, true, false, List, [], take, Result, Ok, Err, Some, if◌then◌else◌}
 use Rattle.station_core.specs.Meaning.{Meaning}
 use Rattle.dvbt_top.specs.declared.work.Counts.{Counts}
 use Rattle.dvbt_top.specs.declared.work.Refusal.{Refusal}

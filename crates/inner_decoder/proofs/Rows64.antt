@@ -39,9 +39,16 @@ row_below f (suc n) k l = go (cases_lt k n) (row_below f n k)
 
 pub stands_same : (most : ℕ) (sums : Sums) (f h : ℕ → List Bool) (waiting steps : ℕ) (a : Option (List Bool)) (c : List CostPair) (g : List Bool) → ((n : ℕ) → n < 64 → f n ≡ h n) → StandsBy most sums f waiting steps a c g → StandsBy most sums h waiting steps a c g
 stands_same most sums f h waiting steps a c g e s = record {
-  parts = s.parts; start = s.start; costs = s.costs; gave = s.gave; cut = s.cut;
+  parts = s.parts;
+  start = s.start;
+  costs = s.costs;
+  gave = s.gave;
+  cut = s.cut;
   tracks = record { less = s.tracks.less; path = s.tracks.path; long = s.tracks.long; least = s.tracks.least; cost = s.tracks.cost; bits = λ n l t. s.tracks.bits n l t ∙ ap (λ z. s.gave ++ z) (e n l); none = s.tracks.none };
-  some = s.some; few = s.few; counts = s.counts; is = s.is;
+  some = s.some;
+  few = s.few;
+  counts = s.counts;
+  is = s.is;
 }
 
 pub from_rows : (most : ℕ) (sums : Sums) (f : ℕ → List Bool) (waiting steps : ℕ) (a : Option (List Bool)) (c : List CostPair) (g : List Bool) → StandsBy most sums (row_of (rows_below f 64)) waiting steps a c g → StandsBy most sums f waiting steps a c g

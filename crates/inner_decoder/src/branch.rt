@@ -157,7 +157,12 @@ impl<A: Acs, V: Survivors<2048>> Branch<A, V> {
         ensures ran { (a : Option (List Bool)) (c : List CostPair) (g : List Bool) → Stands 2048 self.old.decoder a c g → RanSymbol 2048 self.new.decoder a c g self.old.loaded self.old.wait self.new.wait (ats self.new.events) }
     {
         self.events.clear();
-        run(&mut self.decoder, &self.pairs[..self.used as usize], &mut self.wait, &mut self.events);
+        run(
+            &mut self.decoder,
+            &self.pairs[..self.used as usize],
+            &mut self.wait,
+            &mut self.events,
+        );
         self.used = 0;
         self.decoder.give(&mut self.wait);
     }

@@ -127,8 +127,8 @@ impl<A: Acs, V: Survivors<L>, const L: usize> Decoder<A, V, L> {
         ensures amount { length to.new + self.new.waiting ≡ length to.old + self.old.waiting }
         ensures gave { (a : Option (List Bool)) (c : List CostPair) (g : List Bool) → Stands L self.old a c g → Gave L self.new a c g to.old to.new }
     {
-        let shared = self.survivors.shared();
-        self.survivors.give(shared, to);
+        let common = self.survivors.shared();
+        self.survivors.give(common, to);
     }
 
     /// Appends the waiting bits of the least path: all bits appended are then exactly the bits at the end of the
@@ -155,5 +155,65 @@ impl<A: Acs, V: Survivors<L>, const L: usize> Decoder<A, V, L> {
         ensures ended { result ≡ self.now.ended }
     {
         self.ended
+    }
+}
+
+#[cfg(test)]
+mod tests {
+    use super::*;
+    use crate::Branch;
+    use acs_plain::PlainAcs;
+    use std::test::Fail;
+    use survivor_ring::{ListSurvivors, RingSurvivors};
+
+    fn tied() -> CostPair {
+        CostPair {
+            x0: 0,
+            x1: 0,
+            y0: 0,
+            y1: 9,
+        }
+    }
+
+    #[test]
+    fn first_report(rt: HostRuntime) -> Result<(), Fail> {
+        let mut decoder: Decoder<PlainAcs, ListSurvivors<8>, 8> = Decoder::new(
+            rt.alloc(),
+            StartState::Any,
+        )?;
+        let mut to = WaitBuf::new();
+        let mut first = 0u64;
+        for _k in 0..40u8 {
+            if let Some(report) = decoder.step(tied(), &mut to) {
+                if first == 0 {
+                    first = report.at;
+                }
+            }
+        }
+        assert_eq!(rt; first, 9);
+        decoder.finish(&mut to);
+        assert_eq!(rt; to.waiting(), 40);
+        assert!(rt; decoder.ended());
+        Ok(())
+    }
+
+    #[test]
+    fn branch_of_one_symbol(rt: HostRuntime) -> Result<(), Fail> {
+        let mut branch: Branch<PlainAcs, RingSurvivors<2048>> = Branch::new(
+            rt.alloc(),
+            StartState::Zero,
+            3,
+        )?;
+        branch.load(tied());
+        branch.load(tied());
+        assert_eq!(rt; branch.loaded(), 2);
+        branch.run_symbol();
+        assert_eq!(rt; (branch.loaded(), branch.events().len()), (0, 0));
+        assert!(rt; branch.waiting() < 8);
+        assert!(rt; !branch.ended());
+        branch.finish();
+        assert_eq!(rt; branch.waiting(), 2);
+        assert_eq!(rt; branch.take_byte(), None);
+        Ok(())
     }
 }

@@ -11,5 +11,4 @@ mod held;
 mod metric;
 
 pub use branch::Branch;
-
 pub use decoder::{Decoder, StartState, Unmerged};

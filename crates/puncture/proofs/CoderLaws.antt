@@ -1,5 +1,5 @@
 -- A coder at a path codes the next byte of it.
-use Rattle.std.proofs.Common.{◌≡◌, ℕ, zero, suc, ◌+◌, ◌<◌, ◌%◌, Bool, false, List, ◌++◌, map, drop, get_or, sym, ap, ◌∙◌, arith}
+use Rattle.std.proofs.Common.{subst, ◌≡◌, ℕ, zero, suc, ◌+◌, ◌<◌, ◌%◌, Bool, false, List, ◌++◌, map, drop, get_or, sym, ap, ◌∙◌, arith}
 use Rattle.std.specs.List.{range_with_len}
 use Rattle.spec_words.specs.Bits.{bit, spelled}
 use Rattle.conv_code.specs.Coded.{xs_of, ys_of}
@@ -27,10 +27,13 @@ module _ (p : Coder) (r : Rate) (path : ℕ → Bool) (t byte : ℕ) (at : IsAtP
   pub sent : (x y : ℕ) (bits : List Bool) → spelled 8 x ≡ xs_of 8 (p.register ++ spelled 8 byte) → spelled 8 y ≡ ys_of 8 (p.register ++ spelled 8 byte)
       → bits ≡ bits_of_steps p.rate t (spelled 8 x) (spelled 8 y) → bits ≡ sent_bits r path (sent_before r t) (sent_before r (t + 8))
   sent x y bits x_is y_is made = made ∙ ap (λ s. bits_of_steps s t (spelled 8 x) (spelled 8 y)) at.rate
-    ∙ ap (λ z. bits_of_steps r t z (spelled 8 y)) x_is ∙ ap (λ z. bits_of_steps r t (xs_of 8 (p.register ++ spelled 8 byte)) z) y_is
-    ∙ run_of_steps r path 8 t (p.register ++ spelled 8 byte) place_of
+      ∙ ap (λ z. bits_of_steps r t z (spelled 8 y)) x_is ∙ ap (λ z. bits_of_steps r t (xs_of 8 (p.register ++ spelled 8 byte)) z) y_is
+      ∙ run_of_steps r path 8 t (p.register ++ spelled 8 byte) place_of
 
   pub register : (new : List Bool) → new ≡ drop 8 (p.register ++ spelled 8 byte) → new ≡ bits_from path (t + 8) 6
   register new e =
       let start : t + 1 + 1 + 1 + 1 + 1 + 1 + 1 + 1 ≡ t + 8 = omega arith in
       e ∙ ap (λ z. drop 8 z) whole ∙ ap (λ s. map path (range_with_len s 6)) start
+
+pub at_same : (p : Coder) (r : Rate) (path : ℕ → Bool) (t u : ℕ) → t ≡ u → IsAtPath p r path t → IsAtPath p r path u
+at_same p r path t u e at = subst (IsAtPath p r path) e at

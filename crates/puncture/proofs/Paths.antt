@@ -1,5 +1,5 @@
 -- Lists of bits and streams of bytes as paths; shifts by whole periods; runs as lists.
-use Rattle.std.proofs.Common.{◌≡◌, ℕ, zero, suc, ◌+◌, ◌-◌, ◌*◌, ◌/◌, ◌%◌, ◌<◌, nat_lt, Bool, false, List, map, drop, length, Option, Some, None, option_map, refl, ap, ◌∙◌, arith}
+use Rattle.std.proofs.Common.{◌≡◌, ℕ, zero, suc, ◌+◌, ◌-◌, ◌*◌, ◌/◌, ◌%◌, ◌<◌, nat_lt, Bool, false, List, map, drop, length, Option, Some, None, option_map, refl, ap, ap₂, ◌∙◌, arith, ◌∷◌, ◌++◌, [], get_or}
 use Rattle.std.specs.Prelude.{position}
 use Rattle.std.specs.List.{range_with_len}
 use Rattle.std.proofs.lemmas.Bool.Decides.{nat_tests}
@@ -8,7 +8,7 @@ use Rattle.std.proofs.Math.Nat.{add-mul, mul-add-div_right, mul-add-mod_self_rig
 use Rattle.spec_words.specs.Bits.{bit, is_set, spelled}
 use Rattle.mode_set.specs.StreamTable.{steps_in_period, sent_in_period}
 use Rattle.mode_set.specs.declared.modes.Rate.{Rate}
-use Rattle.puncture.specs.SentBits.{sent, path_of, bits_from, sent_bit}
+use Rattle.puncture.specs.SentBits.{sent, path_of, bits_from, sent_bit, sent_bits}
 use Rattle.puncture.specs.Steps.{same_coded}
 use Rattle.puncture.specs.Laws.{ListIsPath, IsShifted, RunsAreLists}
 use Rattle.puncture.proofs.InOrder.{some_step}
@@ -60,9 +60,34 @@ length_run : {T : Type 0} (f : ℕ → T) (a n : ℕ) → length (map f (range_w
 length_run f a zero = refl
 length_run f a (suc n) = ap suc (length_run f (a + 1) n)
 
+heads : (b c : Bool) (xs ys : List Bool) → b ∷ xs ≡ c ∷ ys → b ≡ c
+heads b c xs ys e = ap (λ z. get_or z 0 false) e
+
+tails : (b c : Bool) (xs ys : List Bool) → b ∷ xs ≡ c ∷ ys → xs ≡ ys
+tails b c xs ys e = ap (drop 1) e
+
+split_run : (f : ℕ → Bool) (a n : ℕ) (front rest : List Bool) → front ++ rest ≡ map f (range_with_len a n)
+    → (front ≡ map f (range_with_len a (length front))) × (rest ≡ map f (range_with_len (a + length front) (n - length front)))
+split_run f a n [] rest e = let here : a + 0 ≡ a = omega arith in let size : n - 0 ≡ n = omega arith in (refl, rw (here, size) e)
+split_run f a zero (x ∷ front) rest e = absurd (omega (arith, ap length e))
+split_run f a (suc n) (x ∷ front) rest e =
+    let (p, q) = split_run f (a + 1) n front rest (tails x (f a) (front ++ rest) (map f (range_with_len (a + 1) n)) e) in
+    let here : a + suc (length front) ≡ a + 1 + length front = omega arith in
+    let size : suc n - suc (length front) ≡ n - length front = omega arith in
+    (ap₂ (λ z zs. z ∷ zs) (heads x (f a) (front ++ rest) (map f (range_with_len (a + 1) n)) e) p, rw (here, size) q)
+
+split_sent : (r : Rate) (path : ℕ → Bool) (a b : ℕ) (front rest : List Bool) → front ++ rest ≡ sent_bits r path a b
+    → (front ≡ sent_bits r path a (a + length front)) × (rest ≡ sent_bits r path (a + length front) b)
+split_sent r path a b front rest e =
+    let (p, q) = split_run (sent_bit r path) a (b - a) front rest e in
+    let size : a + length front - a ≡ length front = omega arith in
+    let left : b - (a + length front) ≡ b - a - length front = omega arith in
+    (rw size p, rw left q)
+
 pub runs : (r : Rate) (path : ℕ → Bool) → RunsAreLists r path
 runs r path = record {
   joined = joined r path;
   long = λ a b. length_run (sent_bit r path) a (b - a);
+  split = split_sent r path;
   here = λ a b k l. run_at (sent_bit r path) a (b - a) k l;
 }

@@ -62,9 +62,9 @@ run_of_steps r path zero t p same =
 run_of_steps r path (suc n) t p same =
     let e : t + suc n ≡ t + 1 + n = omega arith in
     let here : bits_of_step r t (parity_x p) (parity_y p) ≡ sent_bits r path (sent_before r t) (sent_before r (t + 1)) =
-        rw (window_x p path t (λ i l. same i (omega arith)), window_y p path t (λ i l. same i (omega arith))) (in_order r path t) in
+    rw (window_x p path t (λ i l. same i (omega arith)), window_y p path t (λ i l. same i (omega arith))) (in_order r path t) in
     let shifted : (i : ℕ) → i < n + 6 → bit (drop 1 p) i ≡ path (t + 1 + i) = λ i l.
-        let next : 1 + i ≡ suc i = omega arith in
-        let place : t + (1 + i) ≡ t + 1 + i = omega arith in
-        get_or-drop 1 p i false ∙ same (1 + i) (omega arith) ∙ ap path place in
+    let next : 1 + i ≡ suc i = omega arith in
+    let place : t + (1 + i) ≡ t + 1 + i = omega arith in
+    get_or-drop 1 p i false ∙ same (1 + i) (omega arith) ∙ ap path place in
     rw (e, here, run_of_steps r path n (t + 1) (drop 1 p) shifted) (joined r path (sent_before r t) (sent_before r (t + 1)) (sent_before r (t + 1 + n)) (step_grows r t) (steps_grow r (t + 1) n))

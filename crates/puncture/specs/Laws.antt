@@ -43,10 +43,12 @@ pub record HasStep (r : Rate) (n : ℕ) : Type 0 where
 abbrev pub SentBitsHaveSteps : Type 0
 SentBitsHaveSteps = (r : Rate) (n : ℕ) → HasStep r n
 
--- runs of sent bits: one behind the other, how long, and which bit stands where
+-- runs of sent bits: one behind the other, how long, what stands at the front and behind it, and which bit stands where
 pub record RunsAreLists (r : Rate) (path : ℕ → Bool) : Type 0 where
   pub joined : (a b c : ℕ) → a ≤ b → b ≤ c → sent_bits r path a b ++ sent_bits r path b c ≡ sent_bits r path a c
   pub long : (a b : ℕ) → length (sent_bits r path a b) ≡ b - a
+  pub split : (a b : ℕ) (front rest : List Bool) → front ++ rest ≡ sent_bits r path a b
+      → (front ≡ sent_bits r path a (a + length front)) × (rest ≡ sent_bits r path (a + length front) b)
   pub here : (a b k : ℕ) → k < b - a → get_or (sent_bits r path a b) k false ≡ sent_bit r path (a + k)
 
 abbrev pub SentBitsAreRuns : Type 0

@@ -70,7 +70,12 @@ fn punctured(rate: Rate, start: u8, x: u8, y: u8) -> (Bits, u8)
     let mut place = start;
     for step in 0..8u8 {
         let sent = sent_in_place(rate, place);
-        bits = with_sent(bits, sent, bit_of(x as u16, 7 - step), bit_of(y as u16, 7 - step));
+        bits = with_sent(
+            bits,
+            sent,
+            bit_of(x as u16, 7 - step),
+            bit_of(y as u16, 7 - step),
+        );
         place = next_place(rate, place);
     }
     (bits, place)
@@ -130,7 +135,8 @@ impl Model for PuncturedEncoder {
 impl PuncturedEncoder {
     /// The coder before the first byte of any stream: the register is six zeros.
     pub fn start(rate: Rate) -> PuncturedEncoder
-        ensures { (bytes : ℕ → ℕ) → IsAtPath result rate (path_of bytes) 0 }
+        ensures at { (bytes : ℕ → ℕ) → IsAtPath result rate (path_of bytes) 0 }
+        ensures none { (path : ℕ → Bool) → sent_bits rate path 0 (sent_before rate 0) ≡ [] }
     {
         PuncturedEncoder {
             encoder: Encoder::start(),
@@ -141,6 +147,8 @@ impl PuncturedEncoder {
 
     /// Codes a byte, the most significant bit first, and appends what is sent of its eight steps, 8 to 16 bits. There
     /// must be room for sixteen.
+    ///
+    /// A queue that holds sent bits of the path goes on to hold them. `of_bytes` says so of byte `m` of a stream of bytes.
     pub fn push_byte<const N: usize>(&mut self, byte: u8, to: &mut BitBuf<N>)
         requires room { length to.old + 16 ≤ 8 * N }
         ensures few { length to.new ≤ length to.old + 16 }
@@ -149,6 +157,14 @@ impl PuncturedEncoder {
         ensures sent { (r : AnyRate) (path : ℕ → Bool) (t : ℕ) → IsAtPath self.old r path t
             → spelled 8 byte ≡ bits_from path (t + 6) 8
             → to.new ≡ to.old ++ sent_bits r path (sent_before r t) (sent_before r (t + 8)) }
+        ensures holds { (r : AnyRate) (path : ℕ → Bool) (t a : ℕ) → IsAtPath self.old r path t
+            → spelled 8 byte ≡ bits_from path (t + 6) 8
+            → a ≤ sent_before r t → to.old ≡ sent_bits r path a (sent_before r t)
+            → to.new ≡ sent_bits r path a (sent_before r (t + 8)) }
+        ensures of_bytes { (r : AnyRate) (bytes : ℕ → ℕ) (m a : ℕ) → IsAtPath self.old r (path_of bytes) (8 * m) → byte ≡ bytes m
+            → a ≤ sent_before r (8 * m) → to.old ≡ sent_bits r (path_of bytes) a (sent_before r (8 * m))
+            → IsAtPath self.new r (path_of bytes) (8 * (m + 1))
+            × (to.new ≡ sent_bits r (path_of bytes) a (sent_before r (8 * (m + 1)))) }
     {
         let (x, y) = self.encoder.step_byte(byte);
         let (bits, place) = punctured(self.rate, self.place, x, y);

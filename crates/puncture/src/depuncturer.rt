@@ -35,7 +35,8 @@ impl Model for Depuncturer {
 impl Depuncturer {
     /// The depuncturer before the first step of a stream.
     pub fn start(rate: Rate) -> Depuncturer
-        ensures { IsAtStep result rate 0 }
+        ensures at { IsAtStep result rate 0 }
+        ensures none { sent_before rate 0 ≡ 0 }
     {
         Depuncturer { rate, place: 0 }
     }

@@ -7,17 +7,14 @@ mod laws;
 mod puncturer;
 mod rule;
 mod table;
+#[cfg(test)]
+mod tests;
 
 pub use coder::PuncturedEncoder;
 pub use depuncturer::Depuncturer;
 pub use laws::{
-    bytes_are_paths,
-    lists_are_paths,
-    periods_shift,
-    sent_bits_are_runs,
-    sent_bits_have_steps,
-    steps_are_numbered,
-    steps_send_in_order,
+    bytes_are_paths, lists_are_paths, periods_shift, sent_bits_are_runs, sent_bits_have_steps,
+    steps_are_numbered, steps_send_in_order,
 };
 pub use puncturer::Puncturer;
 pub use rule::sent;

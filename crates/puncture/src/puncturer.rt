@@ -1,5 +1,5 @@
 // Puncturing, step by step.
-ghost use Rattle.std.specs.Prelude.{◌≡◌, ◌+◌, ◌*◌, ◌<◌, ◌≤◌, ◌%◌, ℕ, Bool, ◌++◌, length};
+ghost use Rattle.std.specs.Prelude.{◌≡◌, ◌+◌, ◌*◌, ◌<◌, ◌≤◌, ◌%◌, ℕ, Bool, [], ◌++◌, length};
 ghost use Rattle.code_paths.specs.Paths.{parity_x, parity_y};
 ghost use Rattle.puncture.specs.SentBits.{window, sent_bits};
 ghost use Rattle.puncture.specs.Steps.{sent_before, bits_sent, bits_of_step, IsAtStep, has_x, has_y};
@@ -65,14 +65,16 @@ impl Model for Puncturer {
 impl Puncturer {
     /// The puncturer before the first step of a stream.
     pub fn start(rate: Rate) -> Puncturer
-        ensures { IsAtStep result rate 0 }
+        ensures at { IsAtStep result rate 0 }
+        ensures none { (path : ℕ → Bool) → sent_bits rate path 0 (sent_before rate 0) ≡ [] }
     {
         Puncturer { rate, place: 0 }
     }
 
     /// Appends what is sent of a step, whose X and Y are given. There must be room for two bits.
     ///
-    /// Where they are the coded bits of step `t` of a path, its next sent bits are appended.
+    /// Where they are the coded bits of step `t` of a path, its next sent bits are appended. So a queue that holds sent
+    /// bits of the path, from any number on, goes on to hold them.
     pub fn push<const N: usize>(&mut self, coded: (bool, bool), to: &mut BitBuf<N>)
         requires room { length to.old + 2 ≤ 8 * N }
         ensures bits { to.new ≡ to.old ++ bits_of_step self.old.rate self.old.step coded.0 coded.1 }
@@ -81,6 +83,10 @@ impl Puncturer {
         ensures sent { (r : AnyRate) (path : ℕ → Bool) (t : ℕ) → IsAtStep self.old r t
             → coded.0 ≡ parity_x (window path t) → coded.1 ≡ parity_y (window path t)
             → to.new ≡ to.old ++ sent_bits r path (sent_before r t) (sent_before r (t + 1)) }
+        ensures holds { (r : AnyRate) (path : ℕ → Bool) (t a : ℕ) → IsAtStep self.old r t
+            → coded.0 ≡ parity_x (window path t) → coded.1 ≡ parity_y (window path t)
+            → a ≤ sent_before r t → to.old ≡ sent_bits r path a (sent_before r t)
+            → to.new ≡ sent_bits r path a (sent_before r (t + 1)) }
     {
         push_sent(sent_in_place(self.rate, self.place), coded, to);
         self.place = next_place(self.rate, self.place);

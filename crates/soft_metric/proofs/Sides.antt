@@ -1,6 +1,6 @@
 -- The least squares of all points, from the four levels.
-use Rattle.std.proofs.Common.{◌≡◌, ℕ, zero, suc, ◌+◌, ◌-◌, ◌*◌, ◌/◌, ◌%◌, ◌^◌, ◌<◌, ◌≤◌, min, Bool, true, false, cond, List, [], ◌∷◌, map, filter, length, refl, sym, ap, ◌∙◌, subst, arith}
-use Rattle.std.specs.Prelude.{ℤ, pos, negsuc, neg_ℤ, nat_abs, slice_index, ◌++◌, zip}
+use Rattle.std.proofs.Common.{◌≡◌, ℕ, zero, suc, ◌+◌, ◌*◌, ◌/◌, ◌^◌, ◌<◌, ◌≤◌, min, Bool, true, false, cond, List, [], ◌∷◌, map, filter, refl, sym, ap, ◌∙◌, arith}
+use Rattle.std.specs.Prelude.{ℤ, pos, negsuc, neg_ℤ, nat_abs, ◌++◌, zip}
 use lib.Signed.{le_z}
 use Rattle.std.specs.Bool.{beq}
 use Rattle.std.specs.Int.{abs_diff}
@@ -15,8 +15,8 @@ use Rattle.mode_set.specs.declared.modes.Shape.TheVariants.{Qpsk, Qam16, Qam64}
 use Rattle.mode_set.specs.declared.modes.Hierarchy.{Hierarchy}
 use Rattle.mode_set.specs.declared.modes.Hierarchy.TheVariants.{Flat, Alpha1, Alpha2, Alpha4}
 use Rattle.qam_map.specs.Points.{Point, magnitudes, distance}
-use Rattle.soft_metric.specs.Costs.{least_square, cost, fitting, four_levels}
-use Rattle.soft_metric.specs.Squares.{scaled, near, far, pair_at, IsSmallPair, AreAxisCosts}
+use Rattle.soft_metric.specs.Costs.{least_square, cost, four_levels}
+use Rattle.soft_metric.specs.Squares.{scaled, pair_at, IsSmallPair, AreAxisCosts}
 
 abbrev pub signed : Bool → ℕ → ℤ
 signed positive m = cond positive (pos m) (neg_ℤ (pos m))

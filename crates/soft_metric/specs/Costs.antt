@@ -1,9 +1,8 @@
 -- What the two values of a coded bit cost, by the cell that carries it. The costs are this project's own.
-use Rattle.std.specs.Prelude.{◌≡◌, ℕ, ◌*◌, ◌/◌, ◌^◌, ◌<◌, ◌≤◌, min, Bool, not, List, [], ◌∷◌, map, filter, ℤ}
+use Rattle.std.specs.Prelude.{◌≡◌, ℕ, ◌/◌, ◌^◌, ◌<◌, ◌≤◌, min, Bool, not, List, [], ◌∷◌, map, filter, ℤ}
 use Rattle.std.specs.Bool.{beq}
 use Rattle.spec_words.specs.Bits.{bit}
 use Rattle.spec_words.specs.Words.{least}
-use Rattle.mode_set.specs.Levels.{levels}
 use Rattle.mode_set.specs.StreamTable.{label_bits}
 use Rattle.mode_set.specs.declared.modes.Shape.{Shape}
 use Rattle.mode_set.specs.declared.modes.Hierarchy.{Hierarchy}

@@ -12,6 +12,5 @@ mod writing;
 
 pub use station::FileStation;
 
-
 #[cfg(test)]
 mod tests;

@@ -54,6 +54,10 @@ fn files_written_and_read_back(rt: HostRuntime) -> Result<(), Fail> {
 fn files_that_are_not_there(rt: HostRuntime) -> Result<(), Fail> {
     let mut station = FileStation::new(&rt);
     assert!(rt; station.attach(InPort::Lp, "no such file").is_err());
-    assert!(rt; station.create(OutPort::Cells, "no such folder/out").is_err());
+    assert!(rt;
+        station
+            .create(OutPort::Cells, "no such folder/out")
+            .is_err()
+    );
     Ok(())
 }

@@ -1,18 +1,18 @@
 -- Walking back through decision words.
-use Rattle.std.proofs.Common.{◌≡◌, ◌≢◌, ℕ, zero, suc, ◌+◌, ◌-◌, ◌*◌, ◌/◌, ◌%◌, ◌^◌, ◌<◌, ◌≤◌, Bool, true, false, cond, not, ◌&&◌, ◌||◌, List, [], ◌∷◌, ◌++◌, ◌⊎◌, inl, inr, refl, sym, ap, ap₂, ◌∙◌, subst, subst₂, arith, eqb, length, take, drop, get_or, set, ext_get_or, get_or-take, length-take-le, length-take, true≢false, mod-lt, lit<, bit_and}
+use Rattle.std.proofs.Common.{◌≡◌, ◌≢◌, ℕ, zero, suc, ◌+◌, ◌-◌, ◌*◌, ◌/◌, ◌%◌, ◌^◌, ◌<◌, ◌≤◌, Bool, true, false, cond, not, ◌&&◌, ◌||◌, List, [], ◌∷◌, ◌++◌, ◌⊎◌, inl, inr, refl, sym, ap, ap₂, ◌∙◌, subst, subst₂, arith, eqb, length, take, drop, get_or, set, ext_get_or, get_or-take, length-take-le, length-take, true≢false, mod-lt, lit<, bit_and, take-append-drop, drop-drop}
 use Rattle.std.specs.Prelude.{IsTrue, slice_index}
-use Rattle.std.proofs.lemmas.Bool.{cases_lt, cases_Bool, and_parts, agree_below, agree_below_at, or_left, or_right, cond_both}
+use Rattle.std.proofs.lemmas.Bool.{cases_lt, cases_eq, cases_Bool, and_parts, agree_below, agree_below_at, or_left, or_right, cond_both}
 use Rattle.std.proofs.lemmas.List.{drop_all, take-take}
 use Rattle.spec_words.specs.Bits.{is_set}
 use Rattle.code_paths.specs.States.{even_of, odd_of}
 use Rattle.code_paths.specs.States.{before}
 use Rattle.survivor_ring.specs.Survivors.{AreAlike, IsAlike, IsPushed, IsFollowed, GivesAway}
-use Rattle.survivor_ring.specs.Ring.{root, trace, leads, AreBefore, IsSplit, IsUniform, Chosen}
+use Rattle.survivor_ring.specs.Ring.{root, trace, leads, AreBefore, IsSplit, IsUniform, IsSingle, Chosen}
 use Rattle.survivor_ring.proofs.RowSteps.{before_below, half_lives, lowest_lives}
 use Rattle.code_paths.proofs.Words.{set_shr, set_and, ones32, and_true}
-use Rattle.std.proofs.lemmas.Nat.Bits.{bit_at-zero, bit_at_above, bit_at-trailing_zeros}
+use Rattle.std.proofs.lemmas.Nat.Bits.{bit_at-zero, bit_at_above, bit_at-trailing_zeros, bit_at-pow_other}
 use Rattle.std.specs.Int.{trailing_zeros, w64}
-use Rattle.std.proofs.lemmas.Nat.{and_le_r}
+use Rattle.std.proofs.lemmas.Nat.{and_le_r, one_shl}
 
 pub root_below : (ws : List ℕ) (n : ℕ) → n < 64 → root ws n < 64
 root_below [] n l = l
@@ -129,14 +129,17 @@ split_of word w h l =
     positive : (n : ℕ) → (n ≡ 0 → ⊥) → 0 < n
     positive zero h = absurd (h refl)
     positive (suc n) h = omega arith
+
     and_small : (word : ℕ) → bit_and word 4294967295 < 2 ^ 64
     and_small word = omega (arith, and_le_r word 4294967295)
+
     low_of : (k : ℕ) → is_set 4294967295 k ≡ true → k < 32
     low_of k t = go (cases_lt k 32)
       where
         go : (k < 32) ⊎ (32 ≤ k) → k < 32
         go (inl h) = h
         go (inr h) = absurd (true≢false (sym t ∙ ap (λ z. eqb z 1) (bit_at_above 4294967295 32 k (lit< tt) h)))
+
     high_of : (k : ℕ) → is_set word (k + 32) ≡ true → k < 32
     high_of k t = go (cases_lt k 32)
       where
@@ -209,15 +212,19 @@ goes_back set word result r h l t = h.each (before word r) (before_below word r 
     odd_leads e =
         let q : before word r % 2 ≡ 1 = ap (λ b. cond b (odd_of r) (even_of r) % 2) e ∙ omega arith in
         ap₂ (λ x y. x && y) t (ap (λ z. cond (eqb z 1) (is_set word r) (not (is_set word r))) q ∙ e)
+
     even_leads : is_set word r ≡ false → leads set word (before word r) r ≡ true
     even_leads e =
         let q : before word r % 2 ≡ 0 = ap (λ b. cond b (odd_of r) (even_of r) % 2) e ∙ omega arith in
         ap₂ (λ x y. x && y) t (ap (λ z. cond (eqb z 1) (is_set word r) (not (is_set word r))) q ∙ ap not e)
+
     half : before word r / 2 ≡ r % 32
     half = cond_both (is_set word r) (odd_of r) (even_of r) (λ z. z / 2 ≡ r % 32) (λ e. omega arith) (λ e. omega arith)
+
     lead : (is_set word r ≡ true) ⊎ (is_set word r ≡ false) → leads set word (before word r) r ≡ true
     lead (inl e) = odd_leads e
     lead (inr e) = even_leads e
+
     go : (is_set word r ≡ true) ⊎ (is_set word r ≡ false) → ((r ≡ r % 32) ⊎ (r ≡ r % 32 + 32)) → (leads set word (before word r) (before word r / 2) || leads set word (before word r) (before word r / 2 + 32)) ≡ true
     go c (inl e) = or_left _ _ (ap (leads set word (before word r)) (half ∙ sym e) ∙ lead c)
     go c (inr e) = or_right _ _ (ap (leads set word (before word r)) (ap (λ z. z + 32) half ∙ sym e) ∙ lead c)
@@ -264,43 +271,60 @@ walk_more ws states j i now answer word new answer2 h e l f c b = record {
   where
     root_at : (n : ℕ) → root (drop i ws) n ≡ before word (root (drop j ws) n)
     root_at n = ap (λ z. root z n) (drop_one ws i l) ∙ ap₂ before (sym f) (ap (λ z. root (drop z ws) n) (sym e))
+
     come : (m : ℕ) → Back now word m → Comes ws states i m
     come m k = let w = h.from k.state k.below k.lives in record { state = w.state; below = w.below; lives = w.lives; is = root_at w.state ∙ ap (before word) w.is ∙ k.is }
+
     bound : Chosen now i answer answer2 → answer2 ≤ length ws
     bound (inl q) = omega (arith, q.1, h.within)
     bound (inr q) = omega (arith, q.1, l)
+
     at_here : (n p : ℕ) → p ≡ i → root (drop (suc p) ws) n ≡ root (drop j ws) n
     at_here n p q = let w : suc p ≡ j = omega (arith, q, e) in ap (λ z. root (drop z ws) n) w
+
     alike : Chosen now i answer answer2 → (p : ℕ) → i ≤ p → p < answer2 → (m n : ℕ) → m < 64 → n < 64 → IsTrue (is_set states m) → IsTrue (is_set states n) → (i < p) ⊎ (p ≤ i) → is_set (root (drop (suc p) ws) m) 5 ≡ is_set (root (drop (suc p) ws) n) 5
     alike (inr q) p a d m n x y t u k = absurd (omega (arith, q.1))
     alike (inl q) p a d m n x y t u (inl k) = h.alike p (omega (arith, e)) (omega (arith, q.1)) m n x y t u
     alike (inl q) p a d m n x y t u (inr k) =
         let here : p ≡ i = omega arith in
         ap (λ z. is_set z 5) (at_here m p here) ∙ q.0.same (root (drop j ws) m) (root (drop j ws) n) (root_below (drop j ws) m x) (root_below (drop j ws) n y) (h.in_set m x t) (h.in_set n y u) ∙ sym (ap (λ z. is_set z 5) (at_here n p here))
+
     differ : Chosen now i answer answer2 → answer2 < length ws → Differs ws states answer2
     differ (inl q) k = subst (Differs ws states) (sym q.1) (h.differ (omega (arith, q.1)))
     differ (inr q) k =
         let lo = h.from q.0.low q.0.low_below q.0.low_in in
         let hi = h.from q.0.high q.0.high_below q.0.high_in in
         record {
-          low = lo.state; high = hi.state; low_below = lo.below; high_below = hi.below; low_lives = lo.lives; high_lives = hi.lives;
+          low = lo.state;
+          high = hi.state;
+          low_below = lo.below;
+          high_below = hi.below;
+          low_lives = lo.lives;
+          high_lives = hi.lives;
           low_bit = ap (λ z. is_set z 5) (at_here lo.state answer2 q.1 ∙ lo.is) ∙ q.0.low_bit;
           high_bit = ap (λ z. is_set z 5) (at_here hi.state answer2 q.1 ∙ hi.is) ∙ q.0.high_bit;
         }
 
-pub walk_alike : (ws : List ℕ) (states j now answer : ℕ) → Walk ws states j now answer → j ≡ 0 → IsAlike states (trace ws) (length ws) answer
-walk_alike ws states j now answer h z = record {
+-- what a walk finds in the end
+pub record Found (ws : List ℕ) (states answer : ℕ) : Type 0 where
+  pub within : answer ≤ length ws
+  pub alike : (p : ℕ) → p < answer → (m n : ℕ) → m < 64 → n < 64 → IsTrue (is_set states m) → IsTrue (is_set states n) → is_set (root (drop (suc p) ws) m) 5 ≡ is_set (root (drop (suc p) ws) n) 5
+  pub differ : answer < length ws → Differs ws states answer
+
+found_alike : (ws : List ℕ) (states answer : ℕ) → Found ws states answer → IsAlike states (trace ws) (length ws) answer
+found_alike ws states answer h = record {
   within = h.within;
   alike = λ m n x y t u.
       ext_get_or false (take answer (trace ws m)) (take answer (trace ws n)) (omega (arith, len m, len n))
       (λ p w.
       let k : p < answer = omega (arith, w, len m) in
-      get_or-take answer (trace ws m) p false k ∙ trace_bit ws m p (omega (arith, h.within)) ∙ h.alike p (omega (arith, z)) k m n x y t u ∙ sym (get_or-take answer (trace ws n) p false k ∙ trace_bit ws n p (omega (arith, h.within))));
+      get_or-take answer (trace ws m) p false k ∙ trace_bit ws m p (omega (arith, h.within)) ∙ h.alike p k m n x y t u ∙ sym (get_or-take answer (trace ws n) p false k ∙ trace_bit ws n p (omega (arith, h.within))));
   most = λ q w a. most q w a (cases_lt answer q);
 }
   where
     len : (n : ℕ) → length (take answer (trace ws n)) ≡ answer
     len n = length-take-le answer (trace ws n) (omega (arith, trace_length ws n, h.within))
+
     most : (q : ℕ) → q ≤ length ws → AreAlike states (trace ws) q → (answer < q) ⊎ (q ≤ answer) → q ≤ answer
     most q w a (inr k) = k
     most q w a (inl k) =
@@ -309,6 +333,50 @@ walk_alike ws states j now answer h z = record {
         let lo = get_or-take q (trace ws d.low) answer false k ∙ trace_bit ws d.low answer (omega arith) ∙ d.low_bit in
         let hi = get_or-take q (trace ws d.high) answer false k ∙ trace_bit ws d.high answer (omega arith) ∙ d.high_bit in
         absurd (true≢false (sym hi ∙ sym s ∙ lo))
+
+pub walk_alike : (ws : List ℕ) (states j now answer : ℕ) → Walk ws states j now answer → j ≡ 0 → IsAlike states (trace ws) (length ws) answer
+walk_alike ws states j now answer h z = found_alike ws states answer (record { within = h.within; alike = λ p k. h.alike p (omega (arith, z)) k; differ = h.differ })
+
+root_append : (vs ws : List ℕ) (n : ℕ) → root (vs ++ ws) n ≡ root vs (root ws n)
+root_append [] ws n = refl
+root_append (v ∷ vs) ws n = ap (before v) (root_append vs ws n)
+
+-- the way from a place back to an earlier one
+root_from : (ws : List ℕ) (i j n : ℕ) → i ≤ j → root (drop i ws) n ≡ root (take (j - i) (drop i ws)) (root (drop j ws) n)
+root_from ws i j n l =
+    let e : j - i + i ≡ j = omega arith in
+    ap (λ z. root z n) (sym (take-append-drop (j - i) (drop i ws)))
+    ∙ root_append (take (j - i) (drop i ws)) (drop (j - i) (drop i ws)) n
+    ∙ ap (λ z. root (take (j - i) (drop i ws)) (root z n)) (drop-drop (j - i) i ws ∙ ap (λ k. drop k ws) (plus_turn i (j - i) ∙ e))
+  where
+    plus_turn : (a b : ℕ) → a + b ≡ b + a
+    plus_turn a b = omega arith
+
+-- where all states come from one, all older bits are shared
+pub walk_single : (ws : List ℕ) (states j now answer : ℕ) → Walk ws states j now answer → IsSingle now → IsAlike states (trace ws) (length ws) answer
+walk_single ws states j now answer h s = found_alike ws states answer (record { within = h.within; alike = λ p k m n x y t u. go p k m n x y t u (cases_lt p j); differ = h.differ })
+  where
+    same : (m n : ℕ) → m < 64 → n < 64 → IsTrue (is_set states m) → IsTrue (is_set states n) → root (drop j ws) m ≡ root (drop j ws) n
+    same m n x y t u = s.only (root (drop j ws) m) (root_below (drop j ws) m x) (h.in_set m x t) ∙ sym (s.only (root (drop j ws) n) (root_below (drop j ws) n y) (h.in_set n y u))
+
+    go : (p : ℕ) → p < answer → (m n : ℕ) → m < 64 → n < 64 → IsTrue (is_set states m) → IsTrue (is_set states n) → (p < j) ⊎ (j ≤ p) → is_set (root (drop (suc p) ws) m) 5 ≡ is_set (root (drop (suc p) ws) n) 5
+    go p k m n x y t u (inl l) =
+        ap (λ z. is_set z 5) (root_from ws (suc p) j m (omega arith) ∙ ap (root (take (j - suc p) (drop (suc p) ws))) (same m n x y t u) ∙ sym (root_from ws (suc p) j n (omega arith)))
+    go p k m n x y t u (inr l) = h.alike p l k m n x y t u
+
+pub single_of : (set : ℕ) → set ≡ 1 * 2 ^ trailing_zeros w64 set % 18446744073709551616 → trailing_zeros w64 set < 64 → IsSingle set
+single_of set e l = record { state = trailing_zeros w64 set; only = λ n k t. go n t (cases_eq n (trailing_zeros w64 set)) }
+  where
+    is : set ≡ 2 ^ trailing_zeros w64 set
+    is = e ∙ one_shl (trailing_zeros w64 set) 64 l
+
+    go : (n : ℕ) → IsTrue (is_set set n) → (n ≡ trailing_zeros w64 set) ⊎ (n ≡ trailing_zeros w64 set → ⊥) → n ≡ trailing_zeros w64 set
+    go n t (inl q) = q
+    go n t (inr q) = absurd (true≢false (sym t ∙ ap (λ z. is_set z n) is ∙ ap (λ b. eqb b 1) (bit_at-pow_other (trailing_zeros w64 set) n q)))
+
+pub positive_of : (n : ℕ) → (n ≡ 0 → ⊥) → 0 < n
+positive_of zero h = absurd (h refl)
+positive_of (suc n) h = omega arith
 
 pub traces_dropped : (ws new : List ℕ) (k n : ℕ) → new ≡ drop k ws → trace new n ≡ drop k (trace ws n)
 traces_dropped ws new k n e = ap (λ z. trace z n) e ∙ trace_drop ws k n

@@ -48,12 +48,16 @@ lower f k = nat_lt k 32 && f k
 
 abbrev m1 : ℕ → Bool
 m1 = is_set 0x0000FFFF0000FFFF
+
 abbrev m2 : ℕ → Bool
 m2 = is_set 0x00FF00FF00FF00FF
+
 abbrev m3 : ℕ → Bool
 m3 = is_set 0x0F0F0F0F0F0F0F0F
+
 abbrev m4 : ℕ → Bool
 m4 = is_set 0x3333333333333333
+
 abbrev m5 : ℕ → Bool
 m5 = is_set 0x5555555555555555
 

@@ -39,6 +39,11 @@ pub record IsSplit (set : ℕ) : Type 0 where
 pub record IsUniform (set : ℕ) : Type 0 where
   pub same : (m n : ℕ) → m < 64 → n < 64 → IsTrue (is_set set m) → IsTrue (is_set set n) → is_set m 5 ≡ is_set n 5
 
+-- a set of one state
+pub record IsSingle (set : ℕ) : Type 0 where
+  pub state : ℕ
+  pub only : (n : ℕ) → n < 64 → IsTrue (is_set set n) → n ≡ state
+
 -- the words of a set are uniform, and the answer stays, or they are not, and it is the index
 abbrev pub Chosen : ℕ → ℕ → ℕ → ℕ → Type 0
 Chosen set index old new = (IsUniform set × (new ≡ old)) ⊎ (IsSplit set × (new ≡ index))

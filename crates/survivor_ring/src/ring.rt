@@ -3,7 +3,7 @@ ghost use Rattle.std.specs.Prelude.{◌≡◌, ◌≢◌, ◌+◌, ◌-◌, ◌*
 ghost use Rattle.spec_words.specs.Bits.{is_set};
 ghost use Rattle.code_paths.specs.States.{before};
 ghost use Rattle.survivor_ring.specs.Survivors.{AreAlike, IsAlike};
-ghost use Rattle.survivor_ring.specs.Ring.{root, trace, moved, AreBefore, IsSplit, IsUniform, Chosen};
+ghost use Rattle.survivor_ring.specs.Ring.{root, trace, moved, AreBefore, IsSplit, IsUniform, IsSingle, Chosen};
 ghost use Rattle.std.specs.Prelude.{slice_index, IsFalse, ◌^◌};
 
 use crate::Survivors;
@@ -92,7 +92,15 @@ fn trace_back(words: &HeapCircularBuffer<u64>, state: u8, bits: &mut [bool])
     }
 }
 
-/// How many bits the states of a set share.
+/// Is one state alone in a set?
+fn is_single(set: u64) -> bool
+    ensures { IsTrue result → IsSingle set }
+{
+    set != 0 && set == 1 << set.trailing_zeros()
+}
+
+/// How many bits the states of a set share. The walk goes back from the newest word to the place where all states come
+/// from one: all older bits are shared.
 fn shared_words(words: &HeapCircularBuffer<u64>, states: u64) -> usize
     requires { states ≢ 0 }
     ensures { IsAlike states (trace words.now.items) (length words.now.items) result }
@@ -101,6 +109,9 @@ fn shared_words(words: &HeapCircularBuffer<u64>, states: u64) -> usize
     let mut set = states;
     let mut answer = count;
     for k in 0..count {
+        if is_single(set) {
+            return answer;
+        }
         let index = count - 1 - k;
         answer = lowered(set, index, answer);
         set = ancestors(set, word_at(words, index));
@@ -154,7 +165,10 @@ impl<const L: usize> Survivors<L> for RingSurvivors<L> {
 
     fn new(alloc: Global, alive: u64) -> Result<Self, AllocError> {
         let words = HeapCircularBuffer::with_capacity(alloc, L + 1)?;
-        Ok(RingSurvivors { words, states: alive })
+        Ok(RingSurvivors {
+            words,
+            states: alive,
+        })
     }
 
     fn waiting(&self) -> u32 {

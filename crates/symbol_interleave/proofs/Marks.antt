@@ -1,5 +1,5 @@
 -- H has each payload place once.
-use Rattle.std.proofs.Common.{◌≡◌, ℕ, zero, suc, ◌+◌, ◌-◌, ◌%◌, ◌^◌, ◌<◌, ◌≤◌, List, [], ◌∷◌, length, get_or, refl, sym, ap, ◌∙◌, subst, arith, Bool, true, false, not, ◌&&◌, eqb, ◌⊎◌, inl, inr, ltb}
+use Rattle.std.proofs.Common.{◌≡◌, ℕ, zero, suc, ◌-◌, ◌^◌, ◌<◌, ◌≤◌, List, [], ◌∷◌, length, get_or, refl, sym, ap, ◌∙◌, subst, arith, Bool, true, false, not, ◌&&◌, eqb, ◌⊎◌, inl, inr}
 use Rattle.std.specs.Prelude.{slice_index, bit_or, ◌≢◌, nat_lt}
 use Rattle.std.specs.Int.{bit_at}
 use Rattle.std.specs.List.{position_or_len, list_all}
@@ -8,7 +8,7 @@ use Rattle.std.proofs.lemmas.List.{get_or_default}
 use Rattle.std.proofs.lemmas.List.Sums.{position_or_len_is}
 use Rattle.std.proofs.lemmas.Nat.Bits.{bit_at_or, bit_at-pow_same, bit_at-pow_other, bit_at-lt, bit_at_ones, bit_at-zero}
 use Rattle.spec_words.specs.Bits.{is_set}
-use Rattle.symbol_interleave.specs.Carried.{h, words_from, carried, place_of_word, AreTables, IsInverse, IsPermutationBelow, HIsAPermutation, PlacesAndWordsAgree}
+use Rattle.symbol_interleave.specs.Carried.{h, words_from, AreTables, IsInverse, IsPermutationBelow, HIsAPermutation, PlacesAndWordsAgree}
 use Rattle.mode_set.specs.StreamTable.{payload}
 use Rattle.mode_set.specs.declared.modes.Mode.{Mode}
 use Rattle.mode_set.specs.declared.modes.Mode.TheVariants.{M2k, M8k}

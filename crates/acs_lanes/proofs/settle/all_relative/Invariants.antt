@@ -8,5 +8,5 @@ abbrev pub invariant-loop-n : goal.invariant-loop-n
 invariant-loop-n l = record {
   size : length l.costs ≡ 64;
   lives : (k : ℕ) → k < l.n → IsTrue (alive l.fn.sums k) → slice_index l.costs k + l.low ≡ slice_index l.fn.sums.cost k;
-  dead : (k : ℕ) → k < l.n → IsFalse (alive l.fn.sums k) → slice_index l.costs k ≡ far
+  dead : (k : ℕ) → k < l.n → IsFalse (alive l.fn.sums k) → slice_index l.costs k ≡ far;
 }

@@ -2,4 +2,4 @@ use Rattle.code_paths.proofs.Grows.{given_begins_ended}
 use Rattle.code_paths.proofs.laws.given_begins_ended.Goals as goal
 
 pub returns : goal.returns
-returns c = given_begins_ended
+returns c = record { law = given_begins_ended }

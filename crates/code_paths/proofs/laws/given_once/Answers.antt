@@ -2,4 +2,4 @@ use Rattle.code_paths.proofs.Grows.{given_once}
 use Rattle.code_paths.proofs.laws.given_once.Goals as goal
 
 pub returns : goal.returns
-returns c = given_once
+returns c = record { law = given_once }

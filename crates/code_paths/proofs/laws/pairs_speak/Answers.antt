@@ -2,4 +2,4 @@ use Rattle.code_paths.proofs.Shown.{pair_speaks}
 use Rattle.code_paths.proofs.laws.pairs_speak.Goals as goal
 
 pub returns : goal.returns
-returns c = pair_speaks
+returns c = record { law = pair_speaks }

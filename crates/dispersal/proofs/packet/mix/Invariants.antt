@@ -1,4 +1,4 @@
-use Rattle.std.proofs.Common.{◌≡◌, ◌+◌, ◌++◌, take, drop}
+use Rattle.std.proofs.Common.{◌≡◌, ◌++◌, take, drop}
 use Rattle.dispersal.specs.Packet.{xor_from}
 use Rattle.dispersal.proofs.packet.mix.Given as goal
 

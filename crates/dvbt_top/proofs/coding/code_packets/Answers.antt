@@ -1,4 +1,4 @@
-use Rattle.std.proofs.Common.{◌≡◌, ◌+◌, true, ℕ, List, [], ◌∷◌, ◌++◌, refl, sym, ◌∙◌, ap, subst, take, Err, Ok, None}
+use Rattle.std.proofs.Common.{ℕ, List, refl, ◌∙◌, ap, subst}
 use Rattle.station_core.specs.Meaning.{Meaning}
 use Rattle.dvbt_top.specs.Packets.{first_packets}
 use Rattle.dvbt_top.proofs.Station_laws.{keeps_again}

@@ -1,4 +1,4 @@
-use Rattle.std.proofs.Common.{◌≡◌, ◌≢◌, ◌∷◌, [], List, ap, sym, ◌∙◌, rules, Global, map, ℕ, arith}
+use Rattle.std.proofs.Common.{◌≡◌, ◌≢◌, ◌∷◌, [], List, ap, sym, ◌∙◌, rules, Global, map, arith}
 use Rattle.std.specs.Prelude.{string_bytes, String}
 use Rattle.std.proofs.lemmas.Slice.Eq.{bytes_eq-Decides}
 use Rattle.dvbt_top.proofs.Threes.{three, first_is}

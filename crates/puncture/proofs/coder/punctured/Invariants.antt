@@ -10,5 +10,5 @@ invariant-loop-step l = record {
   few : l.bits.count ≤ 2 * l.step;
   place : (t : ℕ) → l.start ≡ t % steps_in_period l.rate → l.place ≡ (t + l.step) % steps_in_period l.rate;
   bits : (t : ℕ) → l.start ≡ t % steps_in_period l.rate
-      → spelled l.bits.count l.bits.word ++ bits_of_steps l.rate (t + l.step) (spelled (8 - l.step) l.x) (spelled (8 - l.step) l.y) ≡ bits_of_steps l.rate t (spelled 8 l.x) (spelled 8 l.y)
+      → spelled l.bits.count l.bits.word ++ bits_of_steps l.rate (t + l.step) (spelled (8 - l.step) l.x) (spelled (8 - l.step) l.y) ≡ bits_of_steps l.rate t (spelled 8 l.x) (spelled 8 l.y);
 }

@@ -6,7 +6,7 @@ abbrev pub invariant-loop-left : goal.invariant-loop-left
 invariant-loop-left g l = record {
   bits : l.to ++ spelled l.left l.word ≡ l.initial.to ++ spelled l.initial.left l.word;
   amount : length l.to + l.left ≡ length l.initial.to + l.initial.left;
-  few : l.left ≤ 16
+  few : l.left ≤ 16;
 }
 
 abbrev pub decreases-loop-left : goal.decreases-loop-left

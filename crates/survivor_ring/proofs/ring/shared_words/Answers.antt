@@ -1,5 +1,5 @@
 use Rattle.std.proofs.Common.{rules, ◌≡◌, ◌∙◌, sym, ap, refl, subst, arith, length, ◌-◌, ◌+◌, suc, ◌<◌}
-use Rattle.survivor_ring.proofs.Walks.{Walk, walk_none, walk_more, walk_alike}
+use Rattle.survivor_ring.proofs.Walks.{Walk, walk_none, walk_more, walk_alike, walk_single}
 use Rattle.survivor_ring.proofs.ring.shared_words.Goals as goal
 
 pub loop-k-preserved : goal.loop-k-preserved
@@ -14,3 +14,6 @@ loop-k-preserved c =
 
 pub returns : goal.returns
 returns c = walk_alike c.args.words.now.items c.args.states (length c.args.words.now.items - c.loop-k.k) c.loop-k.set c.loop-k.answer c.loop-k.invariant (omega (arith, c.len-count.ensures.len, c.loop-k-test.false))
+
+pub returns-then-is_single : goal.returns-then-is_single
+returns-then-is_single c = walk_single c.args.words.now.items c.args.states (length c.args.words.now.items - c.loop-k.k) c.loop-k.set c.loop-k.answer c.loop-k.invariant (c.is_single.ensures c.if-is_single.true)

@@ -23,20 +23,21 @@ pub pick-second-requires-clause-odd_lens : goal.pick-second-requires-clause-odd_
 pick-second-requires-clause-odd_lens c = lanes_fit c.args.sums.now c.settle-low.new.sums c.settle-low.result 1 c.halves.result.1 c.step_costs.result.0 (omega arith) c.settle-low.ensures.settled c.halves.ensures.odd_len c.step_costs.ensures.even_len c.halves.ensures.odd (λ k l. (c.step_costs.ensures.even_zero k l).small)
 
 pub returns : goal.returns
-returns c = record { step =
-  lanes_step c.args.sums.now c.settle-low.new.sums c.settle-low.result c.args.pair c.step_costs.result.0 c.step_costs.result.1 c.store.new.cost c.pick-first.result.1 c.pick-second.result.1
-    (record {
-      settled = c.settle-low.ensures.settled;
-      even_zero = c.step_costs.ensures.even_zero;
-      odd_one = c.step_costs.ensures.odd_one;
-      even_one = c.step_costs.ensures.even_one;
-      odd_zero = c.step_costs.ensures.odd_zero;
-      low_cost = λ k l. store_low c.store.new.cost c.pick-first.result.0 c.pick-second.result.0 c.store.ensures c.pick-first.ensures.len k l ∙ c.pick-first.ensures.cost k l ∙ ap₂ (λ x y. min (x + slice_index c.step_costs.result.0 k) (y + slice_index c.step_costs.result.1 k)) (c.halves.ensures.even k l) (c.halves.ensures.odd k l);
-      low_odd = λ k l. c.pick-first.ensures.odd k l ∙ ap₂ (λ x y. nat_lt (y + slice_index c.step_costs.result.1 k) (x + slice_index c.step_costs.result.0 k)) (c.halves.ensures.even k l) (c.halves.ensures.odd k l);
-      low_small = c.pick-first.ensures.small;
-      high_cost = λ k l. store_high c.store.new.cost c.pick-first.result.0 c.pick-second.result.0 c.store.ensures c.pick-first.ensures.len k l ∙ c.pick-second.ensures.cost k l ∙ ap₂ (λ x y. min (x + slice_index c.step_costs.result.1 k) (y + slice_index c.step_costs.result.0 k)) (c.halves.ensures.even k l) (c.halves.ensures.odd k l);
-      high_odd = λ k l. c.pick-second.ensures.odd k l ∙ ap₂ (λ x y. nat_lt (y + slice_index c.step_costs.result.0 k) (x + slice_index c.step_costs.result.1 k)) (c.halves.ensures.even k l) (c.halves.ensures.odd k l);
-    })
-    c.followers-sums.result
-    (λ n l. c.followers-sums.ensures.lives n l ∙ ap (λ w. is_set w (even_of n) || is_set w (odd_of n)) c.settle-low.ensures.alive)
+returns c = record {
+  step =
+      lanes_step c.args.sums.now c.settle-low.new.sums c.settle-low.result c.args.pair c.step_costs.result.0 c.step_costs.result.1 c.store.new.cost c.pick-first.result.1 c.pick-second.result.1
+      (record {
+        settled = c.settle-low.ensures.settled;
+        even_zero = c.step_costs.ensures.even_zero;
+        odd_one = c.step_costs.ensures.odd_one;
+        even_one = c.step_costs.ensures.even_one;
+        odd_zero = c.step_costs.ensures.odd_zero;
+        low_cost = λ k l. store_low c.store.new.cost c.pick-first.result.0 c.pick-second.result.0 c.store.ensures c.pick-first.ensures.len k l ∙ c.pick-first.ensures.cost k l ∙ ap₂ (λ x y. min (x + slice_index c.step_costs.result.0 k) (y + slice_index c.step_costs.result.1 k)) (c.halves.ensures.even k l) (c.halves.ensures.odd k l);
+        low_odd = λ k l. c.pick-first.ensures.odd k l ∙ ap₂ (λ x y. nat_lt (y + slice_index c.step_costs.result.1 k) (x + slice_index c.step_costs.result.0 k)) (c.halves.ensures.even k l) (c.halves.ensures.odd k l);
+        low_small = c.pick-first.ensures.small;
+        high_cost = λ k l. store_high c.store.new.cost c.pick-first.result.0 c.pick-second.result.0 c.store.ensures c.pick-first.ensures.len k l ∙ c.pick-second.ensures.cost k l ∙ ap₂ (λ x y. min (x + slice_index c.step_costs.result.1 k) (y + slice_index c.step_costs.result.0 k)) (c.halves.ensures.even k l) (c.halves.ensures.odd k l);
+        high_odd = λ k l. c.pick-second.ensures.odd k l ∙ ap₂ (λ x y. nat_lt (y + slice_index c.step_costs.result.0 k) (x + slice_index c.step_costs.result.1 k)) (c.halves.ensures.even k l) (c.halves.ensures.odd k l);
+      })
+      c.followers-sums.result
+      (λ n l. c.followers-sums.ensures.lives n l ∙ ap (λ w. is_set w (even_of n) || is_set w (odd_of n)) c.settle-low.ensures.alive);
 }

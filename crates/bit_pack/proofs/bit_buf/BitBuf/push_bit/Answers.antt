@@ -30,7 +30,7 @@ bits : goal.returns-else-self-lt7-clause-bits
 bits g c =
     let n : c.self.inside.back_len ≡ 7 = omega (arith, c.self.invariant.back_short) in
     queue_push (spelled c.self.inside.front_len c.self.inside.front) (c.args.bit ∷ []) (ring c.self.inside.bytes c.self.inside.first c.self.inside.count) _ c.self.inside.back c.with_bit-byte.result c.with_bit-byte.result c.self.inside.back_len 0 c.push_whole.ensures.pushed
-      (c.with_bit-byte.ensures 7 (omega arith) ∙ ap (λ k. spelled k c.self.inside.back ++ c.args.bit ∷ []) (sym n))
+    (c.with_bit-byte.ensures 7 (omega arith) ∙ ap (λ k. spelled k c.self.inside.back ++ c.args.bit ∷ []) (sym n))
     ∙ ap (λ z. z ++ c.args.bit ∷ []) c.self.view_is
 
 pub returns-else-self-lt7-clause-bits : goal.returns-else-self-lt7-clause-bits

@@ -24,7 +24,7 @@ bits : goal.returns-clause-bits
 bits g c =
     let n : c.self.inside.back_len + 8 - 8 ≡ c.self.inside.back_len = omega arith in
     queue_push (spelled c.self.inside.front_len c.self.inside.front) (spelled 8 c.args.byte) (ring c.self.inside.bytes c.self.inside.first c.self.inside.count) _ c.self.inside.back c.first_eight-whole.result c.args.byte c.self.inside.back_len c.self.inside.back_len c.push_whole.ensures.pushed
-      (ap (λ k. spelled 8 c.first_eight-whole.result ++ spelled k c.args.byte) (sym n) ∙ c.first_eight-whole.ensures)
+    (ap (λ k. spelled 8 c.first_eight-whole.result ++ spelled k c.args.byte) (sym n) ∙ c.first_eight-whole.ensures)
     ∙ ap (λ z. z ++ spelled 8 c.args.byte) c.self.view_is
 
 pub returns-clause-bits : goal.returns-clause-bits

@@ -16,8 +16,8 @@ taken g c =
     let k : c.self.inside.count - 1 < length c.self.inside.bytes = omega (arith, c.self.told, c.self.invariant.within, c.if-self-gt0.true) in
     sym c.self.view_is
     ∙ queue_take (ring c.self.inside.bytes c.self.inside.first c.self.inside.count) (ring c.self.inside.bytes c.pop_whole-byte.result.1 (c.self.inside.count - 1)) (spelled c.self.inside.back_len c.self.inside.back) c.self.inside.front c.first_eight-whole.result c.pop_whole-byte.result.0 c.self.inside.front_len
-      (ap (λ z. ring c.self.inside.bytes c.self.inside.first z) (sym m) ∙ c.pop_whole-byte.ensures.popped (c.self.inside.count - 1) k)
-      (ap (λ z. spelled 8 c.first_eight-whole.result ++ spelled z c.pop_whole-byte.result.0) (sym n) ∙ c.first_eight-whole.ensures)
+    (ap (λ z. ring c.self.inside.bytes c.self.inside.first z) (sym m) ∙ c.pop_whole-byte.ensures.popped (c.self.inside.count - 1) k)
+    (ap (λ z. spelled 8 c.first_eight-whole.result ++ spelled z c.pop_whole-byte.result.0) (sym n) ∙ c.first_eight-whole.ensures)
 
 pub returns-then-self-gt0-clause-taken : goal.returns-then-self-gt0-clause-taken
 returns-then-self-gt0-clause-taken g c = taken g c

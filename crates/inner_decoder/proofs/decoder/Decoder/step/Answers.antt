@@ -9,9 +9,14 @@ use Rattle.inner_decoder.proofs.Rows64.{from_rows, stepped_rows}
 use Rattle.inner_decoder.proofs.decoder.Decoder.step.Goals as goal
 
 pub push-requires : goal.push-requires
-push-requires g c = (omega arith, (c.self.invariant.few,
+push-requires g c = (
+  omega arith,
+  (
+    c.self.invariant.few,
     subst₂ (λ y z. IsFollowed y c.step-decisions.result z) (sym c.self.invariant.same) (sym c.alive.ensures.is)
-    (followed c.self.inside.metric c.args.pair c.step-decisions.new.self c.step-decisions.result c.step-decisions.ensures.step)))
+        (followed c.self.inside.metric c.args.pair c.step-decisions.new.self c.step-decisions.result c.step-decisions.ensures.step),
+  ),
+)
 
 pub returns-then-waiting-clause-stepped : goal.returns-then-waiting-clause-stepped
 returns-then-waiting-clause-stepped g c = λ a s b h.

@@ -1,14 +1,13 @@
 use Rattle.std.proofs.Common.{◌≡◌, ℕ, ◌/◌, Bool, ◌<◌, List, true, false, sym, ◌∙◌, subst}
-use Rattle.std.specs.Prelude.{ℤ, pos}
+use Rattle.std.specs.Prelude.{pos}
 use lib.Signed.{le_z}
 use Rattle.mode_set.specs.StreamTable.{label_bits}
 use Rattle.std.proofs.lemmas.Int.{to_z-of_z}
 use mir.Syntax.{w16}
 use mir.Val.{to_z, of_z}
-use Rattle.mode_set.specs.Levels.{levels}
 use Rattle.mode_set.specs.declared.modes.Shape.{Shape}
 use Rattle.mode_set.specs.declared.modes.Hierarchy.{Hierarchy}
-use Rattle.soft_metric.specs.Costs.{cost, four_levels}
+use Rattle.soft_metric.specs.Costs.{cost}
 use Rattle.soft_metric.specs.Squares.{AreAxisCosts, pair_at}
 use Rattle.soft_metric.proofs.Sides.{axis_is, sides, pairs_small}
 use Rattle.soft_metric.proofs.axis.AxisMetric.costs.Goals as goal

@@ -1,4 +1,4 @@
-use Rattle.std.proofs.Common.{arith, ◌<◌, ◌≡◌, ℕ, List, length, sym, subst, ap, ◌∙◌}
+use Rattle.std.proofs.Common.{◌<◌, ◌≡◌, ℕ, List, length, sym, subst, ap, ◌∙◌}
 use Rattle.symbol_interleave.specs.Carried.{h, IsPermutationBelow}
 use Rattle.symbol_interleave.proofs.Marks.{few, permutes}
 use Rattle.symbol_interleave.proofs.permutation.Permutation.new.Goals as goal

@@ -1,0 +1,5 @@
+mod SentBits
+mod Gathering
+mod Encoding
+mod Entering
+mod Symbols

@@ -1,0 +1,67 @@
+-- The labels of a symbol, from the coded bits of its streams (EN 300 744, 4.3.3 to 4.3.5).
+use Rattle.std.specs.Prelude.{◌≡◌, ℕ, ◌+◌, ◌-◌, ◌*◌, ◌/◌, ◌%◌, ◌^◌, ◌<◌, ◌≤◌, ◌==◌, Bool, if◌then◌else◌, List, ◌++◌, length, map, slice_index}
+use Rattle.std.specs.List.{range_with_len}
+use Rattle.spec_words.specs.Bits.{is_set}
+use Rattle.spec_words.specs.Words.{first_below}
+use Rattle.mode_set.specs.StreamTable.{payload, label_bits, coded, need, rate}
+use Rattle.mode_set.specs.declared.modes.Stream.{Stream}
+use Rattle.mode_set.specs.declared.modes.Stream.TheVariants.{Hp, Lp}
+use Rattle.mode_set.specs.declared.settings.Settings.{Settings}
+use Rattle.code_paths.specs.Paths.{parity_x, parity_y}
+use Rattle.puncture.specs.SentBits.{window, sent_bit}
+use Rattle.bit_interleave.specs.Place.{stands_at, stream_at}
+use Rattle.symbol_interleave.specs.Carried.{carried}
+
+-- the number of the coded bit, in its stream, that stands at place e of word w
+unfoldable pub number_at : Settings → ℕ → ℕ → ℕ
+number_at s e w = let σ = stream_at s.hierarchy e in first_below (coded s σ) (stands_at s.shape s.hierarchy σ e w)
+
+-- bit e of the label on payload place q, from the symbol's coded bits: the one that stands at e of the word that q carries
+unfoldable pub label_bit : Settings → Bool → (Stream → ℕ → Bool) → ℕ → ℕ → Bool
+label_bit s odd bits q e = bits (stream_at s.hierarchy e) (number_at s e (carried s.mode odd q))
+
+-- the labels of a symbol in carrier order
+pub record AreLabels (s : Settings) (odd : Bool) (bits : Stream → ℕ → Bool) (labels : List ℕ) : Type 0 where
+  pub long : length labels ≡ payload s.mode
+  pub small : (q : ℕ) → q < payload s.mode → slice_index labels q < 2 ^ label_bits s.shape
+  pub bit : (q e : ℕ) → q < payload s.mode → e < label_bits s.shape → is_set (slice_index labels q) e ≡ label_bit s odd bits q e
+
+-- a list is continued by the labels of a symbol
+pub record AppendsLabels (s : Settings) (odd : Bool) (bits : Stream → ℕ → Bool) (old new : List ℕ) : Type 0 where
+  pub labels : List ℕ
+  pub are : AreLabels s odd bits labels
+  pub is : new ≡ old ++ labels
+
+-- what an inner coder keeps: the settings, and the register of each stream's encoder, the oldest bit first
+pub record TxState : Type 0 where
+  pub settings : Settings
+  pub hp : List Bool
+  pub lp : List Bool
+
+abbrev pub register_of : TxState → Stream → List Bool
+register_of st Hp = st.hp
+register_of st Lp = st.lp
+
+-- a path of each stream: the register before the first bit, six zeros in a transmission, and then the stream's bits
+abbrev pub Paths : Type 0
+Paths = Stream → ℕ → Bool
+
+-- n bits of a path, from bit t on
+abbrev pub bits_of_path : (ℕ → Bool) → ℕ → ℕ → List Bool
+bits_of_path path t n = map path (range_with_len t n)
+
+-- the inner coder before symbol m of these paths: each register has the six bits before the symbol's first input bit
+abbrev pub IsAtSymbol : TxState → Paths → ℕ → Type 0
+IsAtSymbol st paths m = (σ : Stream) → register_of st σ ≡ bits_of_path (paths σ) (m * need st.settings σ) 6
+
+-- the input bits of symbol m of a path
+abbrev pub input_bits : Settings → Paths → ℕ → Stream → List Bool
+input_bits s paths m σ = bits_of_path (paths σ) (m * need s σ + 6) (need s σ)
+
+-- the coded bits of symbol m: the next sent bits of each path
+abbrev pub coded_bits : Settings → Paths → ℕ → Stream → ℕ → Bool
+coded_bits s paths m σ d = sent_bit (rate s σ) (paths σ) (m * coded s σ + d)
+
+-- the X or the Y of step t of a path
+abbrev pub parity_at : ℕ → (ℕ → Bool) → ℕ → Bool
+parity_at k path t = if k == 0 then parity_x (window path t) else parity_y (window path t)

@@ -1,0 +1,61 @@
+// The two steps of the inner coding of a symbol: all parities, and the labels that they make.
+ghost use Rattle.std.specs.Prelude.{◌≡◌, ◌+◌, ◌≤◌, ℕ, take, drop, length, vec_capacity, vec_len};
+ghost use Rattle.mode_set.specs.StreamTable.{need, payload};
+ghost use Rattle.mode_set.specs.declared.modes.Stream.TheVariants.{Hp, Lp};
+ghost use Rattle.inner_chain.specs.Labels.{AppendsLabels, IsAtSymbol, Paths, coded_bits, input_bits};
+ghost use Rattle.inner_chain.specs.Tables.{AreAllParities, AreEntries};
+
+use crate::gather::push_labels;
+use crate::parities::encode;
+use bit_pack::WaitBuf;
+use conv_code::Encoder;
+use mode_set::{Settings, Stream};
+
+// Takes the input bits of a symbol of each stream, and writes the parities of HP's steps and then
+// those of LP's.
+pub(crate) fn code(
+    settings: &Settings,
+    hp: &mut WaitBuf,
+    hp_encoder: &mut Encoder,
+    lp: &mut WaitBuf,
+    lp_encoder: &mut Encoder,
+    parities: &mut [u8],
+)
+    requires hp { need settings.now Hp ≤ length hp.old }
+    requires lp { need settings.now Lp ≤ length lp.old }
+    requires room { length parities.old ≡ need settings.now Hp + need settings.now Lp }
+    ensures hp { hp.new ≡ drop (need settings.now Hp) hp.old }
+    ensures lp { lp.new ≡ drop (need settings.now Lp) lp.old }
+    ensures hp_size { length hp_encoder.old ≡ 6 → length hp_encoder.new ≡ 6 }
+    ensures lp_size { length lp_encoder.old ≡ 6 → length lp_encoder.new ≡ 6 }
+    ensures parities { (paths : Paths) (m : ℕ) → IsAtSymbol (record { settings = settings.now; hp = hp_encoder.old; lp = lp_encoder.old }) paths m
+        → take (need settings.now Hp) hp.old ≡ input_bits settings.now paths m Hp → take (need settings.now Lp) lp.old ≡ input_bits settings.now paths m Lp
+        → AreAllParities settings.now paths m parities.new }
+    ensures next { (paths : Paths) (m : ℕ) → IsAtSymbol (record { settings = settings.now; hp = hp_encoder.old; lp = lp_encoder.old }) paths m
+        → take (need settings.now Hp) hp.old ≡ input_bits settings.now paths m Hp → take (need settings.now Lp) lp.old ≡ input_bits settings.now paths m Lp
+        → IsAtSymbol (record { settings = settings.now; hp = hp_encoder.new; lp = lp_encoder.new }) paths (m + 1) }
+{
+    let hp_steps = settings.need(Stream::Hp) as usize;
+    let lp_steps = settings.need(Stream::Lp) as usize;
+    encode(hp, hp_encoder, parities, 0, hp_steps);
+    encode(lp, lp_encoder, parities, hp_steps, lp_steps);
+}
+
+// Appends the labels of a symbol of even or of odd number.
+pub(crate) fn push_symbol(
+    settings: &Settings,
+    odd: bool,
+    entries: &[u16],
+    parities: &[u8],
+    to: &mut Vec<u8>,
+)
+    requires entries { AreEntries settings.now odd entries.now }
+    requires room { length parities.now ≡ need settings.now Hp + need settings.now Lp }
+    requires spare { vec_len to.old + payload settings.now.mode ≤ vec_capacity to.old }
+    ensures labels { (paths : Paths) (m : ℕ) → AreAllParities settings.now paths m parities.now
+        → AppendsLabels settings.now odd (coded_bits settings.now paths m) to.old.items to.new.items }
+    ensures capacity { vec_capacity to.new ≡ vec_capacity to.old }
+{
+    let number = settings.mode.payload() as usize;
+    push_labels(parities, entries, number, settings.shape.label_bits(), to);
+}

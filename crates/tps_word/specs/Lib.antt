@@ -1,0 +1,3 @@
+pub mod Tps
+pub mod Vote
+pub mod Number

@@ -1,0 +1,9 @@
+// What is written is read back.
+ghost use Rattle.std.specs.Prelude.{◌≡◌, Some, Option};
+ghost use Rattle.tps_word.specs.Tps.{IsValid, ReadsAs, tps_word};
+ghost use Rattle.tps_word.specs.declared.word.TpsWord.{TpsWord as Word};
+
+/// The word of valid fields is read as these fields, and as no others.
+pub fn words_are_read_back()
+    ensures { (t : Word) → IsValid t → (answer : Option Word) → ReadsAs (tps_word t) answer → answer ≡ Some t }
+{}

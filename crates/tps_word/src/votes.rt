@@ -1,0 +1,54 @@
+// The vote of the TPS cells.
+ghost use Rattle.std.specs.Prelude.{◌≡◌, ◌≤◌, length, pos, neg_ℤ, ◌≤ℤ◌, ◌+ℤ◌, ◌*ℤ◌};
+ghost use Rattle.tps_word.specs.Vote.{vote};
+
+use qam_map::Cell;
+
+fn product(a: i16, b: i16) -> i32
+    ensures { result ≡ a *ℤ b }
+{
+    i32::from(a) * i32::from(b)
+}
+
+fn correlation(before: Cell, now: Cell) -> i64
+    ensures value { result ≡ before.re *ℤ now.re +ℤ before.im *ℤ now.im }
+    ensures least { neg_ℤ (pos 4294967296) ≤ℤ result }
+    ensures most { result ≤ℤ pos 4294967296 }
+{
+    let re = product(before.re, now.re);
+    let im = product(before.im, now.im);
+    i64::from(re) + i64::from(im)
+}
+
+/// The TPS bit of a symbol from its TPS cells `now` and those of the symbol `before` it: 1 exactly
+/// where the sum of the products `re re' + im im'` over the carriers is negative, since a 1 turns the
+/// sign of every TPS cell (EN 300 744, 4.6.3).
+pub fn vote(before: &[Cell], now: &[Cell]) -> bool
+    requires same { length before.now ≡ length now.now }
+    requires few { length before.now ≤ 68 }
+    ensures { result ≡ vote before.now now.now }
+{
+    let mut sum = 0i64;
+    for (i, cell) in before.iter().enumerate() {
+        sum += correlation(*cell, now[i]);
+    }
+    sum < 0
+}
+
+#[cfg(test)]
+mod tests {
+    use super::vote;
+    use qam_map::Cell;
+    use std::rt::HostRuntime;
+
+    // Turned cells vote 1, equal ones 0, and so does a sum of 0.
+    #[test]
+    fn turned_cells(rt: HostRuntime) {
+        let cells = [Cell { re: 16384, im: 0 }, Cell { re: -16384, im: 5 }];
+        let turned = [Cell { re: -16384, im: 0 }, Cell { re: 16384, im: -5 }];
+        let crossed = [Cell { re: 16384, im: 0 }, Cell { re: 16384, im: 0 }];
+        assert!(&rt; vote(&cells, &turned));
+        assert!(&rt; !vote(&cells, &cells));
+        assert!(&rt; !vote(&cells, &crossed));
+    }
+}
