@@ -10,3 +10,4 @@ pub mod Near
 pub mod Horner
 pub mod Dividing
 pub mod Codewords
+pub mod Exact

@@ -1,6 +1,7 @@
 -- The register that divides by the generator.
-use Rattle.std.specs.Prelude.{◌≡◌, ℕ, ◌+◌, ◌*◌, List, [], ◌∷◌, length}
-use Rattle.rs204.specs.Codes.{AreBytes}
+use Rattle.std.specs.Prelude.{◌≡◌, ℕ, ◌+◌, ◌*◌, List, [], ◌∷◌, ◌++◌, length, map, drop, slice_index}
+use Rattle.gf256.specs.Field.{mul}
+use Rattle.rs204.specs.Codes.{AreBytes, plus, generator_tail}
 
 -- the number that bytes spell, the lowest first
 unfoldable pub number : List ℕ → ℕ
@@ -12,3 +13,7 @@ pub record Holds (register : ℕ) (bytes : List ℕ) : Type 0 where
   pub long : length bytes ≡ 16
   pub bytes_are : AreBytes bytes
   pub is : register ≡ number bytes
+
+-- the coefficients after one step of the division: the leading one's multiple of the generator is taken away, and the next one of the word comes in behind
+abbrev pub divided : List ℕ → ℕ → List ℕ
+divided bytes next = plus (map (mul (slice_index bytes 0)) generator_tail) (drop 1 bytes ++ next ∷ [])

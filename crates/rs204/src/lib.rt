@@ -12,6 +12,7 @@ mod division;
 mod encoder;
 pub mod laws;
 mod multiples;
+mod multiples_ahead;
 mod outcome;
 pub mod plain;
 
