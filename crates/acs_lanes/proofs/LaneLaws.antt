@@ -1,7 +1,6 @@
 -- The choices of the lanes are those of the plain step.
-use Rattle.std.proofs.Common.{◌≡◌, ℕ, zero, suc, ◌+◌, ◌-◌, ◌*◌, ◌/◌, ◌%◌, ◌^◌, ◌<◌, ◌≤◌, min, Bool, true, false, cond, not, ◌&&◌, ◌||◌, List, [], ◌∷◌, ◌++◌, length, ◌⊎◌, inl, inr, refl, sym, ap, ap₂, ◌∙◌, subst, arith, eqb, ltb, bit_or, get_or, true≢false, map, lit<}
-use Rattle.std.proofs.lemmas.Bool.{cases_Bool, cases_lt, ltb-true, ltb-false, lt-ltb, le-ltb, eqb-true, agree_below, agree_below_at}
-use Rattle.std.proofs.lemmas.Nat.{or_lt}
+use Rattle.std.proofs.Common.{◌≡◌, ℕ, zero, suc, ◌+◌, ◌-◌, ◌*◌, ◌%◌, ◌^◌, ◌<◌, ◌≤◌, min, Bool, true, false, cond, not, ◌&&◌, ◌||◌, List, [], ◌∷◌, ◌++◌, length, ◌⊎◌, inl, inr, refl, sym, ap, ap₂, ◌∙◌, subst, arith, eqb, ltb, bit_or, get_or, true≢false, map, lit<}
+use Rattle.std.proofs.lemmas.Bool.{cases_Bool, cases_lt, ltb-true, ltb-false, lt-ltb, le-ltb, eqb-true, agree_below_at}
 use Rattle.std.proofs.lemmas.Nat.Bits.{bit_at_above}
 use Rattle.std.specs.Prelude.{slice_index, IsTrue}
 use Rattle.std.specs.Bool.{nat_lt}
@@ -13,7 +12,7 @@ use Rattle.spec_words.specs.Bits.{is_set}
 use Rattle.code_paths.specs.States.{register}
 use Rattle.acs_plain.specs.Steps.{IsStep, alive, way, takes_odd}
 use Rattle.code_paths.specs.States.{even_of, odd_of}
-use Rattle.acs_lanes.specs.Lanes.{IsSettled, IsReady, AreSteps, AreLess, far, top}
+use Rattle.acs_lanes.specs.Lanes.{IsSettled, IsReady, AreSteps, AreLess}
 use Rattle.acs_plain.specs.Steps.{Close}
 use Rattle.code_paths.proofs.Words.{set_or, set_shl, not_lt}
 

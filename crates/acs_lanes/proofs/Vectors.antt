@@ -1,12 +1,11 @@
 -- Sums, the lesser of two, and the word of choices, lane by lane.
-use Rattle.std.proofs.Common.{◌≡◌, ℕ, zero, suc, ◌+◌, ◌-◌, ◌*◌, ◌/◌, ◌%◌, ◌^◌, ◌<◌, ◌≤◌, min, Bool, true, false, cond, List, ◌∷◌, map, length, get_or, ◌⊎◌, inl, inr, refl, sym, ap, ap₂, ◌∙◌, subst, arith, eqb, ltb, mod-eq_of_lt, w32, replicate, take, drop, ◌++◌, length-drop, length-append, append-nil, [], take-append-drop, not, ◌&&◌, bit_and}
-use Rattle.std.proofs.lemmas.Simd.{get_or-replicate, tops_compared, get_or-zip2, get_or-sel_l, length-zip2, length-sel_l, mask_l-mod, mask_l-lt, bit_mask_l}
+use Rattle.std.proofs.Common.{◌≡◌, ℕ, ◌+◌, ◌-◌, ◌%◌, ◌^◌, ◌<◌, min, Bool, true, false, cond, List, map, length, get_or, ◌⊎◌, inl, inr, refl, sym, ap, ap₂, ◌∙◌, subst, arith, eqb, ltb, mod-eq_of_lt, w32, take, drop, ◌++◌, length-drop, length-append, append-nil, take-append-drop, not, ◌&&◌, bit_and}
+use Rattle.std.proofs.lemmas.Simd.{tops_compared, get_or-zip2, get_or-sel_l, length-zip2, length-sel_l, mask_l-mod, mask_l-lt, bit_mask_l}
 use Rattle.std.specs.Simd.Lanes.{zip2, sel_l, mask_l, top}
 use Rattle.std.proofs.lemmas.Bool.{cases_Bool, ltb-true, ltb-false, ne_eqb, eq-eqb}
 use Rattle.std.proofs.lemmas.Nat.{and_le_r}
 use Rattle.std.specs.Int.{bit_not, w64}
 use Rattle.code_paths.proofs.Words.{set_and, set_not, ones32}
-use Rattle.std.proofs.Math.Nat.{min-eq_left}
 use Rattle.std.proofs.lemmas.List.{take_all, take_at, drop_all, get_or_append_left, get_or-append_right}
 use Rattle.std.proofs.lemmas.Slice.{take-put_mid, drop-put_mid}
 use borrow.Rule.Slice.PartMut.{mid_of, post_of, put_mid}

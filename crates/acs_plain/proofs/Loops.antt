@@ -1,16 +1,14 @@
 -- What the loops over the states keep.
-use Rattle.std.proofs.Common.{◌≡◌, ℕ, zero, suc, ◌+◌, ◌*◌, ◌%◌, ◌^◌, ◌<◌, ◌≤◌, ◌-◌, Bool, true, false, cond, ◌||◌, List, length, get_or, ◌⊎◌, inl, inr, refl, sym, ap, ◌∙◌, subst, arith, eqb, ◌≢◌, below_more, get_or-set_other, get_or-set_same, length-set}
+use Rattle.std.proofs.Common.{◌≡◌, ℕ, ◌+◌, ◌*◌, ◌%◌, ◌^◌, ◌<◌, ◌≤◌, ◌-◌, Bool, true, false, cond, ◌||◌, List, length, ◌⊎◌, inl, inr, refl, sym, ap, ◌∙◌, arith, eqb, ◌≢◌, below_more, get_or-set_other, get_or-set_same, length-set}
 use Rattle.std.specs.Prelude.{slice_index, slice_set, IsTrue, bit_or}
-use Rattle.std.specs.Int.{bit_at, w64}
-use Rattle.std.proofs.lemmas.Bool.{agree_below, agree_below_at}
+use Rattle.std.specs.Int.{w64}
+use Rattle.std.proofs.lemmas.Bool.{agree_below_at}
 use Rattle.std.proofs.lemmas.Nat.{or_lt, pow_below, one_shl}
 use Rattle.std.proofs.lemmas.Nat.Bits.{bit_at_set_same, bit_at_set_other, bit_at_above}
-use Rattle.std.proofs.Math.Nat.{pow-suc}
 use Rattle.acs_plain.specs.declared.sums.Sums.{Sums}
 use Rattle.code_paths.specs.declared.costs.CostPair.{CostPair}
-use Rattle.code_paths.specs.States.{register}
 use Rattle.spec_words.specs.Bits.{is_set}
-use Rattle.acs_plain.specs.Steps.{IsStep, Close, SomeAlive, HasCost, alive, way, takes_odd}
+use Rattle.acs_plain.specs.Steps.{IsStep, SomeAlive, HasCost, alive, way, takes_odd}
 use Rattle.code_paths.specs.States.{even_of, odd_of}
 
 pub record LeastBelow (sums : Sums) (n low : ℕ) : Type 0 where

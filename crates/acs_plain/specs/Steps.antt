@@ -1,5 +1,5 @@
 -- One step of add, compare and select over the 64 states.
-use Rattle.std.specs.Prelude.{◌≡◌, ℕ, ◌+◌, ◌-◌, ◌*◌, ◌/◌, ◌%◌, ◌^◌, ◌<◌, ◌≤◌, ◌==◌, Bool, true, false, cond, not, ◌&&◌, ◌||◌, List, [], ◌∷◌, ◌++◌, slice_index, IsTrue}
+use Rattle.std.specs.Prelude.{◌≡◌, ℕ, ◌+◌, ◌<◌, ◌≤◌, Bool, cond, not, ◌&&◌, ◌||◌, [], ◌∷◌, ◌++◌, slice_index, IsTrue}
 use Rattle.std.specs.Bool.{nat_lt}
 use Rattle.code_paths.specs.Paths.{step_cost}
 use Rattle.code_paths.specs.States.{even_of, odd_of}

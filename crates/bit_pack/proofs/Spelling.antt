@@ -1,10 +1,8 @@
 -- Laws of spelled bits and of rings of bytes.
-use Rattle.std.proofs.Common.{◌≡◌, ◌≢◌, ℕ, zero, suc, ◌+◌, ◌-◌, ◌*◌, ◌/◌, ◌%◌, ◌^◌, ◌<◌, ◌≤◌, Bool, true, false, List, [], ◌∷◌, ◌++◌, length, take, drop, get_or, ◌⊎◌, inl, inr, refl, sym, ap, ap₂, ◌∙◌, arith, eqb, bit_and, bit_or, length-append, length-drop, append_assoc, append-nil, mod-lt, lit<, length-take-le}
-use Rattle.std.proofs.Math.Nat.{mod-add-div', one-le-pow, pow-suc}
-use Rattle.std.proofs.Math.ListN.{set}
+use Rattle.std.proofs.Common.{◌≡◌, ℕ, zero, suc, ◌+◌, ◌-◌, ◌*◌, ◌/◌, ◌%◌, ◌^◌, ◌<◌, ◌≤◌, Bool, true, false, List, [], ◌∷◌, ◌++◌, length, drop, get_or, refl, sym, ap, ap₂, ◌∙◌, arith, eqb, bit_and, bit_or, length-append, length-drop, append_assoc, append-nil, mod-lt, lit<, length-take-le}
+use Rattle.std.proofs.Math.Nat.{mod-add-div', one-le-pow}
 use Rattle.std.specs.Int.{bit_at}
-use Rattle.std.proofs.lemmas.Bool.{cases_lt}
-use Rattle.std.proofs.lemmas.List.{take-append-le, drop-append-le, ext_get_or, get_or-drop, get_or-append_right, get_or_append_left}
+use Rattle.std.proofs.lemmas.List.{get_or-drop, get_or-append_right, get_or_append_left}
 use Rattle.std.proofs.lemmas.Nat.{or_shifted, and_mask}
 use Rattle.std.proofs.lemmas.Nat.Bits.{bit_at_cat_low, bit_at_cat_high}
 use Rattle.spec_words.specs.Bits.{is_set, spelled}

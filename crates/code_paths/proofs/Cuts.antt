@@ -1,13 +1,13 @@
 -- How a stream's parts grow.
-use Rattle.std.proofs.Common.{◌≡◌, ℕ, zero, suc, ◌+◌, ◌*◌, ◌<◌, ◌≤◌, Bool, List, [], ◌∷◌, ◌++◌, length, take, drop, ◌⊎◌, inl, inr, refl, sym, ap, ap₂, ◌∙◌, subst, subst₂, arith, length-append, append_assoc, append-nil}
+use Rattle.std.proofs.Common.{◌≡◌, ℕ, ◌+◌, ◌<◌, ◌≤◌, Bool, List, [], ◌∷◌, ◌++◌, length, take, drop, ◌⊎◌, inl, inr, refl, sym, ap, ap₂, ◌∙◌, subst, subst₂, arith, length-append, append_assoc, append-nil}
 use Rattle.std.proofs.lemmas.Bool.{cases_lt, cases_order}
 use Rattle.std.proofs.lemmas.List.{take-append-le, take_all, take_at, drop_at}
 use Rattle.std.specs.declared.option.Option.{Option}
-use Rattle.std.specs.declared.option.Option.TheVariants.{None, Some}
+use Rattle.std.specs.declared.option.Option.TheVariants.{Some}
 use Rattle.code_paths.specs.declared.costs.CostPair.{CostPair}
-use Rattle.code_paths.specs.Paths.{LeastTo, Least}
+use Rattle.code_paths.specs.Paths.{Least}
 use Rattle.code_paths.proofs.Unique.{least_unique}
-use Rattle.code_paths.specs.Streams.{IsPrefix, IsCommon, Shared, IsOverdue, IsQuiet, Part, end_of, IsPart, IsCut, bits_of, ends_of}
+use Rattle.code_paths.specs.Streams.{IsOverdue, IsQuiet, Part, end_of, IsPart, IsCut}
 
 quiet_before : (most : ℕ) (a : Option (List Bool)) (c : List CostPair) (x : CostPair) → IsQuiet most a c (length c + 1) → IsQuiet most a (c ++ x ∷ []) (length c + 1)
 quiet_before most a c x q t l o = q t l (subst (IsOverdue most a) (take-append-le t c (x ∷ []) (omega arith)) o)

@@ -1,16 +1,15 @@
 -- The order extends through a step.
-use Rattle.std.proofs.Common.{◌≡◌, ℕ, zero, suc, ◌+◌, ◌*◌, ◌^◌, ◌<◌, ◌≤◌, Bool, true, false, cond, not, List, [], ◌∷◌, ◌++◌, length, get_or, take, drop, ◌⊎◌, inl, inr, refl, sym, ap, ◌∙◌, subst, arith, length-append, length-drop, append_assoc, take-append-drop, length-take-le}
-use Rattle.std.proofs.lemmas.List.{get_or_append_left, take-append-le, drop-append-le, same_from_push, length_push}
+use Rattle.std.proofs.Common.{◌≡◌, ℕ, zero, suc, ◌+◌, ◌*◌, ◌^◌, ◌<◌, ◌≤◌, Bool, true, false, not, List, [], ◌∷◌, ◌++◌, length, take, drop, ◌⊎◌, inl, inr, refl, sym, ap, ◌∙◌, subst, arith, length-append, length-drop, take-append-drop, length-take-le}
+use Rattle.std.proofs.lemmas.List.{get_or_append_left, take-append-le, same_from_push}
 use Rattle.std.proofs.lemmas.Bool.{cases_lt}
 use Rattle.std.specs.declared.option.Option.{Option}
 use Rattle.std.specs.declared.option.Option.TheVariants.{None, Some}
-use Rattle.std.specs.Prelude.{⊤}
 use Rattle.code_paths.specs.declared.costs.CostPair.{CostPair}
 use Rattle.spec_words.specs.Bits.{bit}
-use Rattle.code_paths.specs.Paths.{parity_x, parity_y, IsEarlier, total, step_cost, Before, IsPath, Starts, LeastTo}
+use Rattle.code_paths.specs.Paths.{total, step_cost, Before, IsPath, Starts, LeastTo}
 use Rattle.code_paths.specs.Paths.{Unreached}
 use Rattle.code_paths.specs.Laws.{longer_total, ExtendsTo}
-use Rattle.code_paths.specs.Trial.{digit, weight}
+use Rattle.code_paths.specs.Trial.{weight}
 use Rattle.code_paths.proofs.Order.{weight-lt, weight-append, NotAfter, not_after, or_before}
 
 -- a step reads the first seven bits alone

@@ -1,17 +1,16 @@
 -- What is defined only grows.
-use Rattle.std.proofs.Common.{◌≡◌, ◌≢◌, ℕ, zero, suc, ◌+◌, ◌-◌, ◌*◌, ◌^◌, ◌<◌, ◌≤◌, Bool, true, false, List, [], ◌∷◌, ◌++◌, length, take, drop, ◌⊎◌, inl, inr, refl, sym, ap, ap₂, ◌∙◌, subst, subst₂, arith, length-append, length-drop, append_assoc, append-nil, take-append-drop, length-take-le, drop-drop}
-use Rattle.std.proofs.lemmas.Bool.{cases_lt, cases_eq}
-use Rattle.std.proofs.lemmas.List.{take_at, drop_at, take-append-le, drop-append-le, take_all, take-take}
-use Rattle.std.proofs.Math.Nat.{mul-le-mul_left}
+use Rattle.std.proofs.Common.{◌≡◌, ℕ, zero, suc, ◌+◌, ◌*◌, ◌^◌, ◌<◌, ◌≤◌, Bool, true, false, List, [], ◌∷◌, ◌++◌, length, take, drop, ◌⊎◌, inl, inr, refl, sym, ap, ap₂, ◌∙◌, subst, subst₂, arith, length-append, append_assoc, append-nil, take-append-drop, length-take-le, drop-drop}
+use Rattle.std.proofs.lemmas.Bool.{cases_lt}
+use Rattle.std.proofs.lemmas.List.{take_at, take-append-le, drop-append-le}
 use Rattle.std.specs.declared.option.Option.{Option}
 use Rattle.std.specs.declared.option.Option.TheVariants.{None, Some}
 use Rattle.code_paths.specs.declared.costs.CostPair.{CostPair}
-use Rattle.code_paths.specs.Paths.{total, step_cost, LeastTo, Least, IsPath, Starts, Before}
-use Rattle.code_paths.specs.Streams.{IsPrefix, IsCommon, Shared, IsOverdue, IsQuiet, Part, end_of, IsPart, IsCut, bits_of, ends_of, Given, Ended, Reports}
+use Rattle.code_paths.specs.Paths.{total, LeastTo, Least, IsPath, Starts}
+use Rattle.code_paths.specs.Streams.{IsPrefix, Shared, IsOverdue, IsQuiet, Part, end_of, IsPart, IsCut, bits_of, ends_of, Given, Ended, Reports}
 use Rattle.code_paths.specs.Trial.{weight}
-use Rattle.code_paths.proofs.Order.{weight-append, weight_same, NotAfter, not_after, or_before}
+use Rattle.code_paths.proofs.Order.{weight-append, NotAfter, not_after, or_before}
 use Rattle.code_paths.proofs.Extend.{step_front}
-use Rattle.code_paths.proofs.Unique.{least_to_unique, least_unique}
+use Rattle.code_paths.proofs.Unique.{least_unique}
 use Rattle.code_paths.proofs.Cuts.{no_part, same_part, same_costs, same_rest, cut_unique}
 
 total_append : (c m : List CostPair) (p : List Bool) → total (c ++ m) p ≡ total c p + total m (drop (length c) p)

@@ -1,11 +1,11 @@
 -- The order of paths as an order of numbers.
-use Rattle.std.proofs.Common.{◌≡◌, ℕ, zero, suc, ◌+◌, ◌*◌, ◌^◌, ◌<◌, ◌≤◌, Bool, true, false, cond, List, [], ◌∷◌, ◌++◌, length, get_or, take, drop, ◌⊎◌, inl, inr, refl, sym, ap, ◌∙◌, subst, arith, length-append, append_assoc}
+use Rattle.std.proofs.Common.{◌≡◌, ℕ, zero, suc, ◌+◌, ◌*◌, ◌^◌, ◌<◌, ◌≤◌, Bool, true, false, List, [], ◌∷◌, ◌++◌, length, ◌⊎◌, inl, inr, refl, ap, arith}
 use Rattle.std.proofs.Math.Nat.{pow-suc}
 use Rattle.code_paths.specs.declared.costs.CostPair.{CostPair}
 use Rattle.std.proofs.lemmas.Bool.{cases_order}
 use Rattle.spec_words.specs.Bits.{bit}
 use Rattle.code_paths.specs.Trial.{digit, weight}
-use Rattle.code_paths.specs.Paths.{IsEarlier, total, step_cost, Before}
+use Rattle.code_paths.specs.Paths.{IsEarlier, total, Before}
 
 pub digit_small : (b : Bool) → digit b ≤ 1
 digit_small true = omega arith

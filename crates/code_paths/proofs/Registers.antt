@@ -1,10 +1,10 @@
 -- Registers as numbers and as lists of bits.
-use Rattle.std.proofs.Common.{◌≡◌, ℕ, zero, suc, ◌+◌, ◌*◌, ◌/◌, ◌%◌, ◌^◌, ◌<◌, ◌≤◌, Bool, true, false, cond, ◌&&◌, List, [], ◌∷◌, ◌++◌, length, ◌⊎◌, inl, inr, refl, sym, ap, ◌∙◌, subst, arith, eqb}
+use Rattle.std.proofs.Common.{◌≡◌, ℕ, zero, suc, ◌^◌, ◌<◌, ◌≤◌, Bool, true, false, ◌&&◌, List, [], ◌∷◌, length, ◌⊎◌, inl, inr, refl, sym, subst, arith, eqb}
 use Rattle.std.proofs.lemmas.Bool.{cases_lt, eqb-true, and_parts, agree_below, agree_below_at}
 use Rattle.code_paths.specs.States.{register}
 use Rattle.spec_words.specs.Bits.{is_set}
 use Rattle.code_paths.specs.States.{even_of, odd_of}
-use Rattle.code_paths.specs.Trial.{weight, digit}
+use Rattle.code_paths.specs.Trial.{weight}
 use Rattle.code_paths.proofs.Order.{weight_same, weight-lt}
 
 abbrev pub all_below : (ℕ → Bool) → ℕ → Bool

@@ -1,13 +1,13 @@
 -- The path for which the costs speak is the least one.
-use Rattle.std.proofs.Common.{◌≡◌, ℕ, zero, suc, ◌+◌, ◌*◌, ◌^◌, ◌<◌, ◌≤◌, Bool, true, false, cond, not, List, [], ◌∷◌, ◌++◌, length, get_or, take, drop, ◌⊎◌, inl, inr, refl, sym, ap, ap₂, ◌∙◌, subst, subst₂, arith, length-append, length-take, length-drop, length-take-le, append_assoc, take-append-drop, drop-drop, get_or-take, ext_get_or}
+use Rattle.std.proofs.Common.{◌≡◌, ℕ, suc, ◌+◌, ◌<◌, ◌≤◌, Bool, true, false, cond, not, List, [], ◌∷◌, ◌++◌, length, take, drop, ◌⊎◌, inl, inr, refl, sym, ap, ap₂, ◌∙◌, subst, subst₂, arith, length-append, length-drop, length-take-le, append_assoc, take-append-drop, drop-drop, get_or-take, ext_get_or}
 use Rattle.std.proofs.lemmas.Bool.{cases_lt}
-use Rattle.std.proofs.lemmas.List.{take_all, take-take, drop-take}
+use Rattle.std.proofs.lemmas.List.{take-take, drop-take}
 use Rattle.std.specs.declared.option.Option.{Option}
-use Rattle.std.specs.declared.option.Option.TheVariants.{None, Some}
+use Rattle.std.specs.declared.option.Option.TheVariants.{Some}
 use Rattle.code_paths.specs.declared.costs.CostPair.{CostPair}
 use Rattle.spec_words.specs.Bits.{bit, xor}
 use Rattle.code_paths.specs.Paths.{parity_x, parity_y, total, step_cost, IsPath, Least, LeastTo, Before}
-use Rattle.code_paths.specs.Streams.{IsPrefix, Shared, Part, end_of, IsPart, IsCut, bits_of, Given, Ended}
+use Rattle.code_paths.specs.Streams.{IsPrefix, Shared, Part, end_of, IsCut, bits_of, Given, Ended}
 use Rattle.code_paths.specs.Favoured.{Favours, Allows, SpeaksFor, SpeakFor, IsShown, KeepsSent}
 use Rattle.code_paths.proofs.Unique.{least_unique}
 

@@ -1,5 +1,5 @@
 -- Pairs made of the costs of sent bits speak for the path.
-use Rattle.std.proofs.Common.{◌≡◌, ℕ, ◌+◌, ◌<◌, Bool, true, false, cond, not, ◌||◌, List, ◌⊎◌, inl, inr, refl, sym, ap, ◌∙◌, subst₂, arith}
+use Rattle.std.proofs.Common.{◌≡◌, ℕ, ◌<◌, Bool, true, false, not, ◌||◌, List, ◌⊎◌, inl, inr, sym, ◌∙◌, subst₂}
 use Rattle.code_paths.specs.declared.costs.CostPair.{CostPair}
 use Rattle.code_paths.specs.Paths.{parity_x, parity_y}
 use Rattle.code_paths.specs.Favoured.{Favours, Allows, SpeaksFor, PairHas}

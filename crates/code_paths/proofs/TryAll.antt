@@ -1,16 +1,16 @@
 -- Trying all paths in order.
-use Rattle.std.proofs.Common.{◌≡◌, ℕ, zero, suc, ◌+◌, ◌-◌, ◌*◌, ◌%◌, ◌^◌, ◌<◌, ◌≤◌, Bool, true, false, true≢false, List, [], ◌∷◌, ◌++◌, length, take, drop, get_or, set, replicate, ◌⊎◌, inl, inr, refl, sym, ap, ◌∙◌, subst, arith, length-drop}
+use Rattle.std.proofs.Common.{◌≡◌, ℕ, zero, suc, ◌+◌, ◌-◌, ◌*◌, ◌%◌, ◌^◌, ◌<◌, ◌≤◌, Bool, true, false, true≢false, List, [], ◌∷◌, length, take, drop, get_or, set, replicate, ◌⊎◌, inl, inr, refl, sym, ap, ◌∙◌, subst, arith, length-drop}
 use Rattle.std.proofs.Math.Nat.{pow-suc}
 use Rattle.std.proofs.lemmas.Bool.{cases_lt}
 use Rattle.std.proofs.lemmas.List.{take-replicate, take_all}
 use Rattle.std.proofs.lemmas.Nat.{one_shl}
-use Rattle.std.specs.Prelude.{⊤, IsTrue}
+use Rattle.std.specs.Prelude.{IsTrue}
 use Rattle.std.specs.declared.option.Option.{Option}
 use Rattle.std.specs.declared.option.Option.TheVariants.{None, Some}
 use Rattle.code_paths.specs.declared.costs.CostPair.{CostPair}
-use Rattle.code_paths.specs.Paths.{total, step_cost, IsPath, Least, LeastTo, Before, Unreached}
+use Rattle.code_paths.specs.Paths.{total, step_cost, IsPath, Least, LeastTo, Unreached}
 use Rattle.code_paths.specs.Trial.{digit, weight, Ends, IsFirst, BestBelow}
-use Rattle.code_paths.proofs.Order.{weight_same, weight-lt, or_before, digit_small}
+use Rattle.code_paths.proofs.Order.{weight_same, weight-lt, or_before}
 
 -- ---- counting
 

@@ -1,5 +1,5 @@
 -- There is one least path.
-use Rattle.std.proofs.Common.{◌≡◌, ℕ, ◌+◌, Bool, List, length, inl, inr, sym, arith}
+use Rattle.std.proofs.Common.{◌≡◌, Bool, List, length, inl, inr, sym, arith}
 use Rattle.std.specs.declared.option.Option.{Option}
 use Rattle.code_paths.specs.declared.costs.CostPair.{CostPair}
 use Rattle.code_paths.specs.Paths.{LeastTo, Least}

@@ -1,11 +1,10 @@
 -- Bits of 64-bit words under and, or, not and shifts.
-use Rattle.std.proofs.Common.{◌≡◌, ◌≢◌, ℕ, zero, suc, ◌+◌, ◌-◌, ◌*◌, ◌/◌, ◌%◌, ◌^◌, ◌<◌, ◌≤◌, min, max, Bool, true, false, cond, not, ◌&&◌, ◌||◌, List, [], ◌∷◌, ◌⊎◌, inl, inr, refl, sym, ap, ap₂, ◌∙◌, subst, arith, eqb, bit_and, bit_or, mod-lt, lit<}
+use Rattle.std.proofs.Common.{◌≡◌, ℕ, zero, suc, ◌+◌, ◌-◌, ◌*◌, ◌/◌, ◌%◌, ◌^◌, ◌<◌, ◌≤◌, min, max, Bool, true, false, not, ◌&&◌, ◌||◌, ◌⊎◌, inl, inr, refl, sym, ap, ◌∙◌, arith, eqb, bit_and, bit_or, mod-lt, lit<}
 use Rattle.std.proofs.Math.Nat.{mod-add-div', one-le-pow}
 use Rattle.std.specs.Bool.{nat_lt}
-use Rattle.std.specs.Int.{bit_at, bit_not, w64, trailing_zeros}
-use Rattle.std.specs.Prelude.{⊤, IsTrue}
-use Rattle.std.proofs.lemmas.Bool.{cases_lt, cases_Bool, lt-ltb, ltb-true, agree_below, agree_below_at}
-use Rattle.std.proofs.lemmas.Nat.Bits.{bit_at_and, bit_at_or, bit_at_not, bit_at-lt, bit_at_cat_low, bit_at_cat_high, bit_at-zero, bit_at_above, bit_at-trailing_zeros}
+use Rattle.std.specs.Int.{bit_at, bit_not, w64}
+use Rattle.std.proofs.lemmas.Bool.{cases_lt, cases_Bool, lt-ltb, ltb-true, agree_below_at}
+use Rattle.std.proofs.lemmas.Nat.Bits.{bit_at_and, bit_at_or, bit_at_not, bit_at-lt, bit_at_cat_low, bit_at_cat_high, bit_at-zero}
 use Rattle.spec_words.specs.Bits.{is_set}
 
 pub not_lt : (k s : ℕ) → s ≤ k → nat_lt k s ≡ false

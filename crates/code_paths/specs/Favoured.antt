@@ -1,7 +1,6 @@
 -- Costs that speak for one path: what the costs of received bits are where the noise is small.
-use Rattle.std.specs.Prelude.{◌≡◌, ℕ, ◌+◌, ◌<◌, Bool, true, false, not, ◌||◌, cond, List, [], ◌∷◌, drop, ◌⊎◌, ⊤, length}
-use Rattle.std.specs.declared.option.Option.{Option}
-use Rattle.std.specs.declared.option.Option.TheVariants.{None, Some}
+use Rattle.std.specs.Prelude.{◌≡◌, ℕ, ◌<◌, Bool, true, false, not, ◌||◌, cond, List, [], ◌∷◌, drop, ◌⊎◌, ⊤}
+use Rattle.std.specs.declared.option.Option.TheVariants.{Some}
 use Rattle.code_paths.specs.declared.costs.CostPair.{CostPair}
 use Rattle.code_paths.specs.Paths.{parity_x, parity_y, IsPath}
 use Rattle.code_paths.specs.Streams.{IsPrefix, Given, Ended}

@@ -1,19 +1,18 @@
 -- A step follows the least paths.
-use Rattle.std.proofs.Common.{◌≡◌, ℕ, zero, suc, ◌+◌, ◌*◌, ◌<◌, ◌≤◌, Bool, true, false, cond, not, ◌&&◌, ◌||◌, List, [], ◌∷◌, ◌++◌, length, drop, ◌⊎◌, inl, inr, refl, sym, ap, ap₂, ◌∙◌, subst, arith, ltb, length-append, append_assoc, true≢false}
-use Rattle.std.proofs.lemmas.Bool.{ltb-true, ltb-false, cond-true, cond-false, cond_both}
+use Rattle.std.proofs.Common.{◌≡◌, ℕ, ◌+◌, ◌<◌, Bool, true, false, cond, not, ◌&&◌, ◌||◌, List, [], ◌∷◌, ◌++◌, drop, refl, sym, ap, ap₂, ◌∙◌, subst, arith, ltb, length-append, append_assoc, true≢false}
+use Rattle.std.proofs.lemmas.Bool.{ltb-true, ltb-false, cond_both}
 use Rattle.std.proofs.lemmas.List.{drop-append-le}
 use Rattle.std.specs.Prelude.{slice_index, IsTrue}
 use Rattle.std.specs.declared.option.Option.{Option}
 use Rattle.code_paths.specs.declared.costs.CostPair.{CostPair}
 use Rattle.acs_plain.specs.declared.sums.Sums.{Sums}
-use Rattle.code_paths.specs.Paths.{LeastTo, Least, IsPath, total, step_cost}
+use Rattle.code_paths.specs.Paths.{LeastTo, total, step_cost}
 use Rattle.code_paths.specs.States.{register}
 use Rattle.spec_words.specs.Bits.{is_set}
 use Rattle.acs_plain.specs.Steps.{alive, way, takes_odd, IsStep}
 use Rattle.code_paths.specs.States.{even_of, odd_of}
 use Rattle.inner_decoder.specs.Tracking.{Tracks}
 use Rattle.code_paths.specs.Paths.{Unreached}
-use Rattle.code_paths.specs.States.{before}
 use Rattle.survivor_ring.specs.Survivors.{IsPushed, IsFollowed}
 use Rattle.code_paths.specs.Laws.{longer_total}
 use Rattle.code_paths.proofs.Extend.{even_wins, odd_wins, only_way, no_way, total_push}

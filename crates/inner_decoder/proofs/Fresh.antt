@@ -1,15 +1,14 @@
 -- Sums at a beginning, and the best of sums.
-use Rattle.std.proofs.Common.{◌≡◌, ◌≢◌, ℕ, zero, suc, ◌+◌, ◌*◌, ◌%◌, ◌^◌, ◌<◌, ◌≤◌, Bool, true, false, List, replicate, ◌⊎◌, inl, inr, refl, sym, ap, ◌∙◌, subst, arith, eqb, mod-eq_of_lt, lit<}
-use Rattle.std.proofs.lemmas.Bool.{agree_below, agree_below_at, cases_eq, cases_lt, eq-eqb, ne_eqb}
+use Rattle.std.proofs.Common.{◌≡◌, ℕ, ◌*◌, ◌%◌, ◌^◌, ◌<◌, ◌≤◌, true, replicate, ◌⊎◌, inl, inr, refl, sym, ap, ◌∙◌, arith, eqb, mod-eq_of_lt, lit<}
+use Rattle.std.proofs.lemmas.Bool.{agree_below_at, cases_eq, cases_lt, eq-eqb, ne_eqb}
 use Rattle.std.proofs.lemmas.List.{get_or-replicate}
 use Rattle.std.proofs.lemmas.Nat.{one_shl}
 use Rattle.std.proofs.lemmas.Nat.Bits.{bit_at-pow_same, bit_at-pow_other}
 use Rattle.std.specs.Prelude.{slice_index, IsTrue}
-use Rattle.std.specs.Int.{bit_at}
 use Rattle.acs_plain.specs.declared.sums.Sums.{Sums}
 use Rattle.spec_words.specs.Bits.{is_set}
 use Rattle.inner_decoder.specs.Metrics.{IsSpread}
-use Rattle.acs_plain.specs.Steps.{alive, HasCost, SomeAlive}
+use Rattle.acs_plain.specs.Steps.{alive}
 use Rattle.inner_decoder.specs.Metrics.{IsBest}
 use Rattle.inner_decoder.proofs.Kept.{IsOnly}
 

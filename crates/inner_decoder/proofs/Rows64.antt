@@ -1,16 +1,16 @@
 -- Lists of states below 64 as rows.
-use Rattle.std.proofs.Common.{◌≡◌, ℕ, zero, suc, ◌+◌, ◌<◌, ◌≤◌, Bool, true, List, [], ◌∷◌, ◌++◌, length, ◌⊎◌, inl, inr, refl, sym, ap, ◌∙◌, subst, arith, length-append, ap₂, subst₂, append_assoc, take, drop}
+use Rattle.std.proofs.Common.{◌≡◌, ℕ, zero, suc, ◌<◌, ◌≤◌, Bool, List, [], ◌∷◌, ◌++◌, length, ◌⊎◌, inl, inr, refl, sym, ap, ◌∙◌, arith, length-append, subst₂, take, drop}
 use Rattle.std.proofs.lemmas.Bool.{cases_lt}
 use Rattle.std.specs.declared.option.Option.{Option}
 use Rattle.code_paths.specs.declared.costs.CostPair.{CostPair}
 use Rattle.acs_plain.specs.declared.sums.Sums.{Sums}
-use Rattle.inner_decoder.specs.Tracking.{StandsBy, Tracks, Stepped, Gave}
+use Rattle.inner_decoder.specs.Tracking.{StandsBy, Stepped, Gave}
 use Rattle.inner_decoder.proofs.Kept.{SteppedBy, GaveBy}
 use Rattle.inner_decoder.proofs.Stand.{gave_common}
 use Rattle.code_paths.specs.Streams.{IsPrefix, Shared, Given, bits_of}
 use Rattle.code_paths.proofs.Cuts.{cut_unique}
 use Rattle.code_paths.proofs.Grows.{prefix_of_prefix, prefix_under, prefix_from_take}
-use Rattle.inner_decoder.specs.Seen.{DecoderState, row_of, rows_below}
+use Rattle.inner_decoder.specs.Seen.{row_of, rows_below}
 
 rows_length : (f : ℕ → List Bool) (n : ℕ) → length (rows_below f n) ≡ n
 unfolding rows_below

@@ -1,5 +1,5 @@
 -- Many steps of a decoder.
-use Rattle.std.proofs.Common.{◌≡◌, ℕ, zero, suc, ◌+◌, ◌-◌, ◌*◌, ◌^◌, ◌<◌, ◌≤◌, Bool, true, false, cond, List, [], ◌∷◌, ◌++◌, map, length, take, drop, refl, sym, ap, ap₂, ◌∙◌, subst, subst₂, arith, length-append, append_assoc, append-nil}
+use Rattle.std.proofs.Common.{◌≡◌, ℕ, suc, ◌+◌, ◌*◌, ◌≤◌, Bool, false, List, [], ◌∷◌, ◌++◌, length, refl, sym, ap, ◌∙◌, subst, subst₂, arith, length-append, append_assoc, append-nil}
 use Rattle.std.specs.declared.option.Option.{Option}
 use Rattle.std.specs.declared.option.Option.TheVariants.{None, Some}
 use Rattle.std.specs.Option.{option_to_list}
@@ -7,7 +7,7 @@ use Rattle.code_paths.specs.declared.costs.CostPair.{CostPair}
 use Rattle.inner_decoder.specs.declared.decoder.Unmerged.{Unmerged}
 use Rattle.code_paths.specs.Streams.{Reports, Given}
 use Rattle.inner_decoder.specs.Seen.{DecoderState}
-use Rattle.inner_decoder.specs.Tracking.{Stands, Stepped, Gave, Finished}
+use Rattle.inner_decoder.specs.Tracking.{Stands, Stepped, Gave}
 use Rattle.inner_decoder.specs.Running.{Ran, RanSymbol}
 use Rattle.inner_decoder.specs.Events.{ats, at_of}
 

@@ -1,25 +1,22 @@
 -- What the tracked paths share, and which of them is least.
-use Rattle.std.proofs.Common.{◌≡◌, ℕ, zero, suc, ◌+◌, ◌-◌, ◌*◌, ◌^◌, ◌<◌, ◌≤◌, min, Bool, true, false, cond, List, [], ◌∷◌, ◌++◌, length, take, drop, ◌⊎◌, inl, inr, refl, sym, ap, ap₂, ◌∙◌, subst, arith, length-append, length-take, length-drop, append_assoc, append-nil, take-append-drop, length-take-le, true≢false, drop-drop, take-take}
+use Rattle.std.proofs.Common.{◌≡◌, ℕ, ◌+◌, ◌-◌, ◌*◌, ◌^◌, ◌<◌, ◌≤◌, Bool, true, false, List, ◌++◌, length, take, drop, ◌⊎◌, inl, inr, refl, sym, ap, ap₂, ◌∙◌, subst, arith, length-append, length-take, length-drop, append_assoc, take-append-drop, length-take-le}
 use Rattle.std.proofs.lemmas.Bool.{cases_lt, cases_Bool, cases_order}
-use Rattle.std.proofs.lemmas.List.{take-append-le, take_all, take_at, drop_at, drop-append-le, append_cancel_left, drop_all}
+use Rattle.std.proofs.lemmas.List.{take_at, drop_at, drop-append-le, drop_all}
 use Rattle.std.proofs.Math.Nat.{mul-le-mul_left}
 use Rattle.std.specs.Prelude.{slice_index, IsTrue}
 use Rattle.std.specs.declared.option.Option.{Option}
-use Rattle.std.specs.declared.option.Option.TheVariants.{None, Some}
 use Rattle.code_paths.specs.declared.costs.CostPair.{CostPair}
 use Rattle.acs_plain.specs.declared.sums.Sums.{Sums}
-use Rattle.code_paths.specs.Paths.{LeastTo, Least, IsPath, total, Before}
+use Rattle.code_paths.specs.Paths.{LeastTo, Least, IsPath}
 use Rattle.code_paths.specs.States.{register}
-use Rattle.spec_words.specs.Bits.{is_set}
-use Rattle.acs_plain.specs.Steps.{alive, SomeAlive}
-use Rattle.code_paths.specs.Streams.{IsPrefix, IsCommon, Shared, IsOverdue}
+use Rattle.acs_plain.specs.Steps.{alive}
+use Rattle.code_paths.specs.Streams.{IsPrefix, IsCommon, Shared}
 use Rattle.inner_decoder.specs.Tracking.{Tracks}
 use Rattle.inner_decoder.specs.Metrics.{IsBest}
-use Rattle.code_paths.specs.Paths.{Unreached}
 use Rattle.survivor_ring.specs.Survivors.{AreAlike, IsAlike}
 use Rattle.code_paths.specs.Trial.{weight}
-use Rattle.code_paths.proofs.Order.{weight-lt, weight-append, weight_same, NotAfter, not_after, or_before}
-use Rattle.code_paths.proofs.Unique.{least_to_unique, least_unique}
+use Rattle.code_paths.proofs.Order.{weight-lt, weight-append, NotAfter, not_after, or_before}
+use Rattle.code_paths.proofs.Unique.{least_to_unique}
 use Rattle.code_paths.proofs.Registers.{register_from, IsRegister, number_of}
 
 from_prefix : (r g w : List Bool) → IsPrefix r (g ++ w) → take (length r - length g) w ≡ drop (length g) r

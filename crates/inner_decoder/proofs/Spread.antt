@@ -1,10 +1,9 @@
 -- Sums stay close together.
-use Rattle.std.proofs.Common.{◌≡◌, ℕ, zero, suc, ◌+◌, ◌-◌, ◌*◌, ◌/◌, ◌%◌, ◌^◌, ◌<◌, ◌≤◌, Bool, true, false, cond, not, ◌&&◌, ◌||◌, List, [], ◌∷◌, ◌++◌, length, ◌⊎◌, inl, inr, refl, sym, ap, ap₂, ◌∙◌, subst, arith, ltb, eqb, lit<, lit≤, true≢false, mod-lt, mod-eq_of_lt}
+use Rattle.std.proofs.Common.{◌≡◌, ℕ, zero, suc, ◌+◌, ◌-◌, ◌*◌, ◌/◌, ◌%◌, ◌^◌, ◌<◌, ◌≤◌, Bool, true, false, cond, not, ◌&&◌, ◌||◌, List, [], ◌∷◌, ◌++◌, refl, sym, ap, ap₂, ◌∙◌, subst, arith, ltb, eqb, lit<, lit≤, true≢false, mod-lt, mod-eq_of_lt}
 use native.Mathlib.Nat.{mod-one}
 use Rattle.std.proofs.Math.Nat.{pow-suc, pow-le-pow_right}
-use Rattle.std.proofs.lemmas.Bool.{ltb-true, ltb-false, cond_both, cases_lt, cases_Bool, eqb-true, eq-eqb, and_parts, and_from, agree_below, agree_below_at}
+use Rattle.std.proofs.lemmas.Bool.{ltb-true, ltb-false, cond_both, eq-eqb, and_parts, and_from, agree_below, agree_below_at}
 use Rattle.std.specs.Prelude.{slice_index, IsTrue}
-use Rattle.std.specs.Bool.{beq}
 use Rattle.code_paths.specs.declared.costs.CostPair.{CostPair}
 use Rattle.acs_plain.specs.declared.sums.Sums.{Sums}
 use Rattle.code_paths.specs.Paths.{step_cost, parity_x, parity_y}

@@ -1,24 +1,20 @@
 -- A decoder stands for what is defined.
-use Rattle.std.proofs.Common.{◌≡◌, ℕ, zero, suc, ◌+◌, ◌-◌, ◌*◌, ◌^◌, ◌<◌, ◌≤◌, Bool, true, false, cond, List, [], ◌∷◌, ◌++◌, length, take, drop, ◌⊎◌, inl, inr, refl, sym, ap, ap₂, ◌∙◌, subst, subst₂, arith, length-append, length-take, append_assoc, append-nil, true≢false, eqb, lit<}
-use Rattle.std.proofs.lemmas.Bool.{cases_lt, cases_Bool, eqb-true, eqb-false, eq-eqb}
+use Rattle.std.proofs.Common.{◌≡◌, ℕ, ◌+◌, ◌-◌, ◌^◌, ◌<◌, ◌≤◌, Bool, true, List, [], ◌∷◌, ◌++◌, length, take, drop, inl, refl, sym, ap, ap₂, ◌∙◌, subst, subst₂, arith, length-append, length-take, append_assoc, append-nil, true≢false, lit<}
+use Rattle.std.proofs.lemmas.Bool.{eqb-true, eqb-false, eq-eqb}
 use Rattle.std.proofs.lemmas.List.{take_all}
 use Rattle.std.specs.Prelude.{slice_index, IsTrue}
-use Rattle.std.specs.Option.{option_to_list, IfSome}
 use Rattle.std.specs.declared.option.Option.{Option}
 use Rattle.std.specs.declared.option.Option.TheVariants.{None, Some}
 use Rattle.code_paths.specs.declared.costs.CostPair.{CostPair}
 use Rattle.acs_plain.specs.declared.sums.Sums.{Sums}
-use Rattle.code_paths.specs.Paths.{LeastTo, Least, IsPath, total, Before}
 use Rattle.code_paths.specs.States.{register}
 use Rattle.spec_words.specs.Bits.{is_set}
-use Rattle.inner_decoder.specs.Metrics.{IsSpread}
 use Rattle.acs_plain.specs.Steps.{alive, SomeAlive, IsStep}
-use Rattle.code_paths.specs.Streams.{IsPrefix, IsCommon, Shared, IsOverdue, Part, IsCut, bits_of, ends_of, Reports, Given, Ended, end_of}
+use Rattle.code_paths.specs.Streams.{IsCommon, IsOverdue, Part, IsCut, bits_of, ends_of, Reports, Given, Ended, end_of}
 use Rattle.inner_decoder.specs.Tracking.{Tracks, StandsBy, Finished}
 use Rattle.inner_decoder.specs.Metrics.{IsBest}
 use Rattle.inner_decoder.proofs.Kept.{IsOnly, SteppedBy, GaveBy}
-use Rattle.code_paths.specs.Paths.{Unreached}
-use Rattle.survivor_ring.specs.Survivors.{IsPushed, AreAlike, IsAlike, GivesAway}
+use Rattle.survivor_ring.specs.Survivors.{IsPushed, IsAlike, GivesAway}
 use Rattle.inner_decoder.proofs.Follow.{tracks_step}
 use Rattle.code_paths.proofs.Cuts.{cut_more, cut_end, cut_unique, quiet_none}
 use Rattle.code_paths.specs.Trial.{weight}

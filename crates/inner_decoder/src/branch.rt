@@ -170,6 +170,7 @@ impl<A: Acs, V: Survivors<2048>> Branch<A, V> {
     /// The reports of the last `run_symbol`, in order.
     pub fn events(&self) -> &[Unmerged]
         ensures events { result.now ≡ self.now.events }
+        ensures few { length result.now ≤ 16 }
     {
         self.events.as_slice()
     }
@@ -177,6 +178,7 @@ impl<A: Acs, V: Survivors<2048>> Branch<A, V> {
     /// The number of bits given and not yet taken.
     pub fn waiting(&self) -> u32
         ensures number { result ≡ length self.now.wait }
+        ensures few { result ≤ 36864 }
     {
         self.wait.waiting() as u32
     }

@@ -1,12 +1,12 @@
 -- Rows of bits.
-use Rattle.std.proofs.Common.{◌≡◌, ℕ, zero, suc, ◌+◌, ◌-◌, ◌<◌, ◌≤◌, min, Bool, true, false, List, [], ◌∷◌, ◌++◌, length, get_or, take, drop, ◌⊎◌, inl, inr, refl, sym, ap, ap₂, ◌∙◌, subst, arith, length-take, length-drop, get_or-take, get_or-drop, ext_get_or, add_assoc, ◌≢◌, ◌/◌, ◌%◌, ◌^◌, ◌||◌, cond, eqb, lit<, mod-lt}
+use Rattle.std.proofs.Common.{◌≡◌, ℕ, zero, suc, ◌+◌, ◌-◌, ◌<◌, ◌≤◌, Bool, true, false, List, [], ◌∷◌, ◌++◌, length, get_or, take, drop, ◌⊎◌, inl, inr, refl, sym, ap, ◌∙◌, arith, length-take, length-drop, get_or-take, get_or-drop, ext_get_or, ◌≢◌, ◌/◌, ◌%◌, ◌^◌, ◌||◌, eqb, lit<, mod-lt}
 use native.Mathlib.Nat.{add_comm}
 use Rattle.std.specs.Prelude.{IsTrue}
 use Rattle.std.specs.Global.{Vec}
-use Rattle.std.proofs.lemmas.List.{take-take, take_more_same, get_or_default}
+use Rattle.std.proofs.lemmas.List.{take-take, get_or_default}
 use Rattle.std.proofs.lemmas.Bool.{cases_lt, cond_both, or_left, or_right}
 use Rattle.spec_words.specs.Bits.{is_set}
-use Rattle.survivor_ring.specs.Survivors.{AreAlike, IsAlike, IsPushed, GivesAway, IsFollowed}
+use Rattle.survivor_ring.specs.Survivors.{AreAlike, IsAlike, IsPushed, IsFollowed}
 use Rattle.code_paths.specs.States.{before}
 use Rattle.std.specs.Int.{trailing_zeros, w64}
 use Rattle.std.proofs.lemmas.Nat.Bits.{bit_at-trailing_zeros}

@@ -1,13 +1,12 @@
 -- What the words of the ring tell.
-use Rattle.std.proofs.Common.{◌≡◌, ◌≢◌, ℕ, zero, suc, ◌+◌, ◌-◌, ◌*◌, ◌/◌, ◌%◌, ◌^◌, ◌<◌, ◌≤◌, min, max, Bool, true, false, cond, not, ◌&&◌, ◌||◌, List, [], ◌∷◌, ◌⊎◌, inl, inr, refl, sym, ap, ap₂, ◌∙◌, subst, arith, eqb, bit_and, bit_or, mod-lt, lit<}
-use Rattle.std.proofs.Math.Nat.{mod-add-div', one-le-pow}
+use Rattle.std.proofs.Common.{◌≡◌, ℕ, zero, suc, ◌+◌, ◌-◌, ◌*◌, ◌/◌, ◌%◌, ◌^◌, ◌<◌, ◌≤◌, Bool, true, false, cond, not, ◌&&◌, ◌||◌, ◌⊎◌, inl, inr, refl, sym, ap, ap₂, ◌∙◌, arith, eqb, bit_and, bit_or}
 use Rattle.std.specs.Bool.{nat_lt}
-use Rattle.std.specs.Int.{bit_at, bit_not, w64, trailing_zeros}
-use Rattle.std.specs.Prelude.{⊤, IsTrue}
-use Rattle.std.proofs.lemmas.Bool.{cases_lt, cases_Bool, lt-ltb, ltb-true, agree_below, agree_below_at}
-use Rattle.std.proofs.lemmas.Nat.Bits.{bit_at_and, bit_at_or, bit_at_not, bit_at-lt, bit_at_cat_low, bit_at_cat_high, bit_at-zero, bit_at_above, bit_at-trailing_zeros}
+use Rattle.std.specs.Int.{bit_not, w64}
+use Rattle.std.specs.Prelude.{⊤}
+use Rattle.std.proofs.lemmas.Bool.{cases_lt, lt-ltb}
+use Rattle.std.proofs.lemmas.Nat.Bits.{bit_at_above}
 use Rattle.spec_words.specs.Bits.{is_set}
-use Rattle.survivor_ring.specs.Ring.{moved, leads, AreBefore, IsSplit, IsUniform}
+use Rattle.survivor_ring.specs.Ring.{moved, leads, AreBefore}
 use Rattle.code_paths.proofs.Words.{not_lt, set_or, set_and, set_not, set_shr, set_shl, ones32, and_true}
 
 pub folded_is : (word k : ℕ) → k < 32 → is_set (bit_and (bit_or word (word / 2 ^ 32)) 4294967295) k ≡ (is_set word k || is_set word (k + 32))

@@ -1,10 +1,10 @@
--- The bits that decision words stand for.
-use Rattle.std.specs.Prelude.{◌≡◌, ℕ, zero, suc, ◌+◌, ◌-◌, ◌*◌, ◌/◌, ◌%◌, ◌<◌, ◌≤◌, ◌==◌, Bool, true, false, cond, not, ◌&&◌, ◌||◌, List, [], ◌∷◌, ◌++◌, length, IsTrue, ◌⊎◌}
+-- The bits that decision words stand for, and the walk back through them.
+use Rattle.std.specs.Prelude.{◌≡◌, ℕ, ◌+◌, ◌-◌, ◌/◌, ◌%◌, ◌<◌, ◌==◌, Bool, true, false, cond, not, ◌&&◌, ◌||◌, List, [], ◌∷◌, ◌++◌, IsTrue, ◌⊎◌}
 use Rattle.std.specs.Bool.{nat_lt}
 use Rattle.spec_words.specs.Bits.{is_set}
 use Rattle.code_paths.specs.States.{before}
 
--- the state from which words lead to a state, the oldest word first
+-- the state before the oldest of these words, where the state after the newest is n
 abbrev pub root : List ℕ → ℕ → ℕ
 root [] n = n
 root (d ∷ ws) n = before d (root ws n)
@@ -13,6 +13,10 @@ root (d ∷ ws) n = before d (root ws n)
 abbrev pub trace : List ℕ → ℕ → List Bool
 trace [] n = []
 trace (d ∷ ws) n = is_set (root ws n) 5 ∷ trace ws n
+
+-- one word more: the bits for the state before, and the newest bit of the state
+abbrev pub TraceFollows : Type 0
+TraceFollows = (words : List ℕ) (word n : ℕ) → trace (words ++ word ∷ []) n ≡ trace words (before word n) ++ is_set n 5 ∷ []
 
 -- one move of bits to higher places
 abbrev pub moved : (ℕ → Bool) → ℕ → (ℕ → Bool) → ℕ → Bool

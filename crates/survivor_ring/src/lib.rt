@@ -10,5 +10,5 @@ mod ring;
 mod survivors;
 
 pub use lists::ListSurvivors;
-pub use ring::RingSurvivors;
+pub use ring::{RingSurvivors, trace_follows};
 pub use survivors::Survivors;

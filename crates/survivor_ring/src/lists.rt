@@ -120,7 +120,7 @@ fn shift_rows(rows: &mut Vec<Vec<bool>>, len: usize, number: usize, count: usize
     }
 }
 
-/// Rows of bits that wait, kept as they are.
+/// Survivors as lists of bits: the plain form, which copies 64 lists at each step.
 #[derive(Drop)]
 pub struct ListSurvivors<const L: usize> {
     now: Vec<Vec<bool>>,

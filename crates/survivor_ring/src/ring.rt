@@ -3,7 +3,7 @@ ghost use Rattle.std.specs.Prelude.{◌≡◌, ◌≢◌, ◌+◌, ◌-◌, ◌*
 ghost use Rattle.spec_words.specs.Bits.{is_set};
 ghost use Rattle.code_paths.specs.States.{before};
 ghost use Rattle.survivor_ring.specs.Survivors.{AreAlike, IsAlike};
-ghost use Rattle.survivor_ring.specs.Ring.{root, trace, moved, AreBefore, IsSplit, IsUniform, IsSingle, Chosen};
+ghost use Rattle.survivor_ring.specs.Ring.{TraceFollows, root, trace, moved, AreBefore, IsSplit, IsUniform, IsSingle, Chosen};
 ghost use Rattle.std.specs.Prelude.{slice_index, IsFalse, ◌^◌};
 
 use crate::Survivors;
@@ -135,7 +135,13 @@ fn drop_words(words: &mut HeapCircularBuffer<u64>, number: usize)
     words.truncate_front(words.len() - number);
 }
 
-/// Decision words, and the alive states.
+/// Where decision words are followed by one more, the bits for a state are those for the state before, and the newest bit
+/// of the state.
+pub fn trace_follows()
+    ensures law { TraceFollows }
+{}
+
+/// Survivors as the decision words of the waiting steps, in a ring, and the set of alive states. No list of bits is kept.
 #[derive(Drop)]
 pub struct RingSurvivors<const L: usize> {
     words: HeapCircularBuffer<u64>,
@@ -148,9 +154,11 @@ pub struct RingSurvivors<const L: usize> {
 }
 
 impl<const L: usize> RingSurvivors<L> {
-    /// The decision words, the oldest first.
+    /// The decision words, the oldest first: one for each waiting step. They stand for the waiting bits of every alive
+    /// state.
     pub fn words(&self) -> &HeapCircularBuffer<u64>
-        ensures { result.now ≡ self.now.words }
+        ensures number { length result.now.items ≡ ⟦<RingSurvivors<L> as Survivors<L>>⟧.count self.now }
+        ensures trace { (n : ℕ) → n < 64 → IsTrue (is_set (⟦<RingSurvivors<L> as Survivors<L>>⟧.states self.now) n) → ⟦<RingSurvivors<L> as Survivors<L>>⟧.list self.now n ≡ trace result.now.items n }
     {
         &self.words
     }

@@ -1,4 +1,4 @@
-use Rattle.acs_lanes.proofs.Vectors.{least_len, cost_at, choice_at, choice_small}
+use Rattle.acs_lanes.proofs.Vectors.{least_len, cost_at, choice_at}
 use Rattle.acs_lanes.proofs.lanes.pick.Goals as goal
 
 pub returns-clause-len : goal.returns-clause-len

@@ -1,4 +1,4 @@
-use Rattle.std.proofs.Common.{◌≡◌, ◌+◌, ◌^◌, ℕ, suc, arith, ap}
+use Rattle.std.proofs.Common.{◌≡◌, ◌+◌, ◌^◌, suc, arith, ap}
 use Rattle.std.proofs.Math.Nat.{pow-suc}
 use Rattle.code_paths.proofs.TryAll.{weight_on, weight_off}
 use Rattle.code_paths.proofs.trial.advance.Goals as goal

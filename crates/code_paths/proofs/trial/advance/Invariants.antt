@@ -1,4 +1,4 @@
-use Rattle.std.proofs.Common.{◌≡◌, ◌+◌, ◌^◌, length}
+use Rattle.std.proofs.Common.{◌≡◌, ◌+◌, ◌^◌}
 use Rattle.code_paths.specs.Trial.{weight}
 use Rattle.code_paths.proofs.trial.advance.Given as goal
 

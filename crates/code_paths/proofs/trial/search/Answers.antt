@@ -1,4 +1,4 @@
-use Rattle.std.proofs.Common.{◌+◌, ◌^◌, ◌≤◌, ◌∙◌, arith, ap, subst, length}
+use Rattle.std.proofs.Common.{◌^◌, ◌≤◌, arith, subst, length}
 use Rattle.code_paths.proofs.TryAll.{best_first, best_no, all_numbers}
 use Rattle.code_paths.proofs.trial.search.Goals as goal
 

@@ -1,10 +1,9 @@
-use Rattle.std.proofs.Common.{◌≡◌, ◌∙◌, ◌+◌, ◌<◌, ◌≤◌, ℕ, arith, sym, ap, subst, refl, [], ◌∷◌, ◌++◌, length, take, length-take-le}
+use Rattle.std.proofs.Common.{◌≡◌, ◌∙◌, arith, sym, ap, subst, [], ◌∷◌, ◌++◌, length, take, length-take-le}
 use Rattle.std.proofs.lemmas.List.{take_all, take_more}
 use Rattle.code_paths.specs.declared.costs.CostPair.{CostPair}
-use Rattle.inner_decoder.specs.Running.{BranchState, Ran, RanSymbol}
-use Rattle.inner_decoder.specs.Tracking.{Stands, Finished}
+use Rattle.inner_decoder.specs.Running.{Ran}
 use Rattle.inner_decoder.specs.Events.{ats}
-use Rattle.inner_decoder.proofs.Runs.{runs_none, runs_more, length_ats}
+use Rattle.inner_decoder.proofs.Runs.{runs_none, runs_more}
 use Rattle.inner_decoder.proofs.branch.run.Goals as goal
 
 pub loop-k-init : goal.loop-k-init

@@ -1,5 +1,4 @@
-use Rattle.std.proofs.Common.{◌≡◌, ◌<◌, ℕ, vec_len, length, Bool, get_or}
-use Rattle.std.specs.Prelude.{IsTrue}
+use Rattle.std.proofs.Common.{◌≡◌, ◌<◌, ℕ, length, Bool, get_or}
 use Rattle.std.specs.Global.{Vec}
 use Rattle.survivor_ring.proofs.lists.empty_rows.Given as goal
 

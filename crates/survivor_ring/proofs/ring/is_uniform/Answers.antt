@@ -1,4 +1,3 @@
-use Rattle.std.proofs.Common.{rules, ◌≡◌, ◌∙◌, sym, ap, refl, subst, arith}
 use Rattle.std.proofs.lemmas.Bool.{eqb-true, eqb-false}
 use Rattle.survivor_ring.proofs.Walks.{uniform_low, uniform_high, split_of}
 use Rattle.survivor_ring.proofs.ring.is_uniform.Goals as goal

@@ -1,5 +1,5 @@
-use Rattle.std.proofs.Common.{rules, ◌≡◌, ◌∙◌, sym, ap, refl, subst, arith, length, ◌-◌, ◌+◌, suc, ◌<◌}
-use Rattle.survivor_ring.proofs.Walks.{Walk, walk_none, walk_more, walk_alike, walk_single}
+use Rattle.std.proofs.Common.{◌≡◌, subst, arith, length, ◌-◌, ◌+◌, suc, ◌<◌}
+use Rattle.survivor_ring.proofs.Walks.{Walk, walk_more, walk_alike, walk_single}
 use Rattle.survivor_ring.proofs.ring.shared_words.Goals as goal
 
 pub loop-k-preserved : goal.loop-k-preserved

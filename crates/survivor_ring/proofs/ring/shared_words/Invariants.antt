@@ -1,4 +1,4 @@
-use Rattle.std.proofs.Common.{◌-◌, ◌≡◌, length}
+use Rattle.std.proofs.Common.{◌-◌, length}
 use Rattle.survivor_ring.proofs.Walks.{Walk}
 use Rattle.survivor_ring.proofs.ring.shared_words.Given as goal
 

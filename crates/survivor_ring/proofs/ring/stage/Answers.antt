@@ -1,5 +1,4 @@
-use Rattle.std.proofs.Common.{rules, ◌≡◌, ◌∙◌, sym, ap, refl, subst, arith}
-use Rattle.survivor_ring.proofs.Words.{folded_is, staged, spread_is, before_are}
+use Rattle.survivor_ring.proofs.Words.{staged}
 use Rattle.survivor_ring.proofs.ring.stage.Goals as goal
 
 pub returns : goal.returns

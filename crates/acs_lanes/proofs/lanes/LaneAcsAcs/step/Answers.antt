@@ -1,4 +1,4 @@
-use Rattle.std.proofs.Common.{◌≡◌, ◌∙◌, ◌+◌, ◌*◌, ◌<◌, ℕ, arith, ap, ap₂, sym, min, ◌||◌}
+use Rattle.std.proofs.Common.{◌≡◌, ◌∙◌, ◌+◌, ◌*◌, ℕ, arith, ap, ap₂, min, ◌||◌}
 use Rattle.spec_words.specs.Bits.{is_set}
 use Rattle.code_paths.specs.States.{even_of, odd_of}
 use Rattle.std.specs.Prelude.{slice_index}

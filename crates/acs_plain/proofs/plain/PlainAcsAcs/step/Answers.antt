@@ -1,4 +1,4 @@
-use Rattle.std.proofs.Common.{arith, rules}
+use Rattle.std.proofs.Common.{arith}
 use Rattle.acs_plain.proofs.Loops.{step_more, step_at_end}
 use Rattle.acs_plain.proofs.plain.PlainAcsAcs.step.Goals as goal
 

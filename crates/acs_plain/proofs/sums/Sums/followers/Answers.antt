@@ -1,6 +1,3 @@
-use Rattle.std.proofs.Common.{◌∙◌, sym, ap, ap₂, ◌||◌}
-use Rattle.spec_words.specs.Bits.{is_set}
-use Rattle.code_paths.specs.States.{even_of, odd_of}
 use Rattle.acs_plain.proofs.Loops.{all_follow, followers_more}
 use Rattle.acs_plain.proofs.sums.Sums.followers.Goals as goal
 

@@ -1,7 +1,7 @@
-use Rattle.std.proofs.Common.{arith, ap, sym, ◌∙◌, refl, ℕ, ◌+◌, ◌-◌, ◌*◌, ◌≡◌, ◌<◌, ◌≤◌, Bool, true, false, true≢false, List, [], ◌∷◌, ◌++◌, length, length-append}
+use Rattle.std.proofs.Common.{arith, ap, sym, ◌∙◌, ◌+◌, ◌-◌, ◌*◌, ◌≡◌, ◌++◌, length, length-append}
 use Rattle.spec_words.specs.Bits.{spelled}
-use Rattle.bit_pack.specs.Queue.{ring, queue}
-use Rattle.bit_pack.proofs.Spelling.{length_queue, queue_push, length-spelled}
+use Rattle.bit_pack.specs.Queue.{ring}
+use Rattle.bit_pack.proofs.Spelling.{length_queue, queue_push}
 use Rattle.bit_pack.proofs.bit_buf.BitBuf.push_byte.Goals as goal
 
 pub push_whole-requires-clause-room : goal.push_whole-requires-clause-room

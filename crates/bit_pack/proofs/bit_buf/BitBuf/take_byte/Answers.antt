@@ -1,7 +1,7 @@
-use Rattle.std.proofs.Common.{arith, ap, sym, ◌∙◌, refl, ℕ, ◌+◌, ◌-◌, ◌*◌, ◌≡◌, ◌<◌, ◌≤◌, Bool, true, false, true≢false, List, [], ◌∷◌, ◌++◌, length, length-append}
+use Rattle.std.proofs.Common.{arith, ap, sym, ◌∙◌, refl, ◌+◌, ◌-◌, ◌*◌, ◌≡◌, ◌<◌, true≢false, ◌++◌, length}
 use Rattle.spec_words.specs.Bits.{spelled}
-use Rattle.bit_pack.specs.Queue.{ring, queue}
-use Rattle.bit_pack.proofs.Spelling.{length_queue, queue_take, length-spelled}
+use Rattle.bit_pack.specs.Queue.{ring}
+use Rattle.bit_pack.proofs.Spelling.{length_queue, queue_take}
 use Rattle.bit_pack.proofs.bit_buf.BitBuf.take_byte.Goals as goal
 
 pub returns-then-self-gt0-clause-none : goal.returns-then-self-gt0-clause-none

@@ -1,6 +1,4 @@
-use Rattle.std.proofs.Common.{arith, ap, sym, ◌∙◌, refl, ℕ, ◌+◌, ◌-◌, ◌*◌, ◌≡◌, ◌<◌, ◌≤◌, Bool, true, false, true≢false, List, [], ◌∷◌, ◌++◌, length, length-append}
-use Rattle.spec_words.specs.Bits.{spelled}
-use Rattle.bit_pack.specs.Queue.{ring, queue}
+use Rattle.std.proofs.Common.{arith, ap, length}
 use Rattle.bit_pack.proofs.Spelling.{length_queue}
 use Rattle.bit_pack.proofs.bit_buf.BitBuf.waiting.Goals as goal
 

@@ -1,5 +1,4 @@
-use Rattle.std.proofs.Common.{ap, sym, ◌∙◌, ◌++◌, ◌∷◌, [], Bool, List, refl}
-use Rattle.spec_words.specs.Bits.{spelled}
+use Rattle.std.proofs.Common.{ap, ◌∙◌, ◌++◌, ◌∷◌, []}
 use Rattle.conv_code.proofs.Coding.{x_bit, y_bit, register_bit, coded}
 use Rattle.conv_code.proofs.encoder.Encoder.step.Goals as goal
 

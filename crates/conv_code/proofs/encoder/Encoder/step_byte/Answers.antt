@@ -1,4 +1,4 @@
-use Rattle.std.proofs.Common.{ap, sym, ◌∙◌, ◌++◌, ◌∷◌, [], Bool, List, refl}
+use Rattle.std.proofs.Common.{ap, sym, ◌∙◌, ◌++◌}
 use Rattle.spec_words.specs.Bits.{spelled}
 use Rattle.conv_code.proofs.Coding.{xs_byte, ys_byte, register_byte, coded}
 use Rattle.conv_code.proofs.encoder.Encoder.step_byte.Goals as goal

@@ -1,8 +1,6 @@
-use Rattle.std.proofs.Common.{◌≡◌, ◌∙◌, ◌+◌, ◌<◌, ◌≤◌, ℕ, arith, sym, ap, subst, refl, [], ◌∷◌, ◌++◌, length, take, length-take-le}
-use Rattle.std.proofs.lemmas.List.{take_all, take_more}
-use Rattle.code_paths.specs.declared.costs.CostPair.{CostPair}
-use Rattle.inner_decoder.specs.Running.{BranchState, Ran, RanSymbol}
-use Rattle.inner_decoder.specs.Tracking.{Stands, Finished}
+use Rattle.std.proofs.Common.{sym, subst, take}
+use Rattle.inner_decoder.specs.Running.{BranchState, RanSymbol}
+use Rattle.inner_decoder.specs.Tracking.{Stands}
 use Rattle.inner_decoder.specs.Events.{ats}
 use Rattle.inner_decoder.proofs.Runs.{symbol_ran}
 use Rattle.inner_decoder.proofs.branch.Branch.run_symbol.Goals as goal

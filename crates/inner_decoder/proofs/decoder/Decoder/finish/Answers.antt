@@ -1,5 +1,4 @@
-use Rattle.std.proofs.Common.{◌≡◌, ◌∙◌, ◌+◌, ◌<◌, ◌≤◌, ℕ, arith, sym, ap, subst, subst₂, refl, [], ◌∷◌, ◌++◌, length, take, length-take-le}
-use Rattle.std.specs.Prelude.{slice_index}
+use Rattle.std.proofs.Common.{sym, subst}
 use Rattle.inner_decoder.specs.Seen.{DecoderState}
 use Rattle.inner_decoder.specs.Tracking.{Stands}
 use Rattle.inner_decoder.proofs.Stand.{finished_all}

@@ -1,4 +1,4 @@
-use Rattle.std.proofs.Common.{◌∙◌, sym, subst, ap, List, Bool, []}
+use Rattle.std.proofs.Common.{◌∙◌, sym, subst, ap, []}
 use Rattle.std.specs.Prelude.{slice_index}
 use Rattle.inner_decoder.specs.Tracking.{StandsBy}
 use Rattle.inner_decoder.specs.Starts.{start_of}

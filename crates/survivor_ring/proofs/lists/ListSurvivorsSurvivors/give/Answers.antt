@@ -1,4 +1,4 @@
-use Rattle.std.proofs.Common.{◌∙◌, ap, ◌++◌, take, arith, sym}
+use Rattle.std.proofs.Common.{◌∙◌, ap, ◌++◌, take}
 use Rattle.survivor_ring.specs.Rows.{bits_of_row}
 use Rattle.survivor_ring.proofs.RowSteps.{row_read, rows_shifted, take_within}
 use Rattle.survivor_ring.proofs.lists.ListSurvivorsSurvivors.give.Goals as goal

@@ -1,7 +1,7 @@
-use Rattle.std.proofs.Common.{subst, sym, arith, ap, ◌≡◌}
+use Rattle.std.proofs.Common.{subst, sym, ap, ◌≡◌}
 use Rattle.std.specs.Global.{Vec}
-use Rattle.std.proofs.Common.{Bool, List}
-use Rattle.survivor_ring.specs.Rows.{AreSized, EachPushed, Rows}
+use Rattle.std.proofs.Common.{Bool}
+use Rattle.survivor_ring.specs.Rows.{AreSized, EachPushed}
 use Rattle.survivor_ring.proofs.RowSteps.{rows_pushed, before_below, half_lives}
 use Rattle.survivor_ring.proofs.lists.ListSurvivorsSurvivors.push.Goals as goal
 

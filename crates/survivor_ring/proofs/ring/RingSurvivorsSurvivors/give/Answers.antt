@@ -1,4 +1,3 @@
-use Rattle.std.proofs.Common.{rules, ◌≡◌, ◌∙◌, sym, ap, refl, subst, arith, length, [], take}
 use Rattle.survivor_ring.proofs.Walks.{traces_dropped, given_any}
 use Rattle.survivor_ring.proofs.ring.RingSurvivorsSurvivors.give.Goals as goal
 

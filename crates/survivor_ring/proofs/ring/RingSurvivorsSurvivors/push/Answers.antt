@@ -1,4 +1,4 @@
-use Rattle.std.proofs.Common.{rules, ◌≡◌, ◌∙◌, sym, ap, refl, subst, arith, length, length-append, []}
+use Rattle.std.proofs.Common.{sym, subst}
 use Rattle.survivor_ring.specs.Survivors.{IsPushed}
 use Rattle.survivor_ring.specs.Ring.{trace}
 use Rattle.survivor_ring.proofs.Walks.{still_some, traces_pushed}
