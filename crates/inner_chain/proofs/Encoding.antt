@@ -7,21 +7,21 @@ use Rattle.std.proofs.lemmas.List.FromFn.{get_or-map-range_with_len}
 use Rattle.std.proofs.lemmas.Bool.{cases_lt}
 use Rattle.spec_words.specs.Bits.{is_set, bit}
 use Rattle.code_paths.specs.Paths.{parity_x, parity_y}
-use Rattle.puncture.specs.SentBits.{window}
-use Rattle.inner_chain.specs.Labels.{parity_at, bits_of_path}
+use Rattle.puncture.specs.SentBits.{bits_from, window}
+use Rattle.inner_chain.specs.Labels.{parity_at}
 
 -- after i of n steps: w0, e0 and x0 are the waiting bits, the register and the numbers before the first
 pub record IsEncoded (w0 e0 : List Bool) (x0 : List ℕ) (first n i : ℕ) (waiting register : List Bool) (xs : List ℕ) : Type 0 where
   pub left : waiting ≡ drop i w0
   pub size : length e0 ≡ 6 → length register ≡ 6
-  pub after : (path : ℕ → Bool) → e0 ≡ bits_of_path path 0 6 → take n w0 ≡ bits_of_path path 6 n → register ≡ bits_of_path path i 6
-  pub parities : (path : ℕ → Bool) → e0 ≡ bits_of_path path 0 6 → take n w0 ≡ bits_of_path path 6 n → (t k : ℕ) → t < i → k < 2 → is_set (slice_index xs (first + t)) k ≡ parity_at k path t
+  pub after : (path : ℕ → Bool) → e0 ≡ bits_from path 0 6 → take n w0 ≡ bits_from path 6 n → register ≡ bits_from path i 6
+  pub parities : (path : ℕ → Bool) → e0 ≡ bits_from path 0 6 → take n w0 ≡ bits_from path 6 n → (t k : ℕ) → t < i → k < 2 → is_set (slice_index xs (first + t)) k ≡ parity_at k path t
   pub before : (k : ℕ) → k < first → slice_index xs k ≡ slice_index x0 k
 
 later : (path : ℕ → Bool) (t u : ℕ) → t ≡ u → path t ≡ path u
 later path t u e = ap path e
 
-window_is : (path : ℕ → Bool) (t : ℕ) (b : Bool) → b ≡ path (t + 6) → bits_of_path path t 6 ++ b ∷ [] ≡ window path t
+window_is : (path : ℕ → Bool) (t : ℕ) (b : Bool) → b ≡ path (t + 6) → bits_from path t 6 ++ b ∷ [] ≡ window path t
 window_is path t b e =
     let two : path (t + 1 + 1) ≡ path (t + 2) = later path _ _ (omega arith) in
     let three : path (t + 1 + 1 + 1) ≡ path (t + 3) = later path _ _ (omega arith) in
@@ -29,7 +29,7 @@ window_is path t b e =
     let five : path (t + 1 + 1 + 1 + 1 + 1) ≡ path (t + 5) = later path _ _ (omega arith) in
     cc
 
-next_is : (path : ℕ → Bool) (t : ℕ) → drop 1 (window path t) ≡ bits_of_path path (t + 1) 6
+next_is : (path : ℕ → Bool) (t : ℕ) → drop 1 (window path t) ≡ bits_from path (t + 1) 6
 next_is path t =
     let two : path (t + 1 + 1) ≡ path (t + 2) = later path _ _ (omega arith) in
     let three : path (t + 1 + 1 + 1) ≡ path (t + 3) = later path _ _ (omega arith) in
@@ -39,7 +39,7 @@ next_is path t =
     cc
 
 -- the next input bit is that of the path
-input_is : (path : ℕ → Bool) (w0 : List Bool) (n i : ℕ) (b : Bool) (rest : List Bool) → i < n → take n w0 ≡ bits_of_path path 6 n → drop i w0 ≡ b ∷ rest → b ≡ path (i + 6)
+input_is : (path : ℕ → Bool) (w0 : List Bool) (n i : ℕ) (b : Bool) (rest : List Bool) → i < n → take n w0 ≡ bits_from path 6 n → drop i w0 ≡ b ∷ rest → b ≡ path (i + 6)
 input_is path w0 n i b rest l taken first =
     let none : i + 0 ≡ i = omega arith in
     let place : 6 + i ≡ i + 6 = omega arith in
@@ -66,17 +66,17 @@ encode_more w0 e0 x0 waiting register xs first n i b waiting' register' x y v s 
     size : length e0 ≡ 6 → length register' ≡ 6
     size long = let long' : length register ≡ 6 = s.size long in ap (λ (z : List Bool). length z) er ∙ simp (length-drop, length-append) (omega (arith, long'))
 
-    windows : (path : ℕ → Bool) → e0 ≡ bits_of_path path 0 6 → take n w0 ≡ bits_of_path path 6 n → register ++ b ∷ [] ≡ window path i
+    windows : (path : ℕ → Bool) → e0 ≡ bits_from path 0 6 → take n w0 ≡ bits_from path 6 n → register ++ b ∷ [] ≡ window path i
     windows path e taken = ap (λ (z : List Bool). z ++ b ∷ []) (s.after path e taken) ∙ window_is path i b (input_is path w0 n i b waiting' l taken begins)
 
-    after : (path : ℕ → Bool) → e0 ≡ bits_of_path path 0 6 → take n w0 ≡ bits_of_path path 6 n → register' ≡ bits_of_path path (i + 1) 6
+    after : (path : ℕ → Bool) → e0 ≡ bits_from path 0 6 → take n w0 ≡ bits_from path 6 n → register' ≡ bits_from path (i + 1) 6
     after path e taken = er ∙ ap (λ (z : List Bool). drop 1 z) (windows path e taken) ∙ next_is path i
 
-    written : (path : ℕ → Bool) → e0 ≡ bits_of_path path 0 6 → take n w0 ≡ bits_of_path path 6 n → (k : ℕ) → k < 2 → is_set v k ≡ parity_at k path i
+    written : (path : ℕ → Bool) → e0 ≡ bits_from path 0 6 → take n w0 ≡ bits_from path 6 n → (k : ℕ) → k < 2 → is_set v k ≡ parity_at k path i
     written path e taken k m =
         ev k m ∙ ap (λ (z : Bool). cond (eqb k 0) z y) (ex ∙ ap parity_x (windows path e taken)) ∙ ap (λ (z : Bool). cond (eqb k 0) (parity_x (window path i)) z) (ey ∙ ap parity_y (windows path e taken))
 
-    parities : (path : ℕ → Bool) → e0 ≡ bits_of_path path 0 6 → take n w0 ≡ bits_of_path path 6 n → (t k : ℕ) → t < i + 1 → k < 2 → is_set (slice_index (slice_set xs (first + i) v) (first + t)) k ≡ parity_at k path t
+    parities : (path : ℕ → Bool) → e0 ≡ bits_from path 0 6 → take n w0 ≡ bits_from path 6 n → (t k : ℕ) → t < i + 1 → k < 2 → is_set (slice_index (slice_set xs (first + i) v) (first + t)) k ≡ parity_at k path t
     parities path e taken t k m two = go (cases_lt t i)
       where
         go : (t < i) ⊎ (i ≤ t) → is_set (slice_index (slice_set xs (first + i) v) (first + t)) k ≡ parity_at k path t

@@ -3,3 +3,7 @@ mod Gathering
 mod Encoding
 mod Entering
 mod Symbols
+mod CostEntering
+mod CostReading
+mod CellCosts
+mod Pairs

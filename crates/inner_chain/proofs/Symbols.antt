@@ -13,10 +13,10 @@ use Rattle.mode_set.specs.declared.modes.Stream.{Stream}
 use Rattle.mode_set.specs.declared.modes.Stream.TheVariants.{Hp, Lp}
 use Rattle.mode_set.specs.declared.settings.Settings.{Settings}
 use Rattle.code_paths.specs.Paths.{parity_x, parity_y}
-use Rattle.puncture.specs.SentBits.{Coded, X, Y, sent, sent_bit, coded_bit, window}
+use Rattle.puncture.specs.SentBits.{bits_from, Coded, X, Y, sent, sent_bit, coded_bit, window}
 use Rattle.bit_interleave.specs.Place.{stream_at}
 use Rattle.symbol_interleave.specs.Carried.{carried}
-use Rattle.inner_chain.specs.Labels.{Paths, bits_of_path, input_bits, coded_bits, parity_at, number_at, label_bit, AreLabels, AppendsLabels}
+use Rattle.inner_chain.specs.Labels.{Paths, input_bits, coded_bits, parity_at, number_at, label_bit, AreLabels, AppendsLabels}
 use Rattle.inner_chain.specs.Tables.{first_step, read_bit, AreParities, AreAllParities, AreWithin, IsEntry, AreEntries, IsGathered, AppendsGathered}
 use Rattle.inner_chain.proofs.Entering.{in_all_steps, periods}
 
@@ -42,7 +42,7 @@ range_from path n t u (suc k) e =
     let next : n + (t + 1) ≡ u + 1 = omega (arith, e) in
     ap (λ (z : Bool). z ∷ map (from_step path n) (range_with_len (t + 1) k)) (ap path e) ∙ ap (λ (z : List Bool). path u ∷ z) (range_from path n (t + 1) (u + 1) k next)
 
-pub bits_from_step : (path : ℕ → Bool) (n t u k : ℕ) → n + t ≡ u → bits_of_path (from_step path n) t k ≡ bits_of_path path u k
+pub bits_from_step : (path : ℕ → Bool) (n t u k : ℕ) → n + t ≡ u → bits_from (from_step path n) t k ≡ bits_from path u k
 bits_from_step path n t u k e = range_from path n t u k e
 
 -- ---- sent bits of a symbol are sent bits of the stream
@@ -127,14 +127,14 @@ code_parities s paths m n1 n2 xs1 xs2 e1 e2 hp lp before = record { at = at }
         let here : t < n2 = omega (arith, l, e2) in
         ap (λ (z : ℕ). is_set (slice_index xs2 (z + t)) k) (sym e1) ∙ lp.at t k here two ∙ parity_from (paths Lp) (m * need s Lp) k t
 
-pub register_from : (s : Settings) (paths : Paths) (m : ℕ) (σ : Stream) (register : List Bool) → register ≡ bits_of_path (paths σ) (m * need s σ) 6 → register ≡ bits_of_path (from_step (paths σ) (m * need s σ)) 0 6
+pub register_from : (s : Settings) (paths : Paths) (m : ℕ) (σ : Stream) (register : List Bool) → register ≡ bits_from (paths σ) (m * need s σ) 6 → register ≡ bits_from (from_step (paths σ) (m * need s σ)) 0 6
 register_from s paths m σ register e = let same : m * need s σ + 0 ≡ m * need s σ = omega arith in e ∙ sym (bits_from_step (paths σ) (m * need s σ) 0 (m * need s σ) 6 same)
 
-pub input_from : (s : Settings) (paths : Paths) (m : ℕ) (σ : Stream) (n : ℕ) (waiting : List Bool) → n ≡ need s σ → take (need s σ) waiting ≡ input_bits s paths m σ → take n waiting ≡ bits_of_path (from_step (paths σ) (m * need s σ)) 6 n
+pub input_from : (s : Settings) (paths : Paths) (m : ℕ) (σ : Stream) (n : ℕ) (waiting : List Bool) → n ≡ need s σ → take (need s σ) waiting ≡ input_bits s paths m σ → take n waiting ≡ bits_from (from_step (paths σ) (m * need s σ)) 6 n
 input_from s paths m σ n waiting e taken =
-    ap (λ (z : ℕ). take z waiting) e ∙ taken ∙ sym (bits_from_step (paths σ) (m * need s σ) 6 (m * need s σ + 6) (need s σ) refl) ∙ ap (λ (z : ℕ). bits_of_path (from_step (paths σ) (m * need s σ)) 6 z) (sym e)
+    ap (λ (z : ℕ). take z waiting) e ∙ taken ∙ sym (bits_from_step (paths σ) (m * need s σ) 6 (m * need s σ + 6) (need s σ) refl) ∙ ap (λ (z : ℕ). bits_from (from_step (paths σ) (m * need s σ)) 6 z) (sym e)
 
-pub register_next : (s : Settings) (paths : Paths) (m : ℕ) (σ : Stream) (n : ℕ) (register : List Bool) → n ≡ need s σ → register ≡ bits_of_path (from_step (paths σ) (m * need s σ)) n 6 → register ≡ bits_of_path (paths σ) ((m + 1) * need s σ) 6
+pub register_next : (s : Settings) (paths : Paths) (m : ℕ) (σ : Stream) (n : ℕ) (register : List Bool) → n ≡ need s σ → register ≡ bits_from (from_step (paths σ) (m * need s σ)) n 6 → register ≡ bits_from (paths σ) ((m + 1) * need s σ) 6
 register_next s paths m σ n register e is =
     let row : (m + 1) * need s σ ≡ m * need s σ + need s σ = omega arith in
     let same : m * need s σ + n ≡ (m + 1) * need s σ = omega (arith, row, e) in

@@ -1,6 +1,5 @@
 -- The labels of a symbol, from the coded bits of its streams (EN 300 744, 4.3.3 to 4.3.5).
-use Rattle.std.specs.Prelude.{◌≡◌, ℕ, ◌+◌, ◌-◌, ◌*◌, ◌/◌, ◌%◌, ◌^◌, ◌<◌, ◌≤◌, ◌==◌, Bool, if◌then◌else◌, List, ◌++◌, length, map, slice_index}
-use Rattle.std.specs.List.{range_with_len}
+use Rattle.std.specs.Prelude.{◌≡◌, ℕ, ◌+◌, ◌-◌, ◌*◌, ◌/◌, ◌%◌, ◌^◌, ◌<◌, ◌≤◌, ◌==◌, Bool, if◌then◌else◌, List, ◌++◌, length, slice_index}
 use Rattle.spec_words.specs.Bits.{is_set}
 use Rattle.spec_words.specs.Words.{first_below}
 use Rattle.mode_set.specs.StreamTable.{payload, label_bits, coded, need, rate}
@@ -8,7 +7,7 @@ use Rattle.mode_set.specs.declared.modes.Stream.{Stream}
 use Rattle.mode_set.specs.declared.modes.Stream.TheVariants.{Hp, Lp}
 use Rattle.mode_set.specs.declared.settings.Settings.{Settings}
 use Rattle.code_paths.specs.Paths.{parity_x, parity_y}
-use Rattle.puncture.specs.SentBits.{window, sent_bit}
+use Rattle.puncture.specs.SentBits.{window, sent_bit, bits_from}
 use Rattle.bit_interleave.specs.Place.{stands_at, stream_at}
 use Rattle.symbol_interleave.specs.Carried.{carried}
 
@@ -46,17 +45,13 @@ register_of st Lp = st.lp
 abbrev pub Paths : Type 0
 Paths = Stream → ℕ → Bool
 
--- n bits of a path, from bit t on
-abbrev pub bits_of_path : (ℕ → Bool) → ℕ → ℕ → List Bool
-bits_of_path path t n = map path (range_with_len t n)
-
 -- the inner coder before symbol m of these paths: each register has the six bits before the symbol's first input bit
 abbrev pub IsAtSymbol : TxState → Paths → ℕ → Type 0
-IsAtSymbol st paths m = (σ : Stream) → register_of st σ ≡ bits_of_path (paths σ) (m * need st.settings σ) 6
+IsAtSymbol st paths m = (σ : Stream) → register_of st σ ≡ bits_from (paths σ) (m * need st.settings σ) 6
 
 -- the input bits of symbol m of a path
 abbrev pub input_bits : Settings → Paths → ℕ → Stream → List Bool
-input_bits s paths m σ = bits_of_path (paths σ) (m * need s σ + 6) (need s σ)
+input_bits s paths m σ = bits_from (paths σ) (m * need s σ + 6) (need s σ)
 
 -- the coded bits of symbol m: the next sent bits of each path
 abbrev pub coded_bits : Settings → Paths → ℕ → Stream → ℕ → Bool

@@ -1,2 +1,4 @@
 pub mod Labels
+pub mod CostPairs
+pub mod CostTables
 pub mod Tables

@@ -9,7 +9,7 @@ use Rattle.mode_set.specs.declared.settings.Settings.{Settings}
 use Rattle.puncture.specs.SentBits.{sent_bit}
 use Rattle.bit_interleave.specs.Place.{stream_at}
 use Rattle.symbol_interleave.specs.Carried.{carried}
-use Rattle.inner_chain.specs.Labels.{Paths, bits_of_path, number_at, parity_at}
+use Rattle.inner_chain.specs.Labels.{Paths, number_at, parity_at}
 
 -- bit n % 2 of number n / 2 of a list
 abbrev pub read_bit : List ℕ → ℕ → Bool

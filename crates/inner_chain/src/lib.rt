@@ -2,11 +2,16 @@
 //! streams, and the costs of a stream's coded bits from the cells (EN 300 744, 4.3.3 to 4.3.5).
 #![tactic(auto)]
 
+mod cell_costs;
+mod cost_entries;
+mod cost_pairs;
 mod entries;
 mod gather;
 mod parities;
+mod rx;
 mod sent_parity;
 mod symbol;
 mod tx;
 
+pub use rx::InnerRx;
 pub use tx::InnerTx;

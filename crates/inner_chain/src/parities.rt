@@ -1,7 +1,7 @@
 // The parities of the input bits of a symbol.
 ghost use Rattle.std.specs.Prelude.{◌≡◌, ◌<◌, ◌≤◌, ◌==◌, ℕ, Bool, if◌then◌else◌, length, drop, take, slice_index, ◌+◌};
+ghost use Rattle.puncture.specs.SentBits.{bits_from};
 ghost use Rattle.spec_words.specs.Bits.{is_set};
-ghost use Rattle.inner_chain.specs.Labels.{bits_of_path};
 ghost use Rattle.inner_chain.specs.Tables.{AreParities};
 
 use bit_pack::WaitBuf;
@@ -25,8 +25,8 @@ pub(crate) fn encode(
     requires enough { count ≤ length waiting.old }
     requires room { first + count ≤ length to.old }
     ensures taken { waiting.new ≡ drop count waiting.old }
-    ensures register { (path : ℕ → Bool) → encoder.old ≡ bits_of_path path 0 6 → take count waiting.old ≡ bits_of_path path 6 count → encoder.new ≡ bits_of_path path count 6 }
-    ensures parities { (path : ℕ → Bool) → encoder.old ≡ bits_of_path path 0 6 → take count waiting.old ≡ bits_of_path path 6 count → AreParities path first count to.new }
+    ensures register { (path : ℕ → Bool) → encoder.old ≡ bits_from path 0 6 → take count waiting.old ≡ bits_from path 6 count → encoder.new ≡ bits_from path count 6 }
+    ensures parities { (path : ℕ → Bool) → encoder.old ≡ bits_from path 0 6 → take count waiting.old ≡ bits_from path 6 count → AreParities path first count to.new }
     ensures before { (k : ℕ) → k < first → slice_index to.new k ≡ slice_index to.old k }
     ensures size { length encoder.old ≡ 6 → length encoder.new ≡ 6 }
 {

@@ -1,6 +1,6 @@
 use Rattle.std.proofs.Common.{◌≡◌, ◌≤◌, ◌<◌, ◌+◌, ℕ, Bool, List, ◌∷◌, length, subst, arith, Option}
+use Rattle.puncture.specs.SentBits.{bits_from}
 use Rattle.std.specs.Prelude.{IfSome}
-use Rattle.inner_chain.specs.Labels.{bits_of_path}
 use Rattle.inner_chain.proofs.Encoding.{encode_begins, encode_more}
 use Rattle.inner_chain.proofs.parities.encode.Goals as goal
 
@@ -14,4 +14,4 @@ loop-step-preserved c =
 pub returns-clause-register : goal.returns-clause-register
 returns-clause-register c = λ path e s.
     let all : c.loop-step.step ≡ c.args.count = omega arith in
-    subst (λ (z : ℕ). c.loop-step.encoder ≡ bits_of_path path z 6) all (c.loop-step.invariant.after path e s)
+    subst (λ (z : ℕ). c.loop-step.encoder ≡ bits_from path z 6) all (c.loop-step.invariant.after path e s)

@@ -1,0 +1,14 @@
+use Rattle.std.proofs.Common.{arith}
+use Rattle.inner_chain.proofs.CostEntering.{step_fits, number_next, step_more}
+use Rattle.inner_chain.proofs.cost_entries.cost_entries.Goals as goal
+
+pub push_step-requires-clause-within : goal.push_step-requires-clause-within
+push_step-requires-clause-within g c =
+    step_fits c.args.settings.now c.steps_are_numbered.ensures c.args.stream c.rate-rate.result c.loop-step.step c.loop-step.bit _ _ c.rate-rate.ensures c.sent.ensures.x c.sent.ensures.y c.loop-step.invariant.number
+    (omega (arith, c.need-step-end.ensures.need, c.loop-step-test.true))
+
+pub loop-step-preserved : goal.loop-step-preserved
+loop-step-preserved g c = record {
+  number = number_next c.args.settings.now c.steps_are_numbered.ensures c.args.stream c.rate-rate.result c.loop-step.step c.loop-step.bit _ _ _ c.rate-rate.ensures c.sent.ensures.x c.sent.ensures.y c.loop-step.invariant.number c.in_ok-bit.ensures.next;
+  entries = step_more c.args.settings.now c.steps_are_numbered.ensures c.args.odd c.args.stream c.rate-rate.result c.loop-step.step c.loop-step.bit _ _ _ _ c.rate-rate.ensures c.sent.ensures.x c.sent.ensures.y c.loop-step.invariant.number c.loop-step.invariant.entries c.in_ok-bit.ensures.entries;
+}

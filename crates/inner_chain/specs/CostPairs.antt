@@ -1,0 +1,47 @@
+-- The costs of the coded bits of a symbol, from its cells.
+use Rattle.std.specs.Prelude.{◌≡◌, ℕ, ◌+◌, ◌*◌, ◌/◌, ◌%◌, ◌<◌, ◌≤◌, Bool, true, false, List, ◌++◌, length, map, Option, Some, None, slice_index, slice_index_or, pos}
+use Rattle.std.proofs.Common.{arith}
+use Rattle.spec_words.specs.Words.{numbers}
+use Rattle.code_paths.specs.Small.{IsSmall}
+use Rattle.code_paths.specs.declared.costs.CostPair.{CostPair}
+use Rattle.mode_set.specs.StreamTable.{payload, label_bits, need, rate}
+use Rattle.mode_set.specs.declared.modes.Mode.{Mode}
+use Rattle.mode_set.specs.declared.modes.Stream.{Stream}
+use Rattle.mode_set.specs.declared.settings.Settings.{Settings}
+use Rattle.puncture.specs.SentBits.{X, Y}
+use Rattle.puncture.specs.Steps.{number_of, costs_at}
+use Rattle.bit_interleave.specs.Place.{place_in_label, word_of_bit}
+use Rattle.symbol_interleave.specs.Carried.{is_odd, place_of_word}
+use Rattle.pilots.specs.Carriers.{payload_carriers}
+use Rattle.qam_map.specs.Points.{on_axis}
+use Rattle.qam_map.specs.declared.cell.Cell.{Cell}
+use Rattle.soft_metric.specs.Costs.{cost}
+
+-- the cell of carrier k
+abbrev pub cell_of : List Cell → ℕ → Cell
+cell_of cells k = slice_index_or cells k (record { re = pos 0; im = pos 0 })
+
+-- the payload place of symbol l at which coded bit d of a stream stands: the one that carries the bit's word
+abbrev pub payload_place : Settings → ℕ → Stream → ℕ → ℕ
+payload_place s l σ d = place_of_word s.mode (is_odd l) (word_of_bit s.shape s.hierarchy σ d)
+
+-- the costs of the values 0 and 1 at place e of the label on payload place q of symbol l
+unfoldable pub costs_on : Settings → List Cell → ℕ → ℕ → ℕ → ℕ × ℕ
+costs_on s cells l q e = let x = on_axis (cell_of cells (slice_index (payload_carriers s.mode l) q)) e in
+    (cost s.shape s.hierarchy x e false, cost s.shape s.hierarchy x e true)
+
+-- the costs of coded bit d: its cell is that of its payload place, its axis that of its place in the label
+abbrev pub costs_of_bit : Settings → List Cell → ℕ → Stream → ℕ → ℕ × ℕ
+costs_of_bit s cells l σ d = costs_on s cells l (payload_place s l σ d) (place_in_label s.shape s.hierarchy σ d)
+
+-- the cost pair of step t: the costs of its X and of its Y, each nothing where the bit is not sent
+pub record IsPairOf (s : Settings) (cells : List Cell) (l : ℕ) (σ : Stream) (t : ℕ) (c : CostPair) : Type 0 where
+  pub x : (c.x0, c.x1) ≡ costs_at (costs_of_bit s cells l σ) (number_of (rate s σ) X t)
+  pub y : (c.y0, c.y1) ≡ costs_at (costs_of_bit s cells l σ) (number_of (rate s σ) Y t)
+
+-- a list is continued by one pair for each step of a symbol
+pub record AppendsPairs (s : Settings) (cells : List Cell) (l : ℕ) (σ : Stream) (old new : List CostPair) : Type 0 where
+  pub pairs : List CostPair
+  pub long : length pairs ≡ need s σ
+  pub at : (t : ℕ) (d : CostPair) → t < need s σ → IsPairOf s cells l σ t (slice_index_or pairs t d)
+  pub is : new ≡ old ++ pairs

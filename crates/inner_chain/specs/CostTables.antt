@@ -1,0 +1,111 @@
+-- What the tables of the receiving side hold.
+use Rattle.std.specs.Prelude.{◌≡◌, ℕ, ◌+◌, ◌*◌, ◌/◌, ◌%◌, ◌<◌, ◌≤◌, ◌==◌, Bool, true, false, if◌then◌else◌, List, ◌++◌, ◌∷◌, [], length, Option, Some, None, slice_index, slice_index_or, ⊤}
+use Rattle.mode_set.specs.StreamTable.{payload, label_bits, carriers, need, rate}
+use Rattle.mode_set.specs.declared.modes.Mode.{Mode}
+use Rattle.mode_set.specs.declared.modes.Shape.{Shape}
+use Rattle.mode_set.specs.declared.modes.Hierarchy.{Hierarchy}
+use Rattle.mode_set.specs.declared.modes.Stream.{Stream}
+use Rattle.mode_set.specs.declared.modes.Stream.TheVariants.{Hp, Lp}
+use Rattle.mode_set.specs.declared.settings.Settings.{Settings}
+use Rattle.code_paths.specs.declared.costs.CostPair.{CostPair}
+use Rattle.puncture.specs.SentBits.{X, Y}
+use Rattle.puncture.specs.Steps.{number_of}
+use Rattle.bit_interleave.specs.Place.{place_in_label, word_of_bit}
+use Rattle.symbol_interleave.specs.Carried.{place_of_word}
+use Rattle.pilots.specs.Carriers.{payload_carriers}
+use Rattle.qam_map.specs.Points.{on_axis}
+use Rattle.soft_metric.specs.Costs.{cost}
+use Rattle.qam_map.specs.declared.cell.Cell.{Cell}
+use Rattle.soft_metric.specs.Squares.{IsSmallPair}
+use Rattle.inner_chain.specs.CostPairs.{costs_on}
+
+-- the number of the costs of a coded bit among those of all places of all labels, the last number for an unsent bit
+abbrev pub entry_at : Settings → Bool → Stream → Option ℕ → ℕ
+entry_at s odd σ None = payload s.mode * label_bits s.shape
+entry_at s odd σ (Some d) = place_of_word s.mode odd (word_of_bit s.shape s.hierarchy σ d) * label_bits s.shape + place_in_label s.shape s.hierarchy σ d
+
+abbrev pub IsSmallEntry : Settings → ℕ → Type 0
+IsSmallEntry s n = n ≤ payload s.mode * label_bits s.shape
+
+-- the place of a coded bit is one of the symbol's
+abbrev pub IsPlaced : Settings → Bool → Stream → Option ℕ → Type 0
+IsPlaced s odd σ None = ⊤
+IsPlaced s odd σ (Some d) = (place_of_word s.mode odd (word_of_bit s.shape s.hierarchy σ d) < payload s.mode) × (place_in_label s.shape s.hierarchy σ d < label_bits s.shape)
+
+abbrev pub count_of : Bool → ℕ
+count_of b = if b then 1 else 0
+
+-- the number of a step's Y, where that of its first sent bit is n
+abbrev pub second : Bool → ℕ → ℕ
+second x_goes n = if x_goes then n + 1 else n
+
+-- the entries of the X and the Y of the first n steps
+pub record AreCostEntries (s : Settings) (odd : Bool) (σ : Stream) (n : ℕ) (entries : List ℕ) : Type 0 where
+  pub long : length entries ≡ 2 * n
+  pub x : (t : ℕ) → t < n → slice_index entries (2 * t) ≡ entry_at s odd σ (number_of (rate s σ) X t)
+  pub y : (t : ℕ) → t < n → slice_index entries (2 * t + 1) ≡ entry_at s odd σ (number_of (rate s σ) Y t)
+  pub x_placed : (t : ℕ) → t < n → IsPlaced s odd σ (number_of (rate s σ) X t)
+  pub y_placed : (t : ℕ) → t < n → IsPlaced s odd σ (number_of (rate s σ) Y t)
+  pub small : (k : ℕ) → k < length entries → IsSmallEntry s (slice_index entries k)
+
+-- the payload carriers of the symbols 0 to 3
+pub record AreCarriers (m : Mode) (n : ℕ) (list : List ℕ) : Type 0 where
+  pub long : length list ≡ n
+  pub at : (k : ℕ) → k < n → slice_index list k ≡ slice_index (payload_carriers m (k / payload m)) (k % payload m)
+  pub within : (k : ℕ) → k < n → slice_index list k < carriers m
+
+-- a list is continued by the entries of an X and a Y with these numbers
+pub record AppendsTwo (s : Settings) (odd : Bool) (σ : Stream) (x y : Option ℕ) (old new : List ℕ) : Type 0 where
+  pub is : new ≡ old ++ entry_at s odd σ x ∷ entry_at s odd σ y ∷ []
+  pub x_small : IsSmallEntry s (entry_at s odd σ x)
+  pub y_small : IsSmallEntry s (entry_at s odd σ y)
+  pub x_placed : IsPlaced s odd σ x
+  pub y_placed : IsPlaced s odd σ y
+
+-- pair n of a list of cost pairs
+abbrev pub pair_at : List (ℕ × ℕ) → ℕ → ℕ × ℕ
+pair_at costs n = slice_index_or costs n (0, 0)
+
+-- the costs of all places of the labels on the first n payload places of symbol l, and nothing behind those of all
+pub record AreCosts (s : Settings) (cells : List Cell) (l n : ℕ) (costs : List (ℕ × ℕ)) : Type 0 where
+  pub at : (q e : ℕ) → q < n → e < label_bits s.shape → pair_at costs (q * label_bits s.shape + e) ≡ costs_on s cells l q e
+
+-- the room for them: its last pair is nothing, and no cost is above 4095
+pub record IsRoom (s : Settings) (costs : List (ℕ × ℕ)) : Type 0 where
+  pub long : length costs ≡ payload s.mode * label_bits s.shape + 1
+  pub last : pair_at costs (payload s.mode * label_bits s.shape) ≡ (0, 0)
+  pub small : (k : ℕ) → k < length costs → IsSmallPair (pair_at costs k)
+
+-- the costs of one cell are written from place `first` on: those of even places are in `re`, of odd ones in `im`
+pub record IsWritten (first count : ℕ) (re im old new : List (ℕ × ℕ)) : Type 0 where
+  pub long : length new ≡ length old
+  pub here : (e : ℕ) → e < count → pair_at new (first + e) ≡ (if e % 2 == 0 then pair_at re (e / 2) else pair_at im (e / 2))
+  pub below : (k : ℕ) → k < first → pair_at new k ≡ pair_at old k
+  pub above : (k : ℕ) → first + count ≤ k → pair_at new k ≡ pair_at old k
+
+-- a list is continued by cost pairs whose X and Y are the costs at two entries each
+pub record AppendsRead (costs : List (ℕ × ℕ)) (entries : List ℕ) (n : ℕ) (old new : List CostPair) : Type 0 where
+  pub pairs : List CostPair
+  pub long : length pairs ≡ n
+  pub x : (t : ℕ) (d : CostPair) → t < n → ((slice_index_or pairs t d).x0, (slice_index_or pairs t d).x1) ≡ pair_at costs (slice_index entries (2 * t))
+  pub y : (t : ℕ) (d : CostPair) → t < n → ((slice_index_or pairs t d).y0, (slice_index_or pairs t d).y1) ≡ pair_at costs (slice_index entries (2 * t + 1))
+  pub is : new ≡ old ++ pairs
+
+-- the costs of a cell of this constellation are written from place `first` on
+pub record HasCellCosts (c : Shape) (h : Hierarchy) (cell : Cell) (first : ℕ) (old new : List (ℕ × ℕ)) : Type 0 where
+  pub long : length new ≡ length old
+  pub here : (e : ℕ) → e < label_bits c → pair_at new (first + e) ≡ (cost c h (on_axis cell e) e false, cost c h (on_axis cell e) e true)
+  pub small : (e : ℕ) → e < label_bits c → IsSmallPair (pair_at new (first + e))
+  pub below : (k : ℕ) → k < first → pair_at new k ≡ pair_at old k
+  pub above : (k : ℕ) → first + label_bits c ≤ k → pair_at new k ≡ pair_at old k
+
+-- what the receiving side of a mode keeps
+pub record IsRx (m : Mode) (s : Settings) (metric : Shape × Hierarchy) (carrier_table hp_even hp_odd lp_even lp_odd : List ℕ) (costs : List (ℕ × ℕ)) : Type 0 where
+  pub mode : s.mode ≡ m
+  pub metric_is : metric ≡ (s.shape, s.hierarchy)
+  pub are_carriers : AreCarriers s.mode (4 * payload s.mode) carrier_table
+  pub hp_in_even : AreCostEntries s false Hp (need s Hp) hp_even
+  pub hp_in_odd : AreCostEntries s true Hp (need s Hp) hp_odd
+  pub lp_in_even : AreCostEntries s false Lp (need s Lp) lp_even
+  pub lp_in_odd : AreCostEntries s true Lp (need s Lp) lp_odd
+  pub room : IsRoom s costs

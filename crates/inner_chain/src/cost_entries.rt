@@ -1,0 +1,115 @@
+// Which costs of a symbol's cells are those of each step.
+ghost use Rattle.std.specs.Prelude.{◌≡◌, ◌+◌, ◌*◌, ◌<◌, ◌≤◌, ◌++◌, ◌∷◌, [], ℕ, IfOk, Some, None, if◌then◌else◌};
+ghost use Rattle.mode_set.specs.StreamTable.{coded, label_bits, need, payload};
+ghost use Rattle.puncture.specs.Steps.{has_x, has_y};
+ghost use Rattle.inner_chain.specs.CostTables.{AppendsTwo, AreCarriers, AreCostEntries, IsPlaced, IsSmallEntry, entry_at, count_of, second};
+
+use bit_interleave::place;
+use mode_set::{Carriers, Mode, Settings, Stream};
+use pilots::carrier;
+use puncture::{Sent, sent, steps_are_numbered};
+use std::alloc::{AllocError, Global};
+use symbol_interleave::Permutation;
+
+// The entry of an unsent bit: that behind the costs of all places.
+fn no_entry(settings: &Settings) -> u16
+    ensures is { result ≡ payload settings.now.mode * label_bits settings.now.shape }
+    ensures small { IsSmallEntry settings.now result }
+{
+    (settings.mode.payload() * settings.shape.label_bits() as u32) as u16
+}
+
+// The entry of a coded bit: its payload place times the bits of a label, and its place in the label.
+fn bit_entry<M: Carriers>(
+    settings: &Settings,
+    permutation: &Permutation<M>,
+    odd: bool,
+    stream: Stream,
+    bit: u32,
+) -> u16
+    requires mode { settings.now.mode ≡ M.MODE }
+    requires within { bit < coded settings.now stream }
+    ensures is { result ≡ entry_at settings.now odd stream (Some bit) }
+    ensures placed { IsPlaced settings.now odd stream (Some bit) }
+    ensures small { IsSmallEntry settings.now result }
+{
+    let (e, word) = place(settings.shape, settings.hierarchy, stream, bit);
+    let q = permutation.target(odd, word);
+    (q * settings.shape.label_bits() as u32 + e as u32) as u16
+}
+
+// Appends the entries of X and Y of a step whose first sent bit has the number `bit`, and answers
+// the number of the next step's first.
+fn push_step<M: Carriers>(
+    settings: &Settings,
+    permutation: &Permutation<M>,
+    odd: bool,
+    stream: Stream,
+    sent: Sent,
+    bit: u32,
+    to: &mut Vec<u16>,
+) -> Result<u32, AllocError>
+    requires mode { settings.now.mode ≡ M.MODE }
+    requires within { bit + count_of (has_x sent) + count_of (has_y sent) ≤ coded settings.now stream }
+    ensures next { IfOk result (λ next. next ≡ bit + count_of (has_x sent) + count_of (has_y sent)) }
+    ensures entries { IfOk result (λ _. AppendsTwo settings.now odd stream (if has_x sent then Some bit else None) (if has_y sent then Some (second (has_x sent) bit) else None) to.old.items to.new.items) }
+{
+    match sent {
+        Sent::Both => {
+            to.push(bit_entry(settings, permutation, odd, stream, bit))?;
+            to.push(bit_entry(settings, permutation, odd, stream, bit + 1))?;
+            Ok(bit + 2)
+        }
+        Sent::OnlyX => {
+            to.push(bit_entry(settings, permutation, odd, stream, bit))?;
+            to.push(no_entry(settings))?;
+            Ok(bit + 1)
+        }
+        Sent::OnlyY => {
+            to.push(no_entry(settings))?;
+            to.push(bit_entry(settings, permutation, odd, stream, bit))?;
+            Ok(bit + 1)
+        }
+    }
+}
+
+// The entries of all steps of a stream in the symbols of even or of odd number.
+pub(crate) fn cost_entries<M: Carriers>(
+    alloc: Global,
+    settings: &Settings,
+    permutation: &Permutation<M>,
+    odd: bool,
+    stream: Stream,
+) -> Result<Vec<u16>, AllocError>
+    requires { settings.now.mode ≡ M.MODE }
+    ensures { IfOk result (λ list. AreCostEntries settings.now odd stream (need settings.now stream) list.items) }
+{
+    steps_are_numbered();
+    let rate = settings.rate(stream);
+    let mut list = Vec::with_capacity(alloc, 2 * settings.need(stream) as usize)?;
+    let mut bit = 0;
+    for step in 0..settings.need(stream) {
+        bit = push_step(
+            settings,
+            permutation,
+            odd,
+            stream,
+            sent(rate, step as u64),
+            bit,
+            &mut list,
+        )?;
+    }
+    Ok(list)
+}
+
+// The payload carriers of the symbols 0 to 3, one symbol after another.
+pub(crate) fn carriers_of(alloc: Global, mode: Mode) -> Result<Vec<u16>, AllocError>
+    ensures { IfOk result (λ list. AreCarriers mode (4 * payload mode) list.items) }
+{
+    let payload = mode.payload();
+    let mut list = Vec::with_capacity(alloc, 4 * payload as usize)?;
+    for k in 0..4 * payload {
+        list.push(carrier(mode, (k / payload) as u8, k % payload) as u16)?;
+    }
+    Ok(list)
+}
