@@ -87,7 +87,7 @@ within_frame m s frame l word turned cells ready less =
       symbol = omega arith;
       word_is = ready.word_is;
       turned_is = ap (λ (b : Bool). xor b (get_or word l false)) ready.turned_is ∙ ap (is_turned word) next;
-      table = ready.table
+      table = ready.table;
     }
 
 -- the first symbol of the next frame

@@ -8,5 +8,4 @@ use mode_set::Settings;
 /// repeats after a super-frame.
 pub fn symbols_repeat(settings: &Settings, m: u64)
     ensures { (labels : ℕ → ℕ → Bool) → symbol_bytes settings.now m labels ≡ symbol_bytes settings.now (m % 272) labels }
-{
-}
+{}

@@ -8,6 +8,8 @@
 mod laws;
 mod symbol_in;
 mod symbol_out;
+#[cfg(test)]
+mod tests;
 
 pub use laws::symbols_repeat;
 pub use symbol_in::SymbolIn;

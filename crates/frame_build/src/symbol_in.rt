@@ -1,13 +1,12 @@
 // From bytes that were cut anywhere to the cells of symbols.
-ghost use Rattle.std.specs.Prelude.{◌≡◌, ℕ, ◌+◌, ◌*◌, ◌<◌, ◌≤◌, ◌++◌, ◌↔◌, [], ◌-◌, min, take, drop, length, IfOk, IsTrue};
+ghost use Rattle.std.specs.Prelude.{◌≡◌, ℕ, ◌+◌, ◌*◌, ◌≢◌, ◌≤◌, ◌++◌, ◌↔◌, [], ◌-◌, min, take, drop, length, IfOk, IsTrue};
 ghost use Rattle.frame_build.specs.Symbol.{cell_from, cells_from};
-
-use std::alloc::{AllocError, Global};
-use std::marker::{Model, PhantomData};
 
 use byteorder::{BigEndian, ByteOrder};
 use mode_set::Carriers;
 use qam_map::Cell;
+use std::alloc::{AllocError, Global};
+use std::marker::{Model, PhantomData};
 
 // The cell of four bytes.
 fn read_cell(bytes: &[u8], k: usize) -> Cell
@@ -70,7 +69,8 @@ impl<M: Carriers> SymbolIn<M> {
 
     /// The bytes of the current symbol taken so far.
     pub fn waiting(&self) -> u32
-        ensures { result ≡ length self.now }
+        ensures is { result ≡ length self.now }
+        ensures most { result ≤ 4 * M.K }
     {
         self.filled as u32
     }
@@ -85,7 +85,7 @@ impl<M: Carriers> SymbolIn<M> {
     /// Takes bytes from the front of the piece, as many as it has or the current symbol wants, and
     /// answers how many.
     pub fn take(&mut self, piece: &[u8]) -> usize
-        requires { length self.old < 4 * M.K }
+        requires { length self.old ≢ 4 * M.K }
         ensures count { result ≡ min (length piece.now) (4 * M.K - length self.old) }
         ensures taken { self.new ≡ self.old ++ take result piece.now }
     {
@@ -103,7 +103,8 @@ impl<M: Carriers> SymbolIn<M> {
     /// The cells of the whole symbol that waits.
     pub fn cells(&self) -> &[Cell]
         requires { length self.now ≡ 4 * M.K }
-        ensures { result.now ≡ cells_from self.now M.K }
+        ensures cells { result.now ≡ cells_from self.now M.K }
+        ensures count { length result.now ≡ M.K }
     {
         &self.cells
     }

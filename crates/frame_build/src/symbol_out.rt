@@ -5,12 +5,11 @@ ghost use Rattle.mode_set.specs.declared.settings.Settings.{Settings as TheSetti
 ghost use Rattle.frame_build.specs.Symbol.{bits_of, cell_at, cell_bytes, real, symbol_bytes};
 ghost use Rattle.frame_build.specs.State.{IsLabelTable};
 
-use std::marker::{Model, PhantomData};
-
 use byteorder::{BigEndian, ByteOrder};
 use mode_set::{Carriers, Settings, Shape};
 use pilots::{CarrierKind, kind, reference};
 use qam_map::{Cell, map};
+use std::marker::{Model, PhantomData};
 use tps_word::TpsWord;
 
 fn on_real_axis(value: i16, opposite: bool) -> Cell
@@ -148,6 +147,7 @@ impl<M: Carriers> SymbolOut<M> {
         requires small { (q : ℕ) → q < M.NMAX → get_or labels.now q 0 < 2 ^ label_bits self.old.settings.shape }
         requires spare { vec_len to.old + 4 * M.K ≤ vec_capacity to.old }
         ensures bytes { to.new.items ≡ to.old.items ++ symbol_bytes self.old.settings self.old.number (bits_of labels.now) }
+        ensures len { vec_len to.new ≡ vec_len to.old + 4 * M.K }
         ensures capacity { vec_capacity to.new ≡ vec_capacity to.old }
         ensures settings { self.new.settings ≡ self.old.settings }
         ensures number { self.new.number ≡ (self.old.number + 1) % 272 }

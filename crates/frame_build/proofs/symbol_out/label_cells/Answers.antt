@@ -10,5 +10,5 @@ loop-label-preserved c =
       long = length-set _ _ _ ∙ inv.long;
       table =
           below_more _ _ (λ k h. let ne : k ≢ c.loop-label.label = omega arith in rw get_or-set_other (inv.table k h))
-          (rw get_or-set_same c.map.ensures)
+          (rw get_or-set_same c.map.ensures);
     }

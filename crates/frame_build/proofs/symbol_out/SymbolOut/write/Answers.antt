@@ -27,7 +27,7 @@ loop-k-preserved g c =
           c.push_cell.ensures.bytes ∙ ap (λ (z : List ℕ). z ++ cell_bytes c.cell.result) inv.bytes ∙ append_assoc old (carrier_bytes s m labels k) (cell_bytes c.cell.result)
           ∙ ap (λ (z : Cell). old ++ (carrier_bytes s m labels k ++ cell_bytes z)) c.cell.ensures ∙ ap (λ (z : List ℕ). old ++ z) (sym (one_carrier s m labels k));
       long = omega (arith, c.push_cell.ensures.len, inv.long);
-      room = c.push_cell.ensures.capacity ∙ inv.room
+      room = c.push_cell.ensures.capacity ∙ inv.room;
     }
 
 pub returns-clause-bytes : goal.returns-clause-bytes
