@@ -1,9 +1,8 @@
 -- One digit more, and at the end all of them.
-use Rattle.std.proofs.Common.{◌≡◌, ℕ, ◌+◌, ◌-◌, ◌≤◌, ◌++◌, take, length, arith, ap, ◌∙◌, sym, List, Bool}
+use Rattle.std.proofs.Common.{◌≡◌, ℕ, ◌+◌, ◌++◌, take, arith, ap, ◌∙◌, sym, List, Bool}
 use Rattle.std.specs.Prelude.{◌==◌}
 use Rattle.std.proofs.lemmas.Nat.{and_mask}
 use Rattle.std.proofs.lemmas.List.{take_all}
-use Rattle.spec_words.specs.Bits.{spelled}
 use Rattle.tps_word.proofs.Spelling.{put_digit, length-spelled}
 use Rattle.tps_word.proofs.fields.put_number.Goals as goal
 

@@ -1,5 +1,5 @@
 -- A word has one reading.
-use Rattle.std.proofs.Common.{◌≡◌, refl, ap, sym}
+use Rattle.std.proofs.Common.{◌≡◌, refl, ap}
 use Rattle.std.specs.Prelude.{Option, Some, None}
 use Rattle.tps_word.specs.declared.word.TpsWord.{TpsWord}
 use Rattle.tps_word.specs.Tps.{IsValid, ReadsAs, tps_word}

@@ -1,5 +1,5 @@
 -- No sum wraps.
-use Rattle.std.proofs.Common.{◌≡◌, ℤ, ◌+ℤ◌, ◌*ℤ◌, ◌∙◌, ap, arith, FitsSigned, w16, w32, w64, to_z, of_z}
+use Rattle.std.proofs.Common.{arith}
 use Rattle.std.proofs.lemmas.Int.{ints, to_z-of_z}
 use Rattle.tps_word.proofs.votes.correlation.Goals as goal
 

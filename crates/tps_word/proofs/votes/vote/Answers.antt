@@ -1,8 +1,7 @@
 -- Product after product is summed up.
-use Rattle.std.proofs.Common.{◌≡◌, ℕ, ◌+◌, ℤ, ◌+ℤ◌, pos, ap, sym, subst, ◌∙◌, arith, FitsSigned, w64, to_z, of_z, drop, length, length-drop, List}
+use Rattle.std.proofs.Common.{◌≡◌, ◌+◌, ℤ, ◌+ℤ◌, pos, ap, sym, subst, ◌∙◌, arith, FitsSigned, w64, to_z, of_z, drop, length-drop}
 use Rattle.std.specs.Prelude.{int_lt}
 use Rattle.std.proofs.lemmas.Int.{ints, to_z-of_z}
-use Rattle.qam_map.specs.declared.cell.Cell.{Cell}
 use Rattle.tps_word.specs.Vote.{agreement, vote}
 use Rattle.tps_word.proofs.Agreements.{one_more, none_left}
 use Rattle.tps_word.proofs.votes.vote.Invariants.{Sums}

@@ -1,5 +1,5 @@
 -- Field after field stands behind the ones before.
-use Rattle.std.proofs.Common.{◌≡◌, ℕ, arith, List, Bool, ap, ◌∙◌, ◌++◌, ◌-◌, take, length, refl}
+use Rattle.std.proofs.Common.{◌≡◌, arith, List, Bool, ◌∙◌, ◌++◌, ◌-◌, take, refl}
 use Rattle.std.specs.Prelude.{codes}
 use Rattle.spec_words.specs.Bits.{spelled, digits}
 use Rattle.tps_word.specs.Tps.{sync_word, length_bits, shape_bits, hierarchy_bits, rate_bits, guard_bits, mode_bits, tps_info}

@@ -1,5 +1,5 @@
 -- The fields are those of the bits where they give them back.
-use Rattle.std.proofs.Common.{◌≡◌, refl, sym, ap, ◌∙◌, List, Bool, true, false}
+use Rattle.std.proofs.Common.{◌≡◌, refl, sym, ap, ◌∙◌, true, false}
 use Rattle.tps_word.specs.Tps.{tps_word}
 use Rattle.tps_word.proofs.Places.{inside}
 use Rattle.tps_word.proofs.Agreements.{equal, same_as_itself, differ}

@@ -1,5 +1,5 @@
 -- The bits and their parity.
-use Rattle.std.proofs.Common.{◌≡◌, List, Bool, ap, ◌∙◌}
+use Rattle.std.proofs.Common.{ap, ◌∙◌}
 use Rattle.tps_bch.specs.Bch.{tps_parity}
 use Rattle.tps_word.specs.Tps.{tps_info, tps_word}
 use Rattle.tps_word.proofs.Places.{two_parts}

@@ -1,0 +1,8 @@
+-- The cells so far are read.
+use Rattle.std.proofs.Common.{◌≡◌, ℕ, ◌<◌, List, length, get_or, pos}
+use Rattle.qam_map.specs.declared.cell.Cell.{Cell}
+use Rattle.frame_build.specs.Symbol.{cell_from}
+use Rattle.frame_build.proofs.symbol_in.read_cells.Given as goal
+
+abbrev pub invariant-loop-k : goal.invariant-loop-k
+invariant-loop-k l = (j : ℕ) → j < l.k → get_or l.cells j (record { re = pos 0; im = pos 0 }) ≡ cell_from l.bytes j

@@ -1,0 +1,61 @@
+-- The cells of an OFDM symbol, and their bytes (EN 300 744, 4.4 to 4.6; the bytes are this project's own).
+use Rattle.std.specs.Prelude.{ℕ, zero, suc, ◌+◌, ◌*◌, ◌/◌, ◌%◌, Bool, if◌then◌else◌, List, ◌++◌, map, flat_map, drop, pos, neg_ℤ}
+use Rattle.std.specs.Int.{cast_unsigned, cast_signed, w16}
+use Rattle.std.specs.Prelude.{get_or}
+use Rattle.byteorder.specs.Endian.{big_bytes, big_number}
+use Rattle.spec_words.specs.Bits.{bit, xor, is_set}
+use Rattle.spec_words.specs.Words.{numbers}
+use Rattle.mode_set.specs.StreamTable.{carriers}
+use Rattle.mode_set.specs.declared.modes.Mode.{Mode}
+use Rattle.mode_set.specs.declared.settings.Settings.{Settings}
+use Rattle.pilots.specs.declared.carrier_kind.CarrierKind.{CarrierKind}
+use Rattle.pilots.specs.declared.carrier_kind.CarrierKind.TheVariants.{Continual, Scattered, Tps, Payload}
+use Rattle.pilots.specs.Carriers.{kind}
+use Rattle.pilots.specs.Reference.{reference}
+use Rattle.qam_map.specs.declared.cell.Cell.{Cell}
+use Rattle.qam_map.specs.Points.{map_cell}
+use Rattle.tps_word.specs.Tps.{tps_word, signalled}
+
+-- a value on the real axis, or its opposite
+abbrev pub real : ℕ → Bool → Cell
+real n opposite = record { re = if opposite then neg_ℤ (pos n) else pos n; im = pos 0 }
+
+-- whether the TPS cells of carrier k are negative in symbol l of a frame: by the reference sequence in symbol 0, then as in the symbol before where s_l is 0, the opposite where it is 1 (4.6.3)
+unfoldable pub tps_sign : List Bool → ℕ → ℕ → Bool
+tps_sign word k zero = reference k
+tps_sign word k (suc l) = xor (tps_sign word k l) (bit word l)
+
+-- the frame of symbol m, 1 to 4
+abbrev pub frame_of : ℕ → ℕ
+frame_of m = m / 68 % 4 + 1
+
+-- the cell of carrier k in symbol m, by what the carrier is for: 4 / 3 of the mean power for pilots, the mean power for TPS cells
+unfoldable pub cell_of_kind : Settings → ℕ → (ℕ → ℕ → Bool) → ℕ → CarrierKind → Cell
+cell_of_kind s m labels k Continual = real 21845 (reference k)
+cell_of_kind s m labels k Scattered = real 21845 (reference k)
+cell_of_kind s m labels k Tps = real 16384 (tps_sign (tps_word (signalled s (frame_of m))) k (m % 68))
+cell_of_kind s m labels k (Payload q) = map_cell s.shape s.hierarchy (labels q)
+
+-- the cell of carrier k in symbol m of a transmission, from the symbol's labels: labels q e is bit e of the label on payload place q
+unfoldable pub cell_at : Settings → ℕ → (ℕ → ℕ → Bool) → ℕ → Cell
+cell_at s m labels k = cell_of_kind s m labels k (kind s.mode (m % 68) k)
+
+-- both parts of a cell, the real one first, the high byte first
+unfoldable pub cell_bytes : Cell → List ℕ
+cell_bytes c = big_bytes 2 (cast_unsigned w16 c.re) ++ big_bytes 2 (cast_unsigned w16 c.im)
+
+-- the bytes of symbol m, carriers rising
+unfoldable pub symbol_bytes : Settings → ℕ → (ℕ → ℕ → Bool) → List ℕ
+symbol_bytes s m labels = flat_map (λ k. cell_bytes (cell_at s m labels k)) (numbers (carriers s.mode))
+
+-- the labels of a list: bit e of number q
+abbrev pub bits_of : List ℕ → ℕ → ℕ → Bool
+bits_of labels q = is_set (get_or labels q 0)
+
+-- cell k of bytes
+unfoldable pub cell_from : List ℕ → ℕ → Cell
+cell_from bytes k = record { re = cast_signed w16 (big_number 2 (drop (4 * k) bytes)); im = cast_signed w16 (big_number 2 (drop (4 * k + 2) bytes)) }
+
+-- the first n cells of bytes
+unfoldable pub cells_from : List ℕ → ℕ → List Cell
+cells_from bytes n = map (cell_from bytes) (numbers n)

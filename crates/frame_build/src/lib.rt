@@ -1,0 +1,16 @@
+//! The cells of OFDM symbols: from labels to a symbol's bytes, with its pilots and TPS cells, and from
+//! bytes that were cut anywhere back to cells.
+//!
+//! EN 300 744, 4.4 to 4.6. A cell is written as its real and then its imaginary part, 16 bits each in
+//! two's complement, the high byte first.
+#![tactic(auto)]
+
+mod laws;
+mod symbol_in;
+mod symbol_out;
+#[cfg(test)]
+mod tests;
+
+pub use laws::symbols_repeat;
+pub use symbol_in::SymbolIn;
+pub use symbol_out::SymbolOut;

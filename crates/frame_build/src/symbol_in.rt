@@ -1,0 +1,119 @@
+// From bytes that were cut anywhere to the cells of symbols.
+ghost use Rattle.std.specs.Prelude.{◌≡◌, ℕ, ◌+◌, ◌*◌, ◌≢◌, ◌≤◌, ◌++◌, ◌↔◌, [], ◌-◌, min, take, drop, length, IfOk, IsTrue};
+ghost use Rattle.frame_build.specs.Symbol.{cell_from, cells_from};
+
+use byteorder::{BigEndian, ByteOrder};
+use mode_set::Carriers;
+use qam_map::Cell;
+use std::alloc::{AllocError, Global};
+use std::marker::{Model, PhantomData};
+
+// The cell of four bytes.
+fn read_cell(bytes: &[u8], k: usize) -> Cell
+    requires { 4 * k + 4 ≤ length bytes.now }
+    ensures { result ≡ cell_from bytes.now k }
+{
+    Cell {
+        re: BigEndian::read_i16(&bytes[4 * k..]),
+        im: BigEndian::read_i16(&bytes[4 * k + 2..]),
+    }
+}
+
+fn read_cells(bytes: &[u8], cells: &mut [Cell])
+    requires { length bytes.now ≡ 4 * length cells.old }
+    ensures { cells.new ≡ cells_from bytes.now (length cells.old) }
+{
+    for (k, cell) in cells.iter_mut().enumerate() {
+        *cell = read_cell(bytes, k);
+    }
+}
+
+/// Takes bytes, cut anywhere, as the cells of symbol after symbol.
+///
+/// It is seen as the bytes of the current symbol that were taken so far.
+#[derive(Drop)]
+pub struct SymbolIn<M: Carriers> {
+    // The bytes of the current symbol, of which the first `filled` were taken, and its cells once it
+    // is whole.
+    bytes: Vec<u8>,
+    filled: usize,
+    cells: Vec<Cell>,
+    of: PhantomData<M>,
+}
+
+impl<M: Carriers> Model for SymbolIn<M> {
+    ghost use Rattle.std.specs.Prelude.{List, ℕ, take};
+    ghost use Rattle.frame_build.specs.State.{IsTaking};
+
+    ghost Value = { List ℕ };
+
+    ghost view = { λ i. take i.filled i.bytes.items };
+
+    ghost invariant = { λ i. IsTaking M.K i.filled i.bytes.items i.cells.items };
+}
+
+impl<M: Carriers> SymbolIn<M> {
+    /// No byte was taken yet. It takes all its memory.
+    pub fn new(alloc: Global) -> Result<Self, AllocError>
+        ensures { IfOk result (λ symbol. symbol ≡ []) }
+    {
+        let bytes = vec![in alloc; 0u8; 4 * M::K as usize]?;
+        let cells = vec![in alloc; Cell { re: 0, im: 0 }; M::K as usize]?;
+        Ok(SymbolIn {
+            bytes,
+            filled: 0,
+            cells,
+            of: PhantomData,
+        })
+    }
+
+    /// The bytes of the current symbol taken so far.
+    pub fn waiting(&self) -> u32
+        ensures is { result ≡ length self.now }
+        ensures most { result ≤ 4 * M.K }
+    {
+        self.filled as u32
+    }
+
+    /// Whether a whole symbol waits.
+    pub fn whole(&self) -> bool
+        ensures { IsTrue result ↔ (length self.now ≡ 4 * M.K) }
+    {
+        self.filled == self.bytes.len()
+    }
+
+    /// Takes bytes from the front of the piece, as many as it has or the current symbol wants, and
+    /// answers how many.
+    pub fn take(&mut self, piece: &[u8]) -> usize
+        requires { length self.old ≢ 4 * M.K }
+        ensures count { result ≡ min (length piece.now) (4 * M.K - length self.old) }
+        ensures taken { self.new ≡ self.old ++ take result piece.now }
+    {
+        let missing = self.bytes.len() - self.filled;
+        let count = piece.len().min(missing);
+        let end = self.filled + count;
+        self.bytes[self.filled..end].copy_from_slice(&piece[..count]);
+        self.filled = end;
+        if count == missing {
+            read_cells(&self.bytes, &mut self.cells);
+        }
+        count
+    }
+
+    /// The cells of the whole symbol that waits.
+    pub fn cells(&self) -> &[Cell]
+        requires { length self.now ≡ 4 * M.K }
+        ensures cells { result.now ≡ cells_from self.now M.K }
+        ensures count { length result.now ≡ M.K }
+    {
+        &self.cells
+    }
+
+    /// Passes on to the following symbol, of which no byte was taken yet.
+    pub fn next(&mut self)
+        requires { length self.old ≡ 4 * M.K }
+        ensures { self.new ≡ [] }
+    {
+        self.filled = 0;
+    }
+}

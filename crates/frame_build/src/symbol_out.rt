@@ -1,0 +1,160 @@
+// From labels to the bytes of a symbol.
+ghost use Rattle.std.specs.Prelude.{◌≡◌, ℕ, ◌+◌, ◌-◌, ◌*◌, ◌/◌, ◌%◌, ◌^◌, ◌<◌, ◌≤◌, ◌++◌, ◌⊎◌, pos, get_or, length, vec_len, vec_capacity};
+ghost use Rattle.mode_set.specs.StreamTable.{carriers, payload, label_bits};
+ghost use Rattle.mode_set.specs.declared.settings.Settings.{Settings as TheSettings};
+ghost use Rattle.frame_build.specs.Symbol.{bits_of, cell_at, cell_bytes, real, symbol_bytes};
+ghost use Rattle.frame_build.specs.State.{IsLabelTable};
+
+use byteorder::{BigEndian, ByteOrder};
+use mode_set::{Carriers, Settings, Shape};
+use pilots::{CarrierKind, kind, reference};
+use qam_map::{Cell, map};
+use std::marker::{Model, PhantomData};
+use tps_word::TpsWord;
+
+fn on_real_axis(value: i16, opposite: bool) -> Cell
+    requires { value ≡ pos 21845 ⊎ value ≡ pos 16384 }
+    ensures { (n : ℕ) → value ≡ pos n → result ≡ real n opposite }
+{
+    Cell {
+        re: if opposite { -value } else { value },
+        im: 0,
+    }
+}
+
+// Appends a cell, whose four bytes fit the spare.
+#[tactic(auto, unfolding(crate::specs::Symbol::cell_bytes))]
+fn push_cell(cell: Cell, to: &mut Vec<u8>)
+    requires { vec_len to.old + 4 ≤ vec_capacity to.old }
+    ensures bytes { to.new.items ≡ to.old.items ++ cell_bytes cell }
+    ensures len { vec_len to.new ≡ vec_len to.old + 4 }
+    ensures capacity { vec_capacity to.new ≡ vec_capacity to.old }
+{
+    let mut bytes = [0; 4];
+    BigEndian::write_i16(&mut bytes, cell.re);
+    BigEndian::write_i16(&mut bytes[2..], cell.im);
+    to.push_reserved(bytes[0]);
+    to.push_reserved(bytes[1]);
+    to.push_reserved(bytes[2]);
+    to.push_reserved(bytes[3]);
+}
+
+fn label_count(shape: Shape) -> u8
+    ensures count { result ≡ 2 ^ label_bits shape }
+    ensures few { result ≤ 64 }
+{
+    match shape {
+        Shape::Qpsk => 4,
+        Shape::Qam16 => 16,
+        Shape::Qam64 => 64,
+    }
+}
+
+// The cells of all labels of a constellation, by label.
+fn label_cells(settings: &Settings) -> [Cell; 64]
+    ensures { IsLabelTable settings.now result (2 ^ label_bits settings.now.shape) }
+{
+    let mut cells = [Cell { re: 0, im: 0 }; 64];
+    for label in 0..label_count(settings.shape) {
+        cells[label as usize] = map(settings.shape, settings.hierarchy, label);
+    }
+    cells
+}
+
+/// Builds the symbols of a transmission one after another: labels on the payload carriers, pilots and
+/// TPS cells on the others (EN 300 744, 4.4 to 4.6).
+///
+/// It is seen as its settings and the number of the next symbol in its super-frame of 272 symbols,
+/// which has four frames of 68.
+#[derive(Drop)]
+pub struct SymbolOut<M: Carriers> {
+    settings: Settings,
+    // The frame, 1 to 4, and the symbol in it.
+    frame: u8,
+    symbol: u8,
+    word: [bool; 67],
+    // Whether the TPS bits so far turn the sign of the TPS cells.
+    turned: bool,
+    cells: [Cell; 64],
+    of: PhantomData<M>,
+}
+
+impl<M: Carriers> Model for SymbolOut<M> {
+    ghost use Rattle.std.specs.Prelude.{◌+◌, ◌-◌, ◌*◌};
+    ghost use Rattle.frame_build.specs.State.{IsReady, NextSymbol};
+
+    ghost Value = { NextSymbol };
+
+    ghost view = { λ o. record { settings = o.settings; number = 68 * (o.frame - 1) + o.symbol } };
+
+    ghost invariant = { λ o. IsReady M.MODE o.settings o.frame o.symbol o.word o.turned o.cells };
+}
+
+impl<M: Carriers> SymbolOut<M> {
+    /// The builder before the first symbol of a super-frame.
+    pub fn new(settings: &Settings) -> Self
+        requires { settings.now.mode ≡ M.MODE }
+        ensures settings { result.settings ≡ settings.now }
+        ensures first { result.number ≡ 0 }
+    {
+        SymbolOut {
+            settings: *settings,
+            frame: 1,
+            symbol: 0,
+            word: TpsWord::signalled(settings, 1).write(),
+            turned: false,
+            cells: label_cells(settings),
+            of: PhantomData,
+        }
+    }
+
+    // The cell of a carrier in the next symbol.
+    fn cell(&self, labels: &[u8], k: u32) -> Cell
+        requires carrier { k < M.K }
+        requires count { length labels.now ≡ M.NMAX }
+        requires small { (q : ℕ) → q < M.NMAX → get_or labels.now q 0 < 2 ^ label_bits self.now.settings.shape }
+        ensures { result ≡ cell_at self.now.settings self.now.number (bits_of labels.now) k }
+    {
+        match kind(M::MODE, self.symbol, k) {
+            CarrierKind::Continual => on_real_axis(21845, reference(k)),
+            CarrierKind::Scattered => on_real_axis(21845, reference(k)),
+            CarrierKind::Tps => on_real_axis(16384, self.turned ^ reference(k)),
+            CarrierKind::Payload(q) => self.cells[labels[q as usize] as usize],
+        }
+    }
+
+    // Goes on to the following symbol.
+    fn advance(&mut self)
+        ensures mode { self.old.settings.mode ≡ M.MODE }
+        ensures settings { self.new.settings ≡ self.old.settings }
+        ensures number { self.new.number ≡ (self.old.number + 1) % 272 }
+    {
+        if self.symbol < 67 {
+            self.turned ^= self.word[self.symbol as usize];
+            self.symbol += 1;
+            return;
+        }
+        self.frame = self.frame % 4 + 1;
+        self.symbol = 0;
+        self.turned = false;
+        self.word = TpsWord::signalled(&self.settings, self.frame).write();
+    }
+
+    /// Appends the next symbol, whose payload carriers carry the labels in rising order: bit e of a
+    /// label is y_e of EN 300 744, 4.3.5. The spare of `to` has room for the four bytes of each carrier.
+    pub fn write(&mut self, labels: &[u8], to: &mut Vec<u8>)
+        requires count { length labels.now ≡ M.NMAX }
+        requires small { (q : ℕ) → q < M.NMAX → get_or labels.now q 0 < 2 ^ label_bits self.old.settings.shape }
+        requires spare { vec_len to.old + 4 * M.K ≤ vec_capacity to.old }
+        ensures bytes { to.new.items ≡ to.old.items ++ symbol_bytes self.old.settings self.old.number (bits_of labels.now) }
+        ensures len { vec_len to.new ≡ vec_len to.old + 4 * M.K }
+        ensures capacity { vec_capacity to.new ≡ vec_capacity to.old }
+        ensures settings { self.new.settings ≡ self.old.settings }
+        ensures number { self.new.number ≡ (self.old.number + 1) % 272 }
+    {
+        for k in 0..M::K {
+            push_cell(self.cell(labels, k), to);
+        }
+        self.advance();
+    }
+}
