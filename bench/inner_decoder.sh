@@ -1,0 +1,182 @@
+#!/usr/bin/env bash
+# Times the inner decoder with a path memory of 2048 steps over decision words: the plain step and the one in lanes, on clean
+# and on noisy costs of the rate 1/2 code. Makes a scratch repository of the crates, proves and builds a program there, and
+# runs it. Prints picoseconds a decoded bit, of the fastest of many symbols of 30,000 steps.
+# usage: bench/inner_decoder.sh [FOLDER] [flags of rt run, as --cpu x86-64-v3]
+set -eu
+top=$(cd "$(dirname "$0")/.." && pwd)
+to=${1:-$(mktemp -d)}
+[ $# -gt 0 ] && shift
+mkdir -p "$to/crates/bench_inner"
+for crate in spec_words code_paths conv_code bit_pack acs_plain acs_lanes survivor_ring inner_decoder; do
+  mkdir -p "$to/crates/$crate"
+  for part in src specs proofs; do
+    rm -rf "$to/crates/$crate/$part"
+    [ -d "$top/crates/$crate/$part" ] && cp -r "$top/crates/$crate/$part" "$to/crates/$crate/"
+  done
+done
+cp "$top/HANDLES" "$to/"
+grep -E '^(spec_words|code_paths|conv_code|bit_pack|acs_plain|acs_lanes|survivor_ring|inner_decoder):' "$top/crates.txt" > "$to/crates.txt"
+echo 'bench_inner: acs_plain acs_lanes survivor_ring conv_code code_paths bit_pack inner_decoder spec_words anyhow' >> "$to/crates.txt"
+cd "$to/crates/bench_inner"
+mkdir -p src proofs/load proofs/drain proofs/run
+cat > src/main.rt <<'END'
+// Times the inner decoder.
+#![tactic(auto)]
+
+ghost use Rattle.std.specs.Prelude.{◌≡◌, ◌+◌, ◌*◌, ◌<◌, ◌≤◌, ◌^◌, ℕ, false, [], length, OnSome, OnOk};
+
+use acs_lanes::LaneAcs;
+use acs_plain::{Acs, PlainAcs};
+use conv_code::{CostPair, Encoder};
+use inner_decoder::{Branch, StartState};
+use std::time::Instant;
+use survivor_ring::{RingSurvivors, Survivors};
+
+/// A step of a register for random numbers.
+fn next(x: u64) -> u64 {
+    let y = x ^ x << 13;
+    let z = y ^ y >> 7;
+    z ^ z << 17
+}
+
+/// The costs of a bit: far apart, or close together and now and then the wrong way.
+fn cost(bit: bool, noise: u64, is_noisy: bool) -> (u16, u16)
+    ensures { (result.0 < 4000) × (result.1 < 4000) }
+{
+    let wrong = is_noisy && noise & 15 == 0;
+    let far = if is_noisy { 40 + (noise >> 4 & 255) as u16 } else { 400 };
+    let near = if is_noisy { (noise >> 12 & 63) as u16 } else { 0 };
+    if bit != wrong { (far, near) } else { (near, far) }
+}
+
+/// Loads a symbol.
+fn fill(pairs: &mut [CostPair], encoder: &mut Encoder, seed: u64, is_noisy: bool) -> u64 {
+    let mut x = seed;
+    for pair in pairs.iter_mut() {
+        x = next(x);
+        let (a, b) = encoder.step(x & 1 == 1);
+        let (x0, x1) = cost(a, x >> 1, is_noisy);
+        let (y0, y1) = cost(b, x >> 31, is_noisy);
+        *pair = CostPair { x0, x1, y0, y1 };
+    }
+    x
+}
+
+fn load<A: Acs, V: Survivors<2048>>(branch: &mut Branch<A, V>, pairs: &[CostPair])
+    requires going { branch.old.decoder.ended ≡ false }
+    requires few { length branch.old.loaded + length pairs.now ≤ branch.old.most }
+    ensures going { branch.new.decoder ≡ branch.old.decoder }
+    ensures most { branch.new.most ≡ branch.old.most }
+    ensures wait { branch.new.wait ≡ branch.old.wait }
+    ensures loaded { length branch.new.loaded ≡ length branch.old.loaded + length pairs.now }
+{
+    for k in 0..pairs.len() {
+        branch.load(pairs[k]);
+    }
+}
+
+fn drain<A: Acs, V: Survivors<2048>>(branch: &mut Branch<A, V>) -> u64
+    ensures going { branch.new.decoder ≡ branch.old.decoder }
+    ensures most { branch.new.most ≡ branch.old.most }
+    ensures loaded { branch.new.loaded ≡ branch.old.loaded }
+{
+    let mut sum = 0u64;
+    for _k in 0..6000u32 {
+        if let Some(byte) = branch.take_byte() {
+            sum = sum.wrapping_mul(31).wrapping_add(byte as u64);
+        } else {
+            return sum;
+        }
+    }
+    sum
+}
+
+fn symbol<A: Acs, V: Survivors<2048>>(branch: &mut Branch<A, V>, pairs: &[CostPair]) -> u64
+    requires few { length pairs.now ≤ 30000 }
+    requires most { branch.old.most ≡ 30000 }
+    requires loaded { branch.old.loaded ≡ [] }
+    requires going { branch.old.decoder.ended ≡ false }
+    requires steps { branch.old.decoder.steps < 2 ^ 60 }
+    ensures most { branch.new.most ≡ 30000 }
+    ensures loaded { branch.new.loaded ≡ [] }
+    ensures going { branch.new.decoder.ended ≡ false }
+    ensures steps { branch.new.decoder.steps ≤ branch.old.decoder.steps + 30000 }
+{
+    if branch.waiting() >= 8 {
+        return 1;
+    }
+    load(branch, pairs);
+    branch.run_symbol();
+    drain(branch)
+}
+
+/// The least time that a symbol of these pairs takes, in nanoseconds, of so many symbols.
+fn run<A: Acs, V: Survivors<2048>>(
+    rt: &HostRuntime,
+    pairs: &[CostPair],
+    times: u32,
+) -> anyhow::Result<u64>
+    requires few { length pairs.now ≤ 30000 }
+{
+    let mut branch: Branch<A, V> = Branch::new(rt.alloc(), StartState::Any, 30000)?;
+    let mut sum = 0u64;
+    let mut least = u64::MAX;
+    for _k in 0..times {
+        let begun = Instant::now(rt)?;
+        sum = sum.wrapping_mul(3).wrapping_add(symbol(&mut branch, pairs));
+        let spent = begun.elapsed(rt)?.as_nanos();
+        if spent < 1_000_000_000_000 {
+            least = least.min(spent as u64);
+        }
+    }
+    println!(rt; "sum {sum}")?;
+    Ok(least)
+}
+
+fn main(rt: HostRuntime) -> anyhow::Result<()> {
+    let none = CostPair {
+        x0: 0,
+        x1: 0,
+        y0: 0,
+        y1: 0,
+    };
+    let mut pairs = vec![in rt.alloc(); none; 30000]?;
+    for is_noisy in [false, true] {
+        let mut encoder = Encoder::start();
+        fill(&mut pairs, &mut encoder, 88172645463325252, is_noisy);
+        if pairs.len() <= 30000 {
+            let plain = run::<PlainAcs, RingSurvivors<2048>>(&rt, &pairs, 20)?;
+            let lanes = run::<LaneAcs, RingSurvivors<2048>>(&rt, &pairs, 400)?;
+            println!(rt; "noisy {is_noisy}: plain {} ps a bit, lanes {} ps a bit, ratio {}", plain / 30, lanes / 30, plain / lanes.max(1))?;
+        }
+    }
+    Ok(())
+}
+END
+cat > proofs/load/Invariants.antt <<'END'
+use Rattle.std.proofs.Common.{◌≡◌, ◌+◌, length}
+use Rattle.bench_inner.proofs.load.Given as goal
+
+abbrev pub invariant-loop-k : goal.invariant-loop-k
+invariant-loop-k g l = (l.branch.decoder ≡ l.initial.branch.decoder) × (l.branch.most ≡ l.initial.branch.most) × (l.branch.wait ≡ l.initial.branch.wait) × (length l.branch.loaded ≡ length l.initial.branch.loaded + l.k)
+END
+cat > proofs/drain/Invariants.antt <<'END'
+use Rattle.std.proofs.Common.{◌≡◌, ◌+◌, length}
+use Rattle.bench_inner.proofs.drain.Given as goal
+
+abbrev pub invariant-loop-k : goal.invariant-loop-k
+invariant-loop-k g l = (l.branch.decoder ≡ l.initial.branch.decoder) × (l.branch.most ≡ l.initial.branch.most) × (l.branch.loaded ≡ l.initial.branch.loaded)
+END
+cat > proofs/run/Invariants.antt <<'END'
+use Rattle.std.proofs.Common.{◌≡◌, ◌+◌, ◌*◌, ◌≤◌, length, []}
+use Rattle.std.specs.Prelude.{false}
+use Rattle.bench_inner.proofs.run.Given as goal
+
+abbrev pub invariant-loop-k : goal.invariant-loop-k
+invariant-loop-k g l = (l.branch.most ≡ 30000) × (l.branch.loaded ≡ []) × (l.branch.decoder.ended ≡ false) × (l.branch.decoder.steps ≤ 30000 * l._k)
+END
+cat > proofs/Lib.antt <<'END'
+
+END
+rt run "$@" 2>&1 | grep -E '^(noisy|sum)|error|no proof|not-proved' 
