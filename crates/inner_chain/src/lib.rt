@@ -7,6 +7,7 @@ mod cost_entries;
 mod cost_pairs;
 mod entries;
 mod gather;
+pub mod laws;
 mod parities;
 mod rx;
 mod sent_parity;
