@@ -1,19 +1,17 @@
 -- The entries of the receiving side.
-use Rattle.std.proofs.Common.{◌≡◌, ℕ, zero, suc, ◌+◌, ◌-◌, ◌*◌, ◌/◌, ◌%◌, ◌<◌, ◌≤◌, ◌⊎◌, inl, inr, Bool, true, false, cond, List, [], ◌∷◌, ◌++◌, append_assoc, length, refl, sym, ap, ◌∙◌, subst, arith}
-use Rattle.std.specs.Prelude.{slice_index, Option, Some, None, count_by, nat_le}
+use Rattle.std.proofs.Common.{◌≡◌, ℕ, zero, suc, ◌+◌, ◌-◌, ◌*◌, ◌/◌, ◌%◌, ◌<◌, ◌≤◌, ◌⊎◌, inl, inr, Bool, true, false, cond, List, [], ◌∷◌, length, refl, sym, ap, ◌∙◌, subst, arith}
+use Rattle.std.specs.Prelude.{slice_index, Some, None, count_by, nat_le}
 use Rattle.std.proofs.lemmas.Bool.{cases_lt}
-use Rattle.std.proofs.lemmas.List.{get_or_append_left, get_or-append_right, length-append, get_or_push, length_push}
-use Rattle.mode_set.specs.StreamTable.{payload, label_bits, carriers, coded, need, rate, steps_in_period, sent_in_period}
-use Rattle.mode_set.specs.declared.modes.Mode.{Mode}
+use Rattle.std.proofs.lemmas.List.{get_or_append_left, get_or-append_right, length-append}
+use Rattle.mode_set.specs.StreamTable.{coded, need, rate, steps_in_period, sent_in_period}
 use Rattle.mode_set.specs.declared.modes.Rate.{Rate}
 use Rattle.mode_set.specs.declared.modes.Rate.TheVariants.{R1of2, R2of3, R3of4, R5of6, R7of8}
 use Rattle.mode_set.specs.declared.modes.Stream.{Stream}
 use Rattle.mode_set.specs.declared.settings.Settings.{Settings}
 use Rattle.puncture.specs.SentBits.{X, Y, sent}
 use Rattle.puncture.specs.Steps.{is_sent, number_of, sent_before, step_in_period}
-use Rattle.puncture.specs.Laws.{IsNumbered, StepsAreNumbered}
-use Rattle.pilots.specs.Carriers.{payload_carriers}
-use Rattle.inner_chain.specs.CostTables.{entry_at, IsPlaced, IsSmallEntry, count_of, second, AreCostEntries, AreCarriers, AppendsTwo}
+use Rattle.puncture.specs.Laws.{StepsAreNumbered}
+use Rattle.inner_chain.specs.CostTables.{entry_at, IsPlaced, IsSmallEntry, count_of, second, AreCostEntries, AppendsTwo}
 use Rattle.inner_chain.proofs.Entering.{periods}
 
 -- ---- how many bits are sent
@@ -144,27 +142,3 @@ step_more s law odd σ r n bit x y old new er ex ey eb a two = record { long = l
         go (inl m) q = omega (arith, left k (omega (arith, m, a.long)), a.small k (omega (arith, m, a.long)))
         go (inr m) (inl q) = omega (arith, right k 0 (omega (arith, m, q)), two.x_small)
         go (inr m) (inr q) = omega (arith, right k 1 (omega (arith, l, q, long)), two.y_small)
-
--- ---- the payload carriers
-pub carriers_more : (m : Mode) (k n : ℕ) (old new : List ℕ) → AreCarriers m k old → n ≡ slice_index (payload_carriers m (k / payload m)) (k % payload m) → n < carriers m → new ≡ old ++ n ∷ [] → AreCarriers m (k + 1) new
-carriers_more m k n old new a en low e = record { long = ap (λ (zs : List ℕ). length zs) e ∙ length_push old n ∙ ap (λ (z : ℕ). z + 1) a.long; at = at; within = within }
-  where
-    left : (j : ℕ) → j < k → slice_index new j ≡ slice_index old j
-    left j l = ap (λ (zs : List ℕ). slice_index zs j) e ∙ get_or_append_left old (n ∷ []) 0 j (omega (arith, l, a.long))
-
-    last : slice_index new k ≡ n
-    last = ap (λ (zs : List ℕ). slice_index zs k) e ∙ get_or_push old n 0 k a.long
-
-    at : (j : ℕ) → j < k + 1 → slice_index new j ≡ slice_index (payload_carriers m (j / payload m)) (j % payload m)
-    at j l = go (cases_lt j k)
-      where
-        go : (j < k) ⊎ (k ≤ j) → slice_index new j ≡ slice_index (payload_carriers m (j / payload m)) (j % payload m)
-        go (inl p) = left j p ∙ a.at j p
-        go (inr p) = let same : k ≡ j = omega (arith, l, p) in subst (λ (z : ℕ). slice_index new z ≡ slice_index (payload_carriers m (z / payload m)) (z % payload m)) same (last ∙ en)
-
-    within : (j : ℕ) → j < k + 1 → slice_index new j < carriers m
-    within j l = go (cases_lt j k)
-      where
-        go : (j < k) ⊎ (k ≤ j) → slice_index new j < carriers m
-        go (inl p) = omega (arith, left j p, a.within j p)
-        go (inr p) = let same : k ≡ j = omega (arith, l, p) in subst (λ (z : ℕ). slice_index new z < carriers m) same (omega (arith, last, low))

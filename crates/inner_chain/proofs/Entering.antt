@@ -1,12 +1,11 @@
 -- The entries of the tables.
-use Rattle.std.proofs.Common.{◌≡◌, ℕ, zero, suc, ◌+◌, ◌-◌, ◌*◌, ◌/◌, ◌%◌, ◌<◌, ◌≤◌, ◌⊎◌, inl, inr, Bool, true, false, cond, IsTrue, List, [], ◌∷◌, ◌++◌, append_assoc, length, refl, sym, ap, ◌∙◌, subst, arith}
-use Rattle.std.specs.Prelude.{slice_index, Option, Some, None}
+use Rattle.std.proofs.Common.{◌≡◌, ℕ, ◌+◌, ◌-◌, ◌*◌, ◌/◌, ◌%◌, ◌<◌, ◌≤◌, ◌⊎◌, inl, inr, Bool, true, false, cond, IsTrue, List, [], ◌∷◌, ◌++◌, append_assoc, length, refl, sym, ap, ◌∙◌, subst, arith}
+use Rattle.std.specs.Prelude.{slice_index}
 use mir.Val.{bool_byte}
 use Rattle.std.proofs.lemmas.Bool.{cases_lt}
 use Rattle.std.proofs.Math.Nat.{mul-le-mul_right}
 use Rattle.std.proofs.lemmas.List.{get_or_append_left, get_or-append_right, get_or_push, length_push, length-append}
 use Rattle.spec_words.specs.Words.{first_below}
-use Rattle.mode_set.specs.Kept.{is_flat, is_qpsk}
 use Rattle.mode_set.specs.StreamTable.{payload, label_bits, width, coded, need, rate, has_stream, steps_in_period, sent_in_period}
 use Rattle.mode_set.specs.declared.modes.Mode.{Mode}
 use Rattle.mode_set.specs.declared.modes.Mode.TheVariants.{M2k, M8k}
@@ -23,7 +22,7 @@ use Rattle.puncture.specs.SentBits.{sent_bit}
 use Rattle.bit_interleave.specs.Place.{place_in_label, word_of_bit, stands_at, stream_at, IsSent, EachBitIsFound}
 use Rattle.symbol_interleave.specs.Carried.{carried}
 use Rattle.inner_chain.specs.Labels.{parity_at, number_at}
-use Rattle.inner_chain.specs.Tables.{first_step, IsEntry, AreEntries, AppendsEntries}
+use Rattle.inner_chain.specs.Tables.{first_step, IsEntry, AppendsEntries}
 
 -- ---- whole periods
 whole_of : (m : Mode) (w : ℕ) (r : Rate) → payload m * w * steps_in_period r / sent_in_period r * sent_in_period r ≡ payload m * w * steps_in_period r

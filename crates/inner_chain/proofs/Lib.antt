@@ -6,4 +6,4 @@ mod Symbols
 mod CostEntering
 mod CostReading
 mod CellCosts
-mod Pairs
+mod Listing

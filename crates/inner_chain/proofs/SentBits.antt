@@ -1,11 +1,11 @@
 -- The parities that sent bits are.
-use Rattle.std.proofs.Common.{◌≡◌, ℕ, zero, suc, ◌+◌, ◌-◌, ◌*◌, ◌/◌, ◌%◌, ◌<◌, ◌≤◌, Bool, true, false, cond, List, [], ◌∷◌, refl, sym, ap, ◌∙◌, subst, arith}
+use Rattle.std.proofs.Common.{◌≡◌, ℕ, ◌+◌, ◌-◌, ◌*◌, ◌/◌, ◌%◌, Bool, true, false, cond, sym, ap, ◌∙◌, arith}
 use Rattle.std.specs.Prelude.{slice_index_or}
 use Rattle.std.proofs.Math.Nat.{mul_comm}
 use Rattle.code_paths.specs.Paths.{parity_x, parity_y}
 use Rattle.mode_set.specs.StreamTable.{steps_in_period, sent_in_period}
 use Rattle.mode_set.specs.declared.modes.Rate.{Rate}
-use Rattle.puncture.specs.SentBits.{Coded, X, Y, sent, sent_bit, coded_bit, window}
+use Rattle.puncture.specs.SentBits.{X, Y, sent, sent_bit, coded_bit, window}
 use Rattle.inner_chain.specs.Labels.{parity_at}
 
 coded_is : (path : ℕ → Bool) (t j u : ℕ) (y : Bool) → t + j ≡ u → coded_bit path t (cond y (Y (j + 1)) (X (j + 1))) ≡ parity_at (cond y 1 0) path u

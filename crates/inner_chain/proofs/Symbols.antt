@@ -1,8 +1,8 @@
 -- A symbol's parities and labels, along the paths of both streams.
-use Rattle.std.proofs.Common.{◌≡◌, ℕ, zero, suc, ◌+◌, ◌-◌, ◌*◌, ◌/◌, ◌%◌, ◌^◌, ◌<◌, ◌≤◌, ◌⊎◌, inl, inr, Bool, true, false, cond, List, [], ◌∷◌, ◌++◌, length, take, map, refl, sym, ap, ◌∙◌, subst, arith}
+use Rattle.std.proofs.Common.{◌≡◌, ℕ, zero, suc, ◌+◌, ◌-◌, ◌*◌, ◌/◌, ◌%◌, ◌^◌, ◌<◌, ◌≤◌, Bool, cond, List, [], ◌∷◌, length, take, map, refl, sym, ap, ◌∙◌, subst, arith}
 use Rattle.std.specs.Prelude.{slice_index, slice_index_or, ◌==◌}
 use Rattle.std.specs.List.{range_with_len}
-use Rattle.std.proofs.Math.Nat.{mul_comm, mul_assoc}
+use Rattle.std.proofs.Math.Nat.{mul_assoc}
 use Rattle.spec_words.specs.Bits.{is_set}
 use Rattle.mode_set.specs.StreamTable.{payload, label_bits, coded, need, rate, steps_in_period, sent_in_period}
 use Rattle.mode_set.specs.declared.modes.Shape.{Shape}
@@ -16,8 +16,8 @@ use Rattle.code_paths.specs.Paths.{parity_x, parity_y}
 use Rattle.puncture.specs.SentBits.{bits_from, Coded, X, Y, sent, sent_bit, coded_bit, window}
 use Rattle.bit_interleave.specs.Place.{stream_at}
 use Rattle.symbol_interleave.specs.Carried.{carried}
-use Rattle.inner_chain.specs.Labels.{Paths, input_bits, coded_bits, parity_at, number_at, label_bit, AreLabels, AppendsLabels}
-use Rattle.inner_chain.specs.Tables.{first_step, read_bit, AreParities, AreAllParities, AreWithin, IsEntry, AreEntries, IsGathered, AppendsGathered}
+use Rattle.inner_chain.specs.Labels.{Paths, input_bits, coded_bits, parity_at, number_at, label_bit, AppendsLabels}
+use Rattle.inner_chain.specs.Tables.{first_step, read_bit, AreParities, AreAllParities, AreWithin, IsEntry, AreEntries, AppendsGathered}
 use Rattle.inner_chain.proofs.Entering.{in_all_steps, periods}
 
 -- ---- from the symbol's own path to that of the stream

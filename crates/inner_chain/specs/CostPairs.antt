@@ -1,11 +1,7 @@
 -- The costs of the coded bits of a symbol, from its cells.
-use Rattle.std.specs.Prelude.{◌≡◌, ℕ, ◌+◌, ◌*◌, ◌/◌, ◌%◌, ◌<◌, ◌≤◌, Bool, true, false, List, ◌++◌, length, map, Option, Some, None, slice_index, slice_index_or, pos}
-use Rattle.std.proofs.Common.{arith}
-use Rattle.spec_words.specs.Words.{numbers}
-use Rattle.code_paths.specs.Small.{IsSmall}
+use Rattle.std.specs.Prelude.{◌≡◌, ℕ, ◌<◌, true, false, List, ◌++◌, length, slice_index, slice_index_or, pos}
 use Rattle.code_paths.specs.declared.costs.CostPair.{CostPair}
-use Rattle.mode_set.specs.StreamTable.{payload, label_bits, need, rate}
-use Rattle.mode_set.specs.declared.modes.Mode.{Mode}
+use Rattle.mode_set.specs.StreamTable.{need, rate}
 use Rattle.mode_set.specs.declared.modes.Stream.{Stream}
 use Rattle.mode_set.specs.declared.settings.Settings.{Settings}
 use Rattle.puncture.specs.SentBits.{X, Y}

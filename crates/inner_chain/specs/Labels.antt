@@ -1,5 +1,5 @@
 -- The labels of a symbol, from the coded bits of its streams (EN 300 744, 4.3.3 to 4.3.5).
-use Rattle.std.specs.Prelude.{◌≡◌, ℕ, ◌+◌, ◌-◌, ◌*◌, ◌/◌, ◌%◌, ◌^◌, ◌<◌, ◌≤◌, ◌==◌, Bool, if◌then◌else◌, List, ◌++◌, length, slice_index}
+use Rattle.std.specs.Prelude.{◌≡◌, ℕ, ◌+◌, ◌*◌, ◌^◌, ◌<◌, ◌==◌, Bool, if◌then◌else◌, List, ◌++◌, length, slice_index}
 use Rattle.spec_words.specs.Bits.{is_set}
 use Rattle.spec_words.specs.Words.{first_below}
 use Rattle.mode_set.specs.StreamTable.{payload, label_bits, coded, need, rate}

@@ -1,4 +1,5 @@
 pub mod Labels
 pub mod CostPairs
 pub mod CostTables
+pub mod PairLists
 pub mod Tables

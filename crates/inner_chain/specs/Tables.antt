@@ -1,6 +1,6 @@
 -- What the tables and the intermediate lists of the code hold.
 use Rattle.std.specs.Prelude.{◌≡◌, ℕ, ◌+◌, ◌-◌, ◌*◌, ◌/◌, ◌%◌, ◌^◌, ◌<◌, ◌≤◌, Bool, true, false, List, ◌++◌, length, slice_index}
-use Rattle.spec_words.specs.Bits.{is_set, bit}
+use Rattle.spec_words.specs.Bits.{is_set}
 use Rattle.mode_set.specs.StreamTable.{payload, label_bits, need, rate}
 use Rattle.mode_set.specs.declared.modes.Mode.{Mode}
 use Rattle.mode_set.specs.declared.modes.Stream.{Stream}

@@ -7,10 +7,13 @@ mod cost_entries;
 mod cost_pairs;
 mod entries;
 mod gather;
+pub mod laws;
 mod parities;
 mod rx;
 mod sent_parity;
 mod symbol;
+#[cfg(test)]
+mod tests;
 mod tx;
 
 pub use rx::InnerRx;

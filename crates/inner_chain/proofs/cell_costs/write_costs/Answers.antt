@@ -1,7 +1,6 @@
-use Rattle.std.proofs.Common.{◌≡◌, ◌+◌, ◌*◌, ◌%◌, ◌<◌, ℕ, ap, ◌∙◌, subst, arith}
+use Rattle.std.proofs.Common.{◌≡◌, ◌+◌, ◌*◌, ◌%◌, ◌<◌, ℕ, ap, ◌∙◌, arith}
 use Rattle.std.specs.Prelude.{slice_index}
 use Rattle.mode_set.specs.StreamTable.{payload, label_bits}
-use Rattle.pilots.specs.Carriers.{payload_carriers}
 use Rattle.inner_chain.specs.CostPairs.{cell_of}
 use Rattle.inner_chain.proofs.CellCosts.{HasMore, costs_more, carrier_is, at_metric}
 use Rattle.inner_chain.proofs.cell_costs.write_costs.Goals as goal

@@ -1,7 +1,7 @@
-use Rattle.std.proofs.Common.{◌≡◌, ◌≤◌, ◌<◌, ◌+◌, ℕ, Bool, List, ◌∷◌, length, subst, arith, Option}
+use Rattle.std.proofs.Common.{◌≡◌, ℕ, Bool, ◌∷◌, subst, arith, Option}
 use Rattle.puncture.specs.SentBits.{bits_from}
 use Rattle.std.specs.Prelude.{IfSome}
-use Rattle.inner_chain.proofs.Encoding.{encode_begins, encode_more}
+use Rattle.inner_chain.proofs.Encoding.{encode_more}
 use Rattle.inner_chain.proofs.parities.encode.Goals as goal
 
 pub loop-step-preserved : goal.loop-step-preserved

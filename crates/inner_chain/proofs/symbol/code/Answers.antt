@@ -1,6 +1,5 @@
-use Rattle.std.proofs.Common.{◌*◌, ap}
+use Rattle.std.proofs.Common.{◌*◌}
 use Rattle.mode_set.specs.StreamTable.{need}
-use Rattle.mode_set.specs.declared.modes.Stream.{Stream}
 use Rattle.mode_set.specs.declared.modes.Stream.TheVariants.{Hp, Lp}
 use Rattle.inner_chain.proofs.Symbols.{from_step, code_parities, register_from, input_from, register_next}
 use Rattle.inner_chain.proofs.symbol.code.Goals as goal

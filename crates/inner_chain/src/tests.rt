@@ -1,0 +1,214 @@
+// Symbols of given bits against a plain model of the standard, and back.
+ghost use Rattle.std.specs.Prelude.{◌≡◌, ◌≤◌, IfOk};
+ghost use Rattle.std.specs.Prelude.{length};
+ghost use Rattle.mode_set.specs.StreamTable.{carriers};
+
+use crate::{InnerRx, InnerTx};
+use bit_pack::WaitBuf;
+use conv_code::{CostPair, Encoder};
+use mode_set::{
+    Carriers, Guard, Hierarchy, Mode, Mode2k, Mode8k, Rate, Settings, Shape, Start, Stream,
+};
+use pilots::carrier;
+use qam_map::{Cell, map};
+use std::alloc::{AllocError, Global};
+use std::process::Abort;
+use std::rt::HostRuntime;
+use std::test::Fail;
+
+// The next byte of a linear congruential generator.
+fn next_byte(state: &mut u32) -> u8 {
+    *state = state.wrapping_mul(1664525).wrapping_add(1013904223);
+    (*state >> 24) as u8
+}
+
+fn fill(state: &mut u32, count: usize, to: &mut WaitBuf)
+    requires { count ≤ 36000 }
+{
+    for _ in 0..4608u32 {
+        if to.waiting() < count {
+            to.push_byte(next_byte(state));
+        }
+    }
+}
+
+fn sum_of(labels: &[u8]) -> u32 {
+    labels.iter().fold(
+        0u32,
+        |sum, label| ((sum as u64 * 31 + *label as u64) % 65521) as u32,
+    )
+}
+
+// The next symbol's labels, whose sum is known.
+fn symbol<M: Carriers>(
+    rt: &impl Abort,
+    alloc: Global,
+    settings: &Settings,
+    tx: &mut InnerTx<M>,
+    odd: bool,
+    states: &mut (u32, u32),
+    waiting: &mut (WaitBuf, WaitBuf),
+    sum: u32,
+) -> Result<Vec<u8>, AllocError>
+    requires { tx.old.settings ≡ settings.now }
+    ensures { tx.new.settings ≡ settings.now }
+{
+    let hp_need = tx.need(Stream::Hp) as usize;
+    let lp_need = tx.need(Stream::Lp) as usize;
+    assert!(rt; hp_need <= 36000 && lp_need <= 36000);
+    fill(&mut states.0, hp_need, &mut waiting.0);
+    fill(&mut states.1, lp_need, &mut waiting.1);
+    let mut labels = Vec::with_capacity(alloc, settings.mode.payload() as usize)?;
+    assert!(rt; waiting.0.waiting() >= hp_need && waiting.1.waiting() >= lp_need);
+    tx.labels(odd, &mut waiting.0, &mut waiting.1, &mut labels);
+    assert!(rt; labels.len() == settings.mode.payload() as usize && sum_of(&labels) == sum);
+    Ok(labels)
+}
+
+fn place_cells(rt: &impl Abort, settings: &Settings, l: u8, labels: &[u8], cells: &mut [Cell]) {
+    for (q, label) in labels.iter().enumerate() {
+        assert!(rt;
+            l < 68
+                && q < settings.mode.payload() as usize
+                && cells.len() == settings.mode.carriers() as usize
+        );
+        assert!(rt;
+            *label < 64
+                && (*label < 16 || settings.shape == Shape::Qam64)
+                && (*label < 4 || settings.shape != Shape::Qpsk)
+        );
+        cells[carrier(settings.mode, l, q as u32) as usize] = map(
+            settings.shape,
+            settings.hierarchy,
+            *label,
+        );
+    }
+}
+
+// Each sent bit costs nothing and the other value something; the pairs with a bit that is not sent
+// are as many as the rate leaves out.
+fn pairs_fit(rt: &impl Abort, pairs: &[CostPair], mut state: u32, unsent: usize) {
+    let mut encoder = Encoder::start();
+    let mut byte = 0u8;
+    let mut missing = 0usize;
+    for (step, pair) in pairs.iter().enumerate() {
+        if step % 8 == 0 {
+            byte = next_byte(&mut state);
+        }
+        let (x, y) = encoder.step(byte >> (7 - step % 8) & 1 == 1);
+        let (x_cost, x_other) = if x {
+            (pair.x1, pair.x0)
+        } else {
+            (pair.x0, pair.x1)
+        };
+        let (y_cost, y_other) = if y {
+            (pair.y1, pair.y0)
+        } else {
+            (pair.y0, pair.y1)
+        };
+        assert!(rt; x_cost == 0 && y_cost == 0 && (x_other > 0 || y_other > 0));
+        assert!(rt; missing < 40000);
+        missing += (x_other == 0) as usize + (y_other == 0) as usize;
+    }
+    assert!(rt; missing == unsent);
+}
+
+fn check<M: Carriers>(
+    rt: &impl Abort,
+    alloc: Global,
+    settings: &Settings,
+    sums: (u32, u32),
+) -> Result<(), AllocError>
+    requires { settings.now.mode ≡ M.MODE }
+{
+    let mut tx = InnerTx::<M>::new(alloc, settings)?;
+    let mut rx = InnerRx::<M>::new(alloc, settings)?;
+    let mut waiting = (WaitBuf::new(), WaitBuf::new());
+    let mut states = (1, 2);
+    let labels = symbol(
+        rt,
+        alloc,
+        settings,
+        &mut tx,
+        false,
+        &mut states,
+        &mut waiting,
+        sums.0,
+    )?;
+    let mut cells = vec![in alloc; Cell::default(); settings.mode.carriers() as usize]?;
+    place_cells(rt, settings, 0, &labels, &mut cells);
+    let mut pairs = Vec::with_capacity(alloc, settings.need(Stream::Hp) as usize)?;
+    rx.pairs(&cells, 0, Stream::Hp, &mut pairs);
+    let coded = settings.coded(Stream::Hp) as usize;
+    let steps = settings.need(Stream::Hp) as usize;
+    assert!(rt; coded <= 2 * steps && steps == rx.steps(Stream::Hp) as usize);
+    pairs_fit(rt, &pairs, 1, 2 * steps - coded);
+    if settings.has_stream(Stream::Lp) {
+        let mut pairs = Vec::with_capacity(alloc, settings.need(Stream::Lp) as usize)?;
+        rx.pairs(&cells, 0, Stream::Lp, &mut pairs);
+        let coded = settings.coded(Stream::Lp) as usize;
+        let steps = settings.need(Stream::Lp) as usize;
+        assert!(rt; coded <= 2 * steps);
+        pairs_fit(rt, &pairs, 2, 2 * steps - coded);
+    }
+    symbol(
+        rt,
+        alloc,
+        settings,
+        &mut tx,
+        true,
+        &mut states,
+        &mut waiting,
+        sums.1,
+    )?;
+    Ok(())
+}
+
+fn flat(mode: Mode, shape: Shape, rate: Rate) -> Settings
+    ensures { result.mode ≡ mode }
+{
+    Settings {
+        mode,
+        shape,
+        hierarchy: Hierarchy::Flat,
+        rate_hp: rate,
+        rate_lp: None,
+        guard: Guard::G1of32,
+        cell_id: None,
+        start: Start::Zero,
+        workers: 1,
+        max_symbols: 1,
+    }
+}
+
+// The sums are those of a plain model of EN 300 744, 4.3.3 and 4.3.4.
+#[test]
+fn symbols_of_given_bits(rt: HostRuntime) -> Result<(), Fail> {
+    let alloc = rt.alloc();
+    check::<Mode2k>(
+        &rt,
+        alloc,
+        &flat(Mode::M2k, Shape::Qpsk, Rate::R1of2),
+        (8042, 60240),
+    )?;
+    check::<Mode8k>(
+        &rt,
+        alloc,
+        &flat(Mode::M8k, Shape::Qam64, Rate::R2of3),
+        (39190, 48280),
+    )?;
+    let two = Settings {
+        mode: Mode::M2k,
+        shape: Shape::Qam16,
+        hierarchy: Hierarchy::Alpha4,
+        rate_hp: Rate::R5of6,
+        rate_lp: Some(Rate::R3of4),
+        guard: Guard::G1of32,
+        cell_id: None,
+        start: Start::Zero,
+        workers: 1,
+        max_symbols: 1,
+    };
+    check::<Mode2k>(&rt, alloc, &two, (51219, 20928))?;
+    Ok(())
+}
