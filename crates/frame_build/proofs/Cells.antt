@@ -1,9 +1,9 @@
 -- The cell of a carrier, by its kind; and the state of a builder.
-use Rattle.std.proofs.Common.{◌≡◌, ℕ, zero, suc, ◌+◌, ◌-◌, ◌*◌, ◌/◌, ◌%◌, ◌^◌, ◌<◌, ◌≤◌, List, [], ◌∷◌, ◌++◌, refl, sym, ap, ◌∙◌, subst, arith, Bool, true, false, get_or, pos}
+use Rattle.std.proofs.Common.{◌≡◌, ℕ, zero, suc, ◌+◌, ◌-◌, ◌*◌, ◌%◌, ◌^◌, ◌<◌, List, [], ◌∷◌, ◌++◌, refl, sym, ap, ◌∙◌, arith, Bool, true, false, get_or, pos}
 use Rattle.std.specs.Prelude.{flat_map}
 use Rattle.std.proofs.lemmas.List.Concat.{flat_map-append}
 use Rattle.std.proofs.lemmas.List.{append-nil}
-use Rattle.spec_words.specs.Bits.{bit, xor, is_set}
+use Rattle.spec_words.specs.Bits.{bit, xor}
 use Rattle.spec_words.specs.Words.{numbers}
 use Rattle.spec_words.proofs.Counting.{numbers_end}
 use Rattle.mode_set.specs.StreamTable.{carriers, label_bits}
@@ -14,7 +14,6 @@ use Rattle.pilots.specs.declared.carrier_kind.CarrierKind.TheVariants.{Continual
 use Rattle.pilots.specs.Carriers.{kind}
 use Rattle.pilots.specs.Reference.{reference}
 use Rattle.qam_map.specs.declared.cell.Cell.{Cell}
-use Rattle.qam_map.specs.Points.{map_cell}
 use Rattle.tps_word.specs.Tps.{tps_word, signalled}
 use Rattle.frame_build.specs.Symbol.{real, tps_sign, frame_of, cell_of_kind, cell_at, cell_bytes, symbol_bytes, bits_of}
 use Rattle.frame_build.specs.State.{NextSymbol, is_turned, IsLabelTable, IsReady}

@@ -6,7 +6,6 @@ use Rattle.byteorder.specs.Endian.{big_bytes, big_number}
 use Rattle.spec_words.specs.Bits.{bit, xor, is_set}
 use Rattle.spec_words.specs.Words.{numbers}
 use Rattle.mode_set.specs.StreamTable.{carriers}
-use Rattle.mode_set.specs.declared.modes.Mode.{Mode}
 use Rattle.mode_set.specs.declared.settings.Settings.{Settings}
 use Rattle.pilots.specs.declared.carrier_kind.CarrierKind.{CarrierKind}
 use Rattle.pilots.specs.declared.carrier_kind.CarrierKind.TheVariants.{Continual, Scattered, Tps, Payload}
