@@ -6,6 +6,7 @@
 set -eu
 top=$(cd "$(dirname "$0")/.." && pwd)
 to=${1:-$(mktemp -d)}
+mkdir -p "$to"
 crates="spec_words mode_set qam_map pilots tps_bch tps_word frame_build"
 for crate in $crates; do
   mkdir -p "$to/crates/$crate"
