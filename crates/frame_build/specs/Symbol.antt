@@ -28,7 +28,7 @@ tps_sign word k (suc l) = xor (tps_sign word k l) (bit word l)
 abbrev pub frame_of : ℕ → ℕ
 frame_of m = m / 68 % 4 + 1
 
--- the cell of carrier k in symbol m, by what the carrier is for: 4 / 3 of the mean power for pilots, the mean power for TPS cells
+-- the cell of carrier k in symbol m, by what the carrier is for: pilots have 4 / 3 of the mean amplitude, TPS cells the mean amplitude (4.5.5, 4.6.3)
 unfoldable pub cell_of_kind : Settings → ℕ → (ℕ → ℕ → Bool) → ℕ → CarrierKind → Cell
 cell_of_kind s m labels k Continual = real 21845 (reference k)
 cell_of_kind s m labels k Scattered = real 21845 (reference k)
