@@ -1,22 +1,26 @@
 -- The cell of a carrier, by its kind; and the state of a builder.
-use Rattle.std.proofs.Common.{◌≡◌, ℕ, zero, suc, ◌+◌, ◌-◌, ◌*◌, ◌/◌, ◌%◌, ◌^◌, ◌<◌, ◌≤◌, List, [], ◌∷◌, ◌++◌, refl, sym, ap, ◌∙◌, subst, arith, Bool, true, false, get_or, pos}
+use Rattle.std.proofs.Common.{◌≡◌, ℕ, zero, suc, ◌+◌, ◌-◌, ◌*◌, ◌%◌, ◌^◌, ◌<◌, List, [], ◌∷◌, ◌++◌, refl, sym, ap, ◌∙◌, arith, Bool, true, false, get_or, pos, ℤ, subst}
 use Rattle.std.specs.Prelude.{flat_map}
 use Rattle.std.proofs.lemmas.List.Concat.{flat_map-append}
 use Rattle.std.proofs.lemmas.List.{append-nil}
-use Rattle.spec_words.specs.Bits.{bit, xor, is_set}
+use Rattle.spec_words.specs.Bits.{bit, xor}
 use Rattle.spec_words.specs.Words.{numbers}
 use Rattle.spec_words.proofs.Counting.{numbers_end}
-use Rattle.mode_set.specs.StreamTable.{carriers, label_bits}
+use Rattle.std.specs.List.{range_with_len}
+use Rattle.mode_set.specs.StreamTable.{carriers, label_bits, payload}
+use Rattle.mode_set.specs.declared.modes.Shape.{Shape}
+use Rattle.mode_set.specs.declared.modes.Shape.TheVariants.{Qpsk, Qam16, Qam64}
+use Rattle.mode_set.specs.declared.modes.Hierarchy.{Hierarchy}
 use Rattle.mode_set.specs.declared.modes.Mode.{Mode}
 use Rattle.mode_set.specs.declared.settings.Settings.{Settings}
 use Rattle.pilots.specs.declared.carrier_kind.CarrierKind.{CarrierKind}
 use Rattle.pilots.specs.declared.carrier_kind.CarrierKind.TheVariants.{Continual, Scattered, Tps, Payload}
-use Rattle.pilots.specs.Carriers.{kind}
+use Rattle.pilots.specs.Carriers.{kind, AreNumbered}
 use Rattle.pilots.specs.Reference.{reference}
 use Rattle.qam_map.specs.declared.cell.Cell.{Cell}
-use Rattle.qam_map.specs.Points.{map_cell}
+use Rattle.qam_map.specs.Points.{map_cell, value_of, real_bits, imaginary_bits}
 use Rattle.tps_word.specs.Tps.{tps_word, signalled}
-use Rattle.frame_build.specs.Symbol.{real, tps_sign, frame_of, cell_of_kind, cell_at, cell_bytes, symbol_bytes, bits_of}
+use Rattle.frame_build.specs.Symbol.{real, tps_sign, frame_of, cell_of_kind, cell_at, cell_bytes, symbol_bytes, bits_of, Agree}
 use Rattle.frame_build.specs.State.{NextSymbol, is_turned, IsLabelTable, IsReady}
 
 turn : (t r b : Bool) → xor (xor t r) b ≡ xor (xor t b) r
@@ -142,3 +146,49 @@ repeats s m labels =
     let symbols : m % 68 ≡ m % 272 % 68 = omega arith in
     let frames : frame_of m ≡ frame_of (m % 272) = omega arith in
     same_flat_map (λ k. cell_bytes (cell_at s m labels k)) (λ k. cell_bytes (cell_at s (m % 272) labels k)) (λ k. ap cell_bytes (same_cells s m (m % 272) labels k symbols frames)) (numbers (carriers s.mode))
+
+-- functions that agree below n
+same_below : (f g : ℕ → List ℕ) (a n : ℕ) → ((i : ℕ) → i < n → f (a + i) ≡ g (a + i)) → flat_map f (range_with_len a n) ≡ flat_map g (range_with_len a n)
+same_below f g a zero same = refl
+same_below f g a (suc n) same =
+    let here : a + 0 ≡ a = omega arith in
+    let first : f a ≡ g a = subst (λ (z : ℕ). f z ≡ g z) here (same 0 (omega arith)) in
+    let rest : flat_map f (range_with_len (a + 1) n) ≡ flat_map g (range_with_len (a + 1) n) = same_below f g (a + 1) n (λ i l. let next : a + suc i ≡ a + 1 + i = omega arith in subst (λ (z : ℕ). f z ≡ g z) next (same (suc i) (omega arith))) in
+    ap (λ (z : List ℕ). z ++ flat_map f (range_with_len (a + 1) n)) first ∙ ap (λ (z : List ℕ). g a ++ z) rest
+
+both : {a b : Bool} {p q : List Bool} → a ≡ b → p ≡ q → (a ∷ p) ≡ (b ∷ q)
+both {a = a} {q = q} e f = ap (λ (z : List Bool). a ∷ z) f ∙ ap (λ (z : Bool). z ∷ q) e
+
+same_real : (s : Shape) (y z : ℕ → Bool) → ((e : ℕ) → e < label_bits s → y e ≡ z e) → real_bits s y ≡ real_bits s z
+unfolding numbers
+same_real Qpsk y z same = both (same 0 (omega arith)) refl
+same_real Qam16 y z same = both (same 0 (omega arith)) (both (same 2 (omega arith)) refl)
+same_real Qam64 y z same = both (same 0 (omega arith)) (both (same 2 (omega arith)) (both (same 4 (omega arith)) refl))
+
+same_imaginary : (s : Shape) (y z : ℕ → Bool) → ((e : ℕ) → e < label_bits s → y e ≡ z e) → imaginary_bits s y ≡ imaginary_bits s z
+unfolding numbers
+same_imaginary Qpsk y z same = both (same 1 (omega arith)) refl
+same_imaginary Qam16 y z same = both (same 1 (omega arith)) (both (same 3 (omega arith)) refl)
+same_imaginary Qam64 y z same = both (same 1 (omega arith)) (both (same 3 (omega arith)) (both (same 5 (omega arith)) refl))
+
+same_map_cell : (s : Shape) (h : Hierarchy) (y z : ℕ → Bool) → ((e : ℕ) → e < label_bits s → y e ≡ z e) → map_cell s h y ≡ map_cell s h z
+same_map_cell s h y z same =
+    ap (λ (bits : List Bool). made (value_of s h bits) (value_of s h (imaginary_bits s y))) (same_real s y z same)
+    ∙ ap (λ (bits : List Bool). made (value_of s h (real_bits s z)) (value_of s h bits)) (same_imaginary s y z same)
+  where
+    made : ℤ → ℤ → Cell
+    made re im = record { re = re; im = im }
+
+follows_kind : (s : Settings) (m : ℕ) (labels more : ℕ → ℕ → Bool) (k : ℕ) (kd : CarrierKind) → ((q : ℕ) → kd ≡ Payload q → q < payload s.mode) → Agree s labels more → cell_of_kind s m labels k kd ≡ cell_of_kind s m more k kd
+unfolding cell_of_kind
+follows_kind s m labels more k Continual few same = refl
+follows_kind s m labels more k Scattered few same = refl
+follows_kind s m labels more k Tps few same = refl
+follows_kind s m labels more k (Payload q) few same = same_map_cell s.shape s.hierarchy (labels q) (more q) (λ e l. same q e (few q refl) l)
+
+-- a symbol depends on its labels alone
+pub follows : (s : Settings) (m : ℕ) → AreNumbered s.mode (m % 68) → (labels more : ℕ → ℕ → Bool) → Agree s labels more → symbol_bytes s m labels ≡ symbol_bytes s m more
+unfolding symbol_bytes numbers cell_at
+follows s m numbered labels more same =
+    same_below (λ k. cell_bytes (cell_at s m labels k)) (λ k. cell_bytes (cell_at s m more k)) 0 (carriers s.mode)
+    (λ i l. ap cell_bytes (follows_kind s m labels more (0 + i) (kind s.mode (m % 68) (0 + i)) (λ q e. ((numbered (0 + i) q (omega (arith, l))).0 e).0) same))

@@ -1,12 +1,11 @@
 -- The cells of an OFDM symbol, and their bytes (EN 300 744, 4.4 to 4.6; the bytes are this project's own).
-use Rattle.std.specs.Prelude.{ℕ, zero, suc, ◌+◌, ◌*◌, ◌/◌, ◌%◌, Bool, if◌then◌else◌, List, ◌++◌, map, flat_map, drop, pos, neg_ℤ}
+use Rattle.std.specs.Prelude.{ℕ, zero, suc, ◌+◌, ◌*◌, ◌/◌, ◌%◌, Bool, if◌then◌else◌, List, ◌++◌, map, flat_map, drop, pos, neg_ℤ, ◌≡◌, ◌<◌}
 use Rattle.std.specs.Int.{cast_unsigned, cast_signed, w16}
 use Rattle.std.specs.Prelude.{get_or}
 use Rattle.byteorder.specs.Endian.{big_bytes, big_number}
 use Rattle.spec_words.specs.Bits.{bit, xor, is_set}
 use Rattle.spec_words.specs.Words.{numbers}
-use Rattle.mode_set.specs.StreamTable.{carriers}
-use Rattle.mode_set.specs.declared.modes.Mode.{Mode}
+use Rattle.mode_set.specs.StreamTable.{carriers, label_bits, payload}
 use Rattle.mode_set.specs.declared.settings.Settings.{Settings}
 use Rattle.pilots.specs.declared.carrier_kind.CarrierKind.{CarrierKind}
 use Rattle.pilots.specs.declared.carrier_kind.CarrierKind.TheVariants.{Continual, Scattered, Tps, Payload}
@@ -29,7 +28,7 @@ tps_sign word k (suc l) = xor (tps_sign word k l) (bit word l)
 abbrev pub frame_of : ℕ → ℕ
 frame_of m = m / 68 % 4 + 1
 
--- the cell of carrier k in symbol m, by what the carrier is for: 4 / 3 of the mean power for pilots, the mean power for TPS cells
+-- the cell of carrier k in symbol m, by what the carrier is for: pilots have 4 / 3 of the mean amplitude, TPS cells the mean amplitude (4.5.5, 4.6.3)
 unfoldable pub cell_of_kind : Settings → ℕ → (ℕ → ℕ → Bool) → ℕ → CarrierKind → Cell
 cell_of_kind s m labels k Continual = real 21845 (reference k)
 cell_of_kind s m labels k Scattered = real 21845 (reference k)
@@ -47,6 +46,10 @@ cell_bytes c = big_bytes 2 (cast_unsigned w16 c.re) ++ big_bytes 2 (cast_unsigne
 -- the bytes of symbol m, carriers rising
 unfoldable pub symbol_bytes : Settings → ℕ → (ℕ → ℕ → Bool) → List ℕ
 symbol_bytes s m labels = flat_map (λ k. cell_bytes (cell_at s m labels k)) (numbers (carriers s.mode))
+
+-- labels that agree on every payload place and bit
+abbrev pub Agree : Settings → (ℕ → ℕ → Bool) → (ℕ → ℕ → Bool) → Type 0
+Agree s labels more = (q e : ℕ) → q < payload s.mode → e < label_bits s.shape → labels q e ≡ more q e
 
 -- the labels of a list: bit e of number q
 abbrev pub bits_of : List ℕ → ℕ → ℕ → Bool

@@ -11,6 +11,6 @@ mod symbol_out;
 #[cfg(test)]
 mod tests;
 
-pub use laws::symbols_repeat;
+pub use laws::{symbols_follow_labels, symbols_repeat};
 pub use symbol_in::SymbolIn;
 pub use symbol_out::SymbolOut;

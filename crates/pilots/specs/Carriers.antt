@@ -1,4 +1,4 @@
--- What each carrier of a symbol is for (EN 300 744, 4.4, 4.5.3, 4.5.4 and 4.6.2).
+-- What each carrier of a symbol is for (EN 300 744, 4.4, 4.5.3, 4.5.4 and 4.6).
 use Rattle.std.specs.Prelude.{◌≡◌, ℕ, ◌+◌, ◌*◌, ◌%◌, ◌<◌, ◌↔◌, ◌==◌, Bool, not, ◌||◌, if◌then◌else◌, List, [], ◌∷◌, map, filter, flat_map, count_by, slice_index}
 use Rattle.spec_words.specs.Words.{numbers, is_among}
 use Rattle.mode_set.specs.StreamTable.{carriers, payload}
@@ -11,7 +11,7 @@ use Rattle.pilots.specs.declared.carrier_kind.CarrierKind.TheVariants.{Continual
 abbrev pub continual_2k : List ℕ
 continual_2k = 0 ∷ 48 ∷ 54 ∷ 87 ∷ 141 ∷ 156 ∷ 192 ∷ 201 ∷ 255 ∷ 279 ∷ 282 ∷ 333 ∷ 432 ∷ 450 ∷ 483 ∷ 525 ∷ 531 ∷ 618 ∷ 636 ∷ 714 ∷ 759 ∷ 765 ∷ 780 ∷ 804 ∷ 873 ∷ 888 ∷ 918 ∷ 939 ∷ 942 ∷ 969 ∷ 984 ∷ 1050 ∷ 1101 ∷ 1107 ∷ 1110 ∷ 1137 ∷ 1140 ∷ 1146 ∷ 1206 ∷ 1269 ∷ 1323 ∷ 1377 ∷ 1491 ∷ 1683 ∷ 1704 ∷ []
 
--- the TPS carriers of the 2K mode (4.6.2)
+-- the TPS carriers of the 2K mode (4.6)
 abbrev pub tps_2k : List ℕ
 tps_2k = 34 ∷ 50 ∷ 209 ∷ 346 ∷ 413 ∷ 569 ∷ 595 ∷ 688 ∷ 790 ∷ 901 ∷ 1073 ∷ 1219 ∷ 1262 ∷ 1286 ∷ 1469 ∷ 1594 ∷ 1687 ∷ []
 

@@ -97,7 +97,7 @@ pub fn carrier(mode: Mode, l: u8, q: u32) -> u32
     q / PAYLOAD_IN_PERIOD * PERIOD + u32::from(place)
 }
 
-/// The TPS carriers of a symbol, rising: 17 in the 2K mode, 68 in the 8K mode (EN 300 744, 4.6.2).
+/// The TPS carriers of a symbol, rising: 17 in the 2K mode, 68 in the 8K mode (EN 300 744, 4.6).
 pub fn tps_carriers(mode: Mode) -> &'static [u16]
     ensures { result.now ≡ tps_carriers mode }
 {
@@ -114,7 +114,7 @@ mod tests {
     use mode_set::Mode;
     use std::rt::HostRuntime;
 
-    // Carriers of EN 300 744, 4.5.3, 4.5.4 and 4.6.2, and the ends of both modes.
+    // Carriers of EN 300 744, 4.5.3, 4.5.4 and 4.6, and the ends of both modes.
     #[test]
     fn carriers_of_the_standard(rt: HostRuntime) {
         assert!(&rt; kind(Mode::M2k, 0, 0) == Continual);

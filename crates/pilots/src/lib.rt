@@ -1,7 +1,7 @@
 //! What each carrier of an OFDM symbol is for: continual and scattered pilots, TPS carriers and
 //! payload carriers, and the reference sequence that sets the signs of the pilots.
 //!
-//! EN 300 744, 4.4, 4.5 and 4.6.2.
+//! EN 300 744, 4.4, 4.5 and 4.6.
 #![tactic(auto)]
 
 mod carrier_kind;

@@ -1,4 +1,4 @@
--- The BCH(67,53) code of the TPS bits, shortened from (127,113) (EN 300 744, 4.6.3).
+-- The BCH(67,53) code of the TPS bits, shortened from (127,113) (EN 300 744, 4.6.2.11).
 use Rattle.std.specs.Prelude.{◌≡◌, ◌≢◌, ℕ, zero, suc, ◌+◌, ◌<◌, ◌≤◌, ◌&&◌, Bool, false, if◌then◌else◌, List, [], ◌∷◌, ◌++◌, map, drop, length, replicate, codes}
 use Rattle.spec_words.specs.Bits.{xor, digits}
 

@@ -1,6 +1,6 @@
 //! The BCH code that protects the TPS bits of a frame: 53 bits, 14 parity bits, two errors corrected.
 //!
-//! EN 300 744, 4.6.3.
+//! EN 300 744, 4.6.2.11.
 #![tactic(auto)]
 
 ghost use Rattle.std.specs.Prelude.{◌≡◌, ◌<◌, not, slice_set, ◌++◌, ◌≤◌, ℕ, List, Bool};

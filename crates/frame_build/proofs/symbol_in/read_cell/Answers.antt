@@ -1,5 +1,5 @@
 -- Both parts are read as they stand.
-use Rattle.std.proofs.Common.{◌≡◌, ℤ, ℕ, ◌+◌, ◌-◌, ◌*◌, List, take, drop, length, length-drop, ap, ◌∙◌, FitsSigned, w16, to_z, of_z, arith}
+use Rattle.std.proofs.Common.{◌≡◌, ℤ, ℕ, ◌+◌, ◌-◌, ◌*◌, List, take, drop, length, length-drop, ap, ◌∙◌, FitsSigned, w16, arith}
 use Rattle.std.specs.Int.{cast_signed}
 use Rattle.std.proofs.lemmas.List.{take_all}
 use Rattle.byteorder.specs.Endian.{big_number}

@@ -1,5 +1,5 @@
 -- All cells are read.
-use Rattle.std.proofs.Common.{◌≡◌, ◌≢◌, ℕ, ◌<◌, length, arith, ◌∙◌, pos, below_more, get_or-set_same, get_or-set_other}
+use Rattle.std.proofs.Common.{arith, pos}
 use Rattle.std.proofs.lemmas.List.FromFn.{fill_by_all}
 use Rattle.spec_words.specs.Words.{numbers}
 use Rattle.frame_build.specs.Symbol.{cell_from, cells_from}

@@ -1,6 +1,5 @@
 -- The cells so far are read.
-use Rattle.std.proofs.Common.{◌≡◌, ℕ, ◌<◌, List, length, get_or, pos}
-use Rattle.qam_map.specs.declared.cell.Cell.{Cell}
+use Rattle.std.proofs.Common.{◌≡◌, ℕ, ◌<◌, get_or, pos}
 use Rattle.frame_build.specs.Symbol.{cell_from}
 use Rattle.frame_build.proofs.symbol_in.read_cells.Given as goal
 

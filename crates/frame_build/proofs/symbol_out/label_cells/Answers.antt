@@ -1,5 +1,5 @@
 -- One label more has its cell.
-use Rattle.std.proofs.Common.{◌≡◌, ◌≢◌, ◌<◌, ◌∙◌, arith, below_more, get_or-set_same, get_or-set_other, length, length-set}
+use Rattle.std.proofs.Common.{◌≢◌, ◌<◌, ◌∙◌, arith, below_more, get_or-set_same, get_or-set_other, length, length-set}
 use Rattle.frame_build.proofs.symbol_out.label_cells.Goals as goal
 
 pub loop-label-preserved : goal.loop-label-preserved

@@ -1,5 +1,5 @@
 -- The state after a symbol is that before the next one.
-use Rattle.std.proofs.Common.{◌≡◌, ap, ◌∙◌, arith}
+use Rattle.std.proofs.Common.{ap, ◌∙◌}
 use Rattle.tps_word.specs.Tps.{tps_word}
 use Rattle.frame_build.proofs.Cells.{within_frame, next_frame}
 use Rattle.frame_build.proofs.symbol_out.SymbolOut.advance.Goals as goal

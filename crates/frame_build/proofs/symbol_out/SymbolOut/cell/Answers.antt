@@ -1,5 +1,5 @@
 -- Each kind of carrier has its cell.
-use Rattle.std.proofs.Common.{◌≡◌, ℕ, ◌-◌, ◌+◌, ◌*◌, ◌<◌, ◌^◌, get_or, ap, sym, ◌∙◌, refl, subst, arith, Bool}
+use Rattle.std.proofs.Common.{◌<◌, ◌^◌, get_or, ap, sym, ◌∙◌, refl, subst, arith, Bool}
 use Rattle.mode_set.specs.declared.modes.Mode.{Mode}
 use Rattle.mode_set.specs.StreamTable.{payload, label_bits}
 use Rattle.spec_words.specs.Bits.{xor}

@@ -1,9 +1,8 @@
 -- Carrier after carrier is appended.
-use Rattle.std.proofs.Common.{◌≡◌, ℕ, ◌+◌, ◌++◌, List, refl, sym, ap, ◌∙◌, arith, append_assoc, append-nil}
+use Rattle.std.proofs.Common.{◌≡◌, ℕ, ◌++◌, List, refl, sym, ap, ◌∙◌, arith, append_assoc, append-nil}
 use Rattle.qam_map.specs.declared.cell.Cell.{Cell}
 use Rattle.mode_set.specs.StreamTable.{carriers}
-use Rattle.mode_set.specs.declared.modes.Mode.{Mode}
-use Rattle.frame_build.specs.Symbol.{bits_of, cell_at, cell_bytes, symbol_bytes}
+use Rattle.frame_build.specs.Symbol.{bits_of, cell_bytes}
 use Rattle.frame_build.proofs.Cells.{carrier_bytes, no_carriers, one_carrier, whole_symbol}
 use Rattle.frame_build.proofs.symbol_out.SymbolOut.write.Goals as goal
 

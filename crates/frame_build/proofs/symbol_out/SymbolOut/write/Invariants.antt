@@ -1,5 +1,5 @@
 -- The carriers so far are appended.
-use Rattle.std.proofs.Common.{◌≡◌, ℕ, ◌+◌, ◌*◌, ◌++◌, List, Bool}
+use Rattle.std.proofs.Common.{◌≡◌, ℕ, ◌+◌, ◌*◌, ◌++◌, List}
 use Rattle.std.specs.Prelude.{vec_len, vec_capacity}
 use Rattle.frame_build.specs.Symbol.{bits_of}
 use Rattle.frame_build.proofs.Cells.{carrier_bytes}
