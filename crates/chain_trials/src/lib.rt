@@ -5,6 +5,8 @@
 #![tactic(auto)]
 
 #[cfg(test)]
+mod carriers;
+#[cfg(test)]
 mod cells;
 #[cfg(test)]
 mod tps;
