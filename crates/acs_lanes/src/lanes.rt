@@ -136,6 +136,8 @@ fn joined(first: u64, last: u64) -> u64
 }
 
 /// The step over all states, where each may be compared with each: the words of the states below 32 and of the others.
+// Inlined, the words would be computed behind the branches of the caller, and all vectors be kept in memory for it.
+#[inline(never)]
 fn step_lanes(cost: &mut [u32; 64], pair: CostPair) -> (u64, u64)
     requires fit { (j : ℕ) → j < 64 → slice_index cost.old j + 8190 < 2 ^ 32 }
     ensures step { IsLaneStep pair cost.old cost.new result.0 result.1 }
