@@ -1,13 +1,12 @@
 -- Sums, the lesser of two, and the word of choices, lane by lane.
-use Rattle.std.proofs.Common.{◌≡◌, ℕ, ◌+◌, ◌-◌, ◌*◌, ◌%◌, ◌^◌, ◌<◌, min, Bool, true, false, cond, List, map, length, get_or, ◌⊎◌, inl, inr, refl, sym, ap, ap₂, ◌∙◌, subst, arith, eqb, ltb, mod-eq_of_lt, w32, take, drop, ◌++◌, length-drop, length-append, append-nil, take-append-drop, not, ◌&&◌, bit_and}
+use Rattle.std.proofs.Common.{◌≡◌, ℕ, ◌+◌, ◌-◌, ◌*◌, ◌%◌, ◌^◌, ◌<◌, min, Bool, true, false, cond, List, map, length, get_or, ◌⊎◌, inl, inr, refl, sym, ap, ap₂, ◌∙◌, subst, arith, eqb, ltb, mod-eq_of_lt, w32, take, drop, ◌++◌, length-drop, length-take, take-append-drop, not, ◌&&◌, bit_and}
 use Rattle.std.proofs.lemmas.Simd.{tops_compared, get_or-zip2, get_or-sel_l, length-zip2, length-sel_l, mask_l-mod, mask_l-lt, bit_mask_l}
 use Rattle.std.specs.Simd.Lanes.{zip2, sel_l, mask_l, top}
 use Rattle.std.proofs.lemmas.Bool.{cases_Bool, ltb-true, ltb-false, ne_eqb, eq-eqb, agree_below_at}
 use Rattle.std.proofs.lemmas.Nat.{and_le_r}
 use Rattle.std.specs.Int.{bit_not, w64}
 use Rattle.code_paths.proofs.Words.{set_and, set_not}
-use Rattle.std.proofs.lemmas.List.{take_all, take_at, drop_all, get_or_append_left, get_or-append_right, get_or-take, get_or-drop}
-use Rattle.std.proofs.lemmas.Slice.{take-put_mid, drop-put_mid}
+use Rattle.std.proofs.lemmas.List.{take_all, get_or_append_left, get_or-append_right, get_or-take, get_or-drop}
 use borrow.Rule.Slice.PartMut.{mid_of, post_of, put_mid}
 use Rattle.spec_words.specs.Bits.{is_set}
 
@@ -109,47 +108,8 @@ choice_small m = omega (arith, and_le_r m 65535)
 pub both_halves : (n : ℕ) (xs : List ℕ) → take n xs ++ take (length xs - n) (drop n xs) ≡ xs
 both_halves n xs = ap (λ z. take n xs ++ z) (take_all (length xs - n) (drop n xs) (omega (arith, length-drop n xs))) ∙ take-append-drop n xs
 
-pub stored : (n m : ℕ) (low high a b cost : List ℕ) → n + n ≡ m → a ≡ low → b ≡ high → length low ≡ n → length high ≡ n → length cost ≡ m → put_mid n n (a ++ drop n cost) b ≡ low ++ high
-stored n m low high a b cost d e f l h c =
-    let xs = low ++ drop n cost in
-    let k : length xs ≡ m = omega (arith, length-append low (drop n cost), l, c, d, length-drop n cost) in
-    ap₂ (λ x y. put_mid n n (x ++ drop n cost) y) e f
-    ∙ sym (take-append-drop m (put_mid n n xs high))
-    ∙ ap₂ (λ x y. x ++ y) (take-put_mid n n xs high m (omega (arith, h, d)) (omega (arith, k))) (drop-put_mid n n xs high m (omega (arith, d)) (omega (arith, k)) h ∙ drop_all m xs (omega (arith, k)))
-    ∙ append-nil (take n xs ++ high)
-    ∙ ap (λ z. z ++ high) (take_at low (drop n cost) n l)
-
-pub stored_part : (n m : ℕ) (low high a b cost : List ℕ) → n + n ≡ m → a ≡ low → b ≡ high → length low ≡ n → length high ≡ n → length cost ≡ m → put_mid n (length (a ++ drop n cost) - n) (a ++ drop n cost) b ≡ low ++ high
-stored_part n m low high a b cost d e f l h c =
-    let k : length (a ++ drop n cost) - n ≡ n = omega (arith, length-append a (drop n cost), ap length e, l, c, d, length-drop n cost) in
-    ap (λ z. put_mid n z (a ++ drop n cost) b) k ∙ stored n m low high a b cost d e f l h c
-
 pub first_part : (xs : List ℕ) (j : ℕ) → j < 32 → get_or (take 32 xs) j 0 ≡ get_or xs (2 * 0 + j) 0
 first_part xs j l = let e : j ≡ 2 * 0 + j = omega arith in get_or-take 32 xs j 0 l ∙ ap (λ z. get_or xs z 0) e
 
 pub last_part : (xs : List ℕ) (j : ℕ) → j < 32 → get_or (mid_of 32 32 xs) j 0 ≡ get_or xs (2 * 16 + j) 0
 last_part xs j l = let e : 32 + j ≡ 2 * 16 + j = omega arith in get_or-take 32 (drop 32 xs) j 0 l ∙ get_or-drop 32 xs j 0 ∙ ap (λ z. get_or xs z 0) e
-
--- four lists of 16, one behind the other
-module _ (a b c d new : List ℕ) (e : new ≡ (a ++ b) ++ (c ++ d)) (la : length a ≡ 16) (lb : length b ≡ 16) (lc : length c ≡ 16) where
-  two : length (a ++ b) ≡ 32
-  two = omega (arith, length-append a b, la, lb)
-
-  pub first_of : (k : ℕ) → k < 16 → get_or new k 0 ≡ get_or a k 0
-  first_of k l = ap (λ z. get_or z k 0) e ∙ get_or_append_left (a ++ b) (c ++ d) 0 k (omega (arith, two)) ∙ get_or_append_left a b 0 k (omega (arith, la))
-
-  pub second_of : (k : ℕ) → k < 16 → get_or new (k + 16) 0 ≡ get_or b k 0
-  second_of k l =
-      let n : k + 16 - 16 ≡ k = omega arith in
-      ap (λ z. get_or z (k + 16) 0) e ∙ get_or_append_left (a ++ b) (c ++ d) 0 (k + 16) (omega (arith, two)) ∙ get_or-append_right a b 16 (k + 16) 0 la (omega arith) ∙ ap (λ z. get_or b z 0) n
-
-  pub third_of : (k : ℕ) → k < 16 → get_or new (k + 32) 0 ≡ get_or c k 0
-  third_of k l =
-      let n : k + 32 - 32 ≡ k = omega arith in
-      ap (λ z. get_or z (k + 32) 0) e ∙ get_or-append_right (a ++ b) (c ++ d) 32 (k + 32) 0 two (omega arith) ∙ ap (λ z. get_or (c ++ d) z 0) n ∙ get_or_append_left c d 0 k (omega (arith, lc))
-
-  pub last_of : (k : ℕ) → k < 16 → get_or new (k + 16 + 32) 0 ≡ get_or d k 0
-  last_of k l =
-      let m : k + 16 + 32 - 32 ≡ k + 16 = omega arith in
-      let n : k + 16 - 16 ≡ k = omega arith in
-      ap (λ z. get_or z (k + 16 + 32) 0) e ∙ get_or-append_right (a ++ b) (c ++ d) 32 (k + 16 + 32) 0 two (omega arith) ∙ ap (λ z. get_or (c ++ d) z 0) m ∙ get_or-append_right c d 16 (k + 16) 0 lc (omega arith) ∙ ap (λ z. get_or d z 0) n

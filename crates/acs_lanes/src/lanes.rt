@@ -101,27 +101,18 @@ fn sixteen(old: &[u32], zero: u32x16, one: u32x16) -> (u32x16, u64, u32x16, u64)
     (low, first, high, second)
 }
 
-/// Writes the costs of 32 states in a row.
-fn store_half(cost: &mut [u32], first: u32x16, last: u32x16)
-    requires size { length cost.old ≡ 32 }
-    requires first { length first ≡ 16 }
-    requires last { length last ≡ 16 }
-    ensures { cost.new ≡ first ++ last }
+/// Writes the costs of 16 states in a row, and those of the states that lie 32 above them.
+fn store(cost: &mut [u32; 64], from: usize, low: u32x16, high: u32x16)
+    requires from { from ≤ 16 }
+    requires low { length low ≡ 16 }
+    requires high { length high ≡ 16 }
+    ensures low { (k : ℕ) → k < 16 → slice_index cost.new (from + k) ≡ slice_index low k }
+    ensures high { (k : ℕ) → k < 16 → slice_index cost.new (from + 32 + k) ≡ slice_index high k }
+    ensures below_low { (k : ℕ) → k < from → slice_index cost.new k ≡ slice_index cost.old k }
+    ensures below_high { (k : ℕ) → k < from → slice_index cost.new (32 + k) ≡ slice_index cost.old (32 + k) }
 {
-    write(&mut cost[..16], first);
-    write(&mut cost[16..], last);
-}
-
-/// Writes the costs of all states.
-fn store(cost: &mut [u32; 64], first: u32x16, second: u32x16, third: u32x16, last: u32x16)
-    requires first { length first ≡ 16 }
-    requires second { length second ≡ 16 }
-    requires third { length third ≡ 16 }
-    requires last { length last ≡ 16 }
-    ensures { cost.new ≡ (first ++ second) ++ (third ++ last) }
-{
-    store_half(&mut cost[..32], first, second);
-    store_half(&mut cost[32..], third, last);
+    write(&mut cost[from..from + 16], low);
+    write(&mut cost[from + 32..from + 48], high);
 }
 
 /// Two words of 16 bits, the first one's bits the lowest.
@@ -135,6 +126,25 @@ fn joined(first: u64, last: u64) -> u64
     first | last << 16
 }
 
+/// Writes what comes of all states. The first half is stored before the second one is computed, so that neither needs more
+/// vectors than there are registers.
+fn write_step(old: &[u32; 64], cost: &mut [u32; 64], pair: CostPair) -> (u64, u64)
+    requires fit { (j : ℕ) → j < 64 → slice_index old.now j + 8190 < 2 ^ 32 }
+    ensures step { IsLaneStep pair old.now cost.new result.0 result.1 }
+{
+    let costs = four_costs(pair);
+    let (zero, one) = first_costs(costs);
+    let (low, low_odd, high, high_odd) = sixteen(&old[..32], zero, one);
+    store(cost, 0, low, high);
+    let (zero, one) = last_costs(costs);
+    let (next_low, next_low_odd, next_high, next_high_odd) = sixteen(&old[32..], zero, one);
+    store(cost, 16, next_low, next_high);
+    (
+        joined(low_odd, next_low_odd),
+        joined(high_odd, next_high_odd),
+    )
+}
+
 /// The step over all states, where each may be compared with each: the words of the states below 32 and of the others.
 // Inlined, the words would be computed behind the branches of the caller, and all vectors be kept in memory for it.
 #[inline(never)]
@@ -142,16 +152,8 @@ fn step_lanes(cost: &mut [u32; 64], pair: CostPair) -> (u64, u64)
     requires fit { (j : ℕ) → j < 64 → slice_index cost.old j + 8190 < 2 ^ 32 }
     ensures step { IsLaneStep pair cost.old cost.new result.0 result.1 }
 {
-    let costs = four_costs(pair);
-    let (zero, one) = first_costs(costs);
-    let (first, first_odd, third, third_odd) = sixteen(&cost[..32], zero, one);
-    let (zero, one) = last_costs(costs);
-    let (second, second_odd, last, last_odd) = sixteen(&cost[32..], zero, one);
-    store(cost, first, second, third, last);
-    (
-        joined(first_odd, second_odd),
-        joined(third_odd, last_odd),
-    )
+    let old = *cost;
+    write_step(&old, cost, pair)
 }
 
 /// The step over vectors of 16 lanes.
