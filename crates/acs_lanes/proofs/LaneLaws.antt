@@ -5,6 +5,7 @@ use Rattle.std.proofs.lemmas.Nat.Bits.{bit_at_above}
 use Rattle.std.proofs.lemmas.Nat.{or_of_32}
 use Rattle.std.specs.Prelude.{slice_index, IsTrue}
 use Rattle.std.specs.Bool.{nat_lt}
+use Rattle.std.specs.Simd.Lanes.{zip2}
 use Rattle.acs_plain.specs.declared.sums.Sums.{Sums}
 use Rattle.code_paths.specs.declared.costs.CostPair.{CostPair}
 use Rattle.code_paths.specs.Paths.{step_cost, parity_x, parity_y}
@@ -210,6 +211,15 @@ four_at pair true true = refl
 four_at pair true false = refl
 four_at pair false true = refl
 four_at pair false false = refl
+
+-- each X beside each Y
+pub four_sums : (pair : CostPair) → zip2 (λ a b. (a + b) % 4294967296) (pair.x0 ∷ pair.x0 ∷ pair.x1 ∷ pair.x1 ∷ []) (pair.y0 ∷ pair.y1 ∷ pair.y0 ∷ pair.y1 ∷ []) ≡ four pair
+four_sums pair =
+    let a : (pair.x0 + pair.y0) % 4294967296 ≡ pair.x0 + pair.y0 = omega (arith, pair.small.x0_small, pair.small.y0_small) in
+    let b : (pair.x0 + pair.y1) % 4294967296 ≡ pair.x0 + pair.y1 = omega (arith, pair.small.x0_small, pair.small.y1_small) in
+    let c : (pair.x1 + pair.y0) % 4294967296 ≡ pair.x1 + pair.y0 = omega (arith, pair.small.x1_small, pair.small.y0_small) in
+    let d : (pair.x1 + pair.y1) % 4294967296 ≡ pair.x1 + pair.y1 = omega (arith, pair.small.x1_small, pair.small.y1_small) in
+    ap₂ (λ x xs. x ∷ xs) a (ap₂ (λ x xs. x ∷ xs) b (ap₂ (λ x xs. x ∷ xs) c (ap (λ x. x ∷ []) d)))
 
 -- the codes 2X + Y of the steps from the states 2k + parity on an input
 abbrev codes_from : ℕ → Bool → ℕ → ℕ → ℕ

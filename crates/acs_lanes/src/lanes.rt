@@ -42,9 +42,13 @@ fn halves(costs: &[u32]) -> (u32x16, u32x16)
 fn four_costs(pair: CostPair) -> u32x4
     ensures { result ≡ four pair }
 {
-    let (x0, x1) = (pair.x0 as u32, pair.x1 as u32);
-    let (y0, y1) = (pair.y0 as u32, pair.y1 as u32);
-    u32x4::from_array([x0 + y0, x0 + y1, x1 + y0, x1 + y1])
+    let costs = u32x4::from_array([
+        pair.x0 as u32,
+        pair.x1 as u32,
+        pair.y0 as u32,
+        pair.y1 as u32,
+    ]);
+    costs.swizzle([0, 0, 1, 1]) + costs.swizzle([2, 3, 2, 3])
 }
 
 /// The costs of the steps from the even states below 32 on 0, which are those from the odd states on 1, and the others: X
