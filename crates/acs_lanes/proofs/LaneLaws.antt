@@ -14,7 +14,7 @@ use Rattle.spec_words.specs.Bits.{is_set}
 use Rattle.code_paths.specs.States.{register}
 use Rattle.acs_plain.specs.Steps.{IsStep, alive, way, takes_odd}
 use Rattle.code_paths.specs.States.{even_of, odd_of}
-use Rattle.acs_lanes.specs.Lanes.{IsSettled, IsReady, AreSteps, AreLess, AreStepCosts, AreTaken, IsLaneStep, cost_from, four}
+use Rattle.acs_lanes.specs.Lanes.{IsSettled, IsReady, AreSteps, AreLess, AreStepCosts, AreTaken, IsHalfStep, IsLaneStep, cost_from, four}
 use Rattle.acs_plain.specs.Steps.{Close}
 use Rattle.code_paths.proofs.Words.{set_or, set_shl, not_lt}
 
@@ -322,23 +322,21 @@ pub record IsJoined (first last word : ℕ) : Type 0 where
   pub high : (k : ℕ) → k < 16 → is_set word (k + 16) ≡ is_set last k
   pub small : word < 2 ^ 32
 
-pub lanes_joined : (pair : CostPair) (old first last mid new z o y u a b c d : List ℕ) (wa wb wc wd low high : ℕ)
+pub lanes_joined : (pair : CostPair) (old first last after before waiting new : List ℕ) (wa wb wc wd low high : ℕ)
     → ((j : ℕ) → j < 32 → slice_index first j ≡ slice_index old (2 * 0 + j)) → ((j : ℕ) → j < 32 → slice_index last j ≡ slice_index old (2 * 16 + j))
-    → AreStepCosts pair 0 z o → AreStepCosts pair 16 y u
-    → AreTaken first z o a wa → AreTaken last y u b wb → AreTaken first o z c wc → AreTaken last u y d wd
-    → ((k : ℕ) → k < 16 → slice_index mid (0 + k) ≡ slice_index a k) → ((k : ℕ) → k < 16 → slice_index mid (0 + 32 + k) ≡ slice_index c k)
-    → ((k : ℕ) → k < 16 → slice_index new (16 + k) ≡ slice_index b k) → ((k : ℕ) → k < 16 → slice_index new (16 + 32 + k) ≡ slice_index d k)
-    → ((k : ℕ) → k < 16 → slice_index new k ≡ slice_index mid k) → ((k : ℕ) → k < 16 → slice_index new (32 + k) ≡ slice_index mid (32 + k))
+    → IsHalfStep pair 0 first (slice_index after) (λ k. slice_index after (32 + k)) wa wc → IsHalfStep pair 16 last (slice_index waiting) (λ k. slice_index before (48 + k)) wb wd
+    → ((k : ℕ) → 48 ≤ k → k < 64 → slice_index after k ≡ slice_index before k)
+    → ((k : ℕ) → k < 16 → slice_index new (16 + k) ≡ slice_index waiting k) → ((k : ℕ) → k < 16 → slice_index new k ≡ slice_index after k) → ((k : ℕ) → 32 ≤ k → k < 64 → slice_index new k ≡ slice_index after k)
     → IsJoined wa wb low → IsJoined wc wd high → IsLaneStep pair old new low high
-lanes_joined pair old first last mid new z o y u a b c d wa wb wc wd low high f g s t ta tb tc td ma mc nb nd below above j k = record {
-  low_cost = by_parts (way_of pair old false) (slice_index new) (slice_index a) (slice_index b) (λ k l. below k l ∙ at mid k (0 + k) (omega arith) ∙ ma k l) (λ k l. at new (k + 16) (16 + k) (omega arith) ∙ nb k l)
-      (zero_cost pair old first z o a wa 0 f s ta) (zero_cost pair old last y u b wb 16 g t tb);
-  low_odd = by_parts (odd_of_two pair old false) (is_set low) (is_set wa) (is_set wb) j.low j.high (zero_odd pair old first z o a wa 0 f s ta) (zero_odd pair old last y u b wb 16 g t tb);
+lanes_joined pair old first last after before waiting new wa wb wc wd low high f g s t b n p q j k = record {
+  low_cost = by_parts (way_of pair old false) (slice_index new) (slice_index s.low) (slice_index t.low) (λ k l. p k l ∙ s.low_is k l) (λ k l. at new (k + 16) (16 + k) (omega arith) ∙ n k l ∙ t.low_is k l)
+      (zero_cost pair old first s.zero s.one s.low wa 0 f s.steps s.low_taken) (zero_cost pair old last t.zero t.one t.low wb 16 g t.steps t.low_taken);
+  low_odd = by_parts (odd_of_two pair old false) (is_set low) (is_set wa) (is_set wb) j.low j.high (zero_odd pair old first s.zero s.one s.low wa 0 f s.steps s.low_taken) (zero_odd pair old last t.zero t.one t.low wb 16 g t.steps t.low_taken);
   low_small = j.small;
-  high_cost = by_parts (way_of pair old true) (λ n. slice_index new (n + 32)) (slice_index c) (slice_index d) (λ k l. at new (k + 32) (32 + k) (omega arith) ∙ above k l ∙ at mid (32 + k) (0 + 32 + k) (omega arith) ∙ mc k l)
-      (λ k l. at new (k + 16 + 32) (16 + 32 + k) (omega arith) ∙ nd k l)
-      (one_cost pair old first z o c wc 0 f s tc) (one_cost pair old last y u d wd 16 g t td);
-  high_odd = by_parts (odd_of_two pair old true) (is_set high) (is_set wc) (is_set wd) k.low k.high (one_odd pair old first z o c wc 0 f s tc) (one_odd pair old last y u d wd 16 g t td);
+  high_cost = by_parts (way_of pair old true) (λ n. slice_index new (n + 32)) (slice_index s.high) (slice_index t.high) (λ k l. at new (k + 32) (32 + k) (omega arith) ∙ q (32 + k) (omega arith) (omega arith) ∙ s.high_is k l)
+      (λ k l. at new (k + 16 + 32) (48 + k) (omega arith) ∙ q (48 + k) (omega arith) (omega arith) ∙ b (48 + k) (omega arith) (omega arith) ∙ t.high_is k l)
+      (one_cost pair old first s.zero s.one s.high wc 0 f s.steps s.high_taken) (one_cost pair old last t.zero t.one t.high wd 16 g t.steps t.high_taken);
+  high_odd = by_parts (odd_of_two pair old true) (is_set high) (is_set wc) (is_set wd) k.low k.high (one_odd pair old first s.zero s.one s.high wc 0 f s.steps s.high_taken) (one_odd pair old last t.zero t.one t.high wd 16 g t.steps t.high_taken);
 }
   where
     at : (xs : List ℕ) (m n : ℕ) → m ≡ n → slice_index xs m ≡ slice_index xs n

@@ -111,5 +111,8 @@ both_halves n xs = ap (λ z. take n xs ++ z) (take_all (length xs - n) (drop n x
 pub first_part : (xs : List ℕ) (j : ℕ) → j < 32 → get_or (take 32 xs) j 0 ≡ get_or xs (2 * 0 + j) 0
 first_part xs j l = let e : j ≡ 2 * 0 + j = omega arith in get_or-take 32 xs j 0 l ∙ ap (λ z. get_or xs z 0) e
 
-pub last_part : (xs : List ℕ) (j : ℕ) → j < 32 → get_or (mid_of 32 32 xs) j 0 ≡ get_or xs (2 * 16 + j) 0
-last_part xs j l = let e : 32 + j ≡ 2 * 16 + j = omega arith in get_or-take 32 (drop 32 xs) j 0 l ∙ get_or-drop 32 xs j 0 ∙ ap (λ z. get_or xs z 0) e
+pub last_part : (old : List ℕ) (j : ℕ) → j < 32 → get_or (take 32 (drop 32 old)) j 0 ≡ get_or old (2 * 16 + j) 0
+last_part old j l = let e : 32 + j ≡ 2 * 16 + j = omega arith in get_or-take 32 (drop 32 old) j 0 l ∙ get_or-drop 32 old j 0 ∙ ap (λ z. get_or old z 0) e
+
+pub same_part : (old mid : List ℕ) → ((k : ℕ) → k < 48 → get_or mid k 0 ≡ get_or old k 0) → (j : ℕ) → j < 32 → get_or (take 32 mid) j 0 ≡ get_or old (2 * 0 + j) 0
+same_part old mid h j l = let e : j ≡ 2 * 0 + j = omega arith in get_or-take 32 mid j 0 l ∙ h j (omega arith) ∙ ap (λ z. get_or old z 0) e

@@ -61,6 +61,18 @@ pub record AreTaken (old even_steps odd_steps costs : List ℕ) (word : ℕ) : T
   pub odd : (k : ℕ) → k < 16 → is_set word k ≡ nat_lt (slice_index old (2 * k + 1) + slice_index odd_steps k) (slice_index old (2 * k) + slice_index even_steps k)
   pub small : word < 2 ^ 16
 
+-- what comes of 32 states in a row: the costs of sixteen states below 32, from a number on, and of the sixteen states 32 above them
+pub record IsHalfStep (pair : CostPair) (from : ℕ) (part : List ℕ) (low_cost high_cost : ℕ → ℕ) (low_word high_word : ℕ) : Type 0 where
+  pub zero : List ℕ
+  pub one : List ℕ
+  pub low : List ℕ
+  pub high : List ℕ
+  pub steps : AreStepCosts pair from zero one
+  pub low_taken : AreTaken part zero one low low_word
+  pub high_taken : AreTaken part one zero high high_word
+  pub low_is : (k : ℕ) → k < 16 → low_cost k ≡ slice_index low k
+  pub high_is : (k : ℕ) → k < 16 → high_cost k ≡ slice_index high k
+
 -- the step of all states: new state k on the input 0 and new state k + 32 on 1, each from the states 2k and 2k + 1
 pub record IsLaneStep (pair : CostPair) (old new : List ℕ) (low high : ℕ) : Type 0 where
   pub low_cost : (k : ℕ) → k < 32 → slice_index new k ≡ min (slice_index old (2 * k) + cost_from pair 0 false k) (slice_index old (2 * k + 1) + cost_from pair 1 false k)

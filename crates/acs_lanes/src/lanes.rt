@@ -1,8 +1,9 @@
 // The step in lanes.
-ghost use Rattle.std.specs.Prelude.{◌≡◌, ◌≤◌, ◌<◌, ◌+◌, ◌*◌, ◌^◌, ◌++◌, ℕ, min, length, slice_index};
+ghost use Rattle.std.specs.Prelude.{◌≡◌, ◌≤◌, ◌<◌, ◌+◌, ◌*◌, ◌^◌, ℕ, min, length, slice_index, take, drop};
 ghost use Rattle.std.specs.Bool.{nat_lt};
 ghost use Rattle.spec_words.specs.Bits.{is_set};
-ghost use Rattle.acs_lanes.specs.Lanes.{AreLess, AreStepCosts, AreTaken, IsLaneStep, four};
+ghost use Rattle.code_paths.specs.declared.costs.CostPair.{CostPair as Pair};
+ghost use Rattle.acs_lanes.specs.Lanes.{AreLess, AreStepCosts, AreTaken, IsHalfStep, IsLaneStep, four};
 
 use crate::settle::settle;
 use acs_plain::{Acs, Sums};
@@ -54,7 +55,7 @@ fn four_costs(pair: CostPair) -> u32x4
 /// The costs of the steps from the even states below 32 on 0, which are those from the odd states on 1, and the others: X
 /// and Y of two steps both differ where the oldest bit alone or the input alone does.
 fn first_costs(costs: u32x4) -> (u32x16, u32x16)
-    ensures { (pair : CostPair) → costs ≡ four pair → AreStepCosts pair 0 result.0 result.1 }
+    ensures { (pair : Pair) → costs ≡ four pair → AreStepCosts pair 0 result.0 result.1 }
 {
     // 2X + Y of the even states on 0, and on 1
     (
@@ -65,7 +66,7 @@ fn first_costs(costs: u32x4) -> (u32x16, u32x16)
 
 /// The same from the states from 32 on.
 fn last_costs(costs: u32x4) -> (u32x16, u32x16)
-    ensures { (pair : CostPair) → costs ≡ four pair → AreStepCosts pair 16 result.0 result.1 }
+    ensures { (pair : Pair) → costs ≡ four pair → AreStepCosts pair 16 result.0 result.1 }
 {
     (
         costs.swizzle([2, 3, 2, 3, 1, 0, 1, 0, 1, 0, 1, 0, 2, 3, 2, 3]),
@@ -105,18 +106,15 @@ fn sixteen(old: &[u32], zero: u32x16, one: u32x16) -> (u32x16, u64, u32x16, u64)
     (low, first, high, second)
 }
 
-/// Writes the costs of 16 states in a row, and those of the states that lie 32 above them.
-fn store(cost: &mut [u32; 64], from: usize, low: u32x16, high: u32x16)
-    requires from { from ≤ 16 }
-    requires low { length low ≡ 16 }
-    requires high { length high ≡ 16 }
-    ensures low { (k : ℕ) → k < 16 → slice_index cost.new (from + k) ≡ slice_index low k }
-    ensures high { (k : ℕ) → k < 16 → slice_index cost.new (from + 32 + k) ≡ slice_index high k }
-    ensures below_low { (k : ℕ) → k < from → slice_index cost.new k ≡ slice_index cost.old k }
-    ensures below_high { (k : ℕ) → k < from → slice_index cost.new (32 + k) ≡ slice_index cost.old (32 + k) }
+/// Writes the costs of 16 states in a row.
+fn store(cost: &mut [u32; 64], from: usize, lanes: u32x16)
+    requires from { from ≤ 48 }
+    requires lanes { length lanes ≡ 16 }
+    ensures here { (k : ℕ) → k < 16 → slice_index cost.new (from + k) ≡ slice_index lanes k }
+    ensures below { (k : ℕ) → k < from → slice_index cost.new k ≡ slice_index cost.old k }
+    ensures above { (k : ℕ) → from + 16 ≤ k → k < 64 → slice_index cost.new k ≡ slice_index cost.old k }
 {
-    write(&mut cost[from..from + 16], low);
-    write(&mut cost[from + 32..from + 48], high);
+    write(&mut cost[from..from + 16], lanes);
 }
 
 /// Two words of 16 bits, the first one's bits the lowest.
@@ -130,34 +128,50 @@ fn joined(first: u64, last: u64) -> u64
     first | last << 16
 }
 
-/// Writes what comes of all states. The first half is stored before the second one is computed, so that neither needs more
-/// vectors than there are registers.
-fn write_step(old: &[u32; 64], cost: &mut [u32; 64], pair: CostPair) -> (u64, u64)
-    requires fit { (j : ℕ) → j < 64 → slice_index old.now j + 8190 < 2 ^ 32 }
-    ensures step { IsLaneStep pair old.now cost.new result.0 result.1 }
+/// What comes of the upper half of the states: the costs of the states from 48 on are written, those of the states from 16
+/// to 31 wait until the lower half is read.
+// Each half is a call of its own: no more vectors are in use then than there are registers, and the words are computed
+// where their vectors are.
+#[inline(never)]
+fn last_half(cost: &mut [u32; 64], waiting: &mut [u32; 16], costs: u32x4) -> (u64, u64)
+    requires costs { (pair : Pair) × (costs ≡ four pair) }
+    requires fit { (j : ℕ) → j < 64 → slice_index cost.old j + 8190 < 2 ^ 32 }
+    ensures half { (pair : Pair) → costs ≡ four pair → IsHalfStep pair 16 (take 32 (drop 32 cost.old)) (slice_index waiting.new) (λ k. slice_index cost.new (48 + k)) result.0 result.1 }
+    ensures same { (k : ℕ) → k < 48 → slice_index cost.new k ≡ slice_index cost.old k }
 {
-    let costs = four_costs(pair);
-    let (zero, one) = first_costs(costs);
-    let (low, low_odd, high, high_odd) = sixteen(&old[..32], zero, one);
-    store(cost, 0, low, high);
     let (zero, one) = last_costs(costs);
-    let (next_low, next_low_odd, next_high, next_high_odd) = sixteen(&old[32..], zero, one);
-    store(cost, 16, next_low, next_high);
-    (
-        joined(low_odd, next_low_odd),
-        joined(high_odd, next_high_odd),
-    )
+    let (low, low_odd, high, high_odd) = sixteen(&cost[32..], zero, one);
+    write(waiting, low);
+    store(cost, 48, high);
+    (low_odd, high_odd)
+}
+
+/// What comes of the lower half of the states: the costs of the states below 16 and from 32 to 47 are written.
+#[inline(never)]
+fn first_half(cost: &mut [u32; 64], costs: u32x4) -> (u64, u64)
+    requires costs { (pair : Pair) × (costs ≡ four pair) }
+    requires fit { (j : ℕ) → j < 32 → slice_index cost.old j + 8190 < 2 ^ 32 }
+    ensures half { (pair : Pair) → costs ≡ four pair → IsHalfStep pair 0 (take 32 cost.old) (slice_index cost.new) (λ k. slice_index cost.new (32 + k)) result.0 result.1 }
+    ensures same { (k : ℕ) → 48 ≤ k → k < 64 → slice_index cost.new k ≡ slice_index cost.old k }
+{
+    let (zero, one) = first_costs(costs);
+    let (low, low_odd, high, high_odd) = sixteen(&cost[..32], zero, one);
+    store(cost, 0, low);
+    store(cost, 32, high);
+    (low_odd, high_odd)
 }
 
 /// The step over all states, where each may be compared with each: the words of the states below 32 and of the others.
-// Inlined, the words would be computed behind the branches of the caller, and all vectors be kept in memory for it.
-#[inline(never)]
 fn step_lanes(cost: &mut [u32; 64], pair: CostPair) -> (u64, u64)
     requires fit { (j : ℕ) → j < 64 → slice_index cost.old j + 8190 < 2 ^ 32 }
     ensures step { IsLaneStep pair cost.old cost.new result.0 result.1 }
 {
-    let old = *cost;
-    write_step(&old, cost, pair)
+    let costs = four_costs(pair);
+    let mut waiting = [0; 16];
+    let (last_low, last_high) = last_half(cost, &mut waiting, costs);
+    let (low, high) = first_half(cost, costs);
+    store(cost, 16, read(&waiting));
+    (joined(low, last_low), joined(high, last_high))
 }
 
 /// The step over vectors of 16 lanes.
