@@ -1,13 +1,12 @@
 -- Sums, the lesser of two, and the word of choices, lane by lane.
-use Rattle.std.proofs.Common.{◌≡◌, ℕ, ◌+◌, ◌-◌, ◌*◌, ◌%◌, ◌^◌, ◌<◌, min, Bool, true, false, cond, List, map, length, get_or, ◌⊎◌, inl, inr, refl, sym, ap, ap₂, ◌∙◌, subst, arith, eqb, ltb, mod-eq_of_lt, w32, take, drop, ◌++◌, length-drop, length-take, take-append-drop, not, ◌&&◌, bit_and}
+use Rattle.std.proofs.Common.{◌≡◌, ℕ, ◌+◌, ◌-◌, ◌*◌, ◌%◌, ◌^◌, ◌<◌, min, Bool, true, false, cond, List, map, length, get_or, ◌⊎◌, inl, inr, refl, sym, ap, ap₂, ◌∙◌, subst, arith, eqb, ltb, mod-eq_of_lt, w32, take, drop, ◌++◌, length-drop, take-append-drop, not, ◌&&◌, bit_and}
 use Rattle.std.proofs.lemmas.Simd.{tops_compared, get_or-zip2, get_or-sel_l, length-zip2, length-sel_l, mask_l-mod, mask_l-lt, bit_mask_l}
 use Rattle.std.specs.Simd.Lanes.{zip2, sel_l, mask_l, top}
 use Rattle.std.proofs.lemmas.Bool.{cases_Bool, ltb-true, ltb-false, ne_eqb, eq-eqb, agree_below_at}
 use Rattle.std.proofs.lemmas.Nat.{and_le_r}
 use Rattle.std.specs.Int.{bit_not, w64}
 use Rattle.code_paths.proofs.Words.{set_and, set_not}
-use Rattle.std.proofs.lemmas.List.{take_all, get_or_append_left, get_or-append_right, get_or-take, get_or-drop}
-use borrow.Rule.Slice.PartMut.{mid_of, post_of, put_mid}
+use Rattle.std.proofs.lemmas.List.{take_all, get_or-take, get_or-drop}
 use Rattle.spec_words.specs.Bits.{is_set}
 
 ones16 : (k : ℕ) → k < 16 → is_set 65535 k ≡ true

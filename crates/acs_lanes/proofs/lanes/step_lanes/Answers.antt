@@ -1,6 +1,6 @@
 use Rattle.std.proofs.Common.{◌∙◌, ap, get_or, take, drop}
 use Rattle.acs_lanes.proofs.Vectors.{last_part, same_part}
-use Rattle.acs_lanes.proofs.LaneLaws.{lanes_joined, IsJoined}
+use Rattle.acs_lanes.proofs.LaneLaws.{lanes_joined}
 use Rattle.acs_lanes.proofs.lanes.step_lanes.Goals as goal
 
 pub joined-requires-clause-last : goal.joined-requires-clause-last

@@ -1,7 +1,7 @@
-use Rattle.std.proofs.Common.{◌≡◌, ◌∙◌, ap, ap₂, arith, ◌||◌}
+use Rattle.std.proofs.Common.{◌∙◌, ap, ◌||◌}
 use Rattle.spec_words.specs.Bits.{is_set}
 use Rattle.code_paths.specs.States.{even_of, odd_of}
-use Rattle.acs_lanes.proofs.LaneLaws.{lane_small, lanes_step}
+use Rattle.acs_lanes.proofs.LaneLaws.{lanes_step}
 use Rattle.acs_lanes.proofs.lanes.LaneAcsAcs.step.Goals as goal
 
 pub returns : goal.returns
