@@ -78,9 +78,9 @@ fn edges_are_plain(rt: &impl Abort, shape: Shape, hierarchy: Hierarchy) {
                 real_point(shape, hierarchy, label),
                 real_point(shape, hierarchy, other),
             ) {
-                for step in 0..5i16 {
-                    let edge = (a / 2).saturating_add(b / 2);
-                    are_plain(rt, shape, hierarchy, edge.saturating_add(step - 2));
+                let edge = (a / 2).saturating_add(b / 2);
+                for step in [-2i16, -1, 0, 1, 2] {
+                    are_plain(rt, shape, hierarchy, edge.saturating_add(step));
                 }
             }
         }

@@ -1,4 +1,4 @@
-use Rattle.std.proofs.Common.{◌≡◌, ◌∙◌, ◌+◌, ◌-◌, ◌*◌, ◌/◌, arith, take, drop, refl}
+use Rattle.std.proofs.Common.{◌-◌, ◌*◌, ◌/◌, arith, take, drop, refl}
 use Rattle.survivor_ring.proofs.Bytes.{parts_join}
 use Rattle.survivor_ring.proofs.bits.append.Goals as goal
 

@@ -1,4 +1,4 @@
-use Rattle.std.proofs.Common.{◌≡◌, ◌∙◌, ◌+◌, ◌-◌, ◌*◌, ap, ap₂, arith, take, drop}
+use Rattle.std.proofs.Common.{◌≡◌, ◌∙◌, ◌+◌, ◌-◌, ◌*◌, ap, arith, take, drop}
 use Rattle.spec_words.specs.Bits.{spelled}
 use Rattle.survivor_ring.proofs.Bytes.{parts_join}
 use Rattle.survivor_ring.proofs.bits.append_bytes.Goals as goal
