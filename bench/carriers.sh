@@ -1,7 +1,7 @@
 #!/usr/bin/env bash
-# Times `carrier` and `kind` (8K), a symbol's labels to bytes (8K, 64-QAM) and its bytes to cells. Makes a scratch
-# repository of the crates, proves and builds a program for each there by LLVM, and runs them. Prints processor
-# nanoseconds a call, and microseconds a symbol.
+# Times `carrier` and `kind` (8K), a symbol's labels to bytes (8K, 64-QAM) and its bytes to cells, the latter by pieces of
+# 1,880 bytes. Makes a scratch repository of the crates, proves and builds a program for each there by LLVM, and runs
+# them. Prints processor nanoseconds a call, and microseconds and megabytes of cells a symbol and second.
 # usage: bench/carriers.sh [FOLDER]
 set -eu
 top=$(cd "$(dirname "$0")/.." && pwd)
@@ -70,11 +70,14 @@ fn main(rt: HostRuntime) -> anyhow::Result<()> {
     let bytes = vec![in alloc; 0x12u8; 27268]?;
     let mut symbol = SymbolIn::<Mode8k>::new(alloc)?;
     let mut sum = 0u64;
-    for _ in 0..4000u32 {
-        if !symbol.whole() {
-            sum = sum.wrapping_add(symbol.take(&bytes) as u64);
+    for count in 0..4000u32 {
+        for piece in bytes.chunks(1880) {
+            if !symbol.whole() {
+                sum = sum.wrapping_add(symbol.take(piece) as u64);
+            }
         }
         if symbol.whole() {
+            sum = sum.wrapping_add(u64::from(symbol.cells()[count as usize].re.unsigned_abs()));
             symbol.next();
         }
     }
@@ -154,5 +157,5 @@ for name, calls, scale, unit in rows:
         subprocess.run([f"{to}/crates/bench_{name}/out/bench_{name}"], check=True, stdout=subprocess.DEVNULL)
         spent = resource.getrusage(resource.RUSAGE_CHILDREN).ru_utime - before
         best = spent if best is None else min(best, spent)
-    print(f"{name:10} {best / calls * scale:.2f} {unit}")
+    print(f"{name:10} {best / calls * scale:.2f} {unit}" + (f", {27268 * calls / best / 1e6:.0f} MB/s" if unit == "µs a symbol" else ""))
 PY

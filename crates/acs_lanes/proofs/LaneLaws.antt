@@ -2,8 +2,10 @@
 use Rattle.std.proofs.Common.{◌≡◌, ℕ, zero, suc, ◌+◌, ◌-◌, ◌*◌, ◌%◌, ◌^◌, ◌<◌, ◌≤◌, min, Bool, true, false, cond, not, ◌&&◌, ◌||◌, List, [], ◌∷◌, ◌++◌, length, ◌⊎◌, inl, inr, refl, sym, ap, ap₂, ◌∙◌, subst, arith, eqb, ltb, bit_or, get_or, true≢false, map, lit<}
 use Rattle.std.proofs.lemmas.Bool.{cases_Bool, cases_lt, ltb-true, ltb-false, lt-ltb, le-ltb, eqb-true, agree_below_at}
 use Rattle.std.proofs.lemmas.Nat.Bits.{bit_at_above}
+use Rattle.std.proofs.lemmas.Nat.{or_of_32}
 use Rattle.std.specs.Prelude.{slice_index, IsTrue}
 use Rattle.std.specs.Bool.{nat_lt}
+use Rattle.std.specs.Simd.Lanes.{zip2}
 use Rattle.acs_plain.specs.declared.sums.Sums.{Sums}
 use Rattle.code_paths.specs.declared.costs.CostPair.{CostPair}
 use Rattle.code_paths.specs.Paths.{step_cost, parity_x, parity_y}
@@ -12,20 +14,26 @@ use Rattle.spec_words.specs.Bits.{is_set}
 use Rattle.code_paths.specs.States.{register}
 use Rattle.acs_plain.specs.Steps.{IsStep, alive, way, takes_odd}
 use Rattle.code_paths.specs.States.{even_of, odd_of}
-use Rattle.acs_lanes.specs.Lanes.{IsSettled, IsReady, AreSteps, AreLess}
+use Rattle.acs_lanes.specs.Lanes.{IsSettled, IsReady, AreSteps, AreLess, AreStepCosts, AreTaken, IsHalfStep, IsLaneStep, cost_from, four}
 use Rattle.acs_plain.specs.Steps.{Close}
 use Rattle.code_paths.proofs.Words.{set_or, set_shl, not_lt}
 
--- two words of 32 bits, one behind the other
-pub set_low_word : (a b k : ℕ) → k < 32 → is_set (bit_or a (b * 2 ^ 32 % 2 ^ 64)) k ≡ is_set a k
-set_low_word a b k l = set_or a (b * 2 ^ 32 % 2 ^ 64) k ∙ ap (λ z. is_set a k || z) (set_shl b 32 k (omega arith) ∙ ap (λ z. not z && is_set b (k - 32)) (lt-ltb k 32 l)) ∙ or_none (is_set a k)
-  where
-    or_none : (a : Bool) → (a || false) ≡ a
-    or_none true = refl
-    or_none false = refl
+or_none : (a : Bool) → (a || false) ≡ a
+or_none true = refl
+or_none false = refl
 
-pub set_high_word : (a b k : ℕ) → a < 2 ^ 32 → 32 ≤ k → k < 64 → is_set (bit_or a (b * 2 ^ 32 % 2 ^ 64)) k ≡ is_set b (k - 32)
-set_high_word a b k w h l = set_or a (b * 2 ^ 32 % 2 ^ 64) k ∙ ap₂ (λ y z. y || z) (ap (λ z. eqb z 1) (bit_at_above a 32 k w h)) (set_shl b 32 k l ∙ ap (λ z. not z && is_set b (k - 32)) (not_lt k 32 h))
+-- two words, one behind the other
+pub set_low_word : (w a b k : ℕ) → k < w → w < 64 → is_set (bit_or a (b * 2 ^ w % 2 ^ 64)) k ≡ is_set a k
+set_low_word w a b k l m = set_or a (b * 2 ^ w % 2 ^ 64) k ∙ ap (λ z. is_set a k || z) (set_shl b w k (omega arith) ∙ ap (λ z. not z && is_set b (k - w)) (lt-ltb k w l)) ∙ or_none (is_set a k)
+
+pub set_high_word : (w a b k : ℕ) → a < 2 ^ w → w ≤ k → k < 64 → is_set (bit_or a (b * 2 ^ w % 2 ^ 64)) k ≡ is_set b (k - w)
+set_high_word w a b k f h l = set_or a (b * 2 ^ w % 2 ^ 64) k ∙ ap₂ (λ y z. y || z) (ap (λ z. eqb z 1) (bit_at_above a w k f h)) (set_shl b w k l ∙ ap (λ z. not z && is_set b (k - w)) (not_lt k w h))
+
+pub joined_high : (a b k : ℕ) → a < 2 ^ 16 → k < 16 → is_set (bit_or a (b * 2 ^ 16 % 2 ^ 64)) (k + 16) ≡ is_set b k
+joined_high a b k f l = let e : k + 16 - 16 ≡ k = omega arith in set_high_word 16 a b (k + 16) f (omega arith) (omega arith) ∙ ap (is_set b) e
+
+pub joined_small : (a b : ℕ) → a < 2 ^ 16 → b < 2 ^ 16 → bit_or a (b * 2 ^ 16 % 2 ^ 64) < 2 ^ 32
+joined_small a b f g = or_of_32 a (b * 2 ^ 16 % 2 ^ 64) (omega (arith, f)) (omega (arith, g))
 
 -- one lane
 abbrev takes : Bool → Bool → ℕ → ℕ → Bool
@@ -95,54 +103,53 @@ lane_total old low pair n e o s t h u =
     inside true = refl
     inside false = refl
 
--- what the lanes of a step tell
-pub record AreLanes (old new : Sums) (low : ℕ) (pair : CostPair) (z1 o1 : List ℕ) (cost : List ℕ) (d0 d1 : ℕ) : Type 0 where
-  pub settled : IsSettled old new low
-  pub even_zero : (k : ℕ) → k < 32 → AreSteps pair 0 false k (slice_index z1 k)
-  pub odd_one : (k : ℕ) → k < 32 → AreSteps pair 1 true k (slice_index z1 k)
-  pub even_one : (k : ℕ) → k < 32 → AreSteps pair 0 true k (slice_index o1 k)
-  pub odd_zero : (k : ℕ) → k < 32 → AreSteps pair 1 false k (slice_index o1 k)
-  pub low_cost : (k : ℕ) → k < 32 → slice_index cost k ≡ min (slice_index new.cost (2 * k) + slice_index z1 k) (slice_index new.cost (2 * k + 1) + slice_index o1 k)
-  pub low_odd : (k : ℕ) → k < 32 → is_set d0 k ≡ nat_lt (slice_index new.cost (2 * k + 1) + slice_index o1 k) (slice_index new.cost (2 * k) + slice_index z1 k)
-  pub low_small : d0 < 2 ^ 32
-  pub high_cost : (k : ℕ) → k < 32 → slice_index cost (k + 32) ≡ min (slice_index new.cost (2 * k) + slice_index o1 k) (slice_index new.cost (2 * k + 1) + slice_index z1 k)
-  pub high_odd : (k : ℕ) → k < 32 → is_set d1 k ≡ nat_lt (slice_index new.cost (2 * k + 1) + slice_index z1 k) (slice_index new.cost (2 * k) + slice_index o1 k)
+abbrev bits_at : ℕ → Bool → ℕ → List Bool
+bits_at parity input k = register (2 * k + parity) ++ input ∷ []
 
-module _ (old new : Sums) (low : ℕ) (pair : CostPair) (z1 o1 : List ℕ) (cost : List ℕ) (d0 d1 : ℕ) (h : AreLanes old new low pair z1 o1 cost d0 d1) where
+four_small : (pair : CostPair) (x y : Bool) → cond x pair.x1 pair.x0 + cond y pair.y1 pair.y0 ≤ 8190
+four_small pair true true = omega (arith, pair.small.x1_small, pair.small.y1_small)
+four_small pair true false = omega (arith, pair.small.x1_small, pair.small.y0_small)
+four_small pair false true = omega (arith, pair.small.x0_small, pair.small.y1_small)
+four_small pair false false = omega (arith, pair.small.x0_small, pair.small.y0_small)
+
+from_small : (pair : CostPair) (parity : ℕ) (input : Bool) (k : ℕ) → cost_from pair parity input k ≤ 8190
+from_small pair parity input k = four_small pair (parity_x (bits_at parity input k)) (parity_y (bits_at parity input k))
+
+-- the step of all lanes is that of all states
+module _ (old new : Sums) (low : ℕ) (pair : CostPair) (cost : List ℕ) (d0 d1 : ℕ) (settled : IsSettled old new low) (h : IsLaneStep pair new.cost cost d0 d1) where
   newest_low : (n : ℕ) → n < 32 → is_set n 5 ≡ false
   newest_low n l = agree_below_at (λ n. is_set n 5) (λ n. false) 32 n refl l
 
   newest_high : (n : ℕ) → 32 ≤ n → n < 64 → is_set n 5 ≡ true
   newest_high n k l = let q : n - 32 + 32 ≡ n = omega arith in ap (λ z. is_set z 5) (sym q) ∙ agree_below_at (λ n. is_set (n + 32) 5) (λ n. true) 32 (n - 32) refl (omega arith)
 
-  step_is : (parity : ℕ) (input : Bool) (k n s state : ℕ) → AreSteps pair parity input k s → 2 * k + parity ≡ state → is_set n 5 ≡ input → s ≡ step_cost pair (register state ++ is_set n 5 ∷ [])
-  step_is parity input k n s state a e f = a.is ∙ ap₂ (λ z i. step_cost pair (register z ++ i ∷ [])) e (sym f)
+  step_is : (parity : ℕ) (input : Bool) (k n state : ℕ) → 2 * k + parity ≡ state → is_set n 5 ≡ input → cost_from pair parity input k ≡ step_cost pair (register state ++ is_set n 5 ∷ [])
+  step_is parity input k n state e f = ap₂ (λ z i. step_cost pair (register z ++ i ∷ [])) e (sym f)
 
-  lane_low : (n : ℕ) → n < 32 → Lane old low pair n (slice_index new.cost (2 * n)) (slice_index new.cost (2 * n + 1)) (slice_index z1 n) (slice_index o1 n)
+  lane_low : (n : ℕ) → n < 32 → Lane old low pair n (slice_index new.cost (2 * n)) (slice_index new.cost (2 * n + 1)) (cost_from pair 0 false n) (cost_from pair 1 false n)
   lane_low n l =
       let e : 2 * n ≡ even_of n = omega arith in
       let o : 2 * n + 1 ≡ odd_of n = omega arith in
       record {
-        even = subst (λ z. IsHalf old low z (slice_index new.cost (2 * n))) e (half_of old new low (2 * n) (omega arith) h.settled);
-        odd = subst (λ z. IsHalf old low z (slice_index new.cost (2 * n + 1))) o (half_of old new low (2 * n + 1) (omega arith) h.settled);
-        even_step = step_is 0 false n n (slice_index z1 n) (even_of n) (h.even_zero n l) (omega arith) (newest_low n l);
-        odd_step = step_is 1 false n n (slice_index o1 n) (odd_of n) (h.odd_zero n l) (omega arith) (newest_low n l);
-        even_small = (h.even_zero n l).small;
-        odd_small = (h.odd_zero n l).small;
+        even = subst (λ z. IsHalf old low z (slice_index new.cost (2 * n))) e (half_of old new low (2 * n) (omega arith) settled);
+        odd = subst (λ z. IsHalf old low z (slice_index new.cost (2 * n + 1))) o (half_of old new low (2 * n + 1) (omega arith) settled);
+        even_step = step_is 0 false n n (even_of n) (omega arith) (newest_low n l);
+        odd_step = step_is 1 false n n (odd_of n) (omega arith) (newest_low n l);
+        even_small = from_small pair 0 false n;
+        odd_small = from_small pair 1 false n;
       }
 
-  lane_high : (n : ℕ) → 32 ≤ n → n < 64 → Lane old low pair n (slice_index new.cost (2 * (n - 32))) (slice_index new.cost (2 * (n - 32) + 1)) (slice_index o1 (n - 32)) (slice_index z1 (n - 32))
+  lane_high : (n : ℕ) → 32 ≤ n → n < 64 → Lane old low pair n (slice_index new.cost (2 * (n - 32))) (slice_index new.cost (2 * (n - 32) + 1)) (cost_from pair 0 true (n - 32)) (cost_from pair 1 true (n - 32))
   lane_high n k l =
-      let w : n - 32 < 32 = omega arith in
       let e : 2 * (n - 32) ≡ even_of n = omega arith in
       let o : 2 * (n - 32) + 1 ≡ odd_of n = omega arith in
       record {
-        even = subst (λ z. IsHalf old low z (slice_index new.cost (2 * (n - 32)))) e (half_of old new low (2 * (n - 32)) (omega arith) h.settled);
-        odd = subst (λ z. IsHalf old low z (slice_index new.cost (2 * (n - 32) + 1))) o (half_of old new low (2 * (n - 32) + 1) (omega arith) h.settled);
-        even_step = step_is 0 true (n - 32) n (slice_index o1 (n - 32)) (even_of n) (h.even_one (n - 32) w) (omega arith) (newest_high n k l);
-        odd_step = step_is 1 true (n - 32) n (slice_index z1 (n - 32)) (odd_of n) (h.odd_one (n - 32) w) (omega arith) (newest_high n k l);
-        even_small = (h.even_one (n - 32) w).small;
-        odd_small = (h.odd_one (n - 32) w).small;
+        even = subst (λ z. IsHalf old low z (slice_index new.cost (2 * (n - 32)))) e (half_of old new low (2 * (n - 32)) (omega arith) settled);
+        odd = subst (λ z. IsHalf old low z (slice_index new.cost (2 * (n - 32) + 1))) o (half_of old new low (2 * (n - 32) + 1) (omega arith) settled);
+        even_step = step_is 0 true (n - 32) n (even_of n) (omega arith) (newest_high n k l);
+        odd_step = step_is 1 true (n - 32) n (odd_of n) (omega arith) (newest_high n k l);
+        even_small = from_small pair 0 true (n - 32);
+        odd_small = from_small pair 1 true (n - 32);
       }
 
   pub lanes_step : (live : ℕ) → ((n : ℕ) → n < 64 → is_set live n ≡ (alive old (even_of n) || alive old (odd_of n))) → IsStep old pair (record { cost = cost; alive = live }) (bit_or d0 (d1 * 2 ^ 32 % 2 ^ 64))
@@ -154,8 +161,8 @@ module _ (old new : Sums) (low : ℕ) (pair : CostPair) (z1 o1 : List ℕ) (cost
   }
     where
       choose : (n : ℕ) → n < 64 → (alive old (even_of n) || alive old (odd_of n)) ≡ true → (n < 32) ⊎ (32 ≤ n) → is_set (bit_or d0 (d1 * 2 ^ 32 % 2 ^ 64)) n ≡ takes_odd old pair n
-      choose n l u (inl k) = set_low_word d0 d1 n k ∙ h.low_odd n k ∙ lane_choice old low pair n _ _ _ _ (lane_low n k) u
-      choose n l u (inr k) = set_high_word d0 d1 n h.low_small k l ∙ h.high_odd (n - 32) (omega arith) ∙ lane_choice old low pair n _ _ _ _ (lane_high n k l) u
+      choose n l u (inl k) = set_low_word 32 d0 d1 n k (omega arith) ∙ h.low_odd n k ∙ lane_choice old low pair n _ _ _ _ (lane_low n k) u
+      choose n l u (inr k) = set_high_word 32 d0 d1 n h.low_small k l ∙ h.high_odd (n - 32) (omega arith) ∙ lane_choice old low pair n _ _ _ _ (lane_high n k l) u
 
       count : (n : ℕ) → n < 64 → (alive old (even_of n) || alive old (odd_of n)) ≡ true → (n < 32) ⊎ (32 ≤ n) → slice_index cost n + low ≡ way old pair (cond (takes_odd old pair n) (odd_of n) (even_of n)) n
       count n l u (inl k) = ap (λ z. z + low) (h.low_cost n k) ∙ lane_total old low pair n _ _ _ _ (lane_low n k) u
@@ -177,34 +184,24 @@ ready_is sums c e l = record { lives = λ n k. live n k; small = λ n k. omega (
 -- ---- tables of lanes
 
 abbrev pub evens : List ℕ
-evens = 0 ∷ 2 ∷ 4 ∷ 6 ∷ 8 ∷ 10 ∷ 12 ∷ 14 ∷ 16 ∷ 18 ∷ 20 ∷ 22 ∷ 24 ∷ 26 ∷ 28 ∷ 30 ∷ 32 ∷ 34 ∷ 36 ∷ 38 ∷ 40 ∷ 42 ∷ 44 ∷ 46 ∷ 48 ∷ 50 ∷ 52 ∷ 54 ∷ 56 ∷ 58 ∷ 60 ∷ 62 ∷ []
+evens = 0 ∷ 2 ∷ 4 ∷ 6 ∷ 8 ∷ 10 ∷ 12 ∷ 14 ∷ 16 ∷ 18 ∷ 20 ∷ 22 ∷ 24 ∷ 26 ∷ 28 ∷ 30 ∷ []
 
 abbrev pub odds : List ℕ
-odds = 1 ∷ 3 ∷ 5 ∷ 7 ∷ 9 ∷ 11 ∷ 13 ∷ 15 ∷ 17 ∷ 19 ∷ 21 ∷ 23 ∷ 25 ∷ 27 ∷ 29 ∷ 31 ∷ 33 ∷ 35 ∷ 37 ∷ 39 ∷ 41 ∷ 43 ∷ 45 ∷ 47 ∷ 49 ∷ 51 ∷ 53 ∷ 55 ∷ 57 ∷ 59 ∷ 61 ∷ 63 ∷ []
+odds = 1 ∷ 3 ∷ 5 ∷ 7 ∷ 9 ∷ 11 ∷ 13 ∷ 15 ∷ 17 ∷ 19 ∷ 21 ∷ 23 ∷ 25 ∷ 27 ∷ 29 ∷ 31 ∷ []
 
 pub at_map : (f : ℕ → ℕ) (xs : List ℕ) (k : ℕ) → k < length xs → get_or (map f xs) k 0 ≡ f (get_or xs k 0)
 at_map f [] k l = absurd (omega arith)
 at_map f (x ∷ xs) zero l = refl
 at_map f (x ∷ xs) (suc k) l = at_map f xs k (omega arith)
 
-same_number : (f g : ℕ → ℕ) (k : ℕ) → k < 32 → all_below (λ k. eqb (f k) (g k)) 32 ≡ true → f k ≡ g k
-same_number f g k l t = eqb-true (f k) (g k) (all_below_at (λ k. eqb (f k) (g k)) 32 k t l)
+same_number : (f g : ℕ → ℕ) (k : ℕ) → k < 16 → all_below (λ k. eqb (f k) (g k)) 16 ≡ true → f k ≡ g k
+same_number f g k l t = eqb-true (f k) (g k) (all_below_at (λ k. eqb (f k) (g k)) 16 k t l)
 
-pub even_lanes : (w : List ℕ) (k : ℕ) → k < 32 → get_or (map (λ j. get_or w j 0) evens) k 0 ≡ get_or w (2 * k) 0
+pub even_lanes : (w : List ℕ) (k : ℕ) → k < 16 → get_or (map (λ j. get_or w j 0) evens) k 0 ≡ get_or w (2 * k) 0
 even_lanes w k l = at_map (λ j. get_or w j 0) evens k l ∙ ap (λ j. get_or w j 0) (same_number (λ k. get_or evens k 0) (λ k. 2 * k) k l refl)
 
-pub odd_lanes : (w : List ℕ) (k : ℕ) → k < 32 → get_or (map (λ j. get_or w j 0) odds) k 0 ≡ get_or w (2 * k + 1) 0
+pub odd_lanes : (w : List ℕ) (k : ℕ) → k < 16 → get_or (map (λ j. get_or w j 0) odds) k 0 ≡ get_or w (2 * k + 1) 0
 odd_lanes w k l = at_map (λ j. get_or w j 0) odds k l ∙ ap (λ j. get_or w j 0) (same_number (λ k. get_or odds k 0) (λ k. 2 * k + 1) k l refl)
-
--- the costs of a step by 2X + Y
-abbrev pub four : CostPair → List ℕ
-four pair = (pair.x0 + pair.y0) ∷ (pair.x0 + pair.y1) ∷ (pair.x1 + pair.y0) ∷ (pair.x1 + pair.y1) ∷ []
-
-abbrev pub zero_codes : List ℕ
-zero_codes = 0 ∷ 1 ∷ 0 ∷ 1 ∷ 3 ∷ 2 ∷ 3 ∷ 2 ∷ 3 ∷ 2 ∷ 3 ∷ 2 ∷ 0 ∷ 1 ∷ 0 ∷ 1 ∷ 2 ∷ 3 ∷ 2 ∷ 3 ∷ 1 ∷ 0 ∷ 1 ∷ 0 ∷ 1 ∷ 0 ∷ 1 ∷ 0 ∷ 2 ∷ 3 ∷ 2 ∷ 3 ∷ []
-
-abbrev pub one_codes : List ℕ
-one_codes = 3 ∷ 2 ∷ 3 ∷ 2 ∷ 0 ∷ 1 ∷ 0 ∷ 1 ∷ 0 ∷ 1 ∷ 0 ∷ 1 ∷ 3 ∷ 2 ∷ 3 ∷ 2 ∷ 1 ∷ 0 ∷ 1 ∷ 0 ∷ 2 ∷ 3 ∷ 2 ∷ 3 ∷ 2 ∷ 3 ∷ 2 ∷ 3 ∷ 1 ∷ 0 ∷ 1 ∷ 0 ∷ []
 
 abbrev code_of : Bool → Bool → ℕ
 code_of x y = 2 * cond x 1 0 + cond y 1 0
@@ -215,39 +212,132 @@ four_at pair true false = refl
 four_at pair false true = refl
 four_at pair false false = refl
 
-four_small : (pair : CostPair) (x y : Bool) → cond x pair.x1 pair.x0 + cond y pair.y1 pair.y0 ≤ 8190
-four_small pair true true = omega (arith, pair.small.x1_small, pair.small.y1_small)
-four_small pair true false = omega (arith, pair.small.x1_small, pair.small.y0_small)
-four_small pair false true = omega (arith, pair.small.x0_small, pair.small.y1_small)
-four_small pair false false = omega (arith, pair.small.x0_small, pair.small.y0_small)
+-- each X beside each Y
+pub four_sums : (pair : CostPair) → zip2 (λ a b. (a + b) % 4294967296) (pair.x0 ∷ pair.x0 ∷ pair.x1 ∷ pair.x1 ∷ []) (pair.y0 ∷ pair.y1 ∷ pair.y0 ∷ pair.y1 ∷ []) ≡ four pair
+four_sums pair =
+    let a : (pair.x0 + pair.y0) % 4294967296 ≡ pair.x0 + pair.y0 = omega (arith, pair.small.x0_small, pair.small.y0_small) in
+    let b : (pair.x0 + pair.y1) % 4294967296 ≡ pair.x0 + pair.y1 = omega (arith, pair.small.x0_small, pair.small.y1_small) in
+    let c : (pair.x1 + pair.y0) % 4294967296 ≡ pair.x1 + pair.y0 = omega (arith, pair.small.x1_small, pair.small.y0_small) in
+    let d : (pair.x1 + pair.y1) % 4294967296 ≡ pair.x1 + pair.y1 = omega (arith, pair.small.x1_small, pair.small.y1_small) in
+    ap₂ (λ x xs. x ∷ xs) a (ap₂ (λ x xs. x ∷ xs) b (ap₂ (λ x xs. x ∷ xs) c (ap (λ x. x ∷ []) d)))
 
-abbrev bits_at : ℕ → Bool → ℕ → List Bool
-bits_at parity input k = register (2 * k + parity) ++ input ∷ []
+-- the codes 2X + Y of the steps from the states 2k + parity on an input
+abbrev codes_from : ℕ → Bool → ℕ → ℕ → ℕ
+codes_from parity input from k = code_of (parity_x (bits_at parity input (from + k))) (parity_y (bits_at parity input (from + k)))
 
-steps_at : (pair : CostPair) (codes : List ℕ) (parity : ℕ) (input : Bool) (k : ℕ) → k < 32 → length codes ≡ 32 → get_or codes k 0 ≡ code_of (parity_x (bits_at parity input k)) (parity_y (bits_at parity input k))
-    → AreSteps pair parity input k (get_or (map (λ j. get_or (four pair) j 0) codes) k 0)
-steps_at pair codes parity input k l n e =
-    let f = at_map (λ j. get_or (four pair) j 0) codes k (omega arith) ∙ ap (λ j. get_or (four pair) j 0) e ∙ four_at pair (parity_x (bits_at parity input k)) (parity_y (bits_at parity input k)) in
-    record { is = f; small = omega (arith, f, four_small pair (parity_x (bits_at parity input k)) (parity_y (bits_at parity input k))) }
+steps_at : (pair : CostPair) (codes : List ℕ) (parity : ℕ) (input : Bool) (from : ℕ) → length codes ≡ 16 → all_below (λ k. eqb (get_or codes k 0) (codes_from parity input from k)) 16 ≡ true
+    → (k : ℕ) → k < 16 → AreSteps pair parity input (from + k) (get_or (map (λ j. get_or (four pair) j 0) codes) k 0)
+steps_at pair codes parity input from n t k l =
+    let e = same_number (λ k. get_or codes k 0) (codes_from parity input from) k l t in
+    let f = at_map (λ j. get_or (four pair) j 0) codes k (omega (arith, n)) ∙ ap (λ j. get_or (four pair) j 0) e ∙ four_at pair (parity_x (bits_at parity input (from + k))) (parity_y (bits_at parity input (from + k))) in
+    record { is = f; small = omega (arith, f, four_small pair (parity_x (bits_at parity input (from + k))) (parity_y (bits_at parity input (from + k)))) }
 
-pub even_zeros : (pair : CostPair) (k : ℕ) → k < 32 → AreSteps pair 0 false k (get_or (map (λ j. get_or (four pair) j 0) zero_codes) k 0)
-even_zeros pair k l = steps_at pair zero_codes 0 false k l refl (same_number (λ k. get_or zero_codes k 0) (λ k. code_of (parity_x (bits_at 0 false k)) (parity_y (bits_at 0 false k))) k l refl)
+abbrev first_zeros : List ℕ
+first_zeros = 0 ∷ 1 ∷ 0 ∷ 1 ∷ 3 ∷ 2 ∷ 3 ∷ 2 ∷ 3 ∷ 2 ∷ 3 ∷ 2 ∷ 0 ∷ 1 ∷ 0 ∷ 1 ∷ []
 
-pub odd_ones : (pair : CostPair) (k : ℕ) → k < 32 → AreSteps pair 1 true k (get_or (map (λ j. get_or (four pair) j 0) zero_codes) k 0)
-odd_ones pair k l = steps_at pair zero_codes 1 true k l refl (same_number (λ k. get_or zero_codes k 0) (λ k. code_of (parity_x (bits_at 1 true k)) (parity_y (bits_at 1 true k))) k l refl)
+abbrev first_ones : List ℕ
+first_ones = 3 ∷ 2 ∷ 3 ∷ 2 ∷ 0 ∷ 1 ∷ 0 ∷ 1 ∷ 0 ∷ 1 ∷ 0 ∷ 1 ∷ 3 ∷ 2 ∷ 3 ∷ 2 ∷ []
 
-pub even_ones : (pair : CostPair) (k : ℕ) → k < 32 → AreSteps pair 0 true k (get_or (map (λ j. get_or (four pair) j 0) one_codes) k 0)
-even_ones pair k l = steps_at pair one_codes 0 true k l refl (same_number (λ k. get_or one_codes k 0) (λ k. code_of (parity_x (bits_at 0 true k)) (parity_y (bits_at 0 true k))) k l refl)
+abbrev last_zeros : List ℕ
+last_zeros = 2 ∷ 3 ∷ 2 ∷ 3 ∷ 1 ∷ 0 ∷ 1 ∷ 0 ∷ 1 ∷ 0 ∷ 1 ∷ 0 ∷ 2 ∷ 3 ∷ 2 ∷ 3 ∷ []
 
-pub odd_zeros : (pair : CostPair) (k : ℕ) → k < 32 → AreSteps pair 1 false k (get_or (map (λ j. get_or (four pair) j 0) one_codes) k 0)
-odd_zeros pair k l = steps_at pair one_codes 1 false k l refl (same_number (λ k. get_or one_codes k 0) (λ k. code_of (parity_x (bits_at 1 false k)) (parity_y (bits_at 1 false k))) k l refl)
+abbrev last_ones : List ℕ
+last_ones = 1 ∷ 0 ∷ 1 ∷ 0 ∷ 2 ∷ 3 ∷ 2 ∷ 3 ∷ 2 ∷ 3 ∷ 2 ∷ 3 ∷ 1 ∷ 0 ∷ 1 ∷ 0 ∷ []
+
+abbrev lanes_of : List ℕ → List ℕ → List ℕ
+lanes_of costs codes = map (λ j. get_or costs j 0) codes
+
+pub first_steps : (costs : List ℕ) (pair : CostPair) → costs ≡ four pair → AreStepCosts pair 0 (lanes_of (costs ++ costs) first_zeros) (lanes_of (costs ++ costs) first_ones)
+first_steps costs pair e = subst (λ z. AreStepCosts pair 0 (lanes_of (z ++ z) first_zeros) (lanes_of (z ++ z) first_ones)) (sym e) (record {
+  zero_len = refl;
+  one_len = refl;
+  even_zero = steps_at pair first_zeros 0 false 0 refl refl;
+  odd_one = steps_at pair first_zeros 1 true 0 refl refl;
+  even_one = steps_at pair first_ones 0 true 0 refl refl;
+  odd_zero = steps_at pair first_ones 1 false 0 refl refl;
+})
+
+pub last_steps : (costs : List ℕ) (pair : CostPair) → costs ≡ four pair → AreStepCosts pair 16 (lanes_of (costs ++ costs) last_zeros) (lanes_of (costs ++ costs) last_ones)
+last_steps costs pair e = subst (λ z. AreStepCosts pair 16 (lanes_of (z ++ z) last_zeros) (lanes_of (z ++ z) last_ones)) (sym e) (record {
+  zero_len = refl;
+  one_len = refl;
+  even_zero = steps_at pair last_zeros 0 false 16 refl refl;
+  odd_one = steps_at pair last_zeros 1 true 16 refl refl;
+  even_one = steps_at pair last_ones 0 true 16 refl refl;
+  odd_zero = steps_at pair last_ones 1 false 16 refl refl;
+})
 
 -- ---- what the vectors of a step add
 
-pub lanes_fit : (old new : Sums) (low parity : ℕ) (costs steps : List ℕ) → parity < 2 → IsSettled old new low → length costs ≡ 32 → length steps ≡ 32 → ((k : ℕ) → k < 32 → slice_index costs k ≡ slice_index new.cost (2 * k + parity))
-    → ((k : ℕ) → k < 32 → slice_index steps k ≤ 8190) → AreLess costs steps
-lanes_fit old new low parity costs steps p h l m e s = record {
+pub lanes_fit : (old costs steps : List ℕ) (parity : ℕ) → parity < 2 → length costs ≡ 16 → length steps ≡ 16 → ((k : ℕ) → k < 16 → slice_index costs k ≡ slice_index old (2 * k + parity))
+    → ((j : ℕ) → j < 32 → slice_index old j + 8190 < 2 ^ 32) → ((k : ℕ) → k < 16 → slice_index steps k ≤ 8190) → AreLess costs steps
+lanes_fit old costs steps parity p l m e f s = record {
   costs_len = l;
   steps_len = m;
-  fits = λ k n. omega (arith, e k n, lane_small old new low (2 * k + parity) (slice_index steps k) (omega arith) h (s k n));
+  fits = λ k n. omega (arith, e k n, f (2 * k + parity) (omega arith), s k n);
 }
+
+-- ---- sixteen lanes and sixteen more
+
+by_parts : {A : Type 0} (want have first last : ℕ → A) → ((k : ℕ) → k < 16 → have k ≡ first k) → ((k : ℕ) → k < 16 → have (k + 16) ≡ last k) → ((k : ℕ) → k < 16 → first k ≡ want (0 + k)) → ((k : ℕ) → k < 16 → last k ≡ want (16 + k))
+    → (k : ℕ) → k < 32 → have k ≡ want k
+by_parts want have first last p q r s k l = go (cases_lt k 16)
+  where
+    go : (k < 16) ⊎ (16 ≤ k) → have k ≡ want k
+    go (inl m) = let e : 0 + k ≡ k = omega arith in p k m ∙ r k m ∙ ap want e
+    go (inr m) =
+        let e : k - 16 + 16 ≡ k = omega arith in
+        let f : 16 + (k - 16) ≡ k = omega arith in
+        ap have (sym e) ∙ q (k - 16) (omega arith) ∙ s (k - 16) (omega arith) ∙ ap want f
+
+-- the lesser way into state k or k + 32, and whether it is the odd one alone
+abbrev way_of : CostPair → List ℕ → Bool → ℕ → ℕ
+way_of pair old input k = min (slice_index old (2 * k) + cost_from pair 0 input k) (slice_index old (2 * k + 1) + cost_from pair 1 input k)
+
+abbrev odd_of_two : CostPair → List ℕ → Bool → ℕ → Bool
+odd_of_two pair old input k = nat_lt (slice_index old (2 * k + 1) + cost_from pair 1 input k) (slice_index old (2 * k) + cost_from pair 0 input k)
+
+module _ (pair : CostPair) (old part zero one costs : List ℕ) (word from : ℕ) (at : (j : ℕ) → j < 32 → slice_index part j ≡ slice_index old (2 * from + j)) (s : AreStepCosts pair from zero one) where
+  even_at : (k : ℕ) → k < 16 → slice_index part (2 * k) ≡ slice_index old (2 * (from + k))
+  even_at k l = let e : 2 * from + 2 * k ≡ 2 * (from + k) = omega arith in at (2 * k) (omega arith) ∙ ap (slice_index old) e
+
+  odd_at : (k : ℕ) → k < 16 → slice_index part (2 * k + 1) ≡ slice_index old (2 * (from + k) + 1)
+  odd_at k l = let e : 2 * from + (2 * k + 1) ≡ 2 * (from + k) + 1 = omega arith in at (2 * k + 1) (omega arith) ∙ ap (slice_index old) e
+
+  pub zero_cost : AreTaken part zero one costs word → (k : ℕ) → k < 16 → slice_index costs k ≡ way_of pair old false (from + k)
+  zero_cost t k l = t.cost k l ∙ ap₂ min (ap₂ (λ x y. x + y) (even_at k l) (s.even_zero k l).is) (ap₂ (λ x y. x + y) (odd_at k l) (s.odd_zero k l).is)
+
+  pub zero_odd : AreTaken part zero one costs word → (k : ℕ) → k < 16 → is_set word k ≡ odd_of_two pair old false (from + k)
+  zero_odd t k l = t.odd k l ∙ ap₂ nat_lt (ap₂ (λ x y. x + y) (odd_at k l) (s.odd_zero k l).is) (ap₂ (λ x y. x + y) (even_at k l) (s.even_zero k l).is)
+
+  pub one_cost : AreTaken part one zero costs word → (k : ℕ) → k < 16 → slice_index costs k ≡ way_of pair old true (from + k)
+  one_cost t k l = t.cost k l ∙ ap₂ min (ap₂ (λ x y. x + y) (even_at k l) (s.even_one k l).is) (ap₂ (λ x y. x + y) (odd_at k l) (s.odd_one k l).is)
+
+  pub one_odd : AreTaken part one zero costs word → (k : ℕ) → k < 16 → is_set word k ≡ odd_of_two pair old true (from + k)
+  one_odd t k l = t.odd k l ∙ ap₂ nat_lt (ap₂ (λ x y. x + y) (odd_at k l) (s.odd_one k l).is) (ap₂ (λ x y. x + y) (even_at k l) (s.even_one k l).is)
+
+-- a word of two
+pub record IsJoined (first last word : ℕ) : Type 0 where
+  pub low : (k : ℕ) → k < 16 → is_set word k ≡ is_set first k
+  pub high : (k : ℕ) → k < 16 → is_set word (k + 16) ≡ is_set last k
+  pub small : word < 2 ^ 32
+
+pub lanes_joined : (pair : CostPair) (old first last after before waiting new : List ℕ) (wa wb wc wd low high : ℕ)
+    → ((j : ℕ) → j < 32 → slice_index first j ≡ slice_index old (2 * 0 + j)) → ((j : ℕ) → j < 32 → slice_index last j ≡ slice_index old (2 * 16 + j))
+    → IsHalfStep pair 0 first (slice_index after) (λ k. slice_index after (32 + k)) wa wc → IsHalfStep pair 16 last (slice_index waiting) (λ k. slice_index before (48 + k)) wb wd
+    → ((k : ℕ) → 48 ≤ k → k < 64 → slice_index after k ≡ slice_index before k)
+    → ((k : ℕ) → k < 16 → slice_index new (16 + k) ≡ slice_index waiting k) → ((k : ℕ) → k < 16 → slice_index new k ≡ slice_index after k) → ((k : ℕ) → 32 ≤ k → k < 64 → slice_index new k ≡ slice_index after k)
+    → IsJoined wa wb low → IsJoined wc wd high → IsLaneStep pair old new low high
+lanes_joined pair old first last after before waiting new wa wb wc wd low high f g s t b n p q j k = record {
+  low_cost = by_parts (way_of pair old false) (slice_index new) (slice_index s.low) (slice_index t.low) (λ k l. p k l ∙ s.low_is k l) (λ k l. at new (k + 16) (16 + k) (omega arith) ∙ n k l ∙ t.low_is k l)
+      (zero_cost pair old first s.zero s.one s.low wa 0 f s.steps s.low_taken) (zero_cost pair old last t.zero t.one t.low wb 16 g t.steps t.low_taken);
+  low_odd = by_parts (odd_of_two pair old false) (is_set low) (is_set wa) (is_set wb) j.low j.high (zero_odd pair old first s.zero s.one s.low wa 0 f s.steps s.low_taken) (zero_odd pair old last t.zero t.one t.low wb 16 g t.steps t.low_taken);
+  low_small = j.small;
+  high_cost = by_parts (way_of pair old true) (λ n. slice_index new (n + 32)) (slice_index s.high) (slice_index t.high) (λ k l. at new (k + 32) (32 + k) (omega arith) ∙ q (32 + k) (omega arith) (omega arith) ∙ s.high_is k l)
+      (λ k l. at new (k + 16 + 32) (48 + k) (omega arith) ∙ q (48 + k) (omega arith) (omega arith) ∙ b (48 + k) (omega arith) (omega arith) ∙ t.high_is k l)
+      (one_cost pair old first s.zero s.one s.high wc 0 f s.steps s.high_taken) (one_cost pair old last t.zero t.one t.high wd 16 g t.steps t.high_taken);
+  high_odd = by_parts (odd_of_two pair old true) (is_set high) (is_set wc) (is_set wd) k.low k.high (one_odd pair old first s.zero s.one s.high wc 0 f s.steps s.high_taken) (one_odd pair old last t.zero t.one t.high wd 16 g t.steps t.high_taken);
+}
+  where
+    at : (xs : List ℕ) (m n : ℕ) → m ≡ n → slice_index xs m ≡ slice_index xs n
+    at xs m n e = ap (slice_index xs) e

@@ -1,104 +1,188 @@
 // The step in lanes.
-ghost use Rattle.std.specs.Prelude.{◌≡◌, ◌≤◌, ◌<◌, ◌+◌, ◌*◌, ◌^◌, ◌++◌, ℕ, false, true, min, length, slice_index};
+ghost use Rattle.std.specs.Prelude.{◌≡◌, ◌≤◌, ◌<◌, ◌+◌, ◌*◌, ◌^◌, ℕ, min, length, slice_index, take, drop};
 ghost use Rattle.std.specs.Bool.{nat_lt};
 ghost use Rattle.spec_words.specs.Bits.{is_set};
-ghost use Rattle.acs_lanes.specs.Lanes.{AreSteps, AreLess};
+ghost use Rattle.code_paths.specs.declared.costs.CostPair.{CostPair as Pair};
+ghost use Rattle.acs_lanes.specs.Lanes.{AreLess, AreStepCosts, AreTaken, IsHalfStep, IsLaneStep, four};
 
 use crate::settle::settle;
 use acs_plain::{Acs, Sums};
 use conv_code::CostPair;
 use std::simd::cmp::{SimdOrd, SimdPartialEq};
-use std::simd::{u32x4, u32x32};
+use std::simd::{u32x4, u32x16};
 
-/// A vector of 32 costs.
-fn read(costs: &[u32]) -> u32x32
-    requires { length costs.now ≡ 32 }
+/// A vector of 16 costs.
+fn read(costs: &[u32]) -> u32x16
+    requires { length costs.now ≡ 16 }
     ensures { result ≡ costs.now }
 {
-    u32x32::from_slice(costs)
+    u32x16::from_slice(costs)
 }
 
-/// Writes 32 costs.
-fn write(costs: &mut [u32], lanes: u32x32)
-    requires size { length costs.old ≡ 32 }
-    requires lanes { length lanes ≡ 32 }
+/// Writes 16 costs.
+fn write(costs: &mut [u32], lanes: u32x16)
+    requires size { length costs.old ≡ 16 }
+    requires lanes { length lanes ≡ 16 }
     ensures { costs.new ≡ lanes }
 {
     lanes.copy_to_slice(costs);
 }
 
-/// The costs of the even and of the odd states.
-fn halves(cost: &[u32; 64]) -> (u32x32, u32x32)
-    ensures even_len { length result.0 ≡ 32 }
-    ensures odd_len { length result.1 ≡ 32 }
-    ensures even { (k : ℕ) → k < 32 → slice_index result.0 k ≡ slice_index cost.now (2 * k) }
-    ensures odd { (k : ℕ) → k < 32 → slice_index result.1 k ≡ slice_index cost.now (2 * k + 1) }
+/// The costs of the even and of the odd ones of 32 states.
+fn halves(costs: &[u32]) -> (u32x16, u32x16)
+    requires { length costs.now ≡ 32 }
+    ensures even_len { length result.0 ≡ 16 }
+    ensures odd_len { length result.1 ≡ 16 }
+    ensures even { (k : ℕ) → k < 16 → slice_index result.0 k ≡ slice_index costs.now (2 * k) }
+    ensures odd { (k : ℕ) → k < 16 → slice_index result.1 k ≡ slice_index costs.now (2 * k + 1) }
 {
-    read(&cost[..32]).deinterleave(read(&cost[32..]))
+    read(&costs[..16]).deinterleave(read(&costs[16..]))
 }
 
-/// The costs of the steps from the even states on 0, which are those from the odd states on 1, and the others: X and Y of
-/// two steps both differ where the oldest bit alone or the input alone does.
-fn step_costs(pair: CostPair) -> (u32x32, u32x32)
-    ensures even_len { length result.0 ≡ 32 }
-    ensures odd_len { length result.1 ≡ 32 }
-    ensures even_zero { (k : ℕ) → k < 32 → AreSteps pair 0 false k (slice_index result.0 k) }
-    ensures odd_one { (k : ℕ) → k < 32 → AreSteps pair 1 true k (slice_index result.0 k) }
-    ensures even_one { (k : ℕ) → k < 32 → AreSteps pair 0 true k (slice_index result.1 k) }
-    ensures odd_zero { (k : ℕ) → k < 32 → AreSteps pair 1 false k (slice_index result.1 k) }
+/// The costs of the four pairs of an X and a Y, by 2X + Y.
+fn four_costs(pair: CostPair) -> u32x4
+    ensures { result ≡ four pair }
 {
-    let (x0, x1) = (pair.x0 as u32, pair.x1 as u32);
-    let (y0, y1) = (pair.y0 as u32, pair.y1 as u32);
-    let costs = u32x4::from_array([x0 + y0, x0 + y1, x1 + y0, x1 + y1]);
+    let costs = u32x4::from_array([
+        pair.x0 as u32,
+        pair.x1 as u32,
+        pair.y0 as u32,
+        pair.y1 as u32,
+    ]);
+    costs.swizzle([0, 0, 1, 1]) + costs.swizzle([2, 3, 2, 3])
+}
+
+/// The costs of the steps from the even states below 32 on 0, which are those from the odd states on 1, and the others: X
+/// and Y of two steps both differ where the oldest bit alone or the input alone does.
+fn first_costs(costs: u32x4) -> (u32x16, u32x16)
+    ensures { (pair : Pair) → costs ≡ four pair → AreStepCosts pair 0 result.0 result.1 }
+{
     // 2X + Y of the even states on 0, and on 1
-    let zero = costs.swizzle([
-        0, 1, 0, 1, 3, 2, 3, 2, 3, 2, 3, 2, 0, 1, 0, 1, 2, 3, 2, 3, 1, 0, 1, 0, 1, 0, 1, 0, 2, 3,
-        2, 3,
-    ]);
-    let one = costs.swizzle([
-        3, 2, 3, 2, 0, 1, 0, 1, 0, 1, 0, 1, 3, 2, 3, 2, 1, 0, 1, 0, 2, 3, 2, 3, 2, 3, 2, 3, 1, 0,
-        1, 0,
-    ]);
-    (zero, one)
+    (
+        costs.swizzle([0, 1, 0, 1, 3, 2, 3, 2, 3, 2, 3, 2, 0, 1, 0, 1]),
+        costs.swizzle([3, 2, 3, 2, 0, 1, 0, 1, 0, 1, 0, 1, 3, 2, 3, 2]),
+    )
+}
+
+/// The same from the states from 32 on.
+fn last_costs(costs: u32x4) -> (u32x16, u32x16)
+    ensures { (pair : Pair) → costs ≡ four pair → AreStepCosts pair 16 result.0 result.1 }
+{
+    (
+        costs.swizzle([2, 3, 2, 3, 1, 0, 1, 0, 1, 0, 1, 0, 2, 3, 2, 3]),
+        costs.swizzle([1, 0, 1, 0, 2, 3, 2, 3, 2, 3, 2, 3, 1, 0, 1, 0]),
+    )
 }
 
 /// The lesser sum of each lane, and a word that says where it is that of the odd state alone.
-fn pick(even: u32x32, even_step: u32x32, odd: u32x32, odd_step: u32x32) -> (u32x32, u64)
+fn pick(even: u32x16, even_step: u32x16, odd: u32x16, odd_step: u32x16) -> (u32x16, u64)
     requires lens { AreLess even even_step }
     requires odd_lens { AreLess odd odd_step }
-    ensures len { length result.0 ≡ 32 }
-    ensures cost { (k : ℕ) → k < 32 → slice_index result.0 k ≡ min (slice_index even k + slice_index even_step k) (slice_index odd k + slice_index odd_step k) }
-    ensures odd { (k : ℕ) → k < 32 → is_set result.1 k ≡ nat_lt (slice_index odd k + slice_index odd_step k) (slice_index even k + slice_index even_step k) }
-    ensures small { result.1 < 2 ^ 32 }
+    ensures len { length result.0 ≡ 16 }
+    ensures cost { (k : ℕ) → k < 16 → slice_index result.0 k ≡ min (slice_index even k + slice_index even_step k) (slice_index odd k + slice_index odd_step k) }
+    ensures odd { (k : ℕ) → k < 16 → is_set result.1 k ≡ nat_lt (slice_index odd k + slice_index odd_step k) (slice_index even k + slice_index even_step k) }
+    ensures small { result.1 < 2 ^ 16 }
 {
     let evens = even + even_step;
     let least = (odd + odd_step).simd_min(evens);
-    (least, !least.simd_eq(evens).to_bitmask() & 0xFFFF_FFFF)
+    (least, !least.simd_eq(evens).to_bitmask() & 0xFFFF)
 }
 
-/// Writes the costs of the states below 32, and of the others.
-fn store(cost: &mut [u32; 64], low: u32x32, high: u32x32)
-    requires low { length low ≡ 32 }
-    requires high { length high ≡ 32 }
-    ensures { cost.new ≡ low ++ high }
+/// What comes of 32 states in a row, by the costs of their steps: the costs of 16 states below 32 and of the 16 states that
+/// lie 32 above them, and behind each the word that says which of them came from the odd state.
+fn sixteen(old: &[u32], zero: u32x16, one: u32x16) -> (u32x16, u64, u32x16, u64)
+    requires old { length old.now ≡ 32 }
+    requires zero { length zero ≡ 16 }
+    requires one { length one ≡ 16 }
+    requires fit { (j : ℕ) → j < 32 → slice_index old.now j + 8190 < 2 ^ 32 }
+    requires zero_small { (k : ℕ) → k < 16 → slice_index zero k ≤ 8190 }
+    requires one_small { (k : ℕ) → k < 16 → slice_index one k ≤ 8190 }
+    ensures low { AreTaken old.now zero one result.0 result.1 }
+    ensures high { AreTaken old.now one zero result.2 result.3 }
 {
-    write(&mut cost[..32], low);
-    write(&mut cost[32..], high);
+    let (even, odd) = halves(old);
+    let (low, first) = pick(even, zero, odd, one);
+    let (high, second) = pick(even, one, odd, zero);
+    (low, first, high, second)
 }
 
-/// The step over vectors of 32 lanes.
+/// Writes the costs of 16 states in a row.
+fn store(cost: &mut [u32; 64], from: usize, lanes: u32x16)
+    requires from { from ≤ 48 }
+    requires lanes { length lanes ≡ 16 }
+    ensures here { (k : ℕ) → k < 16 → slice_index cost.new (from + k) ≡ slice_index lanes k }
+    ensures below { (k : ℕ) → k < from → slice_index cost.new k ≡ slice_index cost.old k }
+    ensures above { (k : ℕ) → from + 16 ≤ k → k < 64 → slice_index cost.new k ≡ slice_index cost.old k }
+{
+    write(&mut cost[from..from + 16], lanes);
+}
+
+/// Two words of 16 bits, the first one's bits the lowest.
+fn joined(first: u64, last: u64) -> u64
+    requires first { first < 2 ^ 16 }
+    requires last { last < 2 ^ 16 }
+    ensures low { (k : ℕ) → k < 16 → is_set result k ≡ is_set first k }
+    ensures high { (k : ℕ) → k < 16 → is_set result (k + 16) ≡ is_set last k }
+    ensures small { result < 2 ^ 32 }
+{
+    first | last << 16
+}
+
+/// What comes of the upper half of the states: the costs of the states from 48 on are written, those of the states from 16
+/// to 31 wait until the lower half is read.
+// Each half is a call of its own: no more vectors are in use then than there are registers, and the words are computed
+// where their vectors are.
+#[inline(never)]
+fn last_half(cost: &mut [u32; 64], waiting: &mut [u32; 16], costs: u32x4) -> (u64, u64)
+    requires costs { (pair : Pair) × (costs ≡ four pair) }
+    requires fit { (j : ℕ) → j < 64 → slice_index cost.old j + 8190 < 2 ^ 32 }
+    ensures half { (pair : Pair) → costs ≡ four pair → IsHalfStep pair 16 (take 32 (drop 32 cost.old)) (slice_index waiting.new) (λ k. slice_index cost.new (48 + k)) result.0 result.1 }
+    ensures same { (k : ℕ) → k < 48 → slice_index cost.new k ≡ slice_index cost.old k }
+{
+    let (zero, one) = last_costs(costs);
+    let (low, low_odd, high, high_odd) = sixteen(&cost[32..], zero, one);
+    write(waiting, low);
+    store(cost, 48, high);
+    (low_odd, high_odd)
+}
+
+/// What comes of the lower half of the states: the costs of the states below 16 and from 32 to 47 are written.
+#[inline(never)]
+fn first_half(cost: &mut [u32; 64], costs: u32x4) -> (u64, u64)
+    requires costs { (pair : Pair) × (costs ≡ four pair) }
+    requires fit { (j : ℕ) → j < 32 → slice_index cost.old j + 8190 < 2 ^ 32 }
+    ensures half { (pair : Pair) → costs ≡ four pair → IsHalfStep pair 0 (take 32 cost.old) (slice_index cost.new) (λ k. slice_index cost.new (32 + k)) result.0 result.1 }
+    ensures same { (k : ℕ) → 48 ≤ k → k < 64 → slice_index cost.new k ≡ slice_index cost.old k }
+{
+    let (zero, one) = first_costs(costs);
+    let (low, low_odd, high, high_odd) = sixteen(&cost[..32], zero, one);
+    store(cost, 0, low);
+    store(cost, 32, high);
+    (low_odd, high_odd)
+}
+
+/// The step over all states, where each may be compared with each: the words of the states below 32 and of the others.
+fn step_lanes(cost: &mut [u32; 64], pair: CostPair) -> (u64, u64)
+    requires fit { (j : ℕ) → j < 64 → slice_index cost.old j + 8190 < 2 ^ 32 }
+    ensures step { IsLaneStep pair cost.old cost.new result.0 result.1 }
+{
+    let costs = four_costs(pair);
+    let mut waiting = [0; 16];
+    let (last_low, last_high) = last_half(cost, &mut waiting, costs);
+    let (low, high) = first_half(cost, costs);
+    store(cost, 16, read(&waiting));
+    (joined(low, last_low), joined(high, last_high))
+}
+
+/// The step over vectors of 16 lanes.
 #[derive(Debug, Drop)]
 pub struct LaneAcs;
 
 impl Acs for LaneAcs {
     fn step(sums: &mut Sums, pair: CostPair) -> u64 {
         let _low = settle(sums);
-        let (even, odd) = halves(&sums.cost);
-        let (zero, one) = step_costs(pair);
-        let (low, first) = pick(even, zero, odd, one);
-        let (high, second) = pick(even, one, odd, zero);
-        store(&mut sums.cost, low, high);
+        let (low, high) = step_lanes(&mut sums.cost, pair);
         sums.alive = sums.followers();
-        first | second << 32
+        low | high << 32
     }
 }

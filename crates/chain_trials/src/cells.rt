@@ -118,7 +118,7 @@ fn next_labels<M: Carriers>(
     Ok(labels)
 }
 
-fn write<M: Carriers>(
+pub(crate) fn write<M: Carriers>(
     rt: &impl Abort,
     labels: &[u8],
     out: &mut SymbolOut<M>,

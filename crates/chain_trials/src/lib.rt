@@ -1,5 +1,6 @@
 //! The layers of the modulator one upon the other, beside what another modulator sends: the TPS words
-//! and the first cells of transmissions with each constellation, hierarchy and mode.
+//! and the first cells of transmissions with each constellation, hierarchy and mode. And what is sent,
+//! read back: the costs of own symbols in every setting, a symbol cut into pieces.
 //!
 //! The crate has tests alone.
 #![tactic(auto)]
@@ -8,5 +9,7 @@
 mod carriers;
 #[cfg(test)]
 mod cells;
+#[cfg(test)]
+mod receiving;
 #[cfg(test)]
 mod tps;

@@ -4,8 +4,9 @@ ghost use Rattle.std.specs.Prelude.{◌≡◌, ◌+◌, ◌*◌, ◌<◌, ◌≤
 use acs_plain::Acs;
 use bit_pack::WaitBuf;
 use code_paths::{CostPair, least_path, least_path_to};
-use inner_decoder::{Decoder, StartState};
+use inner_decoder::{Branch, Decoder, StartState};
 use std::alloc::{AllocError, Global};
+use std::process::Abort;
 use survivor_ring::Survivors;
 
 /// The cost pairs that a text of digits spells, four digits a pair.
@@ -153,20 +154,62 @@ pub fn defined(
     Ok(text)
 }
 
-/// The first step at which a decoder with a path memory of 2048 reports, of 2060 steps at which 64 paths stay apart.
-pub fn first_report<A: Acs, V: Survivors<2048>>(alloc: Global) -> Result<u64, AllocError> {
-    let mut decoder: Decoder<A, V, 2048> = Decoder::new(alloc, StartState::Any)?;
-    let mut to = WaitBuf::new();
-    let pair = CostPair {
-        x0: 0,
-        x1: 0,
-        y0: 0,
-        y1: 9,
-    };
-    for _k in 0..2060u32 {
-        if let Some(report) = decoder.step(pair, &mut to) {
-            return Ok(report.at);
+/// Loads a pair again and again.
+fn load<A: Acs, V: Survivors<2048>>(branch: &mut Branch<A, V>, pair: CostPair, count: u32)
+    requires going { branch.old.decoder.ended ≡ false }
+    requires room { length branch.old.loaded + count ≤ branch.old.most }
+    ensures decoder { branch.new.decoder ≡ branch.old.decoder }
+    ensures most { branch.new.most ≡ branch.old.most }
+    ensures wait { branch.new.wait ≡ branch.old.wait }
+{
+    for _k in 0..count {
+        branch.load(pair);
+    }
+}
+
+/// Takes the whole bytes that wait, at most 400, and answers the bits that are set in them.
+fn ones_taken<A: Acs, V: Survivors<2048>>(branch: &mut Branch<A, V>) -> u32
+    ensures decoder { branch.new.decoder ≡ branch.old.decoder }
+    ensures loaded { branch.new.loaded ≡ branch.old.loaded }
+{
+    let mut ones = 0u32;
+    for _k in 0..400u32 {
+        if let Some(byte) = branch.take_byte() {
+            ones = ones.saturating_add(byte.count_ones());
         }
     }
-    Ok(0)
+    ones
+}
+
+/// What a branch makes of two symbols of 1,512 steps whose 64 paths never agree: the first report, the bits that wait after
+/// each symbol and, where all whole bytes were taken in between, at the end. No bit may be set.
+pub fn unmerged<A: Acs, V: Survivors<2048>>(
+    rt: &impl Abort,
+    alloc: Global,
+) -> Result<(u64, u32, u32, u32), AllocError> {
+    // QPSK cells of which the real part is 0: nothing is known of X, and Y is 0
+    let pair = CostPair {
+        x0: 511,
+        x1: 511,
+        y0: 0,
+        y1: 2047,
+    };
+    let mut branch: Branch<A, V> = Branch::new(alloc, StartState::Any, 1512)?;
+    load(&mut branch, pair, 1512);
+    branch.run_symbol();
+    assert!(rt; branch.events().is_empty());
+    let first = branch.waiting();
+    assert!(rt; first < 8);
+    load(&mut branch, pair, 1512);
+    branch.run_symbol();
+    assert!(rt; branch.events().len() == 1);
+    let at = branch.events()[0].at;
+    let second = branch.waiting();
+    let ones = ones_taken(&mut branch);
+    assert!(rt; ones == 0 && branch.waiting() < 8);
+    branch.finish();
+    let last = branch.waiting();
+    let ones = ones_taken(&mut branch);
+    assert!(rt; ones == 0 && branch.ended());
+    Ok((at, first, second, last))
 }

@@ -86,10 +86,39 @@ fn bad_word_after_phase_zero(rt: HostRuntime) -> Result<(), Fail> {
     }
     second.decode();
     assert!(rt; matches!(second.outcome, Outcome::Bad));
-    let begins = [0x47u8, 0x9F, 0xFF, 0x10, 0xFF];
+    let mut marked = [0xFFu8; 188];
+    marked[0] = 0x47;
+    marked[1] = 0x9F;
+    marked[3] = 0x10;
     match rx.finish_word(&second) {
-        Some(packet) => assert_eq!(rt; &packet.bytes()[..5], begins.as_slice()),
+        Some(packet) => assert_eq!(rt; packet.bytes().as_slice(), marked.as_slice()),
         None => assert!(rt; false),
+    }
+    Ok(())
+}
+
+// Each word behind the eleven of the start-up gives the sender's packet at its last byte, from the first packet on that has
+// phase 0. A receiver that misses the first three words has to wait for packet 8.
+#[test]
+fn own_bytes_after_eleven_words(rt: HostRuntime) -> Result<(), Fail> {
+    for (missed, first) in [(0u8, 0u8), (3, 8)] {
+        let mut tx = OuterTx::new(rt.alloc())?;
+        let mut rx = OuterRx::new(rt.alloc())?;
+        let mut next = first;
+        for number in 0..40u8 {
+            let word = tx.take(&numbered(number));
+            if number >= missed {
+                for k in 0..204u8 {
+                    if let Some(packet) = back(&mut rx, word[k as usize]) {
+                        let sent = numbered(next);
+                        assert_eq!(rt; packet.bytes().as_slice(), sent.bytes().as_slice());
+                        assert!(rt; k == 203 && next < 40);
+                        next += 1;
+                    }
+                }
+                assert_eq!(rt; next, first.max((number + 1).saturating_sub(11)));
+            }
+        }
     }
     Ok(())
 }

@@ -47,23 +47,64 @@ fn plain(rt: &impl Abort, shape: Shape, hierarchy: Hierarchy, cell: Cell, place:
     )
 }
 
-#[test]
-fn costs_are_the_plain_least(rt: HostRuntime) {
-    for shape in [Shape::Qpsk, Shape::Qam16, Shape::Qam64] {
-        for hierarchy in [Hierarchy::Flat, Hierarchy::Alpha2, Hierarchy::Alpha4] {
-            for place in 0..shape.label_bits() {
-                for step in 0..1986u32 {
-                    let value = ((33 * step) as i32 - 32768) as i16;
-                    let cell = Cell {
-                        re: value,
-                        im: value,
-                    };
-                    assert_eq!(rt;
-                        costs(shape, hierarchy, cell, place),
-                        plain(&rt, shape, hierarchy, cell, place)
-                    );
+// The costs of a value on both axes are the plain least at each place.
+fn are_plain(rt: &impl Abort, shape: Shape, hierarchy: Hierarchy, value: i16) {
+    let cell = Cell {
+        re: value,
+        im: value,
+    };
+    for place in 0..shape.label_bits() {
+        assert!(rt; place < shape.label_bits());
+        assert!(rt;
+            costs(shape, hierarchy, cell, place) == plain(rt, shape, hierarchy, cell, place)
+        );
+    }
+}
+
+// The point on the real axis of a label that is 0 on the imaginary one, if this is such a label.
+fn real_point(shape: Shape, hierarchy: Hierarchy, label: u8) -> Option<i16> {
+    if label < 1 << shape.label_bits() && label & 0b101010 == 0 {
+        Some(map(shape, hierarchy, label).re)
+    } else {
+        None
+    }
+}
+
+// The edges of the decision intervals lie half way between two points.
+fn edges_are_plain(rt: &impl Abort, shape: Shape, hierarchy: Hierarchy) {
+    for label in 0..64u8 {
+        for other in 0..64u8 {
+            if let (Some(a), Some(b)) = (
+                real_point(shape, hierarchy, label),
+                real_point(shape, hierarchy, other),
+            ) {
+                let edge = (a / 2).saturating_add(b / 2);
+                for step in [-2i16, -1, 0, 1, 2] {
+                    are_plain(rt, shape, hierarchy, edge.saturating_add(step));
                 }
             }
+        }
+    }
+}
+
+#[test]
+fn costs_are_the_plain_least(rt: HostRuntime) {
+    let cases = [
+        (Shape::Qpsk, Hierarchy::Flat),
+        (Shape::Qam16, Hierarchy::Flat),
+        (Shape::Qam16, Hierarchy::Alpha1),
+        (Shape::Qam16, Hierarchy::Alpha2),
+        (Shape::Qam16, Hierarchy::Alpha4),
+        (Shape::Qam64, Hierarchy::Flat),
+        (Shape::Qam64, Hierarchy::Alpha1),
+        (Shape::Qam64, Hierarchy::Alpha2),
+        (Shape::Qam64, Hierarchy::Alpha4),
+    ];
+    for (shape, hierarchy) in cases {
+        edges_are_plain(&rt, shape, hierarchy);
+        for step in 0..2000u32 {
+            let value = (step * 65535 / 1999) as i32 - 32768;
+            are_plain(&rt, shape, hierarchy, value as i16);
         }
     }
 }

@@ -1,3 +1,4 @@
+mod Bytes
 pub mod RowSteps
 mod Words
 mod Walks

@@ -1,6 +1,6 @@
 // Words of states, and bits that are handed out.
-ghost use Rattle.std.specs.Prelude.{◌≡◌, ◌≢◌, ◌+◌, ◌<◌, ◌≤◌, ◌++◌, length, take, IsTrue};
-ghost use Rattle.spec_words.specs.Bits.{is_set};
+ghost use Rattle.std.specs.Prelude.{◌≡◌, ◌≢◌, ◌+◌, ◌*◌, ◌<◌, ◌≤◌, ◌++◌, length, take, IsTrue};
+ghost use Rattle.spec_words.specs.Bits.{is_set, spelled};
 
 use bit_pack::WaitBuf;
 
@@ -21,13 +21,46 @@ pub(crate) fn is_alive(states: u64, n: usize) -> bool
     (states >> n) & 1 == 1
 }
 
+/// Eight bits as a byte, the first one the most significant.
+fn byte_of(bits: &[bool]) -> u8
+    requires { length bits.now ≡ 8 }
+    ensures { spelled 8 result ≡ bits.now }
+{
+    let mut byte = 0u8;
+    for k in 0..8usize {
+        byte = byte << 1 | bits[k] as u8;
+    }
+    byte
+}
+
+/// Appends the first bits of a row, eight by eight.
+fn append_bytes(row: &[bool], number: usize, to: &mut WaitBuf)
+    requires row { 8 * number ≤ length row.now }
+    requires room { length to.old + 8 * number ≤ 36864 }
+    ensures { to.new ≡ to.old ++ take (8 * number) row.now }
+{
+    for k in 0..number {
+        to.push_byte(byte_of(&row[8 * k..8 * k + 8]));
+    }
+}
+
+/// Appends bits one by one.
+fn append_bits(bits: &[bool], to: &mut WaitBuf)
+    requires { length to.old + length bits.now ≤ 36864 }
+    ensures { to.new ≡ to.old ++ bits.now }
+{
+    for k in 0..bits.len() {
+        to.push_bit(bits[k]);
+    }
+}
+
 /// Appends the first bits of a row.
 pub(crate) fn append(row: &[bool], count: usize, to: &mut WaitBuf)
     requires row { count ≤ length row.now }
     requires room { length to.old + count ≤ 36864 }
     ensures { to.new ≡ to.old ++ take count row.now }
 {
-    for k in 0..count {
-        to.push_bit(row[k]);
-    }
+    let number = count / 8;
+    append_bytes(row, number, to);
+    append_bits(&row[8 * number..count], to);
 }

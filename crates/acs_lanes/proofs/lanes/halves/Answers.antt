@@ -4,7 +4,7 @@ use Rattle.acs_lanes.proofs.Vectors.{both_halves}
 use Rattle.acs_lanes.proofs.lanes.halves.Goals as goal
 
 pub returns-clause-even : goal.returns-clause-even
-returns-clause-even c = λ k l. even_lanes (c.read.result ++ c.read-2.result) k l ∙ ap (λ w. get_or w (2 * k) 0) (ap₂ (λ x y. x ++ y) c.read.ensures c.read-2.ensures ∙ both_halves c.args.cost.now c.told-cost)
+returns-clause-even c = λ k l. even_lanes (c.read.result ++ c.read-2.result) k l ∙ ap (λ w. get_or w (2 * k) 0) (ap₂ (λ x y. x ++ y) c.read.ensures c.read-2.ensures ∙ both_halves 16 c.args.costs.now)
 
 pub returns-clause-odd : goal.returns-clause-odd
-returns-clause-odd c = λ k l. odd_lanes (c.read.result ++ c.read-2.result) k l ∙ ap (λ w. get_or w (2 * k + 1) 0) (ap₂ (λ x y. x ++ y) c.read.ensures c.read-2.ensures ∙ both_halves c.args.cost.now c.told-cost)
+returns-clause-odd c = λ k l. odd_lanes (c.read.result ++ c.read-2.result) k l ∙ ap (λ w. get_or w (2 * k + 1) 0) (ap₂ (λ x y. x ++ y) c.read.ensures c.read-2.ensures ∙ both_halves 16 c.args.costs.now)

@@ -3,4 +3,4 @@ use Rattle.std.proofs.Common.{arith}
 use Rattle.acs_lanes.proofs.lanes.read.Goals as goal
 
 pub returns : goal.returns
-returns c = take_all 32 c.args.costs.now (omega (arith, c.requires))
+returns c = take_all 16 c.args.costs.now (omega (arith, c.requires))

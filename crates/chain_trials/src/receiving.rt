@@ -1,0 +1,335 @@
+// What is sent, read back: a symbol cut into pieces, and the costs of the modulator's own symbols.
+ghost use Rattle.std.specs.Prelude.{◌≡◌, ◌≤◌, false, length, vec_capacity};
+ghost use Rattle.mode_set.specs.Kept.{is_flat, is_qpsk};
+
+use crate::cells::write;
+use bit_pack::WaitBuf;
+use conv_code::{CostPair, Encoder};
+use frame_build::{SymbolIn, SymbolOut};
+use inner_chain::{InnerRx, InnerTx};
+use mode_set::{
+    Carriers, Guard, Hierarchy, Mode, Mode2k, Mode8k, Rate, Settings, Shape, Start, Stream,
+};
+use outer_chain::OuterTx;
+use puncture::{Sent, sent};
+use qam_map::Cell;
+use std::alloc::{AllocError, Global};
+use std::process::Abort;
+use std::rt::HostRuntime;
+use std::test::Fail;
+use ts_packet::Packet;
+
+fn flat(mode: Mode, shape: Shape, rate: Rate) -> Settings
+    ensures { result.mode ≡ mode }
+{
+    Settings {
+        mode,
+        shape,
+        hierarchy: Hierarchy::Flat,
+        rate_hp: rate,
+        rate_lp: None,
+        guard: Guard::G1of32,
+        cell_id: None,
+        start: Start::Zero,
+        workers: 1,
+        max_symbols: 1000000,
+    }
+}
+
+fn hierarchical(
+    mode: Mode,
+    shape: Shape,
+    hierarchy: Hierarchy,
+    rate_hp: Rate,
+    rate_lp: Rate,
+) -> Settings
+    requires shape { is_qpsk shape ≡ false }
+    requires hierarchy { is_flat hierarchy ≡ false }
+{
+    Settings {
+        mode,
+        shape,
+        hierarchy,
+        rate_hp,
+        rate_lp: Some(rate_lp),
+        guard: Guard::G1of32,
+        cell_id: None,
+        start: Start::Zero,
+        workers: 1,
+        max_symbols: 1000000,
+    }
+}
+
+// The next byte of a linear congruential generator.
+fn next_byte(state: &mut u32) -> u8 {
+    *state = state.wrapping_mul(1664525).wrapping_add(1013904223);
+    (*state >> 24) as u8
+}
+
+fn fill(state: &mut u32, count: usize, to: &mut WaitBuf)
+    requires { count ≤ 36000 }
+{
+    for _ in 0..4608u32 {
+        if to.waiting() < count {
+            to.push_byte(next_byte(state));
+        }
+    }
+}
+
+// The bits of a stream once more, as they are coded.
+#[derive(Drop)]
+struct Coded {
+    state: u32,
+    byte: u8,
+    done: u8,
+    encoder: Encoder,
+}
+
+fn coded_from(state: u32) -> Coded {
+    Coded {
+        state,
+        byte: 0,
+        done: 8,
+        encoder: Encoder::start(),
+    }
+}
+
+fn next_coded(coded: &mut Coded) -> (bool, bool) {
+    if coded.done >= 8 {
+        coded.byte = next_byte(&mut coded.state);
+        coded.done = 0;
+    }
+    let bit = coded.byte & 0x80 != 0;
+    coded.byte = (coded.byte & 0x7F) << 1;
+    coded.done += 1;
+    coded.encoder.step(bit)
+}
+
+// The value that was sent costs nothing and the other one something, and a bit that was not sent nothing either way.
+fn fits(bit: bool, is_sent: bool, zero: u16, one: u16) -> bool {
+    let (own, other) = if bit { (one, zero) } else { (zero, one) };
+    own == 0 && (other >= 1) == is_sent
+}
+
+fn pairs_fit(rt: &impl Abort, pairs: &[CostPair], rate: Rate, coded: &mut Coded) {
+    for (step, pair) in pairs.iter().enumerate() {
+        let (x, y) = next_coded(coded);
+        let (has_x, has_y) = match sent(rate, step as u64) {
+            Sent::Both => (true, true),
+            Sent::OnlyX => (true, false),
+            Sent::OnlyY => (false, true),
+        };
+        let x_fits = fits(x, has_x, pair.x0, pair.x1);
+        let y_fits = fits(y, has_y, pair.y0, pair.y1);
+        assert!(rt; x_fits && y_fits);
+    }
+}
+
+// The cost pairs of a stream in a symbol fit what was sent.
+fn stream_fits<M: Carriers>(
+    rt: &impl Abort,
+    alloc: Global,
+    settings: &Settings,
+    rx: &mut InnerRx<M>,
+    cells: &[Cell],
+    l: u8,
+    stream: Stream,
+    coded: &mut Coded,
+) -> Result<(), AllocError>
+    requires { rx.old ≡ settings.now }
+    ensures { rx.new ≡ settings.now }
+{
+    if settings.has_stream(stream) {
+        let steps = rx.steps(stream) as usize;
+        let mut pairs = Vec::with_capacity(alloc, steps)?;
+        assert!(rt; l < 68 && cells.len() == settings.mode.carriers() as usize);
+        rx.pairs(cells, l, stream, &mut pairs);
+        assert!(rt; pairs.len() == steps);
+        pairs_fit(rt, &pairs, settings.rate(stream), coded);
+    }
+    Ok(())
+}
+
+// The labels of the next symbol of drawn bits.
+fn drawn_labels<M: Carriers>(
+    rt: &impl Abort,
+    alloc: Global,
+    settings: &Settings,
+    tx: &mut InnerTx<M>,
+    odd: bool,
+    states: &mut (u32, u32),
+    waiting: &mut (WaitBuf, WaitBuf),
+) -> Result<Vec<u8>, AllocError>
+    requires { tx.old.settings ≡ settings.now }
+    ensures { tx.new.settings ≡ settings.now }
+{
+    let hp_need = tx.need(Stream::Hp) as usize;
+    let lp_need = tx.need(Stream::Lp) as usize;
+    assert!(rt; hp_need <= 36000 && lp_need <= 36000);
+    fill(&mut states.0, hp_need, &mut waiting.0);
+    fill(&mut states.1, lp_need, &mut waiting.1);
+    let mut labels = Vec::with_capacity(alloc, settings.mode.payload() as usize)?;
+    assert!(rt; waiting.0.waiting() >= hp_need && waiting.1.waiting() >= lp_need);
+    tx.labels(odd, &mut waiting.0, &mut waiting.1, &mut labels);
+    Ok(labels)
+}
+
+// The next symbol as bytes, and taken as cells.
+fn send<M: Carriers>(
+    rt: &impl Abort,
+    alloc: Global,
+    shape: Shape,
+    labels: &[u8],
+    out: &mut SymbolOut<M>,
+    symbol: &mut SymbolIn<M>,
+) -> Result<(), AllocError>
+    requires shape { out.old.settings.shape ≡ shape }
+    ensures shape { out.new.settings.shape ≡ shape }
+    ensures whole { length symbol.new ≡ 4 * M.K }
+{
+    let mut bytes = Vec::with_capacity(alloc, 100000)?;
+    write(rt, labels, out, shape, &mut bytes);
+    let ready = !symbol.whole();
+    assert!(rt; ready);
+    let taken = symbol.take(&bytes);
+    let whole = symbol.whole();
+    assert!(rt; whole && taken == bytes.len());
+    Ok(())
+}
+
+// The first four symbols of a transmission: carriers repeat after four.
+fn four_symbols<M: Carriers>(
+    rt: &impl Abort,
+    alloc: Global,
+    settings: &Settings,
+) -> Result<(), AllocError>
+    requires { settings.now.mode ≡ M.MODE }
+{
+    let mut tx = InnerTx::<M>::new(alloc, settings)?;
+    let mut rx = InnerRx::<M>::new(alloc, settings)?;
+    let mut out = SymbolOut::<M>::new(settings);
+    let mut symbol = SymbolIn::<M>::new(alloc)?;
+    let mut waiting = (WaitBuf::new(), WaitBuf::new());
+    let mut states = (1, 2);
+    let mut hp = coded_from(1);
+    let mut lp = coded_from(2);
+    for l in 0..4u8 {
+        let labels = drawn_labels(
+            rt,
+            alloc,
+            settings,
+            &mut tx,
+            l % 2 == 1,
+            &mut states,
+            &mut waiting,
+        )?;
+        send(rt, alloc, settings.shape, &labels, &mut out, &mut symbol)?;
+        let cells = symbol.cells();
+        stream_fits(rt, alloc, settings, &mut rx, cells, l, Stream::Hp, &mut hp)?;
+        stream_fits(rt, alloc, settings, &mut rx, cells, l, Stream::Lp, &mut lp)?;
+        symbol.next();
+    }
+    Ok(())
+}
+
+fn check(rt: &impl Abort, alloc: Global, settings: &Settings) {
+    let done = match settings.mode {
+        Mode::M2k => four_symbols::<Mode2k>(rt, alloc, settings),
+        Mode::M8k => four_symbols::<Mode8k>(rt, alloc, settings),
+    };
+    done.expect(rt, "memory");
+}
+
+const RATES: [Rate; 5] = [
+    Rate::R1of2,
+    Rate::R2of3,
+    Rate::R3of4,
+    Rate::R5of6,
+    Rate::R7of8,
+];
+
+fn with_hierarchy(rt: &impl Abort, alloc: Global, mode: Mode, rate_hp: Rate, rate_lp: Rate) {
+    for shape in [Shape::Qam16, Shape::Qam64] {
+        for hierarchy in [Hierarchy::Alpha1, Hierarchy::Alpha2, Hierarchy::Alpha4] {
+            if !shape.is_qpsk() && !hierarchy.is_flat() {
+                check(rt, alloc, &hierarchical(mode, shape, hierarchy, rate_hp, rate_lp));
+            }
+        }
+    }
+}
+
+// Every mode, constellation, hierarchy and pair of rates.
+#[test]
+fn own_symbols_of_every_setting(rt: HostRuntime) {
+    let alloc = rt.alloc();
+    for mode in [Mode::M2k, Mode::M8k] {
+        for rate_hp in RATES {
+            for shape in [Shape::Qpsk, Shape::Qam16, Shape::Qam64] {
+                check(&rt, alloc, &flat(mode, shape, rate_hp));
+            }
+            for rate_lp in RATES {
+                with_hierarchy(&rt, alloc, mode, rate_hp, rate_lp);
+            }
+        }
+    }
+}
+
+// The bytes of the first symbol that carries null packets.
+fn null_symbol(rt: &impl Abort, alloc: Global) -> Result<Vec<u8>, AllocError> {
+    let settings = flat(Mode::M2k, Shape::Qpsk, Rate::R1of2);
+    let word = OuterTx::new(alloc)?.take(&Packet::null());
+    let mut waiting = (WaitBuf::new(), WaitBuf::new());
+    for byte in word {
+        assert!(rt; waiting.0.waiting() <= 30000);
+        waiting.0.push_byte(byte);
+    }
+    let mut tx = InnerTx::<Mode2k>::new(alloc, &settings)?;
+    let mut out = SymbolOut::<Mode2k>::new(&settings);
+    let labels = drawn_labels(
+        rt,
+        alloc,
+        &settings,
+        &mut tx,
+        false,
+        &mut (0, 0),
+        &mut waiting,
+    )?;
+    let mut bytes = Vec::with_capacity(alloc, 100000)?;
+    write(rt, &labels, &mut out, settings.shape, &mut bytes);
+    Ok(bytes)
+}
+
+// The cells of a symbol taken in pieces of this size.
+fn taken_in_pieces(rt: &impl Abort, symbol: &mut SymbolIn<Mode2k>, bytes: &[u8], size: usize)
+    ensures { length symbol.new ≡ 6820 }
+{
+    let mut from = 0;
+    for _ in 0..bytes.len() {
+        if from < bytes.len() && !symbol.whole() {
+            let end = from + size.min(bytes.len() - from);
+            from += symbol.take(&bytes[from..end]);
+        }
+    }
+    let whole = symbol.whole();
+    assert!(rt; whole && from == bytes.len());
+}
+
+#[test]
+fn a_symbol_of_null_packets_in_pieces(rt: HostRuntime) -> Result<(), Fail> {
+    let alloc = rt.alloc();
+    let bytes = null_symbol(&rt, alloc)?;
+    assert!(rt; bytes.len() == 6820);
+    let begins = [0xAAu8, 0xAB, 0, 0, 0xD2, 0xBF, 0x2D, 0x41];
+    assert_eq!(rt; &bytes[..8], begins.as_slice());
+    for size in [1usize, 3, 6820] {
+        let mut symbol = SymbolIn::<Mode2k>::new(alloc)?;
+        taken_in_pieces(&rt, &mut symbol, &bytes, size);
+        for (k, cell) in symbol.cells().iter().enumerate() {
+            assert!(rt; 4 * k < 6820);
+            let re = i16::from_be_bytes([bytes[4 * k], bytes[4 * k + 1]]);
+            let im = i16::from_be_bytes([bytes[4 * k + 2], bytes[4 * k + 3]]);
+            assert!(rt; *cell == Cell { re, im });
+        }
+    }
+    Ok(())
+}
