@@ -1,0 +1,1 @@
+// The laws of own cells, as contracts of functions that do nothing.
