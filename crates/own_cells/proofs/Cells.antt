@@ -18,6 +18,7 @@ use Rattle.inner_chain.specs.CostPairs.{cell_of, costs_on}
 use Rattle.transmission.specs.Transmission.{Inputs, tx_cell, tx_label}
 use Rattle.transmission.specs.SuperFrames.{symbols_of}
 use Rattle.reception.specs.Cells.{symbol_cells}
+use Rattle.own_cells.specs.Counted.{AreCounted}
 use Rattle.own_cells.specs.Returned.{IsWithin}
 
 -- ---- the kinds of carriers repeat after four symbols
@@ -49,11 +50,6 @@ repeated m l h k q b = (there, back)
 
     back : (q < payload m) × (slice_index (payload_carriers m l) q ≡ k) → kind m l k ≡ Payload q
     back p = sym (same_kind m l k) ∙ (h k q b).1 (p.0, ap (λ (z : List ℕ). slice_index z q) (same_carriers m l) ∙ p.1)
-
--- the payload carriers of a symbol are as many as the mode has, and numbered
-pub record AreCounted (m : Mode) (l : ℕ) : Type 0 where
-  pub many : length (payload_carriers m l) ≡ payload m
-  pub numbered : AreNumbered m l
 
 -- what is known of four symbols
 pub record AreFour (m : Mode) : Type 0 where

@@ -24,7 +24,8 @@ use Rattle.transmission.specs.Transmission.{Inputs, paths_of, tx_label}
 use Rattle.transmission.specs.SuperFrames.{symbols_of}
 use Rattle.reception.specs.Cells.{symbol_cells}
 use Rattle.own_cells.specs.Returned.{IsWithin}
-use Rattle.own_cells.proofs.Cells.{AreCounted, cell_on, label_favoured, costs_are}
+use Rattle.own_cells.specs.Counted.{AreCounted}
+use Rattle.own_cells.proofs.Cells.{cell_on, label_favoured, costs_are}
 use Rattle.own_cells.proofs.Places.{IsPlaced, placed, place_within, label_is}
 use Rattle.own_cells.proofs.Steps.{AreParities, AreWithin, numbers_within, symbol_parities}
 
