@@ -1,5 +1,5 @@
 // What is sent, read back: a symbol cut into pieces, and the costs of the modulator's own symbols.
-ghost use Rattle.std.specs.Prelude.{◌≡◌, ◌≤◌, false, length, vec_capacity};
+ghost use Rattle.std.specs.Prelude.{◌≡◌, ◌≤◌, ◌*◌, false, length, IfOk};
 ghost use Rattle.mode_set.specs.Kept.{is_flat, is_qpsk};
 
 use crate::cells::write;
@@ -185,7 +185,7 @@ fn send<M: Carriers>(
 ) -> Result<(), AllocError>
     requires shape { out.old.settings.shape ≡ shape }
     ensures shape { out.new.settings.shape ≡ shape }
-    ensures whole { length symbol.new ≡ 4 * M.K }
+    ensures whole { IfOk result (λ _. length symbol.new ≡ 4 * M.K) }
 {
     let mut bytes = Vec::with_capacity(alloc, 100000)?;
     write(rt, labels, out, shape, &mut bytes);
