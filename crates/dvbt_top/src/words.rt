@@ -1,7 +1,8 @@
 // From the words to the form.
 ghost use Rattle.std.specs.Prelude.{◌≡◌, map, string_bytes};
 ghost use Rattle.std.specs.Option.{option_map};
-ghost use Rattle.dvbt_top.specs.Command.{command_of, command};
+ghost use Rattle.run_clauses.specs.Command.{command_of};
+ghost use Rattle.dvbt_top.specs.Form.{command};
 ghost use Rattle.dvbt_top.specs.Words.{TwoAfter};
 
 use crate::form::Form;

@@ -1,0 +1,5 @@
+pub mod Command
+pub mod Packets
+pub mod Text
+pub mod Outcome
+pub mod Runs
