@@ -10,4 +10,4 @@ mod text;
 mod work;
 
 pub use text::{Line, closing_line_of, text_of};
-pub use work::{Counts, Limits, Refusal};
+pub use work::{Counts, Limits, Refusal, SettingsRefusal};
