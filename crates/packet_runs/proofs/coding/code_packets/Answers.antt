@@ -1,0 +1,49 @@
+use Rattle.std.proofs.Common.{ℕ, List, refl, ◌∙◌, ap, subst}
+use Rattle.station_core.specs.Meaning.{Meaning}
+use Rattle.run_clauses.specs.Packets.{first_packets}
+use Rattle.packet_runs.proofs.Keeping.{keeps_again}
+use Rattle.packet_runs.proofs.Progress.{started, goes_on, refused, next_packets, gives_first, taken}
+use Rattle.packet_runs.proofs.coding.code_packets.Goals as goal
+
+pub loop-number-init : goal.loop-number-init
+unfolding first_packets
+loop-number-init g c = record {
+  others = refl;
+  read_faults = refl;
+  write_faults = refl;
+  same = λ packets. refl;
+  same_end = λ packets. refl;
+  took = λ t. c.requires.new;
+  contents = λ t. started _ _ _ _ c.requires.empty;
+}
+
+pub returns-in-Err-clause-contents : goal.returns-in-Err-clause-contents
+returns-in-Err-clause-contents g c = λ t.
+    let inv = c.loop-number.invariant in
+    let m : Meaning = g.S.Station.meaning c.args.station.now in
+    let tells = ap (λ (x : Meaning). x.tells) inv.others in
+    let packets : List (List ℕ) = first_packets c.loop-number.number m.hp.left in
+    let step = c.in-Err.ensures.contents (tells ∙ t) in
+    refused _ _ _ _ _ _ _ (inv.contents t) _ c.in-Err.refusal _ _ c.loop-number-test.true
+    (λ is. gives_first _ _ packets _ _ inv.same (taken c.in-Err.refusal c.in-Err.ensures.gives is packets (tells ∙ t) (inv.took t)))
+    step
+
+pub loop-number-preserved : goal.loop-number-preserved
+loop-number-preserved g c =
+    let m : Meaning = g.S.Station.meaning c.args.station.now in
+    let m' : Meaning = g.S.Station.meaning c.loop-number.station in
+    let m'' : Meaning = g.S.Station.meaning c.code_next.new.station in
+    let inv = c.loop-number.invariant in
+    let tells = ap (λ (x : Meaning). x.tells) inv.others in
+    let packets : List (List ℕ) = first_packets c.loop-number.number m.hp.left in
+    let e = rw c.in-Ok-None.field-0-is at c.in-Ok-None.ensures in
+    record {
+      others = keeps_again m m' m'' inv.others e.others;
+      read_faults = e.cause.reads ∙ inv.read_faults;
+      write_faults = e.cause.writes ∙ inv.write_faults;
+      same = λ ps. e.same ps ∙ inv.same ps;
+      same_end = λ ps. e.same_end ps ∙ inv.same_end ps;
+      took = λ t. subst (g.C.Coder.took c.code_next.new.coder) (next_packets _ _ _ _ _ _ _ (inv.contents t)) (e.takes packets (tells ∙ t) (inv.took t));
+      contents = λ t. goes_on _ _ _ _ _ _ _ (inv.contents t) _ _ _ c.loop-number-test.true
+          (gives_first _ _ packets _ _ inv.same (e.gives packets (tells ∙ t) (inv.took t))) (e.contents (tells ∙ t));
+    }

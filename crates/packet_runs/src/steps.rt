@@ -1,0 +1,59 @@
+// The steps of a run: the ports are opened, and closed behind the work.
+ghost use Rattle.std.specs.Prelude.{◌≡◌, ◌≤◌, ℕ, true, false, None};
+ghost use Rattle.run_steps.specs.Causes.{HasCause};
+ghost use Rattle.packet_runs.specs.Steps.{AsksPorts, OpensAll, Finishes, ClosesRefused};
+
+use run_clauses::{Counts, Refusal, closing_line_of};
+use station_core::{InPort, OutPort, Station};
+
+/// Opens HP to be read, and then makes the output.
+pub fn open<'a, S: Station<'a>>(
+    input: &'a str,
+    output: &'a str,
+    station: &mut S,
+) -> Result<(), Refusal>
+    requires hp { (S.meaning station.old).hp.asked ≡ None }
+    requires bytes { (S.meaning station.old).bytes_out.asked ≡ None }
+    ensures asks { AsksPorts input.now output.now (S.meaning station.old) (S.meaning station.new) }
+    ensures cause { HasCause (S.meaning station.old) (S.meaning station.new) result }
+    ensures opened { OpensAll input.now output.now (S.meaning station.old) (S.meaning station.new) result }
+{
+    if station.attach(InPort::Hp, input).is_err() {
+        return Err(Refusal::ReadFault);
+    }
+    match station.create(OutPort::Bytes, output) {
+        Ok(()) => Ok(()),
+        Err(_) => Err(Refusal::WriteFault),
+    }
+}
+
+/// Writes the closing line and closes the output, also where the line was not written.
+pub fn finish<'a, S: Station<'a>>(counts: Counts, station: &mut S) -> Result<Counts, Refusal>
+    requires report { (S.meaning station.old).report.created ≡ true }
+    requires report_open { (S.meaning station.old).report.closed ≡ false }
+    requires bytes { (S.meaning station.old).bytes_out.created ≡ true }
+    requires bytes_open { (S.meaning station.old).bytes_out.closed ≡ false }
+    ensures cause { HasCause (S.meaning station.old) (S.meaning station.new) result }
+    ensures finished { Finishes counts (S.meaning station.old) (S.meaning station.new) result }
+{
+    let line = closing_line_of(&counts);
+    match station.write(OutPort::Report, line.as_str().as_bytes()) {
+        Ok(()) => match station.close(OutPort::Bytes) {
+            Ok(()) => Ok(counts),
+            Err(_) => Err(Refusal::WriteFault),
+        },
+        Err(_) => {
+            let _ = station.close(OutPort::Bytes);
+            Err(Refusal::WriteFault)
+        }
+    }
+}
+
+/// Closes the output after a refusal. What it answers changes neither status nor text.
+pub fn close_refused<'a, S: Station<'a>>(station: &mut S)
+    requires bytes { (S.meaning station.old).bytes_out.created ≡ true }
+    requires bytes_open { (S.meaning station.old).bytes_out.closed ≡ false }
+    ensures closed { ClosesRefused (S.meaning station.old) (S.meaning station.new) }
+{
+    let _ = station.close(OutPort::Bytes);
+}

@@ -1,0 +1,56 @@
+-- The lines of the report, and the statuses.
+use Rattle.std.specs.Prelude.{ℕ, List, [], ◌++◌, Option, None, Some, codes, decimal}
+use Rattle.mode_set.specs.declared.modes.Stream.{Stream}
+use Rattle.mode_set.specs.declared.modes.Stream.TheVariants.{Hp, Lp}
+use Rattle.run_clauses.specs.declared.work.Counts.{Counts}
+use Rattle.run_clauses.specs.declared.work.Refusal.{Refusal}
+use Rattle.mode_set.specs.Keys.{key_text}
+use Rattle.run_clauses.specs.declared.work.SettingsRefusal.{SettingsRefusal}
+use Rattle.run_clauses.specs.declared.work.SettingsRefusal.TheVariants as settings
+use Rattle.run_clauses.specs.declared.work.Refusal.TheVariants.{Usage, Settings, ReadFault, WriteFault, NotSync, Memory, Limit}
+
+abbrev pub stream_text : Stream → List ℕ
+stream_text Hp = codes "hp"
+stream_text Lp = codes "lp"
+
+-- what is wrong with refused settings
+abbrev pub settings_text : SettingsRefusal → List ℕ
+settings_text settings.TooLong = codes "too long"
+settings_text settings.NotToml = codes "not toml"
+settings_text (settings.Unknown place) = codes "unknown " ++ decimal place
+settings_text (settings.Missing key) = codes "missing " ++ key_text key
+settings_text (settings.Value key) = codes "value " ++ key_text key
+settings_text (settings.Clash key) = codes "clash " ++ key_text key
+
+-- the text of a refusal
+abbrev pub refusal_text : Refusal → List ℕ
+refusal_text Usage = codes "usage\n"
+refusal_text (Settings reason) = codes "settings " ++ settings_text reason ++ codes "\n"
+refusal_text ReadFault = codes "read fault\n"
+refusal_text WriteFault = codes "write fault\n"
+refusal_text (NotSync stream n) = stream_text stream ++ codes " packet " ++ decimal n ++ codes "\n"
+refusal_text Memory = codes "memory\n"
+refusal_text (Limit n) = codes "limit " ++ decimal n ++ codes "\n"
+
+-- the text of a run that may have been refused
+abbrev pub text_if_refused : Option Refusal → List ℕ
+text_if_refused None = []
+text_if_refused (Some refusal) = refusal_text refusal
+
+abbrev pub refusal_status : Refusal → ℕ
+refusal_status Usage = 2
+refusal_status (Settings reason) = 3
+refusal_status ReadFault = 5
+refusal_status WriteFault = 6
+refusal_status (NotSync stream n) = 4
+refusal_status Memory = 7
+refusal_status (Limit n) = 8
+
+-- the status of a run that was refused, or done
+abbrev pub status_of : Option Refusal → ℕ
+status_of None = 0
+status_of (Some refusal) = refusal_status refusal
+
+-- the closing line of a transport input
+abbrev pub closing_line : Counts → List ℕ
+closing_line counts = codes "hp packets " ++ decimal counts.packets ++ codes " tail " ++ decimal counts.tail ++ codes "\n"

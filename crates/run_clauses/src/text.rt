@@ -1,0 +1,105 @@
+// The lines of the report.
+ghost use Rattle.std.specs.Prelude.{◌≡◌, ◌≤◌, ◌<◌, ◌+◌, ◌++◌, codes, decimal, length};
+ghost use Rattle.mode_set.specs.Keys.{key_text};
+ghost use Rattle.arrayvec.specs.ArrayString.{array_string_len};
+ghost use Rattle.run_clauses.specs.Text.{refusal_text, settings_text, closing_line, stream_text};
+
+use crate::{Counts, Refusal, SettingsRefusal};
+use arrayvec::ArrayString;
+use itoa::Buffer;
+use mode_set::{Key, Stream};
+
+/// A line of the report.
+pub type Line = ArrayString<256>;
+
+// Adds the decimal digits of a number.
+fn push_number(line: &mut Line, number: u64)
+    requires { array_string_len line.old ≤ 200 }
+    ensures bytes { line.new.bytes ≡ line.old.bytes ++ decimal number }
+    ensures len { array_string_len line.new ≤ array_string_len line.old + 40 }
+{
+    let mut buffer = Buffer::new();
+    line.push_str(buffer.format(number));
+}
+
+// The name of a stream, as the report prints it.
+fn name_of(stream: Stream) -> &'static str
+    ensures name { result.now ≡ stream_text stream }
+    ensures short { length result.now ≤ 2 }
+{
+    match stream {
+        Stream::Hp => "hp",
+        Stream::Lp => "lp",
+    }
+}
+
+// Adds what stands before a key, and the key.
+fn push_key(line: &mut Line, before: &str, key: Key)
+    requires room { array_string_len line.old ≤ 100 }
+    requires short { length before.now ≤ 20 }
+    ensures bytes { line.new.bytes ≡ line.old.bytes ++ (before.now ++ key_text key) }
+    ensures len { array_string_len line.new ≤ array_string_len line.old + 40 }
+{
+    line.push_str(before);
+    line.push_str(key.text());
+}
+
+// Adds what is wrong with refused settings.
+fn push_settings(line: &mut Line, reason: &SettingsRefusal)
+    requires { array_string_len line.old ≤ 100 }
+    ensures bytes { line.new.bytes ≡ line.old.bytes ++ settings_text reason.now }
+    ensures len { array_string_len line.new ≤ array_string_len line.old + 60 }
+{
+    match reason {
+        SettingsRefusal::TooLong => line.push_str("too long"),
+        SettingsRefusal::NotToml => line.push_str("not toml"),
+        SettingsRefusal::Unknown(place) => {
+            line.push_str("unknown ");
+            push_number(line, u64::from(*place));
+        }
+        SettingsRefusal::Missing(key) => push_key(line, "missing ", *key),
+        SettingsRefusal::Value(key) => push_key(line, "value ", *key),
+        SettingsRefusal::Clash(key) => push_key(line, "clash ", *key),
+    }
+}
+
+/// The text of a refusal, one line.
+pub fn text_of(refusal: &Refusal) -> Line
+    ensures { result.bytes ≡ refusal_text refusal.now }
+{
+    let mut line = Line::new();
+    match refusal {
+        Refusal::Usage => line.push_str("usage"),
+        Refusal::Settings(reason) => {
+            line.push_str("settings ");
+            push_settings(&mut line, reason);
+        }
+        Refusal::ReadFault => line.push_str("read fault"),
+        Refusal::WriteFault => line.push_str("write fault"),
+        Refusal::Memory => line.push_str("memory"),
+        Refusal::NotSync(stream, number) => {
+            line.push_str(name_of(*stream));
+            line.push_str(" packet ");
+            push_number(&mut line, *number);
+        }
+        Refusal::Limit(number) => {
+            line.push_str("limit ");
+            push_number(&mut line, *number);
+        }
+    }
+    line.push_str("\n");
+    line
+}
+
+/// The closing line of a transport input that was taken whole.
+pub fn closing_line_of(counts: &Counts) -> Line
+    ensures { result.bytes ≡ closing_line counts.now }
+{
+    let mut line = Line::new();
+    line.push_str("hp packets ");
+    push_number(&mut line, counts.packets);
+    line.push_str(" tail ");
+    push_number(&mut line, counts.tail);
+    line.push_str("\n");
+    line
+}

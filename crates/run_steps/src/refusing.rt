@@ -1,0 +1,27 @@
+// The end of a run that was refused.
+ghost use Rattle.std.specs.Prelude.{◌≡◌, true, false};
+ghost use Rattle.run_clauses.specs.Text.{refusal_text, refusal_status};
+ghost use Rattle.run_steps.specs.Report.{WritesText};
+
+use run_clauses::{Refusal, text_of};
+use station_core::{OutPort, Station};
+
+/// Writes the text of a refusal and gives its status, which stays where the writing fails.
+pub fn refuse<'a, S: Station<'a>>(refusal: &Refusal, station: &mut S) -> u8
+    requires created { (S.meaning station.old).report.created ≡ true }
+    requires report_open { (S.meaning station.old).report.closed ≡ false }
+    ensures status { result ≡ refusal_status refusal.now }
+    ensures text { WritesText (refusal_text refusal.now) (S.meaning station.old) (S.meaning station.new) }
+{
+    let text = text_of(refusal);
+    let _ = station.write(OutPort::Report, text.as_str().as_bytes());
+    match refusal {
+        Refusal::Usage => 2,
+        Refusal::Settings(_) => 3,
+        Refusal::NotSync(_, _) => 4,
+        Refusal::ReadFault => 5,
+        Refusal::WriteFault => 6,
+        Refusal::Memory => 7,
+        Refusal::Limit(_) => 8,
+    }
+}
