@@ -159,10 +159,10 @@ fn main(rt: HostRuntime) -> anyhow::Result<()> {
         let mut encoder = Encoder::start();
         fill(&mut pairs, &mut encoder, 88172645463325252, is_noisy);
         if pairs.len() <= 30000 {
-            let plain = run::<PlainAcs, RingSurvivors<2048>>(&rt, &pairs, 20)?;
+            let plain = run::<PlainAcs, RingSurvivors<2048>>(&rt, &pairs, 60)?;
             let lanes = run::<LaneAcs, RingSurvivors<2048>>(&rt, &pairs, 400)?;
             let (plain, lanes) = (plain.max(1), lanes.max(1));
-            println!(rt; "noisy {is_noisy}: plain {} ps a bit, {} Mbit/s; lanes {} ps a bit, {} Mbit/s; ratio {}", plain / 30, 30_000_000 / plain, lanes / 30, 30_000_000 / lanes, plain / lanes)?;
+            println!(rt; "noisy {is_noisy}: plain {} ps a bit, {} kbit/s; lanes {} ps a bit, {} Mbit/s; ratio {}", plain / 30, 30_000_000_000 / plain, lanes / 30, 30_000_000 / lanes, plain / lanes)?;
         }
     }
     Ok(())
