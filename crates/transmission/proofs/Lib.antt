@@ -1,0 +1,11 @@
+pub mod Rounding
+pub mod LeastFrames
+pub mod PacketCounts
+pub mod SymbolLists
+pub mod Items
+pub mod Points
+pub mod Beginnings
+pub mod VectorSettings
+pub mod VectorFrames
+pub mod VectorAgenda
+pub mod VectorCells

@@ -1,0 +1,14 @@
+use Rattle.transmission.proofs.PacketCounts.{the_packets_are_least, no_packets, packets_grow, packets_of_super_frames}
+use Rattle.transmission.proofs.laws.packets.Goals as goal
+
+pub returns-clause-least : goal.returns-clause-least
+returns-clause-least c = the_packets_are_least
+
+pub returns-clause-none : goal.returns-clause-none
+returns-clause-none c = no_packets
+
+pub returns-clause-grow : goal.returns-clause-grow
+returns-clause-grow c = packets_grow
+
+pub returns-clause-super_frames : goal.returns-clause-super_frames
+returns-clause-super_frames c = packets_of_super_frames c.super_frames_have_whole_words.ensures

@@ -1,0 +1,30 @@
+use Rattle.transmission.proofs.PacketCounts.{sent_at_fault}
+use Rattle.transmission.proofs.Points.{work_begins, takes_of_hp, takes_of_lp, sends_symbol, stops_at_limit, stops_at_packet, ends_unrefused, sent_so_far}
+use Rattle.transmission.proofs.laws.work.Goals as goal
+
+pub returns-clause-begins : goal.returns-clause-begins
+returns-clause-begins c = work_begins
+
+pub returns-clause-takes_hp : goal.returns-clause-takes_hp
+returns-clause-takes_hp c = takes_of_hp
+
+pub returns-clause-takes_lp : goal.returns-clause-takes_lp
+returns-clause-takes_lp c = takes_of_lp
+
+pub returns-clause-sends : goal.returns-clause-sends
+returns-clause-sends c = sends_symbol
+
+pub returns-clause-at_limit : goal.returns-clause-at_limit
+returns-clause-at_limit c = stops_at_limit
+
+pub returns-clause-at_packet : goal.returns-clause-at_packet
+returns-clause-at_packet c = stops_at_packet
+
+pub returns-clause-ends : goal.returns-clause-ends
+returns-clause-ends c = ends_unrefused
+
+pub returns-clause-so_far : goal.returns-clause-so_far
+returns-clause-so_far c = sent_so_far
+
+pub returns-clause-at_fault : goal.returns-clause-at_fault
+returns-clause-at_fault c = sent_at_fault

@@ -1,0 +1,65 @@
+-- The laws of symbols and of their number, each the clause of a public function of the module laws.
+use Rattle.std.specs.Prelude.{◌≡◌, ℕ, ◌+◌, ◌*◌, ◌<◌, ◌≤◌, IsTrue, List, [], ◌++◌, length, flat_map, take}
+use Rattle.spec_words.specs.Words.{numbers}
+use Rattle.mode_set.specs.StreamTable.{carriers, has_stream, words_per_super_frame}
+use Rattle.mode_set.specs.declared.modes.Stream.{Stream}
+use Rattle.mode_set.specs.declared.settings.Settings.{Settings}
+use Rattle.outer_chain.specs.Sent.{packet_at}
+use Rattle.frame_build.specs.Symbol.{cell_bytes}
+use Rattle.transmission.specs.Transmission.{Inputs, tx_cell, tx_symbol, first_symbols}
+use Rattle.transmission.specs.SuperFrames.{Suffices, AreSuperFrames, super_frames, packets_for, ArePacketsFor}
+
+-- a symbol is its cells, carriers rising
+abbrev pub SymbolsAreCells : Type 0
+SymbolsAreCells = (s : Settings) (inputs : Inputs) (m : ℕ) → tx_symbol s inputs m ≡ flat_map (λ k. cell_bytes (tx_cell s inputs m k)) (numbers (carriers s.mode))
+
+-- four bytes a carrier
+abbrev pub SymbolsAreLong : Type 0
+SymbolsAreLong = (s : Settings) (inputs : Inputs) (m : ℕ) → length (tx_symbol s inputs m) ≡ 4 * carriers s.mode
+
+-- symbol after symbol
+abbrev pub NoSymbol : Type 0
+NoSymbol = (s : Settings) (inputs : Inputs) → first_symbols s inputs 0 ≡ []
+
+abbrev pub OneSymbolMore : Type 0
+OneSymbolMore = (s : Settings) (inputs : Inputs) (n : ℕ) → first_symbols s inputs (n + 1) ≡ first_symbols s inputs n ++ tx_symbol s inputs n
+
+-- fewer symbols, and a part of the next one, are a front of more symbols
+abbrev pub FrontOfSymbols : Type 0
+FrontOfSymbols = (s : Settings) (inputs : Inputs) (m n : ℕ) → m ≤ n → (k : ℕ) × (first_symbols s inputs m ≡ take k (first_symbols s inputs n))
+
+abbrev pub PartOfSymbols : Type 0
+PartOfSymbols = (s : Settings) (inputs : Inputs) (m n j : ℕ) → m < n → (k : ℕ) × (first_symbols s inputs m ++ take j (tx_symbol s inputs m) ≡ take k (first_symbols s inputs n))
+
+-- symbol m depends on the packets up to its own alone: those of the symbols before it, and those that it wants itself
+abbrev pub SameBeginning : Settings → ℕ → Type 0
+SameBeginning s m = (inputs other : Inputs)
+    → ((σ : Stream) (i : ℕ) → i < packets_for s σ (m + 1) → packet_at (inputs σ) i ≡ packet_at (other σ) i) → tx_symbol s inputs m ≡ tx_symbol s other m
+
+-- the formula is the least number of super-frames, and there is no other such number
+abbrev pub TheFormulaIsLeast : Type 0
+TheFormulaIsLeast = (s : Settings) (counts : Stream → ℕ) → AreSuperFrames s counts (super_frames s counts)
+
+abbrev pub OneNumber : Type 0
+OneNumber = (s : Settings) (counts : Stream → ℕ) (n : ℕ) → AreSuperFrames s counts n → super_frames s counts ≡ n
+
+-- super-frames that do not carry a stream are too few, and those that carry all are enough
+abbrev pub TooFew : Type 0
+TooFew = (s : Settings) (counts : Stream → ℕ) (n : ℕ) (σ : Stream) → IsTrue (has_stream s.hierarchy σ) → n * words_per_super_frame s σ < counts σ + 11 → n < super_frames s counts
+
+abbrev pub Enough : Type 0
+Enough = (s : Settings) (counts : Stream → ℕ) (n : ℕ) → 1 ≤ n → Suffices s counts n → super_frames s counts ≤ n
+
+-- the packets of so many symbols
+abbrev pub ThePacketsAreLeast : Type 0
+ThePacketsAreLeast = (s : Settings) (σ : Stream) (n : ℕ) → ArePacketsFor s σ n (packets_for s σ n)
+
+abbrev pub NoPackets : Type 0
+NoPackets = (s : Settings) (σ : Stream) → packets_for s σ 0 ≡ 0
+
+abbrev pub PacketsGrow : Type 0
+PacketsGrow = (s : Settings) (σ : Stream) (m n : ℕ) → m ≤ n → packets_for s σ m ≤ packets_for s σ n
+
+-- a super-frame has whole words
+abbrev pub PacketsOfSuperFrames : Type 0
+PacketsOfSuperFrames = (s : Settings) (σ : Stream) (n : ℕ) → packets_for s σ (272 * n) ≡ n * words_per_super_frame s σ

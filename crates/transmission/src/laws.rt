@@ -1,0 +1,68 @@
+// The laws of a transmission, as contracts of functions that do nothing.
+ghost use Rattle.std.specs.Prelude.{◌≡◌};
+ghost use Rattle.transmission.specs.Laws.{SymbolsAreCells, SymbolsAreLong, NoSymbol, OneSymbolMore, FrontOfSymbols, PartOfSymbols, TheFormulaIsLeast, OneNumber, TooFew, Enough, ThePacketsAreLeast, NoPackets, PacketsGrow, PacketsOfSuperFrames, SameBeginning};
+ghost use Rattle.transmission.specs.AgendaLaws.{WorkBegins, TakesOfHp, TakesOfLp, SendsSymbol, StopsAtLimit, StopsAtPacket, EndsUnrefused, SentSoFar, SentAtFault};
+
+use bit_interleave::laws::each_bit_is_found;
+use frame_build::symbols_follow_labels;
+use mode_set::{Settings, super_frames_have_whole_words};
+use outer_chain::laws::sending;
+use puncture::sent_bits_have_steps;
+use symbol_interleave::laws::{h_is_a_permutation, places_and_words_agree};
+
+/// Symbols are the bytes of their cells, four a carrier, one symbol after another.
+pub fn symbols()
+    ensures cells { SymbolsAreCells }
+    ensures long { SymbolsAreLong }
+    ensures none { NoSymbol }
+    ensures next { OneSymbolMore }
+    ensures front { FrontOfSymbols }
+    ensures part { PartOfSymbols }
+{}
+
+/// A symbol depends on the packets of the symbols up to it alone: it is the same for all streams that
+/// begin with these packets, null packets behind the end among them.
+pub fn symbols_begin_alike(settings: &Settings, m: u64)
+    ensures { SameBeginning settings.now m }
+{
+    symbols_follow_labels(settings, m);
+    each_bit_is_found();
+    h_is_a_permutation();
+    places_and_words_agree();
+    sent_bits_have_steps();
+    sending();
+}
+
+/// The number of super-frames is the least that carries all packets and eleven words more of each
+/// stream.
+pub fn super_frames()
+    ensures least { TheFormulaIsLeast }
+    ensures one { OneNumber }
+    ensures too_few { TooFew }
+    ensures enough { Enough }
+{}
+
+/// The packets of so many symbols are the least whose words have the symbols' input bits; a super-frame
+/// has whole words.
+pub fn packets()
+    ensures least { ThePacketsAreLeast }
+    ensures none { NoPackets }
+    ensures grow { PacketsGrow }
+    ensures super_frames { PacketsOfSuperFrames }
+{
+    super_frames_have_whole_words();
+}
+
+/// How the work goes along its order: it begins, takes packets, sends symbols, and stops at the first
+/// point that is refused, or goes through.
+pub fn work()
+    ensures begins { WorkBegins }
+    ensures takes_hp { TakesOfHp }
+    ensures takes_lp { TakesOfLp }
+    ensures sends { SendsSymbol }
+    ensures at_limit { StopsAtLimit }
+    ensures at_packet { StopsAtPacket }
+    ensures ends { EndsUnrefused }
+    ensures so_far { SentSoFar }
+    ensures at_fault { SentAtFault }
+{}
