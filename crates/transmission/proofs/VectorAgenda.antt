@@ -45,7 +45,7 @@ within_limit : symbols_sent (limited M2k Qpsk R1of2) 100000000 (by_stream [] [])
 unfolding done agenda items_of packet_refusal symbols_of numbers
 within_limit = refl
 
--- HP's packets are taken before LP's; a bad packet of LP stops the work before the symbol
+-- HP's packets are taken before LP's, so of two bad ones HP's decides
 hp_first : items_of (two_16 M2k R1of2 R1of2) 0 ≡ ask_limit 0 ∷ take_packet Hp 0 ∷ take_packet Lp 0 ∷ send_symbol 0 ∷ []
 unfolding items_of
 hp_first = refl

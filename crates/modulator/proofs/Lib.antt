@@ -1,0 +1,4 @@
+pub mod Runs
+pub mod Feeding
+pub mod Labelling
+pub mod Stepping

@@ -1,0 +1,344 @@
+-- What a modulator stands for, step by step.
+use Rattle.std.proofs.Common.{◌≡◌, ℕ, ◌+◌, ◌-◌, ◌*◌, ◌/◌, ◌%◌, ◌<◌, ◌≤◌, ◌⊎◌, inl, inr, Bool, true, false, cond, List, [], ◌∷◌, ◌++◌, length, take, drop, get_or, refl, sym, ap, ◌∙◌, subst, arith}
+use Rattle.std.specs.Prelude.{Option, Some, None, IfSome, nat_lt, vec_capacity}
+use Rattle.std.proofs.lemmas.Bool.{lt-ltb, le-ltb, ltb-false}
+use Rattle.std.proofs.lemmas.List.{get_or_push, length_push, get_or_append_left, length-drop}
+use Rattle.spec_words.specs.Words.{rounded_up}
+use Rattle.mode_set.specs.StreamTable.{need, payload}
+use Rattle.mode_set.specs.declared.modes.Mode.{Mode}
+use Rattle.mode_set.specs.declared.modes.Stream.{Stream}
+use Rattle.mode_set.specs.declared.modes.Stream.TheVariants.{Hp, Lp}
+use Rattle.mode_set.specs.declared.settings.Settings.{Settings}
+use Rattle.ts_packet.specs.Packet.{null_packet}
+use Rattle.puncture.specs.SentBits.{path_of, bits_from}
+use Rattle.symbol_interleave.specs.Carried.{is_odd}
+use Rattle.conv_code.specs.Coded.{zeros}
+use Rattle.outer_chain.specs.Sent.{packet_at, outer_byte}
+use Rattle.outer_chain.specs.Sending.{Sender, Sends}
+use Rattle.outer_chain.specs.SendingLaws.{SameBeginning}
+use Rattle.inner_chain.specs.Labels.{Paths, TxState, IsAtSymbol, register_of, input_bits, coded_bits, label_bit}
+use Rattle.frame_build.specs.Symbol.{Agree, symbol_bytes, bits_of}
+use Rattle.frame_build.specs.State.{NextSymbol}
+use Rattle.transmission.specs.Transmission.{Inputs, by_stream, paths_of, tx_label, tx_symbol}
+use Rattle.transmission.specs.SuperFrames.{packets_for}
+use Rattle.modulator.specs.Streams.{HoldsBits}
+use Rattle.modulator.specs.State.{Parts, Transmitter, packets_in, transmitter, IsKept, wanted, HasPut, StandsFor, IsNext, with_packet, no_packets, HasOneMore}
+use Rattle.modulator.specs.Wants.{stream_of}
+use Rattle.modulator.specs.Laws.{OtherStreams}
+use Rattle.modulator.specs.declared.want.Want.{Want}
+use Rattle.modulator.specs.declared.want.Want.TheVariants as wants
+use Rattle.modulator.proofs.Feeding.{holds_none, bits_next, holds_rest, holds_other, register_other, register_none}
+
+-- ---- packets and bits
+-- the packets in so many bits
+whole_put : (a w : ℕ) → (a + w) % 1632 ≡ 0 → 1632 * ((a + w) / 1632) ≡ a + w
+whole_put a w e = omega (arith, e)
+
+lacks : (need made w : ℕ) → (made * need + w) % 1632 ≡ 0 → w < need → (made * need + w) / 1632 < rounded_up ((made + 1) * need) 1632
+lacks need made w e l =
+    let next : (made + 1) * need ≡ made * need + need = omega arith in
+    subst (λ (z : ℕ). (made * need + w) / 1632 < rounded_up z 1632) (sym next) (go (made * need) e)
+  where
+    go : (a : ℕ) → (a + w) % 1632 ≡ 0 → (a + w) / 1632 < rounded_up (a + need) 1632
+    go a h = omega (arith, h, l)
+
+has : (need made w : ℕ) → (made * need + w) % 1632 ≡ 0 → need ≤ w → rounded_up ((made + 1) * need) 1632 ≤ (made * need + w) / 1632
+has need made w e l =
+    let next : (made + 1) * need ≡ made * need + need = omega arith in
+    subst (λ (z : ℕ). rounded_up z 1632 ≤ (made * need + w) / 1632) (sym next) (go (made * need) e)
+  where
+    go : (a : ℕ) → (a + w) % 1632 ≡ 0 → rounded_up (a + need) 1632 ≤ (a + w) / 1632
+    go a h = omega (arith, h, l)
+
+-- ---- what is wanted
+abbrev hp_test : Settings → ℕ → Parts → Bool
+hp_test s made p = nat_lt (packets_in (made * need s Hp) p.hp_waiting) (packets_for s Hp (made + 1))
+
+abbrev lp_test : Settings → ℕ → Parts → Bool
+lp_test s made p = nat_lt (packets_in (made * need s Lp) p.lp_waiting) (packets_for s Lp (made + 1))
+
+want_hp : (m : Mode) (s : Settings) (made : ℕ) (p : Parts) (next : NextSymbol) (room : ℕ) → IsKept m s made p next room → length p.hp_waiting < need s Hp → wanted (transmitter s made p) ≡ Some Hp
+want_hp m s made p next room kept l = let test : hp_test s made p ≡ true = lt-ltb _ _ (lacks (need s Hp) made (length p.hp_waiting) kept.hp_whole l) in rw test refl
+
+want_lp : (m : Mode) (s : Settings) (made : ℕ) (p : Parts) (next : NextSymbol) (room : ℕ) → IsKept m s made p next room → need s Hp ≤ length p.hp_waiting → length p.lp_waiting < need s Lp → wanted (transmitter s made p) ≡ Some Lp
+want_lp m s made p next room kept h l =
+    let first : hp_test s made p ≡ false = le-ltb _ _ (has (need s Hp) made (length p.hp_waiting) kept.hp_whole h) in
+    let second : lp_test s made p ≡ true = lt-ltb _ _ (lacks (need s Lp) made (length p.lp_waiting) kept.lp_whole l) in
+    rw (first, second) refl
+
+want_none : (m : Mode) (s : Settings) (made : ℕ) (p : Parts) (next : NextSymbol) (room : ℕ) → IsKept m s made p next room → need s Hp ≤ length p.hp_waiting → need s Lp ≤ length p.lp_waiting → wanted (transmitter s made p) ≡ None
+want_none m s made p next room kept h l =
+    let first : hp_test s made p ≡ false = le-ltb _ _ (has (need s Hp) made (length p.hp_waiting) kept.hp_whole h) in
+    let second : lp_test s made p ≡ false = le-ltb _ _ (has (need s Lp) made (length p.lp_waiting) kept.lp_whole l) in
+    rw (first, second) refl
+
+pub want_is : (m : Mode) (s : Settings) (made : ℕ) (p : Parts) (next : NextSymbol) (room : ℕ) → IsKept m s made p next room → (w : Want)
+    → (w ≡ wants.Hp → length p.hp_waiting < need s Hp) → (w ≡ wants.Lp → (need s Hp ≤ length p.hp_waiting) × (length p.lp_waiting < need s Lp)) → (w ≡ wants.Symbol → (need s Hp ≤ length p.hp_waiting) × (need s Lp ≤ length p.lp_waiting))
+    → stream_of w ≡ wanted (transmitter s made p)
+want_is m s made p next room kept wants.Hp hp lp none = sym (want_hp m s made p next room kept (hp refl))
+want_is m s made p next room kept wants.Lp hp lp none = let both = lp refl in sym (want_lp m s made p next room kept both.0 both.1)
+want_is m s made p next room kept wants.Symbol hp lp none = let both = none refl in sym (want_none m s made p next room kept both.0 both.1)
+
+-- where a symbol is wanted its bits wait
+enough : (need made w : ℕ) → (made * need + w) % 1632 ≡ 0 → rounded_up ((made + 1) * need) 1632 ≤ (made * need + w) / 1632 → need ≤ w
+enough need made w e l =
+    let next : (made + 1) * need ≡ made * need + need = omega arith in
+    go (made * need) e (subst (λ (z : ℕ). rounded_up z 1632 ≤ (made * need + w) / 1632) next l)
+  where
+    go : (a : ℕ) → (a + w) % 1632 ≡ 0 → rounded_up (a + need) 1632 ≤ (a + w) / 1632 → need ≤ w
+    go a h k = omega (arith, h, k)
+
+none_tests : (b c : Bool) → cond b (Some Hp) (cond c (Some Lp) None) ≡ None → (b ≡ false) × (c ≡ false)
+none_tests true c e = cc
+none_tests false true e = cc
+none_tests false false e = (refl, refl)
+
+pub bits_wait : (m : Mode) (s : Settings) (made : ℕ) (p : Parts) (next : NextSymbol) (room : ℕ) → IsKept m s made p next room → wanted (transmitter s made p) ≡ None → (need s Hp ≤ length p.hp_waiting) × (need s Lp ≤ length p.lp_waiting)
+bits_wait m s made p next room kept e =
+    let both = none_tests (hp_test s made p) (lp_test s made p) e in
+    (enough (need s Hp) made (length p.hp_waiting) kept.hp_whole (ltb-false _ _ both.0), enough (need s Lp) made (length p.lp_waiting) kept.lp_whole (ltb-false _ _ both.1))
+
+-- ---- before the first packet
+abbrev pub parts_of : Sender → Sender → List Bool → List Bool → TxState → Parts
+parts_of hp lp hp_bits lp_bits inner = record { hp_sender = hp; lp_sender = lp; hp_waiting = hp_bits; lp_waiting = lp_bits; inner = inner }
+
+no_bits : (need : ℕ) (waiting : List Bool) → waiting ≡ [] → (packets_in (0 * need) waiting ≡ 0) × ((0 * need + length waiting) % 1632 ≡ 0)
+no_bits need waiting e = let size : length waiting ≡ 0 = ap length e in (omega (arith, size), omega (arith, size))
+
+nothing_taken : (need : ℕ) → 0 * need ≡ 0
+nothing_taken need = omega arith
+
+pub kept_at_start : (m : Mode) (s : Settings) (p : Parts) (next : NextSymbol) (room : ℕ) → s.mode ≡ m → p.inner.settings ≡ s → p.inner.hp ≡ zeros → p.inner.lp ≡ zeros → p.hp_waiting ≡ [] → p.lp_waiting ≡ [] → next.settings ≡ s → next.number ≡ 0 → payload s.mode ≤ room → IsKept m s 0 p next room
+kept_at_start m s p next room mode inner hp lp hp_bits lp_bits out first labels = record {
+  mode = mode;
+  inner = inner;
+  hp_register = ap length hp;
+  lp_register = ap length lp;
+  out = out;
+  symbol = first;
+  hp_whole = (no_bits (need s Hp) p.hp_waiting hp_bits).1;
+  lp_whole = (no_bits (need s Lp) p.lp_waiting lp_bits).1;
+  labels = labels;
+}
+
+zeros_begin : (bytes : ℕ → ℕ) → zeros ≡ bits_from (path_of bytes) 0 6
+zeros_begin bytes = refl
+
+pub has_put_nothing : (s : Settings) (p : Parts) → p.inner.settings ≡ s → p.inner.hp ≡ zeros → p.inner.lp ≡ zeros → Sends p.hp_sender [] → Sends p.lp_sender [] → p.hp_waiting ≡ [] → p.lp_waiting ≡ [] → (inputs : Inputs) → HasPut (transmitter s 0 p) inputs
+has_put_nothing s p inner hp lp hp_sends lp_sends hp_bits lp_bits inputs = record {
+  settings = inner;
+  hp = holds_none p.hp_sender p.hp_waiting (inputs Hp) (packets_in (0 * need s Hp) p.hp_waiting) (0 * need s Hp) hp_sends hp_bits (no_bits (need s Hp) p.hp_waiting hp_bits).0 (nothing_taken (need s Hp));
+  lp = holds_none p.lp_sender p.lp_waiting (inputs Lp) (packets_in (0 * need s Lp) p.lp_waiting) (0 * need s Lp) lp_sends lp_bits (no_bits (need s Lp) p.lp_waiting lp_bits).0 (nothing_taken (need s Lp));
+  inner = at;
+}
+  where
+    at : IsAtSymbol p.inner (paths_of inputs) 0
+    at Hp = register_none (outer_byte (inputs Hp)) (0 * need p.inner.settings Hp) p.inner.hp (nothing_taken (need p.inner.settings Hp)) (hp ∙ zeros_begin (outer_byte (inputs Hp)))
+    at Lp = register_none (outer_byte (inputs Lp)) (0 * need p.inner.settings Lp) p.inner.lp (nothing_taken (need p.inner.settings Lp)) (lp ∙ zeros_begin (outer_byte (inputs Lp)))
+
+pub none_put : (s : Settings) (p : Parts) → p.hp_waiting ≡ [] → p.lp_waiting ≡ [] → ((transmitter s 0 p).hp ≡ 0) × ((transmitter s 0 p).lp ≡ 0)
+none_put s p hp_bits lp_bits = ((no_bits (need s Hp) p.hp_waiting hp_bits).0, (no_bits (need s Lp) p.lp_waiting lp_bits).0)
+
+-- ---- other streams that begin alike
+pub other_streams : SameBeginning → OtherStreams
+other_streams alike t inputs other h same = record {
+  settings = h.settings;
+  hp = holds_other alike t.parts.hp_sender t.parts.hp_waiting (inputs Hp) (other Hp) t.hp (t.made * need t.settings Hp) h.hp (same Hp);
+  lp = holds_other alike t.parts.lp_sender t.parts.lp_waiting (inputs Lp) (other Lp) t.lp (t.made * need t.settings Lp) h.lp (same Lp);
+  inner = at;
+}
+  where
+    within : (σ : Stream) (n : ℕ) → t.made * need t.settings σ ≤ 1632 * n → t.made * need t.parts.inner.settings σ ≤ 1632 * n
+    within σ n l = subst (λ (z : Settings). t.made * need z σ ≤ 1632 * n) (sym h.settings) l
+
+    at : IsAtSymbol t.parts.inner (paths_of other) t.made
+    at Hp = register_other alike (inputs Hp) (other Hp) t.hp (t.made * need t.parts.inner.settings Hp) t.parts.inner.hp (within Hp t.hp h.hp.within) (same Hp) (h.inner Hp)
+    at Lp = register_other alike (inputs Lp) (other Lp) t.lp (t.made * need t.parts.inner.settings Lp) t.parts.inner.lp (within Lp t.lp h.lp.within) (same Lp) (h.inner Lp)
+
+-- ---- a packet more
+-- a modulator after a packet
+pub record WasPut (old new : Transmitter) (packet : List ℕ) : Type 0 where
+  pub counts : HasOneMore (wanted old) old new
+  pub put : (inputs : Inputs) → HasPut old inputs → IsNext old inputs packet → HasPut new inputs
+
+one_packet : (a : ℕ) (old new : List Bool) → length new ≡ length old + 1632 → (packets_in a new ≡ packets_in a old + 1) × ((a + length old) % 1632 ≡ 0 → (a + length new) % 1632 ≡ 0)
+one_packet a old new e = (go (length old) (length new) e, λ h. rest (length old) (length new) e h)
+  where
+    go : (x y : ℕ) → y ≡ x + 1632 → (a + y) / 1632 ≡ (a + x) / 1632 + 1
+    go x y e = omega (arith, e)
+
+    rest : (x y : ℕ) → y ≡ x + 1632 → (a + x) % 1632 ≡ 0 → (a + y) % 1632 ≡ 0
+    rest x y e h = omega (arith, e, h)
+
+-- what putting a packet does to a stream
+abbrev pub Feeds : Sender → List Bool → Sender → List Bool → List ℕ → Type 0
+Feeds sender waiting new_sender new_waiting packet = (packets : List (List ℕ)) (n taken : ℕ) → HoldsBits sender waiting packets n taken → packet ≡ packet_at packets n → HoldsBits new_sender new_waiting packets (n + 1) taken
+
+pub put_hp : (m : Mode) (s : Settings) (made : ℕ) (p : Parts) (next : NextSymbol) (room : ℕ) (sender : Sender) (waiting : List Bool) (packet : List ℕ) → IsKept m s made p next room → length p.hp_waiting < need s Hp
+    → length waiting ≡ length p.hp_waiting + 1632 → Feeds p.hp_sender p.hp_waiting sender waiting packet
+    → WasPut (transmitter s made p) (transmitter s made (parts_of sender p.lp_sender waiting p.lp_waiting p.inner)) packet
+put_hp m s made p next room sender waiting packet kept few amount feeds =
+    let want : wanted (transmitter s made p) ≡ Some Hp = want_hp m s made p next room kept few in
+    let one : packets_in (made * need s Hp) waiting ≡ packets_in (made * need s Hp) p.hp_waiting + 1 = (one_packet (made * need s Hp) p.hp_waiting waiting amount).0 in
+    record {
+      counts = subst (λ (z : Option Stream). HasOneMore z (transmitter s made p) (transmitter s made (parts_of sender p.lp_sender waiting p.lp_waiting p.inner))) (sym want) (one, refl);
+      put = λ inputs h is.
+          let here : packet ≡ packet_at (inputs Hp) (packets_in (made * need s Hp) p.hp_waiting) =
+          subst (λ (z : Option Stream). IfSome z (λ σ. packet ≡ packet_at (inputs σ) (by_stream (packets_in (made * need s Hp) p.hp_waiting) (packets_in (made * need s Lp) p.lp_waiting) σ))) want is in
+          record {
+            settings = h.settings;
+            hp = subst (λ (z : ℕ). HoldsBits sender waiting (inputs Hp) z (made * need s Hp)) (sym one) (feeds (inputs Hp) (packets_in (made * need s Hp) p.hp_waiting) (made * need s Hp) h.hp here);
+            lp = h.lp;
+            inner = h.inner;
+          };
+    }
+
+pub put_lp : (m : Mode) (s : Settings) (made : ℕ) (p : Parts) (next : NextSymbol) (room : ℕ) (sender : Sender) (waiting : List Bool) (packet : List ℕ) → IsKept m s made p next room → need s Hp ≤ length p.hp_waiting → length p.lp_waiting < need s Lp
+    → length waiting ≡ length p.lp_waiting + 1632 → Feeds p.lp_sender p.lp_waiting sender waiting packet
+    → WasPut (transmitter s made p) (transmitter s made (parts_of p.hp_sender sender p.hp_waiting waiting p.inner)) packet
+put_lp m s made p next room sender waiting packet kept many few amount feeds =
+    let want : wanted (transmitter s made p) ≡ Some Lp = want_lp m s made p next room kept many few in
+    let one : packets_in (made * need s Lp) waiting ≡ packets_in (made * need s Lp) p.lp_waiting + 1 = (one_packet (made * need s Lp) p.lp_waiting waiting amount).0 in
+    record {
+      counts = subst (λ (z : Option Stream). HasOneMore z (transmitter s made p) (transmitter s made (parts_of p.hp_sender sender p.hp_waiting waiting p.inner))) (sym want) (refl, one);
+      put = λ inputs h is.
+          let here : packet ≡ packet_at (inputs Lp) (packets_in (made * need s Lp) p.lp_waiting) =
+          subst (λ (z : Option Stream). IfSome z (λ σ. packet ≡ packet_at (inputs σ) (by_stream (packets_in (made * need s Hp) p.hp_waiting) (packets_in (made * need s Lp) p.lp_waiting) σ))) want is in
+          record {
+            settings = h.settings;
+            hp = h.hp;
+            lp = subst (λ (z : ℕ). HoldsBits sender waiting (inputs Lp) z (made * need s Lp)) (sym one) (feeds (inputs Lp) (packets_in (made * need s Lp) p.lp_waiting) (made * need s Lp) h.lp here);
+            inner = h.inner;
+          };
+    }
+
+pub kept_hp : (m : Mode) (s : Settings) (made : ℕ) (p : Parts) (next : NextSymbol) (room : ℕ) (sender : Sender) (waiting : List Bool) → IsKept m s made p next room → length waiting ≡ length p.hp_waiting + 1632 → IsKept m s made (parts_of sender p.lp_sender waiting p.lp_waiting p.inner) next room
+kept_hp m s made p next room sender waiting kept amount =
+    record { mode = kept.mode; inner = kept.inner; hp_register = kept.hp_register; lp_register = kept.lp_register; out = kept.out; symbol = kept.symbol; hp_whole = (one_packet (made * need s Hp) p.hp_waiting waiting amount).1 kept.hp_whole; lp_whole = kept.lp_whole; labels = kept.labels }
+
+pub kept_lp : (m : Mode) (s : Settings) (made : ℕ) (p : Parts) (next : NextSymbol) (room : ℕ) (sender : Sender) (waiting : List Bool) → IsKept m s made p next room → length waiting ≡ length p.lp_waiting + 1632 → IsKept m s made (parts_of p.hp_sender sender p.hp_waiting waiting p.inner) next room
+kept_lp m s made p next room sender waiting kept amount =
+    record { mode = kept.mode; inner = kept.inner; hp_register = kept.hp_register; lp_register = kept.lp_register; out = kept.out; symbol = kept.symbol; hp_whole = kept.hp_whole; lp_whole = (one_packet (made * need s Lp) p.lp_waiting waiting amount).1 kept.lp_whole; labels = kept.labels }
+
+-- the list of packets put grows by the packet
+pub stands_more : SameBeginning → (old new : Transmitter) (packet : List ℕ) → WasPut old new packet → (packets : Inputs) → StandsFor old packets → StandsFor new (with_packet packets (wanted old) packet)
+stands_more alike old new packet was packets st = go (wanted old) refl
+  where
+    front : (xs : List (List ℕ)) (n i : ℕ) → length xs ≡ n → i < n → packet_at xs i ≡ packet_at (xs ++ packet ∷ []) i
+    front xs n i e l = sym (get_or_append_left xs (packet ∷ []) null_packet i (omega (arith, l, e)))
+
+    last : (xs : List (List ℕ)) (n : ℕ) → length xs ≡ n → packet ≡ packet_at (xs ++ packet ∷ []) n
+    last xs n e = sym (get_or_push xs packet null_packet n e)
+
+    hp_alike : (σ : Stream) (i : ℕ) → i < by_stream old.hp old.lp σ → packet_at (packets σ) i ≡ packet_at (with_packet packets (Some Hp) packet σ) i
+    hp_alike Hp i l = front (packets Hp) old.hp i st.hp l
+    hp_alike Lp i l = refl
+
+    lp_alike : (σ : Stream) (i : ℕ) → i < by_stream old.hp old.lp σ → packet_at (packets σ) i ≡ packet_at (with_packet packets (Some Lp) packet σ) i
+    lp_alike Hp i l = refl
+    lp_alike Lp i l = front (packets Lp) old.lp i st.lp l
+
+    next_is : (o : Option Stream) (inputs : Inputs) → wanted old ≡ o → IfSome o (λ σ. packet ≡ packet_at (inputs σ) (by_stream old.hp old.lp σ)) → IsNext old inputs packet
+    next_is o inputs e h = subst (λ (z : Option Stream). IfSome z (λ σ. packet ≡ packet_at (inputs σ) (by_stream old.hp old.lp σ))) (sym e) h
+
+    counts_at : (o : Option Stream) → wanted old ≡ o → HasOneMore o old new
+    counts_at o e = subst (λ (z : Option Stream). HasOneMore z old new) e was.counts
+
+    go : (o : Option Stream) → wanted old ≡ o → StandsFor new (with_packet packets o packet)
+    go None e =
+        let more = counts_at None e in
+        record { hp = st.hp ∙ sym more.0; lp = st.lp ∙ sym more.1; put = was.put packets st.put (next_is None packets e tt) }
+    go (Some Hp) e =
+        let more = counts_at (Some Hp) e in
+        record {
+          hp = length_push (packets Hp) packet ∙ ap (λ (z : ℕ). z + 1) st.hp ∙ sym more.0;
+          lp = st.lp ∙ sym more.1;
+          put = was.put (with_packet packets (Some Hp) packet) (other_streams alike old packets (with_packet packets (Some Hp) packet) st.put hp_alike) (next_is (Some Hp) (with_packet packets (Some Hp) packet) e (last (packets Hp) old.hp st.hp));
+        }
+    go (Some Lp) e =
+        let more = counts_at (Some Lp) e in
+        record {
+          hp = st.hp ∙ sym more.0;
+          lp = length_push (packets Lp) packet ∙ ap (λ (z : ℕ). z + 1) st.lp ∙ sym more.1;
+          put = was.put (with_packet packets (Some Lp) packet) (other_streams alike old packets (with_packet packets (Some Lp) packet) st.put lp_alike) (next_is (Some Lp) (with_packet packets (Some Lp) packet) e (last (packets Lp) old.lp st.lp));
+        }
+
+-- ---- a symbol more
+abbrev pub after_symbol : Settings → Parts → TxState → Parts
+after_symbol s p inner = parts_of p.hp_sender p.lp_sender (drop (need s Hp) p.hp_waiting) (drop (need s Lp) p.lp_waiting) inner
+
+bits_taken : (need made : ℕ) (waiting : List Bool) → need ≤ length waiting → (packets_in ((made + 1) * need) (drop need waiting) ≡ packets_in (made * need) waiting) × ((made * need + length waiting) % 1632 ≡ 0 → ((made + 1) * need + length (drop need waiting)) % 1632 ≡ 0)
+bits_taken need made waiting l =
+    let next : (made + 1) * need ≡ made * need + need = omega arith in
+    let size : length (drop need waiting) ≡ length waiting - need = length-drop need waiting in
+    let same : (made + 1) * need + length (drop need waiting) ≡ made * need + length waiting = omega (arith, next, size, l) in
+    (ap (λ (z : ℕ). z / 1632) same, λ h. ap (λ (z : ℕ). z % 1632) same ∙ h)
+
+pub kept_symbol : (m : Mode) (s : Settings) (made : ℕ) (p : Parts) (next after : NextSymbol) (room left : ℕ) (inner : TxState) → IsKept m s made p next room → wanted (transmitter s made p) ≡ None
+    → inner.settings ≡ p.inner.settings → length inner.hp ≡ 6 → length inner.lp ≡ 6 → after.settings ≡ next.settings → after.number ≡ (next.number + 1) % 272 → left ≡ room → IsKept m s (made + 1) (after_symbol s p inner) after left
+kept_symbol m s made p next after room left inner kept none same hp lp out number capacity =
+    let wait = bits_wait m s made p next room kept none in
+    record {
+      mode = kept.mode;
+      inner = same ∙ kept.inner;
+      hp_register = hp;
+      lp_register = lp;
+      out = out ∙ kept.out;
+      symbol = omega (arith, number, kept.symbol);
+      hp_whole = (bits_taken (need s Hp) made p.hp_waiting wait.0).1 kept.hp_whole;
+      lp_whole = (bits_taken (need s Lp) made p.lp_waiting wait.1).1 kept.lp_whole;
+      labels = omega (arith, kept.labels, capacity);
+    }
+
+pub counts_kept : (m : Mode) (s : Settings) (made : ℕ) (p : Parts) (next : NextSymbol) (room : ℕ) (inner : TxState) → IsKept m s made p next room → wanted (transmitter s made p) ≡ None
+    → ((transmitter s (made + 1) (after_symbol s p inner)).hp ≡ (transmitter s made p).hp) × ((transmitter s (made + 1) (after_symbol s p inner)).lp ≡ (transmitter s made p).lp)
+counts_kept m s made p next room inner kept none =
+    let wait = bits_wait m s made p next room kept none in
+    ((bits_taken (need s Hp) made p.hp_waiting wait.0).0, (bits_taken (need s Lp) made p.lp_waiting wait.1).0)
+
+-- the bits that the symbol takes, at the settings of the inner coder
+pub hp_input : (m : Mode) (s : Settings) (made : ℕ) (p : Parts) (next : NextSymbol) (room : ℕ) (inputs : Inputs) → IsKept m s made p next room → wanted (transmitter s made p) ≡ None → HasPut (transmitter s made p) inputs
+    → take (need p.inner.settings Hp) p.hp_waiting ≡ input_bits p.inner.settings (paths_of inputs) made Hp
+hp_input m s made p next room inputs kept none h =
+    let wait = bits_wait m s made p next room kept none in
+    subst (λ (z : Settings). take (need z Hp) p.hp_waiting ≡ input_bits z (paths_of inputs) made Hp) (sym kept.inner)
+    (bits_next p.hp_sender p.hp_waiting (inputs Hp) (packets_in (made * need s Hp) p.hp_waiting) (made * need s Hp) (need s Hp) h.hp wait.0)
+
+pub lp_input : (m : Mode) (s : Settings) (made : ℕ) (p : Parts) (next : NextSymbol) (room : ℕ) (inputs : Inputs) → IsKept m s made p next room → wanted (transmitter s made p) ≡ None → HasPut (transmitter s made p) inputs
+    → take (need p.inner.settings Lp) p.lp_waiting ≡ input_bits p.inner.settings (paths_of inputs) made Lp
+lp_input m s made p next room inputs kept none h =
+    let wait = bits_wait m s made p next room kept none in
+    subst (λ (z : Settings). take (need z Lp) p.lp_waiting ≡ input_bits z (paths_of inputs) made Lp) (sym kept.inner)
+    (bits_next p.lp_sender p.lp_waiting (inputs Lp) (packets_in (made * need s Lp) p.lp_waiting) (made * need s Lp) (need s Lp) h.lp wait.1)
+
+pub put_kept : (m : Mode) (s : Settings) (made : ℕ) (p : Parts) (next : NextSymbol) (room : ℕ) (inner : TxState) (inputs : Inputs) → IsKept m s made p next room → wanted (transmitter s made p) ≡ None → inner.settings ≡ p.inner.settings
+    → IsAtSymbol inner (paths_of inputs) (made + 1) → HasPut (transmitter s made p) inputs → HasPut (transmitter s (made + 1) (after_symbol s p inner)) inputs
+put_kept m s made p next room inner inputs kept none same at h =
+    let wait = bits_wait m s made p next room kept none in
+    let counts = counts_kept m s made p next room inner kept none in
+    let hp_next : (made + 1) * need s Hp ≡ made * need s Hp + need s Hp = row made (need s Hp) in
+    let lp_next : (made + 1) * need s Lp ≡ made * need s Lp + need s Lp = row made (need s Lp) in
+    record {
+      settings = same ∙ kept.inner;
+      hp = subst (λ (z : ℕ). HoldsBits p.hp_sender (drop (need s Hp) p.hp_waiting) (inputs Hp) z ((made + 1) * need s Hp)) (sym counts.0)
+          (holds_rest p.hp_sender p.hp_waiting (drop (need s Hp) p.hp_waiting) (inputs Hp) (packets_in (made * need s Hp) p.hp_waiting) (made * need s Hp) (need s Hp) ((made + 1) * need s Hp) h.hp wait.0 refl hp_next);
+      lp = subst (λ (z : ℕ). HoldsBits p.lp_sender (drop (need s Lp) p.lp_waiting) (inputs Lp) z ((made + 1) * need s Lp)) (sym counts.1)
+          (holds_rest p.lp_sender p.lp_waiting (drop (need s Lp) p.lp_waiting) (inputs Lp) (packets_in (made * need s Lp) p.lp_waiting) (made * need s Lp) (need s Lp) ((made + 1) * need s Lp) h.lp wait.1 refl lp_next);
+      inner = at;
+    }
+  where
+    row : (a b : ℕ) → (a + 1) * b ≡ a * b + b
+    row a b = omega arith
+
+pub stands_kept : (old new : Transmitter) (packets : Inputs) → new.hp ≡ old.hp → new.lp ≡ old.lp → (HasPut old packets → HasPut new packets) → StandsFor old packets → StandsFor new packets
+stands_kept old new packets hp lp put st = record { hp = st.hp ∙ sym hp; lp = st.lp ∙ sym lp; put = put st.put }
+
+-- what is written is the symbol of the transmission
+pub symbol_is : (s z : Settings) (made number : ℕ) (inputs : Inputs) (labels : List ℕ) → z ≡ s → number ≡ made % 272
+    → ((l : ℕ → ℕ → Bool) → symbol_bytes s made l ≡ symbol_bytes s (made % 272) l)
+    → ((l k : ℕ → ℕ → Bool) → Agree s l k → symbol_bytes s made l ≡ symbol_bytes s made k)
+    → Agree s (bits_of labels) (label_bit s (is_odd made) (coded_bits s (paths_of inputs) made)) → symbol_bytes z number (bits_of labels) ≡ tx_symbol s inputs made
+unfolding tx_symbol tx_label
+symbol_is s z made number inputs labels es en repeats follows agree =
+    ap (λ (y : Settings). symbol_bytes y number (bits_of labels)) es ∙ ap (λ (n : ℕ). symbol_bytes s n (bits_of labels)) en ∙ sym (repeats (bits_of labels))
+    ∙ follows (bits_of labels) (tx_label s inputs made) agree

@@ -1,0 +1,88 @@
+-- What is seen of a modulator, and what it stands for.
+use Rattle.std.specs.Prelude.{◌≡◌, ℕ, ◌+◌, ◌*◌, ◌/◌, ◌%◌, ◌<◌, ◌≤◌, Bool, List, [], ◌∷◌, ◌++◌, length, Option, Some, None, IfSome}
+use Rattle.mode_set.specs.StreamTable.{need, payload}
+use Rattle.mode_set.specs.declared.modes.Mode.{Mode}
+use Rattle.mode_set.specs.declared.modes.Stream.{Stream}
+use Rattle.mode_set.specs.declared.modes.Stream.TheVariants.{Hp, Lp}
+use Rattle.mode_set.specs.declared.settings.Settings.{Settings}
+use Rattle.outer_chain.specs.Sent.{packet_at}
+use Rattle.outer_chain.specs.Sending.{Sender}
+use Rattle.inner_chain.specs.Labels.{TxState, IsAtSymbol}
+use Rattle.frame_build.specs.State.{NextSymbol}
+use Rattle.transmission.specs.Transmission.{Inputs, by_stream, paths_of}
+use Rattle.transmission.specs.Agenda.{next_stream}
+use Rattle.modulator.specs.Streams.{HoldsBits}
+
+-- what a modulator's parts hold: the sender of each stream's outer code, the bits of each that wait for symbols, the inner coder
+pub record Parts : Type 0 where
+  pub hp_sender : Sender
+  pub lp_sender : Sender
+  pub hp_waiting : List Bool
+  pub lp_waiting : List Bool
+  pub inner : TxState
+
+-- what is seen: the settings, the symbols made so far, the packets put of each stream; and the parts, which contracts only hand on
+pub record Transmitter : Type 0 where
+  pub settings : Settings
+  pub made : ℕ
+  pub hp : ℕ
+  pub lp : ℕ
+  pub parts : Parts
+
+-- the packets put of a stream: each has 1632 bits, which symbols took or which wait
+abbrev pub packets_in : ℕ → List Bool → ℕ
+packets_in taken waiting = (taken + length waiting) / 1632
+
+abbrev pub transmitter : Settings → ℕ → Parts → Transmitter
+transmitter s made parts = record { settings = s; made = made; hp = packets_in (made * need s Hp) parts.hp_waiting; lp = packets_in (made * need s Lp) parts.lp_waiting; parts = parts }
+
+-- what a modulator keeps: its parts are of the same settings and at the same symbol, each stream has whole packets, and there is room for the labels of a symbol
+pub record IsKept (m : Mode) (s : Settings) (made : ℕ) (parts : Parts) (next : NextSymbol) (room : ℕ) : Type 0 where
+  pub mode : s.mode ≡ m
+  pub inner : parts.inner.settings ≡ s
+  pub hp_register : length parts.inner.hp ≡ 6
+  pub lp_register : length parts.inner.lp ≡ 6
+  pub out : next.settings ≡ s
+  pub symbol : next.number ≡ made % 272
+  pub hp_whole : (made * need s Hp + length parts.hp_waiting) % 1632 ≡ 0
+  pub lp_whole : (made * need s Lp + length parts.lp_waiting) % 1632 ≡ 0
+  pub labels : payload s.mode ≤ room
+
+-- the stream of which the next symbol wants a packet; none where the packets suffice
+abbrev pub wanted : Transmitter → Option Stream
+wanted t = next_stream t.settings t.made t.hp t.lp
+
+-- The packets put are the first ones of these streams, which null packets follow without end; of their bits those of the symbols made were taken.
+pub record HasPut (t : Transmitter) (inputs : Inputs) : Type 0 where
+  pub settings : t.parts.inner.settings ≡ t.settings
+  pub hp : HoldsBits t.parts.hp_sender t.parts.hp_waiting (inputs Hp) t.hp (t.made * need t.settings Hp)
+  pub lp : HoldsBits t.parts.lp_sender t.parts.lp_waiting (inputs Lp) t.lp (t.made * need t.settings Lp)
+  pub inner : IsAtSymbol t.parts.inner (paths_of inputs) t.made
+
+-- The modulator stands for these packet lists: they are the packets put.
+pub record StandsFor (t : Transmitter) (packets : Inputs) : Type 0 where
+  pub hp : length (packets Hp) ≡ t.hp
+  pub lp : length (packets Lp) ≡ t.lp
+  pub put : HasPut t packets
+
+-- a packet is the next one of these streams that is wanted
+abbrev pub IsNext : Transmitter → Inputs → List ℕ → Type 0
+IsNext t inputs packet = IfSome (wanted t) (λ σ. packet ≡ packet_at (inputs σ) (by_stream t.hp t.lp σ))
+
+-- a packet more of a stream
+abbrev pub with_packet : Inputs → Option Stream → List ℕ → Inputs
+with_packet packets None p σ = packets σ
+with_packet packets (Some Hp) p Hp = packets Hp ++ p ∷ []
+with_packet packets (Some Hp) p Lp = packets Lp
+with_packet packets (Some Lp) p Hp = packets Hp
+with_packet packets (Some Lp) p Lp = packets Lp ++ p ∷ []
+
+-- no packets of either stream
+abbrev pub no_packets : Inputs
+no_packets σ = []
+
+-- as many packets more of each stream as a wanted one gives it
+abbrev pub HasOneMore : Option Stream → Transmitter → Transmitter → Type 0
+HasOneMore None old new = (new.hp ≡ old.hp) × (new.lp ≡ old.lp)
+HasOneMore (Some Hp) old new = (new.hp ≡ old.hp + 1) × (new.lp ≡ old.lp)
+HasOneMore (Some Lp) old new = (new.hp ≡ old.hp) × (new.lp ≡ old.lp + 1)

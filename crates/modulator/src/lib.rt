@@ -1,0 +1,17 @@
+//! The transmitter: transport packets of one stream or two become the symbols of a transmission, one
+//! after another.
+//!
+//! EN 300 744, clause 4. The order of work is this project's own: packets are taken as the next symbol
+//! wants them, those of the high priority stream first.
+#![tactic(auto)]
+
+pub mod laws;
+mod modulator;
+mod next_labels;
+mod stream;
+#[cfg(test)]
+mod tests;
+mod want;
+
+pub use modulator::Modulator;
+pub use want::Want;

@@ -1,0 +1,182 @@
+// From packets to symbols.
+ghost use Rattle.std.specs.Prelude.{◌≡◌, ◌≢◌, ◌+◌, ◌*◌, ◌^◌, ◌<◌, ◌≤◌, ◌++◌, ℕ, Some, None, IfOk, length, vec_capacity, vec_len};
+ghost use Rattle.spec_words.specs.Words.{rounded_up};
+ghost use Rattle.mode_set.specs.StreamTable.{need};
+ghost use Rattle.mode_set.specs.declared.modes.Stream.TheVariants as streams;
+ghost use Rattle.transmission.specs.Transmission.{Inputs, by_stream, tx_symbol};
+ghost use Rattle.transmission.specs.SuperFrames.{AreSuperFrames, super_frames};
+ghost use Rattle.modulator.specs.State.{HasOneMore, HasPut, IsNext, StandsFor, no_packets, wanted, with_packet};
+ghost use Rattle.modulator.specs.Wants.{stream_of};
+
+use crate::laws::other_streams;
+use crate::next_labels::next_labels;
+use crate::stream::StreamTx;
+use crate::want::Want;
+use bit_pack::WaitBuf;
+use frame_build::{SymbolOut, symbols_follow_labels, symbols_repeat};
+use inner_chain::InnerTx;
+use mode_set::{Carriers, Settings, Stream};
+use std::alloc::{AllocError, Global};
+use std::marker::Model;
+use transmission::laws::super_frames as super_frames_are_least;
+use ts_packet::Packet;
+
+// What the next symbol wants, by the bits that wait.
+fn want_of(settings: &Settings, hp: &WaitBuf, lp: &WaitBuf) -> Want
+    ensures hp { result ≡ Want.Hp → length hp.now < need settings.now streams.Hp }
+    ensures lp { result ≡ Want.Lp → (need settings.now streams.Hp ≤ length hp.now) × (length lp.now < need settings.now streams.Lp) }
+    ensures symbol { result ≡ Want.Symbol → (need settings.now streams.Hp ≤ length hp.now) × (need settings.now streams.Lp ≤ length lp.now) }
+    ensures hp_few { result ≡ Want.Hp → length hp.now < 31752 }
+    ensures lp_few { result ≡ Want.Lp → length lp.now < 31752 }
+{
+    if hp.waiting() < settings.need(Stream::Hp) as usize {
+        return Want::Hp;
+    }
+    if lp.waiting() < settings.need(Stream::Lp) as usize {
+        return Want::Lp;
+    }
+    Want::Symbol
+}
+
+// The super-frames that carry so many packets and eleven words more.
+fn frames_for(count: u64, words: u32) -> u64
+    requires some { 0 < words }
+    requires few { count ≤ 100000000 }
+    ensures { result ≡ rounded_up (count + 11) words }
+{
+    (count + 11).div_ceil(words as u64)
+}
+
+/// A transmitter: packets are put as [`wants`](Modulator::wants) asks for them, and symbols are made of
+/// them.
+///
+/// It is seen as its settings, the number of symbols made and the numbers of packets put of each stream.
+/// It stands for the packets put (`StandsFor`), and so for the beginning of every transmission of streams
+/// that begin with them (`HasPut`). No call but `new` takes memory.
+#[derive(Drop)]
+pub struct Modulator<M: Carriers> {
+    settings: Settings,
+    hp: StreamTx,
+    lp: StreamTx,
+    inner: InnerTx<M>,
+    out: SymbolOut<M>,
+    // The labels of the last symbol, in room for those of any.
+    labels: Vec<u8>,
+    made: u64,
+}
+
+impl<M: Carriers> Model for Modulator<M> {
+    ghost use Rattle.std.specs.Prelude.{vec_capacity};
+    ghost use Rattle.modulator.specs.State.{IsKept, Transmitter, transmitter};
+
+    ghost Value = { Transmitter };
+
+    ghost view = { λ m. transmitter m.settings m.made (record { hp_sender = m.hp.outer; lp_sender = m.lp.outer; hp_waiting = m.hp.waiting; lp_waiting = m.lp.waiting; inner = m.inner }) };
+
+    ghost invariant = { λ m. IsKept M.MODE m.settings m.made (record { hp_sender = m.hp.outer; lp_sender = m.lp.outer; hp_waiting = m.hp.waiting; lp_waiting = m.lp.waiting; inner = m.inner }) m.out (vec_capacity m.labels) };
+}
+
+impl<M: Carriers> Modulator<M> {
+    /// The modulator before the first packet. It takes all its memory; the only error is want of it.
+    pub fn new(alloc: Global, settings: &Settings) -> Result<Self, AllocError>
+        requires { settings.now.mode ≡ M.MODE }
+        ensures settings { IfOk result (λ tx. tx.settings ≡ settings.now) }
+        ensures made { IfOk result (λ tx. tx.made ≡ 0) }
+        ensures hp { IfOk result (λ tx. tx.hp ≡ 0) }
+        ensures lp { IfOk result (λ tx. tx.lp ≡ 0) }
+        ensures put { IfOk result (λ tx. (inputs : Inputs) → HasPut tx inputs) }
+        ensures stands { IfOk result (λ tx. StandsFor tx no_packets) }
+    {
+        Ok(Modulator {
+            settings: *settings,
+            hp: StreamTx::new(alloc)?,
+            lp: StreamTx::new(alloc)?,
+            inner: InnerTx::new(alloc, settings)?,
+            out: SymbolOut::new(settings),
+            labels: Vec::with_capacity(alloc, M::NMAX as usize)?,
+            made: 0,
+        })
+    }
+
+    /// What is to be done next: HP where the packets of HP do not suffice for the next symbol, else LP
+    /// likewise, else the symbol. Where there is no hierarchy LP is never wanted.
+    pub fn wants(&self) -> Want
+        ensures { stream_of result ≡ wanted self.now }
+    {
+        want_of(&self.settings, &self.hp.waiting, &self.lp.waiting)
+    }
+
+    /// Puts the next packet of the stream that is wanted.
+    pub fn put(&mut self, packet: &Packet)
+        requires wanted { wanted self.old ≢ None }
+        ensures settings { self.new.settings ≡ self.old.settings }
+        ensures made { self.new.made ≡ self.old.made }
+        ensures counts { HasOneMore (wanted self.old) self.old self.new }
+        ensures put { (inputs : Inputs) → HasPut self.old inputs → IsNext self.old inputs packet.now → HasPut self.new inputs }
+        ensures stands { (packets : Inputs) → StandsFor self.old packets → StandsFor self.new (with_packet packets (wanted self.old) packet.now) }
+    {
+        other_streams();
+        match want_of(&self.settings, &self.hp.waiting, &self.lp.waiting) {
+            Want::Hp => self.hp.put(packet),
+            Want::Lp => self.lp.put(packet),
+            Want::Symbol => {}
+        }
+    }
+
+    /// Makes the next symbol of the transmission and appends its bytes, four for each carrier. The spare
+    /// of `to` has room for them.
+    pub fn symbol(&mut self, to: &mut Vec<u8>)
+        requires wanted { wanted self.old ≡ None }
+        requires few { self.old.made < 2 ^ 32 }
+        requires spare { vec_len to.old + 4 * M.K ≤ vec_capacity to.old }
+        ensures settings { self.new.settings ≡ self.old.settings }
+        ensures made { self.new.made ≡ self.old.made + 1 }
+        ensures hp { self.new.hp ≡ self.old.hp }
+        ensures lp { self.new.lp ≡ self.old.lp }
+        ensures put { (inputs : Inputs) → HasPut self.old inputs → HasPut self.new inputs }
+        ensures stands { (packets : Inputs) → StandsFor self.old packets → StandsFor self.new packets }
+
+        // The bytes are those of the next symbol of every transmission that begins with the packets put.
+        ensures bytes { (inputs : Inputs) → HasPut self.old inputs → to.new.items ≡ to.old.items ++ tx_symbol self.old.settings inputs self.old.made }
+        ensures len { vec_len to.new ≡ vec_len to.old + 4 * M.K }
+        ensures capacity { vec_capacity to.new ≡ vec_capacity to.old }
+    {
+        symbols_repeat(&self.settings, self.made);
+        symbols_follow_labels(&self.settings, self.made);
+        next_labels(
+            self.made % 2 == 1,
+            &mut self.inner,
+            &mut self.hp.waiting,
+            &mut self.lp.waiting,
+            &mut self.labels,
+        );
+        self.out.write(&self.labels, to);
+        self.made += 1;
+    }
+
+    /// The symbols made so far.
+    pub fn made(&self) -> u64
+        ensures { result ≡ self.now.made }
+    {
+        self.made
+    }
+
+    /// The super-frames of a transmission of so many packets: the least number, at least 1, that carries
+    /// the packets of each stream and eleven words more.
+    pub fn super_frames(settings: &Settings, n_hp: u64, n_lp: u64) -> u64
+        requires hp { n_hp ≤ 100000000 }
+        requires lp { n_lp ≤ 100000000 }
+        ensures least { AreSuperFrames settings.now (by_stream n_hp n_lp) result }
+        ensures formula { result ≡ super_frames settings.now (by_stream n_hp n_lp) }
+    {
+        super_frames_are_least();
+        let hp = frames_for(n_hp, settings.words_per_super_frame(Stream::Hp));
+        if settings.hierarchy.is_flat() {
+            return hp;
+        }
+        hp.max(frames_for(
+            n_lp,
+            settings.words_per_super_frame(Stream::Lp),
+        ))
+    }
+}

@@ -1,0 +1,207 @@
+// Transmissions beside those of an independent program, which was given the same packets.
+ghost use Rattle.std.specs.Prelude.{◌≡◌, ◌≤◌, vec_capacity};
+
+use crate::{Modulator, Want};
+use mode_set::{Carriers, Mode, Mode2k, Mode8k, Settings};
+use std::alloc::{AllocError, Global};
+use std::process::Abort;
+use std::rt::HostRuntime;
+use ts_packet::Packet;
+
+// Packets that a formula gives, and then null packets.
+#[derive(Drop)]
+struct Source {
+    count: u16,
+    next: u16,
+    salt: u8,
+}
+
+// Byte j of packet i is 37 i + 11 j + (j² mod 7) (i + 1) + salt modulo 256, behind the sync byte.
+fn packet_bytes(i: u16, salt: u8) -> [u8; 188] {
+    let mut bytes = [0x47u8; 188];
+    for (j, byte) in bytes.iter_mut().enumerate() {
+        if j > 0 {
+            let j = j as u64;
+            let i = i as u64 % 256;
+            *byte = ((37 * i + 11 * j + j * j % 7 * (i + 1) + salt as u64) % 256) as u8;
+        }
+    }
+    bytes
+}
+
+fn next_packet(rt: &impl Abort, source: &mut Source) -> Packet {
+    if source.next >= source.count {
+        return Packet::null();
+    }
+    let bytes = packet_bytes(source.next, source.salt);
+    source.next += 1;
+    Packet::read(&bytes).expect(rt, "a packet")
+}
+
+fn put_next<M: Carriers>(rt: &impl Abort, tx: &mut Modulator<M>, sources: &mut (Source, Source)) {
+    match tx.wants() {
+        Want::Hp => tx.put(&next_packet(rt, &mut sources.0)),
+        Want::Lp => tx.put(&next_packet(rt, &mut sources.1)),
+        Want::Symbol => {}
+    }
+}
+
+// The next symbol in the place of what stands in `to`.
+fn next_symbol<M: Carriers>(
+    rt: &impl Abort,
+    tx: &mut Modulator<M>,
+    sources: &mut (Source, Source),
+    to: &mut Vec<u8>,
+)
+    requires { 27268 ≤ vec_capacity to.old }
+    ensures { 27268 ≤ vec_capacity to.new }
+{
+    for _ in 0..40u8 {
+        put_next(rt, tx, sources);
+    }
+    to.clear();
+    match tx.wants() {
+        Want::Hp => assert!(rt; false),
+        Want::Lp => assert!(rt; false),
+        Want::Symbol => {
+            assert!(rt; tx.made() < 4294967296);
+            tx.symbol(to);
+        }
+    }
+}
+
+// The bytes as the digits of a number to the base 31, modulo 2^32.
+fn with_bytes(sum: u32, bytes: &[u8]) -> u32 {
+    bytes.iter().fold(
+        sum,
+        |sum, byte| sum.wrapping_mul(31).wrapping_add(*byte as u32),
+    )
+}
+
+fn sources_of(hp: u16, lp: u16) -> (Source, Source) {
+    let hp = Source {
+        count: hp,
+        next: 0,
+        salt: 1,
+    };
+    let lp = Source {
+        count: lp,
+        next: 0,
+        salt: 100,
+    };
+    (hp, lp)
+}
+
+// All bytes of a super-frame.
+fn super_frame<M: Carriers>(
+    rt: &impl Abort,
+    alloc: Global,
+    settings: &Settings,
+    hp: u16,
+    lp: u16,
+) -> Result<u32, AllocError>
+    requires { settings.now.mode ≡ M.MODE }
+{
+    let mut tx = Modulator::<M>::new(alloc, settings)?;
+    let mut sources = sources_of(hp, lp);
+    let mut bytes = Vec::with_capacity(alloc, 27268)?;
+    let mut sum = 0;
+    for _ in 0..272u16 {
+        next_symbol(rt, &mut tx, &mut sources, &mut bytes);
+        sum = with_bytes(sum, &bytes);
+    }
+    assert!(rt; tx.made() == 272);
+    Ok(sum)
+}
+
+fn settings_of(rt: &impl Abort, alloc: Global, document: &[u8]) -> Settings {
+    Settings::read(alloc, document).expect(rt, "the settings")
+}
+
+fn check(rt: &impl Abort, alloc: Global, document: &[u8], hp: u16, lp: u16, sum: u32) {
+    let settings = settings_of(rt, alloc, document);
+    let found = match settings.mode {
+        Mode::M2k => super_frame::<Mode2k>(rt, alloc, &settings, hp, lp),
+        Mode::M8k => super_frame::<Mode8k>(rt, alloc, &settings, hp, lp),
+    };
+    assert!(rt; found.expect(rt, "memory") == sum);
+}
+
+const BASE: &[u8] = b"mode = \"2k\"\nconstellation = \"qpsk\"\nrate_hp = \"1/2\"\nguard = \"1/32\"\n";
+
+const TWO_STREAMS: &[u8] = b"mode = \"8k\"\nconstellation = \"64qam\"\nhierarchy = \"2\"\nrate_hp = \"2/3\"\nrate_lp = \"3/4\"\nguard = \"1/32\"\n";
+
+// Null packets; HP and LP, which end within the super-frame and are followed by null packets; a stream
+// that fills it; both modes.
+#[test]
+fn super_frames_of_another_program(rt: HostRuntime) {
+    let alloc = rt.alloc();
+    check(&rt, alloc, BASE, 0, 0, 2315031475);
+    check(
+        &rt,
+        alloc,
+        b"mode = \"2k\"\nconstellation = \"16qam\"\nhierarchy = \"4\"\nrate_hp = \"1/2\"\nrate_lp = \"3/4\"\nguard = \"1/8\"\n",
+        100,
+        200,
+        1835974005,
+    );
+    check(
+        &rt,
+        alloc,
+        b"mode = \"2k\"\nconstellation = \"64qam\"\nrate_hp = \"7/8\"\nguard = \"1/4\"\ncell_id = 4660\n",
+        1000,
+        0,
+        2450239733,
+    );
+    check(
+        &rt,
+        alloc,
+        b"mode = \"8k\"\nconstellation = \"64qam\"\nhierarchy = \"2\"\nrate_hp = \"2/3\"\nrate_lp = \"5/6\"\nguard = \"1/16\"\ncell_id = 43981\n",
+        1000,
+        1500,
+        1032665336,
+    );
+}
+
+// Pilots, a TPS cell and a data cell of the first symbol of null packets, and the TPS cell of the fourth.
+#[test]
+fn first_cells(rt: HostRuntime) {
+    let alloc = rt.alloc();
+    let settings = settings_of(&rt, alloc, BASE);
+    assert!(&rt; settings.mode == Mode::M2k);
+    let mut tx = Modulator::<Mode2k>::new(alloc, &settings).expect(&rt, "memory");
+    assert!(&rt; tx.wants() == Want::Hp);
+    let mut sources = sources_of(0, 0);
+    let mut bytes = Vec::with_capacity(alloc, 27268).expect(&rt, "memory");
+    next_symbol(&rt, &mut tx, &mut sources, &mut bytes);
+    assert!(&rt; bytes.len() == 6820);
+    assert!(&rt; &bytes[..8] == [0xAA, 0xAB, 0, 0, 0xD2, 0xBF, 0x2D, 0x41u8].as_slice());
+    assert!(&rt; &bytes[48..52] == [0x55, 0x55, 0, 0u8].as_slice());
+    assert!(&rt; &bytes[136..140] == [0x40, 0, 0, 0u8].as_slice());
+    next_symbol(&rt, &mut tx, &mut sources, &mut bytes);
+    next_symbol(&rt, &mut tx, &mut sources, &mut bytes);
+    next_symbol(&rt, &mut tx, &mut sources, &mut bytes);
+    assert!(&rt; bytes.len() == 6820);
+    assert!(&rt; &bytes[136..140] == [0xC0, 0, 0, 0u8].as_slice());
+}
+
+// Eleven words more than packets: 241 packets fill a super-frame of 252 words, 242 want a second one.
+#[test]
+fn super_frames_for_packets(rt: HostRuntime) {
+    let alloc = rt.alloc();
+    let base = settings_of(&rt, alloc, BASE);
+    for (packets, frames) in [(0, 1), (241, 1), (242, 2), (300, 2), (493, 2), (494, 3)] {
+        assert!(&rt; packets <= 100000000);
+        assert!(&rt; Modulator::<Mode2k>::super_frames(&base, packets, 0) == frames);
+    }
+    let two = settings_of(&rt, alloc, TWO_STREAMS);
+    for (hp, lp, frames) in [
+        (1000, 4000, 2),
+        (1333, 3013, 1),
+        (1334, 0, 2),
+        (0, 3014, 2),
+    ] {
+        assert!(&rt; hp <= 100000000 && lp <= 100000000);
+        assert!(&rt; Modulator::<Mode8k>::super_frames(&two, hp, lp) == frames);
+    }
+}
