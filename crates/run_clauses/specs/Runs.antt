@@ -1,14 +1,16 @@
 -- What a run promises, whatever its command: the clauses of the top call. A run begins at a station
 -- that stands for `old`, ends at `new`, and answers the status. No command: the words are of no form.
-use Rattle.std.specs.Prelude.{◌≡◌, ◌≢◌, ◌⊎◌, ◌↔◌, ◌++◌, ℕ, true, IsTrue, is_some, List, [], take, Option, None, Some, IfSome, option_and_then, if◌then◌else◌, ◌==◌}
+use Rattle.std.specs.Prelude.{◌≡◌, ◌≢◌, ◌≤◌, ◌+◌, ◌⊎◌, ◌↔◌, ◌++◌, ℕ, true, IsTrue, is_some, List, [], take, drop, Option, None, Some, IfSome, option_and_then, if◌then◌else◌, ◌==◌}
 use Rattle.station_core.specs.Meaning.{Meaning, source_at, sink_at}
 use Rattle.station_core.specs.Causes.{Rose}
 use Rattle.station_core.specs.declared.ports.InPort.{InPort}
+use Rattle.station_core.specs.declared.ports.InPort.TheVariants.{Settings}
 use Rattle.station_core.specs.declared.ports.OutPort.{OutPort}
 use Rattle.run_clauses.specs.declared.work.Refusal.TheVariants.{Usage, ReadFault, WriteFault, Memory}
 use Rattle.run_clauses.specs.Command.{Command, TakesMemory, source_name, sink_name}
+use Rattle.run_clauses.specs.SettingsFile.{most_settings}
 use Rattle.run_clauses.specs.Text.{status_of, refusal_text, text_if_refused}
-use Rattle.run_clauses.specs.Outcome.{refusal_of, output_of, output_so_far, IsInOrder, lines_of}
+use Rattle.run_clauses.specs.Outcome.{early_refusal, refusal_of, output_of, HoldsSoFar, lines_of}
 
 -- both counts of faults are as before
 pub record IsFaultless (old new : Meaning) : Type 0 where
@@ -45,6 +47,11 @@ pub record HasStatus (limit : ℕ) (command : Option Command) (old new : Meaning
   pub memory : status ≡ 7 → IfSome command TakesMemory
   pub others : old.tells ≡ true → status ≢ 5 → status ≢ 6 → status ≢ 7 → IfSome command (λ c. status ≡ status_of (refusal_of limit old.file c))
 
+-- no port but Settings was asked
+pub record AsksNoOther (old new : Meaning) : Type 0 where
+  pub sources : (port : InPort) → port ≢ Settings → (source_at port new).asked ≡ (source_at port old).asked
+  pub sinks : (port : OutPort) → (sink_at port new).asked ≡ (sink_at port old).asked
+
 -- 3. Only the ports of the form are asked, each by its word. A run that is done has met no fault, has
 -- read its inputs to the end and closed its outputs. At every status but 5 no read has failed.
 pub record AsksOnly (command : Option Command) (old new : Meaning) (status : ℕ) : Type 0 where
@@ -55,6 +62,12 @@ pub record AsksOnly (command : Option Command) (old new : Meaning) (status : ℕ
   pub read_out : status ≡ 0 → old.tells ≡ true → IfSome command (λ c. (port : InPort) → IsInput c port → (source_at port new).left ≡ [])
   pub closed : status ≡ 0 → IfSome command (λ c. (port : OutPort) → IsOutput c port → (sink_at port new).closed ≡ true)
   pub reads_kept : status ≢ 5 → new.read_faults ≡ old.read_faults
+  -- settings are read to their end, or as far as shows that they are too long
+  pub settings_read : old.tells ≡ true → new.settings.attached ≡ true → (k : ℕ) × (k ≤ most_settings + 1)
+      × IfSome (source_asked command Settings) (λ name. new.settings.left ≡ drop k (old.file name))
+  -- and they are checked, and all memory taken, before another port is asked
+  pub settings_first : old.tells ≡ true → IfSome command (λ c. IsTrue (is_some (early_refusal old.file c)) → AsksNoOther old new)
+  pub early : status ≡ 3 ⊎ (status ≡ 7) → AsksNoOther old new
 
 -- the text of a run that was refused: a fault of the outside, want of memory, or else what the files come to
 abbrev pub text_of : ℕ → Option Command → (List ℕ → List ℕ) → ℕ → List ℕ
@@ -65,13 +78,13 @@ text_of limit (Some c) file status =
 
 -- 4. What stands after a refusal.
 pub record Stands (limit : ℕ) (command : Option Command) (old new : Meaning) (status : ℕ) : Type 0 where
-  -- words of no form and want of memory create no output
-  pub none : status ≡ 2 ⊎ (status ≡ 7) → (port : OutPort) → (sink_at port new).created ≡ (sink_at port old).created
+  -- words of no form, refused settings and want of memory create no output
+  pub none : status ≡ 2 ⊎ (status ≡ 3 ⊎ (status ≡ 7)) → (port : OutPort) → (sink_at port new).created ≡ (sink_at port old).created
   -- a refused packet, or one past the limit: each output holds what the packets before give
   pub refused : old.tells ≡ true → status ≡ 4 ⊎ (status ≡ 8) → IfSome command (λ c. HoldOutputs limit c old new)
-  -- a failed read: each output that was created holds what the whole packets taken give, of which none is refused
+  -- a failed read: each output that was created holds what the whole packets taken give
   pub so_far : old.tells ≡ true → status ≡ 5 → IfSome command (λ c. (port : OutPort) → IsOutput c port → (sink_at port new).created ≡ true
-      → ((sink_at port new).written ≡ output_so_far old.file new c port) × IsInOrder limit old.file new c)
+      → HoldsSoFar limit old.file new c port)
   -- a failed write or close: each output that was created is a prefix of what it would hold
   pub front : old.tells ≡ true → status ≡ 6 → IfSome command (λ c. (port : OutPort) → IsOutput c port → (sink_at port new).created ≡ true
       → (k : ℕ) × ((sink_at port new).written ≡ take k (output_of limit old.file c port)))

@@ -4,15 +4,29 @@ use Rattle.mode_set.specs.declared.modes.Stream.{Stream}
 use Rattle.mode_set.specs.declared.modes.Stream.TheVariants.{Hp, Lp}
 use Rattle.run_clauses.specs.declared.work.Counts.{Counts}
 use Rattle.run_clauses.specs.declared.work.Refusal.{Refusal}
-use Rattle.run_clauses.specs.declared.work.Refusal.TheVariants.{Usage, ReadFault, WriteFault, NotSync, Memory, Limit}
+use Rattle.mode_set.specs.Keys.{key_text}
+use Rattle.run_clauses.specs.declared.work.SettingsRefusal.{SettingsRefusal}
+use Rattle.run_clauses.specs.declared.work.SettingsRefusal.TheVariants as settings
+use Rattle.run_clauses.specs.declared.work.Refusal.TheVariants.{Usage, Settings, ReadFault, WriteFault, NotSync, Memory, Limit}
 
 abbrev pub stream_text : Stream → List ℕ
 stream_text Hp = codes "hp"
 stream_text Lp = codes "lp"
 
+-- what is wrong with refused settings
+abbrev pub settings_text : SettingsRefusal → List ℕ
+settings_text settings.TooLong = codes "too long"
+settings_text settings.NotToml = codes "not toml"
+settings_text (settings.Unknown place) = codes "unknown " ++ decimal place
+settings_text (settings.Missing key) = codes "missing " ++ key_text key
+settings_text (settings.Value key) = codes "value " ++ key_text key
+settings_text (settings.Clash key) = codes "clash " ++ key_text key
+settings_text settings.Form = codes "form"
+
 -- the text of a refusal
 abbrev pub refusal_text : Refusal → List ℕ
 refusal_text Usage = codes "usage\n"
+refusal_text (Settings reason) = codes "settings " ++ settings_text reason ++ codes "\n"
 refusal_text ReadFault = codes "read fault\n"
 refusal_text WriteFault = codes "write fault\n"
 refusal_text (NotSync stream n) = stream_text stream ++ codes " packet " ++ decimal n ++ codes "\n"
@@ -26,6 +40,7 @@ text_if_refused (Some refusal) = refusal_text refusal
 
 abbrev pub refusal_status : Refusal → ℕ
 refusal_status Usage = 2
+refusal_status (Settings reason) = 3
 refusal_status ReadFault = 5
 refusal_status WriteFault = 6
 refusal_status (NotSync stream n) = 4

@@ -1,2 +1,4 @@
 pub mod Pieces
 pub mod Station_laws
+pub mod SettingsAnswer
+pub mod Early

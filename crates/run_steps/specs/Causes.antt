@@ -4,7 +4,7 @@ use Rattle.station_core.specs.Meaning.{Meaning}
 use Rattle.station_core.specs.Causes.{Rose}
 use Rattle.run_clauses.specs.Runs.{IsFaultless}
 use Rattle.run_clauses.specs.declared.work.Refusal.{Refusal}
-use Rattle.run_clauses.specs.declared.work.Refusal.TheVariants.{Usage, ReadFault, WriteFault, NotSync, Memory, Limit}
+use Rattle.run_clauses.specs.declared.work.Refusal.TheVariants.{Usage, Settings, ReadFault, WriteFault, NotSync, Memory, Limit}
 
 -- A fault is answered only where its count rose. Where the work is done no count has changed; where it
 -- is refused an output that is then closed may fail, and be counted.
@@ -15,4 +15,5 @@ HasCause old new (Err WriteFault) = (new.read_faults ≡ old.read_faults) × Ros
 HasCause old new (Err (NotSync stream n)) = (new.read_faults ≡ old.read_faults) × (old.write_faults ≤ new.write_faults)
 HasCause old new (Err (Limit n)) = (new.read_faults ≡ old.read_faults) × (old.write_faults ≤ new.write_faults)
 HasCause old new (Err Usage) = ⊥
+HasCause old new (Err (Settings reason)) = ⊥
 HasCause old new (Err Memory) = ⊥

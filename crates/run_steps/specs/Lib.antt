@@ -1,3 +1,4 @@
 pub mod Causes
 pub mod Reading
 pub mod Report
+pub mod SettingsStep

@@ -17,6 +17,7 @@ pub fn refuse<'a, S: Station<'a>>(refusal: &Refusal, station: &mut S) -> u8
     let _ = station.write(OutPort::Report, text.as_str().as_bytes());
     match refusal {
         Refusal::Usage => 2,
+        Refusal::Settings(_) => 3,
         Refusal::NotSync(_, _) => 4,
         Refusal::ReadFault => 5,
         Refusal::WriteFault => 6,
