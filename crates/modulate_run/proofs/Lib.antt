@@ -1,0 +1,6 @@
+pub mod Refusing
+pub mod Taking
+pub mod Stopping
+pub mod Sending
+pub mod WholeWork
+pub mod Keeping
