@@ -4,3 +4,5 @@ pub mod Stopping
 pub mod Sending
 pub mod WholeWork
 pub mod Keeping
+pub mod Lines
+pub mod Endings

@@ -58,14 +58,14 @@ module _ (limit : ℕ) (files : Stream → List ℕ) (σ : Stream) (put : ℕ) (
       pub lacks_sync : input.taken < limit → length bytes ≡ 188 → slice_index bytes 0 ≢ 0x47 → Gives limit files σ put (drop n left) input (Err (NotSync σ input.taken))
       lacks_sync few long differs =
           let sync : (slice_index (packet_at (packets_of (files σ)) put) 0 == 0x47) ≡ false =
-              ap (λ (l : List ℕ). slice_index l 0 == 0x47) (sym (packet_is long)) ∙ ne_eqb (slice_index bytes 0) 0x47 differs in
+          ap (λ (l : List ℕ). slice_index l 0 == 0x47) (sym (packet_is long)) ∙ ne_eqb (slice_index bytes 0) 0x47 differs in
           ap (option_map refused_by) (refused_unsynced limit files σ put within (omega (arith, few, open_is.1)) sync)
           ∙ ap (λ (k : ℕ). Some (NotSync σ k)) open_is.1
 
       pub takes : input.taken < limit → length bytes ≡ 188 → slice_index bytes 0 ≡ 0x47 → Gives limit files σ put (drop n left) (record input { taken = input.taken + 1 }) (Ok bytes)
       takes few long is =
           let sync : (slice_index (packet_at (packets_of (files σ)) put) 0 == 0x47) ≡ true =
-              ap (λ (l : List ℕ). slice_index l 0 == 0x47) (sym (packet_is long)) ∙ eq-eqb (slice_index bytes 0) 0x47 is in
+          ap (λ (l : List ℕ). slice_index l 0 == 0x47) (sym (packet_is long)) ∙ eq-eqb (slice_index bytes 0) 0x47 is in
           let rest : HasLeft (files σ) (drop n left) (input.taken + 1) None (put + 1) = (
             ap (λ (k : ℕ). drop k left) is_whole ∙ ap (λ (l : List ℕ). drop 188 l) open_is.0 ∙ drop-drop 188 (188 * input.taken) (files σ) ∙ ap (λ (k : ℕ). drop k (files σ)) (omega arith),
             omega (arith, open_is.1),

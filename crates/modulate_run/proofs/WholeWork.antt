@@ -84,7 +84,7 @@ module _ (limit : ℕ) (files : Stream → List ℕ) (m : Meaning) (inputs : Pac
       let lp_packets : counts.lp.packets ≡ whole_packets (files Lp) = c.3 ∙ lp.1 in
       let frames : counts.super_frames ≡ (transmission_counts t.settings files).super_frames = c.4 ∙ frames_are t.settings files inputs.hp.taken inputs.lp.taken hp.1 lp.1 in
       let all : t.made ≡ symbols_of t.settings (inputs_of files) =
-          made ∙ c.5 ∙ ap (λ (k : ℕ). 272 * k) (c.4 ∙ frames_of t.settings inputs.hp.taken inputs.lp.taken (whole_packets (files Hp)) (whole_packets (files Lp)) hp.1 lp.1) ∙ symbols_are t.settings files in
+      made ∙ c.5 ∙ ap (λ (k : ℕ). 272 * k) (c.4 ∙ frames_of t.settings inputs.hp.taken inputs.lp.taken (whole_packets (files Hp)) (whole_packets (files Lp)) hp.1 lp.1) ∙ symbols_are t.settings files in
       let through = ends t.settings limit (inputs_of files) t.made t.hp t.lp w.work.at all in (
         (λ i. record { hp = record { packets = hp_packets i; tail = hp.2 i }; lp = record { packets = lp_packets i; tail = lp.2 i }; super_frames = frames i }),
         hp.0,
@@ -127,8 +127,8 @@ module _ (limit : ℕ) (files : Stream → List ℕ) (m : Meaning) (inputs : Pac
       frames_sent : 272 * super_frames t.settings (by_stream inputs.hp.taken inputs.lp.taken) ≡ t.made
       frames_sent =
           ap (λ (k : ℕ). 272 * k) (frames_of t.settings inputs.hp.taken inputs.lp.taken (whole_packets (files Hp)) (whole_packets (files Lp))
-              (all_taken (files Hp) (left_of m Hp) inputs.hp.taken t.hp inputs.hp.tail hp_ended w.work.read.hp.rest)
-              (all_taken (files Lp) (left_of m Lp) inputs.lp.taken t.lp inputs.lp.tail lp_ended w.work.read.lp.rest))
+          (all_taken (files Hp) (left_of m Hp) inputs.hp.taken t.hp inputs.hp.tail hp_ended w.work.read.hp.rest)
+          (all_taken (files Lp) (left_of m Lp) inputs.lp.taken t.lp inputs.lp.tail lp_ended w.work.read.lp.rest))
           ∙ symbols_are t.settings files ∙ sym all
 
       not_all : (n : ℕ) → t.made ≡ n → CountsAt t.settings inputs n None → ⊥

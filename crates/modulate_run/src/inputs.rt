@@ -4,6 +4,7 @@ ghost use Rattle.transmission.specs.Transmission.{Inputs};
 ghost use Rattle.mode_set.specs.declared.modes.Stream.{Stream as AnyStream};
 ghost use Rattle.run_steps.specs.Causes.{HasCause};
 ghost use Rattle.modulate_run.specs.Seen.{Seen, wanted, with_one};
+ghost use Rattle.modulate_run.specs.Steps.{first_inputs};
 ghost use Rattle.modulate_run.specs.Work.{AreOpen, AreWithin, BothRead, CountsAt, GivesOf, GoesOn, IsAtWork, IsDue, KeepsOutputs};
 
 use crate::input::PacketInput;
@@ -23,6 +24,20 @@ pub(crate) struct PacketInputs {
 }
 
 impl PacketInputs {
+    /// Before the first packets, of both streams or of HP alone.
+    pub fn first(two: bool) -> PacketInputs
+        ensures { result ≡ first_inputs two }
+    {
+        PacketInputs {
+            hp: PacketInput::start(),
+            lp: if two {
+                PacketInput::start()
+            } else {
+                PacketInput::none()
+            },
+        }
+    }
+
     // The next packet of a stream.
     fn next_packet<'a, S: Station<'a>>(
         &mut self,

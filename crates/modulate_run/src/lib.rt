@@ -7,5 +7,7 @@
 
 mod input;
 mod inputs;
+mod run;
+mod steps;
 mod symbols;
 mod transmitter;

@@ -80,8 +80,7 @@ loop-symbol-preserved g c =
       works = λ t files w.
           let works = inv.works t files w in
           let due = due_at files seen seen' c.loop-symbol.symbol c.args.max_symbols inv.settings inv.made c.requires.most works.1 c.loop-symbol-test.true in
-          let written = e.sends (tells ∙ t) files due works.0 in
-          (
+          let written = e.sends (tells ∙ t) files due works.0 in (
             written,
             more_again c.packets.ensures.super_frames c.super_frames.ensures.least c.args.limits.now.packets files m'' c.next_symbol.new.inputs seen seen'' (g.T.Transmitter.stands c.next_symbol.new.tx)
                 written c.loop-symbol.symbol same made c.in-None.ensures works.1 (λ none. c.requires.two (inv.met (e.met none))),
@@ -97,5 +96,5 @@ returns-clause-modulates g c = λ t files w.
     let works = inv.works t files w in
     let most : seen'.settings.max_symbols ≡ c.args.max_symbols = ap (λ (s : Settings). s.max_symbols) inv.settings ∙ c.requires.most in
     let past = ends_at_limit c.args.limits.now.packets files m c.loop-symbol.inputs seen' (g.T.Transmitter.stands c.loop-symbol.tx) works.0 c.work.ensures.at_limit c.args.max_symbols most
-        (omega (arith, inv.made, c.loop-symbol-test.false)) (due_more files seen seen' c.loop-symbol.symbol inv.settings inv.made works.1) in
+    (omega (arith, inv.made, c.loop-symbol-test.false)) (due_more files seen seen' c.loop-symbol.symbol inv.settings inv.made works.1) in
     subst (λ (s : Settings). Ends s c.args.limits.now.packets files m (Limit c.args.max_symbols)) inv.settings past

@@ -20,5 +20,5 @@ invariant-loop-symbol g l = record {
   works : (g.S.Station.meaning l.initial.station).tells ≡ true → (files : Stream → List ℕ)
       → IsWritten l.limits.packets files (g.S.Station.meaning l.initial.station) l.initial.inputs (g.T.Transmitter.seen l.initial.tx) (g.T.Transmitter.stands l.initial.tx)
       → IsWritten l.limits.packets files (g.S.Station.meaning l.station) l.inputs (g.T.Transmitter.seen l.tx) (g.T.Transmitter.stands l.tx)
-          × (l.symbol < symbols_of (g.T.Transmitter.seen l.initial.tx).settings (inputs_of files));
+      × (l.symbol < symbols_of (g.T.Transmitter.seen l.initial.tx).settings (inputs_of files));
 }

@@ -21,7 +21,7 @@ returns-in-Ok-clause-gives c = λ files put left none reads front.
       | inr differs ↦ absurd (false≢true (c.in-Ok.ensures.refused.1 differs))
     ] in
     let g = takes c.args.limit files c.args.stream put left c.args.self.now none reads c.args.filled c.args.bytes.now front
-        (omega (arith, c.if-filled-lt-PACKET_LEN.false, c.requires.filled)) c.if-self-limit.false c.told-bytes sync in
+    (omega (arith, c.if-filled-lt-PACKET_LEN.false, c.requires.filled)) c.if-self-limit.false c.told-bytes sync in
     (c.in-Ok.ensures.packet ∙ g.0, g.1, g.2)
 
 pub returns-in-Err-clause-gives : goal.returns-in-Err-clause-gives
