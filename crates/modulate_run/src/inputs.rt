@@ -9,7 +9,7 @@ ghost use Rattle.modulate_run.specs.Work.{AreOpen, AreWithin, BothRead, CountsAt
 
 use crate::input::PacketInput;
 use crate::transmitter::Transmitter;
-use mode_set::Stream;
+use mode_set::{Settings, Stream};
 use run_clauses::{Counts, Refusal, TransmissionCounts};
 use station_core::Station;
 use transmission::laws::work;
@@ -94,13 +94,17 @@ impl PacketInputs {
     }
 
     /// What was counted, once all inputs have ended and just the super-frames were sent that carry them.
-    pub fn counts_at<T: Transmitter>(&self, symbols: u64, tx: &T) -> Option<TransmissionCounts>
+    pub fn counts_at<T: Transmitter>(
+        &self,
+        settings: &Settings,
+        symbols: u64,
+    ) -> Option<TransmissionCounts>
         requires few { AreWithin 100000000 self.now }
-        ensures { CountsAt (T.seen tx.now).settings self.now symbols result }
+        ensures { CountsAt settings.now self.now symbols result }
     {
         let hp_tail = self.hp.tail?;
         let lp_tail = self.lp.tail?;
-        let super_frames = tx.super_frames(self.hp.taken, self.lp.taken);
+        let super_frames = T::super_frames(settings, self.hp.taken, self.lp.taken);
         if symbols % 272 != 0 || symbols / 272 != super_frames {
             return None;
         }

@@ -7,6 +7,7 @@
 
 mod input;
 mod inputs;
+mod modulators;
 mod run;
 mod steps;
 mod symbols;

@@ -1,7 +1,6 @@
 // A whole run behind its settings.
 ghost use Rattle.std.specs.Prelude.{◌≡◌, ◌≤◌, ◌*◌, ℕ, true, vec_capacity};
 ghost use Rattle.std.specs.Option.{option_copied};
-ghost use Rattle.mode_set.specs.StreamTable.{carriers};
 ghost use Rattle.transmission.specs.Transmission.{Inputs};
 ghost use Rattle.run_clauses.specs.Modulation.{fits_form};
 ghost use Rattle.run_steps.specs.Causes.{HasCause};
@@ -11,6 +10,7 @@ use crate::inputs::PacketInputs;
 use crate::steps::{close_refused, finish, open};
 use crate::symbols::send_all;
 use crate::transmitter::Transmitter;
+use mode_set::Settings;
 use run_clauses::{Limits, Refusal, TransmissionCounts};
 use run_steps::refuse;
 use station_core::Station;
@@ -31,18 +31,18 @@ pub(crate) struct Names<'a> {
 fn modulate_all<'a, T: Transmitter, S: Station<'a>>(
     names: Names<'a>,
     limits: &Limits,
-    max_symbols: u32,
+    settings: &Settings,
     tx: &mut T,
     bytes: &mut Vec<u8>,
     station: &mut S,
 ) -> Result<TransmissionCounts, Refusal>
     requires ready { IsReady (S.meaning station.old) }
     requires few { limits.now.packets ≤ 100000000 }
-    requires most { (T.seen tx.old).settings.max_symbols ≡ max_symbols }
+    requires same { (T.seen tx.old).settings ≡ settings.now }
     requires form { fits_form (T.seen tx.old).settings (option_copied names.lp) ≡ true }
     requires new { IsNew (T.seen tx.old) }
     requires stands { (inputs : Inputs) → T.stands tx.old inputs }
-    requires room { 4 * carriers (T.seen tx.old).settings.mode ≤ vec_capacity bytes.old }
+    requires room { T.symbol_len ≤ vec_capacity bytes.old }
     ensures asks { AsksPorts names.entry.hp.now (option_copied names.entry.lp) names.entry.cells.now (S.meaning station.old) (S.meaning station.new) }
     ensures cause { HasCause (S.meaning station.old) (S.meaning station.new) result }
     ensures ran { Ran (T.seen tx.old).settings limits.now.packets names.entry.hp.now (option_copied names.entry.lp) (S.meaning station.old) (S.meaning station.new) result }
@@ -56,7 +56,7 @@ fn modulate_all<'a, T: Transmitter, S: Station<'a>>(
     let two = names.lp.is_some();
     match send_all(
         limits,
-        max_symbols,
+        settings,
         PacketInputs::first(two),
         tx,
         bytes,
@@ -75,21 +75,21 @@ fn modulate_all<'a, T: Transmitter, S: Station<'a>>(
 pub(crate) fn run_modulation<'a, T: Transmitter, S: Station<'a>>(
     names: Names<'a>,
     limits: &Limits,
-    max_symbols: u32,
+    settings: &Settings,
     tx: &mut T,
     bytes: &mut Vec<u8>,
     station: &mut S,
 ) -> u8
     requires ready { IsReady (S.meaning station.old) }
     requires few { limits.now.packets ≤ 100000000 }
-    requires most { (T.seen tx.old).settings.max_symbols ≡ max_symbols }
+    requires same { (T.seen tx.old).settings ≡ settings.now }
     requires form { fits_form (T.seen tx.old).settings (option_copied names.lp) ≡ true }
     requires new { IsNew (T.seen tx.old) }
     requires stands { (inputs : Inputs) → T.stands tx.old inputs }
-    requires room { 4 * carriers (T.seen tx.old).settings.mode ≤ vec_capacity bytes.old }
+    requires room { T.symbol_len ≤ vec_capacity bytes.old }
     ensures runs { RunsModulation (T.seen tx.old).settings limits.now.packets names.entry.hp.now (option_copied names.entry.lp) names.entry.cells.now (S.meaning station.old) (S.meaning station.new) result }
 {
-    match modulate_all(names, limits, max_symbols, tx, bytes, station) {
+    match modulate_all(names, limits, settings, tx, bytes, station) {
         Ok(_) => 0,
         Err(refusal) => refuse(&refusal, station),
     }

@@ -1,6 +1,6 @@
 // The work: symbol after symbol.
 ghost use Rattle.std.specs.Prelude.{◌≡◌, ◌≤◌, ◌<◌, ◌*◌, ◌+◌, ◌^◌, ℕ, List, [], Some, None, true, false, IsTrue, OnOk, OnErr, vec_capacity};
-ghost use Rattle.mode_set.specs.StreamTable.{carriers, has_stream};
+ghost use Rattle.mode_set.specs.StreamTable.{has_stream};
 ghost use Rattle.mode_set.specs.declared.modes.Stream.TheVariants.{Lp};
 ghost use Rattle.mode_set.specs.declared.modes.Stream.{Stream as AnyStream};
 ghost use Rattle.transmission.specs.Transmission.{Inputs, tx_symbol};
@@ -10,6 +10,7 @@ ghost use Rattle.modulate_run.specs.Work.{AreOpen, AreWithin, GoesOn, IsAtWork, 
 
 use crate::inputs::PacketInputs;
 use crate::transmitter::Transmitter;
+use mode_set::Settings;
 use run_clauses::{Limits, Refusal, TransmissionCounts};
 use station_core::{OutPort, Station};
 use transmission::laws::{packets, super_frames, symbols, work};
@@ -52,7 +53,7 @@ fn send_symbol<'a, T: Transmitter, S: Station<'a>>(
 ) -> Result<(), Refusal>
     requires suffices { wanted (T.seen tx.old) ≡ None }
     requires few { (T.seen tx.old).made < 2 ^ 32 }
-    requires room { 4 * carriers (T.seen tx.old).settings.mode ≤ vec_capacity bytes.old }
+    requires room { T.symbol_len ≤ vec_capacity bytes.old }
     requires created { (S.meaning station.old).cells_out.created ≡ true }
     requires open { (S.meaning station.old).cells_out.closed ≡ false }
     ensures room { vec_capacity bytes.new ≡ vec_capacity bytes.old }
@@ -80,7 +81,7 @@ fn next_symbol<'a, T: Transmitter, S: Station<'a>>(
     station: &mut S,
 ) -> Result<(), Refusal>
     requires few { (T.seen tx.old).made < 2 ^ 32 }
-    requires room { 4 * carriers (T.seen tx.old).settings.mode ≤ vec_capacity bytes.old }
+    requires room { T.symbol_len ≤ vec_capacity bytes.old }
     requires created { (S.meaning station.old).cells_out.created ≡ true }
     requires open { (S.meaning station.old).cells_out.closed ≡ false }
     requires inputs_open { AreOpen inputs.old (S.meaning station.old) }
@@ -112,17 +113,17 @@ fn next_symbol<'a, T: Transmitter, S: Station<'a>>(
 /// than the limit, a packet without its sync byte, a fault.
 pub(crate) fn send_all<'a, T: Transmitter, S: Station<'a>>(
     limits: &Limits,
-    max_symbols: u32,
+    settings: &Settings,
     mut inputs: PacketInputs,
     tx: &mut T,
     bytes: &mut Vec<u8>,
     station: &mut S,
 ) -> Result<TransmissionCounts, Refusal>
     requires few { limits.now.packets ≤ 100000000 }
-    requires most { (T.seen tx.old).settings.max_symbols ≡ max_symbols }
+    requires same { (T.seen tx.old).settings ≡ settings.now }
     requires two { inputs.lp.tail ≡ None → IsTrue (has_stream (T.seen tx.old).settings.hierarchy Lp) }
     requires none_made { (T.seen tx.old).made ≡ 0 }
-    requires room { 4 * carriers (T.seen tx.old).settings.mode ≤ vec_capacity bytes.old }
+    requires room { T.symbol_len ≤ vec_capacity bytes.old }
     requires created { (S.meaning station.old).cells_out.created ≡ true }
     requires open { (S.meaning station.old).cells_out.closed ≡ false }
     requires inputs_open { AreOpen inputs (S.meaning station.old) }
@@ -136,15 +137,15 @@ pub(crate) fn send_all<'a, T: Transmitter, S: Station<'a>>(
     work();
     packets();
     super_frames();
-    for symbol in 0..max_symbols {
+    for symbol in 0..settings.max_symbols {
         match next_symbol(limits.packets, &mut inputs, tx, bytes, station) {
             Ok(()) => {}
             Err(refusal) => return Err(refusal),
         }
-        match inputs.counts_at(symbol as u64 + 1, tx) {
+        match inputs.counts_at::<T>(settings, symbol as u64 + 1) {
             Some(counts) => return Ok(counts),
             None => {}
         }
     }
-    Err(Refusal::Limit(max_symbols as u64))
+    Err(Refusal::Limit(settings.max_symbols as u64))
 }

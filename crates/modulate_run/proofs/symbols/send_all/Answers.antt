@@ -1,4 +1,4 @@
-use Rattle.std.proofs.Common.{◌≡◌, ◌<◌, ◌+◌, ◌∙◌, ℕ, List, Ok, refl, ap, sym, subst, arith}
+use Rattle.std.proofs.Common.{◌≡◌, ◌<◌, ◌+◌, ◌∙◌, ℕ, List, Some, None, Ok, refl, ap, sym, subst, arith}
 use Rattle.station_core.specs.Meaning.{Meaning}
 use Rattle.mode_set.specs.declared.settings.Settings.{Settings}
 use Rattle.mode_set.specs.declared.modes.Stream.{Stream}
@@ -6,7 +6,7 @@ use Rattle.transmission.specs.SuperFrames.{symbols_of}
 use Rattle.run_clauses.specs.declared.work.Refusal.TheVariants.{Limit}
 use Rattle.run_clauses.specs.Modulation.{inputs_of}
 use Rattle.modulate_run.specs.Seen.{Seen}
-use Rattle.modulate_run.specs.Work.{Ends, IsDue, Modulates}
+use Rattle.modulate_run.specs.Work.{CountsAt, Ends, IsDue, Modulates}
 use Rattle.modulate_run.proofs.Keeping.{keeps_again}
 use Rattle.modulate_run.proofs.WholeWork.{begins, ends_done, ends_at_limit, due_at, due_more, more_again}
 use Rattle.modulate_run.proofs.symbols.send_all.Goals as goal
@@ -34,7 +34,7 @@ returns-in-Err-clause-modulates g c = λ t files w.
     let inv = c.loop-symbol.invariant in
     let tells = ap (λ (x : Meaning). x.tells) inv.others in
     let works = inv.works t files w in
-    let due = due_at files seen seen' c.loop-symbol.symbol c.args.max_symbols inv.settings inv.made c.requires.most works.1 c.loop-symbol-test.true in
+    let due = due_at files seen seen' c.loop-symbol.symbol c.args.settings.now.max_symbols inv.settings inv.made (ap (λ (s : Settings). s.max_symbols) c.requires.same) works.1 c.loop-symbol-test.true in
     let same : seen''.settings ≡ seen.settings = c.in-Err.ensures.settings ∙ inv.settings in
     subst (λ (s : Settings). Ends s c.args.limits.now.packets files m c.in-Err.refusal) same (c.in-Err.ensures.sends (tells ∙ t) files due works.0)
 
@@ -47,12 +47,13 @@ returns-in-Some-clause-modulates g c = λ t files w.
     let inv = c.loop-symbol.invariant in
     let tells = ap (λ (x : Meaning). x.tells) inv.others in
     let works = inv.works t files w in
-    let due = due_at files seen seen' c.loop-symbol.symbol c.args.max_symbols inv.settings inv.made c.requires.most works.1 c.loop-symbol-test.true in
+    let due = due_at files seen seen' c.loop-symbol.symbol c.args.settings.now.max_symbols inv.settings inv.made (ap (λ (s : Settings). s.max_symbols) c.requires.same) works.1 c.loop-symbol-test.true in
     let same : seen''.settings ≡ seen.settings = c.in-Ok.ensures.settings ∙ inv.settings in
     let made : seen''.made ≡ c.loop-symbol.symbol + 1 = c.in-Ok.ensures.made ∙ ap (λ (n : ℕ). n + 1) inv.made in
     let written = c.in-Ok.ensures.sends (tells ∙ t) files due works.0 in
     subst (λ (s : Settings). Modulates s c.args.limits.now.packets files m (Ok c.in-Some.counts)) same
-    (ends_done c.args.limits.now.packets files m c.next_symbol.new.inputs seen'' (g.T.Transmitter.stands c.next_symbol.new.tx) written c.work.ensures.ends (c.loop-symbol.symbol + 1) c.in-Some.counts made c.in-Some.ensures)
+    (ends_done c.args.limits.now.packets files m c.next_symbol.new.inputs seen'' (g.T.Transmitter.stands c.next_symbol.new.tx) written c.work.ensures.ends (c.loop-symbol.symbol + 1) c.in-Some.counts made
+    (subst (λ (s : Settings). CountsAt s c.next_symbol.new.inputs (c.loop-symbol.symbol + 1) (Some c.in-Some.counts)) (sym (same ∙ c.requires.same)) c.in-Some.ensures))
 
 pub loop-symbol-preserved : goal.loop-symbol-preserved
 loop-symbol-preserved g c =
@@ -79,11 +80,12 @@ loop-symbol-preserved g c =
       met = λ none. inv.met (e.met none);
       works = λ t files w.
           let works = inv.works t files w in
-          let due = due_at files seen seen' c.loop-symbol.symbol c.args.max_symbols inv.settings inv.made c.requires.most works.1 c.loop-symbol-test.true in
+          let due = due_at files seen seen' c.loop-symbol.symbol c.args.settings.now.max_symbols inv.settings inv.made (ap (λ (s : Settings). s.max_symbols) c.requires.same) works.1 c.loop-symbol-test.true in
           let written = e.sends (tells ∙ t) files due works.0 in (
             written,
             more_again c.packets.ensures.super_frames c.super_frames.ensures.least c.args.limits.now.packets files m'' c.next_symbol.new.inputs seen seen'' (g.T.Transmitter.stands c.next_symbol.new.tx)
-                written c.loop-symbol.symbol same made c.in-None.ensures works.1 (λ none. c.requires.two (inv.met (e.met none))),
+                written c.loop-symbol.symbol same made
+                (subst (λ (s : Settings). CountsAt s c.next_symbol.new.inputs (c.loop-symbol.symbol + 1) None) (sym (same ∙ c.requires.same)) c.in-None.ensures) works.1 (λ none. c.requires.two (inv.met (e.met none))),
           );
     }
 
@@ -94,7 +96,7 @@ returns-clause-modulates g c = λ t files w.
     let seen' : Seen = g.T.Transmitter.seen c.loop-symbol.tx in
     let inv = c.loop-symbol.invariant in
     let works = inv.works t files w in
-    let most : seen'.settings.max_symbols ≡ c.args.max_symbols = ap (λ (s : Settings). s.max_symbols) inv.settings ∙ c.requires.most in
-    let past = ends_at_limit c.args.limits.now.packets files m c.loop-symbol.inputs seen' (g.T.Transmitter.stands c.loop-symbol.tx) works.0 c.work.ensures.at_limit c.args.max_symbols most
+    let most : seen'.settings.max_symbols ≡ c.args.settings.now.max_symbols = ap (λ (s : Settings). s.max_symbols) inv.settings ∙ (ap (λ (s : Settings). s.max_symbols) c.requires.same) in
+    let past = ends_at_limit c.args.limits.now.packets files m c.loop-symbol.inputs seen' (g.T.Transmitter.stands c.loop-symbol.tx) works.0 c.work.ensures.at_limit c.args.settings.now.max_symbols most
     (omega (arith, inv.made, c.loop-symbol-test.false)) (due_more files seen seen' c.loop-symbol.symbol inv.settings inv.made works.1) in
-    subst (λ (s : Settings). Ends s c.args.limits.now.packets files m (Limit c.args.max_symbols)) inv.settings past
+    subst (λ (s : Settings). Ends s c.args.limits.now.packets files m (Limit c.args.settings.now.max_symbols)) inv.settings past
