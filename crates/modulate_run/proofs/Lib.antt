@@ -6,3 +6,6 @@ pub mod WholeWork
 pub mod Keeping
 pub mod Lines
 pub mod Endings
+pub mod Clauses
+pub mod Ports
+pub mod WholeRun

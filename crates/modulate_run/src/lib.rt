@@ -5,6 +5,7 @@
 //! symbol is written. The call carries the five clauses of a run.
 #![tactic(auto)]
 
+mod command;
 mod input;
 mod inputs;
 mod modulators;
@@ -12,3 +13,5 @@ mod run;
 mod steps;
 mod symbols;
 mod transmitter;
+
+pub use command::modulate;
