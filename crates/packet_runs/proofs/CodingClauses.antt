@@ -1,5 +1,5 @@
 -- The clauses of a run of a command that codes packets.
-use Rattle.std.proofs.Common.{◌≡◌, inl, inr, true, ℕ, List, [], take, ◌∙◌, sym, ap, subst, Option, None, Some}
+use Rattle.std.proofs.Common.{◌≡◌, inl, inr, true, ℕ, List, [], take, ◌∙◌, sym, ap, subst, Option, Some}
 use Rattle.std.specs.Prelude.{IsTrue, is_some, if◌then◌else◌, ◌==◌}
 use Rattle.std.specs.Option.{option_or}
 use Rattle.std.proofs.lemmas.List.{append-nil}

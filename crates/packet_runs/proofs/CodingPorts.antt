@@ -1,6 +1,6 @@
 -- The ports after a run of a command that codes packets.
-use Rattle.std.proofs.Common.{◌≡◌, ◌≢◌, ◌⊎◌, inl, inr, true, ℕ, ◌+◌, ◌≤◌, List, [], drop, refl, ◌∙◌, sym, ap, subst, arith, Result, Ok, Err, Option, None, Some}
-use Rattle.std.specs.Prelude.{IsTrue, is_some, IfSome}
+use Rattle.std.proofs.Common.{◌≡◌, ◌≢◌, ◌⊎◌, inl, inr, true, ℕ, ◌+◌, ◌≤◌, List, [], drop, refl, ◌∙◌, sym, ap, arith, Result, Ok, Err, Option, None, Some}
+use Rattle.std.specs.Prelude.{is_some, IfSome}
 use Rattle.std.proofs.lemmas.Bool.{true≢false}
 use Rattle.station_core.specs.Meaning.{Meaning, Source, Sink, IsFresh, source_at, sink_at}
 use Rattle.station_core.specs.declared.ports.InPort.{InPort}

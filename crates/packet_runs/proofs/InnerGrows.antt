@@ -1,5 +1,5 @@
 -- The inner coding of one packet more, and its end.
-use Rattle.std.proofs.Common.{◌≡◌, ℕ, List, [], ◌∷◌, ◌++◌, length, ◌∙◌, sym, ap, arith, length-append, append_assoc, false}
+use Rattle.std.proofs.Common.{◌≡◌, ℕ, List, [], ◌∷◌, ◌++◌, ◌∙◌, sym, ap, append_assoc, false}
 use Rattle.std.specs.Prelude.{replicate}
 use Rattle.std.proofs.lemmas.List.{append-nil}
 use Rattle.mode_set.specs.declared.modes.Rate.{Rate}
@@ -24,9 +24,9 @@ module _ (in_order : StepsSendInOrder) (numbered : StepsAreNumbered) (runs : Sen
       let others = adds (bytes ++ byte ∷ []) more in (
         added ++ others.0,
         ap (inner_bytes r) (sym (append_assoc bytes (byte ∷ []) more))
-        ∙ others.1
-        ∙ ap (λ (l : List ℕ). l ++ others.0) one
-        ∙ append_assoc (inner_bytes r bytes) added others.0,
+            ∙ others.1
+            ∙ ap (λ (l : List ℕ). l ++ others.0) one
+            ∙ append_assoc (inner_bytes r bytes) added others.0,
       )
 
   pub inner_grows : MorePacketsSent → Grows (λ packets. inner_bytes r (sent_bytes packets))

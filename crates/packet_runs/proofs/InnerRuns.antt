@@ -1,8 +1,8 @@
 -- The clauses of a run of `inner` whose settings were accepted and whose memory was there.
-use Rattle.std.proofs.Common.{◌≡◌, inl, inr, true, ℕ, ◌*◌, List, [], refl, ◌∙◌, sym, ap, subst, Result, Ok, Err, Option, None, Some}
+use Rattle.std.proofs.Common.{◌≡◌, inr, true, ℕ, List, [], refl, ◌∙◌, sym, ap, subst, Ok, Option, None, Some}
 use Rattle.std.specs.Prelude.{option_and_then, IsSomeAnd}
 use Rattle.std.specs.Result.{result_ok}
-use Rattle.station_core.specs.Meaning.{Meaning, Source, IsFresh}
+use Rattle.station_core.specs.Meaning.{Meaning, IsFresh}
 use Rattle.mode_set.specs.declared.modes.Rate.{Rate}
 use Rattle.mode_set.specs.declared.settings.Settings.{Settings as TheSettings}
 use Rattle.mode_set.specs.Document.{document, rate_hp_in, States, IsStatedBy}

@@ -1,6 +1,6 @@
 -- The sent bits of bytes: those of the first bytes stay as they are when more bytes follow.
-use Rattle.std.proofs.Common.{◌≡◌, ℕ, zero, suc, ◌+◌, ◌*◌, ◌-◌, ◌/◌, ◌%◌, ◌<◌, ◌≤◌, Bool, true, false, List, [], ◌∷◌, ◌++◌, map, length, refl, ◌∙◌, sym, ap, subst, arith, length-append, inl, inr, if◌then◌else◌}
-use Rattle.std.specs.Prelude.{nat_lt, slice_index}
+use Rattle.std.proofs.Common.{◌≡◌, ℕ, zero, suc, ◌+◌, ◌*◌, ◌-◌, ◌/◌, ◌%◌, ◌<◌, ◌≤◌, Bool, false, List, [], ◌∷◌, ◌++◌, map, length, refl, ◌∙◌, sym, ap, subst, arith, length-append, inl, inr, if◌then◌else◌}
+use Rattle.std.specs.Prelude.{nat_lt}
 use Rattle.std.specs.List.{range_with_len}
 use Rattle.std.proofs.Math.ListN.{get_or-append}
 use Rattle.std.proofs.Math.Seq.{get_or-append_seam}
@@ -16,8 +16,8 @@ use Rattle.puncture.specs.Steps.{sent_before, bits_of_step, Coder, IsAtPath}
 use Rattle.puncture.specs.Laws.{StepsSendInOrder, StepsAreNumbered, SentBitsAreRuns, BytesArePaths}
 use Rattle.outer_chain.specs.Bits.{bytes_of}
 use Rattle.run_clauses.specs.InnerBytes.{inner_bits, inner_bytes}
-use Rattle.packet_runs.specs.Inner.{rest_of, InnerState, IsAfter}
-use Rattle.packet_runs.proofs.WholeBytes.{bytes_after, rest_after, short}
+use Rattle.packet_runs.specs.Inner.{rest_of}
+use Rattle.packet_runs.proofs.WholeBytes.{bytes_after, rest_after}
 
 -- paths that agree in these places have the same bits there
 same_bits : (p q : ℕ → Bool) (t n : ℕ) → ((i : ℕ) → i < t + n → p i ≡ q i) → map p (range_with_len t n) ≡ map q (range_with_len t n)

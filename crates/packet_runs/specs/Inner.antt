@@ -1,5 +1,5 @@
 -- What the inner coder of bytes stands for.
-use Rattle.std.specs.Prelude.{◌≡◌, ℕ, ◌*◌, Bool, List, [], ◌∷◌, length}
+use Rattle.std.specs.Prelude.{◌≡◌, ℕ, ◌*◌, Bool, List, ◌∷◌, length}
 use Rattle.mode_set.specs.declared.modes.Rate.{Rate}
 use Rattle.forney.specs.Values.{stream_of}
 use Rattle.puncture.specs.SentBits.{path_of}

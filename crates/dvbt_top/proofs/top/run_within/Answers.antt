@@ -1,4 +1,4 @@
-use Rattle.std.proofs.Common.{◌≡◌, ◌∙◌, sym, ap, subst, Option, Some}
+use Rattle.std.proofs.Common.{◌∙◌, sym, ap, subst, Option, Some}
 use Rattle.std.specs.Prelude.{IfSome}
 use Rattle.station_core.specs.Meaning.{Meaning}
 use Rattle.run_clauses.specs.Command.{Command}

@@ -1,5 +1,5 @@
 use Rattle.std.proofs.Common.{refl}
-use Rattle.station_core.specs.Meaning.{Meaning, IsFresh}
+use Rattle.station_core.specs.Meaning.{Meaning}
 use Rattle.run_clauses.specs.Command.{Disperse, Code}
 use Rattle.run_clauses.specs.Packets.{dispersed_packets}
 use Rattle.packet_runs.proofs.DispersedPackets.{dispersed_grows}

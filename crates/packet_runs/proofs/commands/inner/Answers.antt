@@ -1,4 +1,4 @@
-use Rattle.std.proofs.Common.{ℕ, List, refl, subst, sym, [], Some}
+use Rattle.std.proofs.Common.{ℕ, refl, subst, sym, [], Some}
 use Rattle.station_core.specs.Meaning.{Meaning}
 use Rattle.outer_chain.specs.Sending.{Sender, Sends}
 use Rattle.run_clauses.specs.Command.{Command, Inner, Code}

@@ -1,4 +1,4 @@
-use Rattle.std.proofs.Common.{◌≡◌, Bool, false, List, ℕ, ◌∷◌, [], ◌++◌, ◌∙◌, sym, ap, arith, append_assoc}
+use Rattle.std.proofs.Common.{Bool, false, List, ℕ, ◌∷◌, [], ◌++◌, ◌∙◌, sym, ap, arith, append_assoc}
 use Rattle.std.specs.Prelude.{replicate}
 use Rattle.std.proofs.lemmas.List.{append-nil, replicate_more}
 use Rattle.packet_runs.proofs.inner_bytes.push_zeros.Goals as goal

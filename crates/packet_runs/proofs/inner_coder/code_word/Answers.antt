@@ -17,7 +17,7 @@ loop-byte-preserved c =
     let i : ℕ = c.loop-byte.byte-index in
     let inv = c.loop-byte.invariant in
     let one : (bytes : List ℕ) → (bytes ++ take i w) ++ get_or w i 0 ∷ [] ≡ bytes ++ take (i + 1) w =
-        λ bytes. append_assoc bytes (take i w) (get_or w i 0 ∷ []) ∙ ap (λ (l : List ℕ). bytes ++ l) (sym (take_more w i 0 (omega arith))) in
+    λ bytes. append_assoc bytes (take i w) (get_or w i 0 ∷ []) ∙ ap (λ (l : List ℕ). bytes ++ l) (sym (take_more w i 0 (omega arith))) in
     record {
       few = omega (arith, c.push.ensures.few, inv.few);
       after = λ r bytes h. subst (λ (l : List ℕ). IsAfter c.push.new.self r l) (one bytes) (c.push.ensures.after r (bytes ++ take i w) (inv.after r bytes h));

@@ -1,8 +1,7 @@
-use Rattle.std.proofs.Common.{◌≡◌, ◌≤◌, ◌*◌, ◌∷◌, [], ◌++◌, ◌∙◌, sym, ap, subst, List, ℕ, Bool, length, arith}
+use Rattle.std.proofs.Common.{◌≤◌, ◌*◌, ◌∷◌, [], ◌++◌, ◌∙◌, sym, ap, subst, List, ℕ, Bool, length, arith}
 use Rattle.puncture.specs.SentBits.{path_of}
 use Rattle.outer_chain.specs.Bits.{bytes_of}
 use Rattle.forney.specs.Values.{stream_of}
-use Rattle.puncture.specs.Steps.{Coder}
 use Rattle.run_clauses.specs.InnerBytes.{inner_bytes}
 use Rattle.packet_runs.specs.Inner.{InnerState, IsAfter, rest_of}
 use Rattle.packet_runs.proofs.WholeBytes.{all_gives, all_rest, behind}

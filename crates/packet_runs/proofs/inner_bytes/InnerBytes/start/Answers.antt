@@ -1,4 +1,4 @@
-use Rattle.std.proofs.Common.{◌≡◌, [], List, Bool, sym, ap, ◌∙◌}
+use Rattle.std.proofs.Common.{[], sym, ap, ◌∙◌}
 use Rattle.puncture.specs.SentBits.{path_of}
 use Rattle.forney.specs.Values.{stream_of}
 use Rattle.packet_runs.specs.Inner.{rest_of}
