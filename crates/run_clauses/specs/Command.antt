@@ -20,6 +20,8 @@ pub data Coding : Type 0 where
 pub data Command : Type 0 where
   -- disperse TS OUT, outer TS OUT, inner SETTINGS TS OUT
   Code : Coding → List ℕ → List ℕ → Command
+  -- modulate SETTINGS HP CELLS, modulate SETTINGS HP LP CELLS
+  Modulate : List ℕ → List ℕ → Option (List ℕ) → List ℕ → Command
 
 -- the coding that is named by one word
 abbrev pub coding_of : List ℕ → Option Coding
@@ -28,7 +30,9 @@ coding_of name = if bytes_eq name (codes "disperse") then Some Disperse else if 
 -- the command that the words spell, if they are of a form
 abbrev pub command_of : List (List ℕ) → Option Command
 command_of (name ∷ input ∷ output ∷ []) = option_map (λ coding. Code coding input output) (coding_of name)
-command_of (name ∷ settings ∷ input ∷ output ∷ []) = if bytes_eq name (codes "inner") then Some (Code (Inner settings) input output) else None
+command_of (name ∷ settings ∷ input ∷ output ∷ []) = if bytes_eq name (codes "inner") then Some (Code (Inner settings) input output)
+    else if bytes_eq name (codes "modulate") then Some (Modulate settings input None output) else None
+command_of (name ∷ settings ∷ hp ∷ lp ∷ cells ∷ []) = if bytes_eq name (codes "modulate") then Some (Modulate settings hp (Some lp) cells) else None
 command_of words = None
 
 -- a command takes memory for its work, or none
@@ -36,6 +40,7 @@ abbrev pub TakesMemory : Command → Type 0
 TakesMemory (Code Disperse input output) = ⊥
 TakesMemory (Code Outer input output) = ⊤
 TakesMemory (Code (Inner settings) input output) = ⊤
+TakesMemory (Modulate settings hp lp cells) = ⊤
 
 -- the name of the file that a command reads at a port, if it reads there
 abbrev pub source_name : Command → InPort → Option (List ℕ)
@@ -45,6 +50,10 @@ source_name (Code (Inner settings) input output) ins.Settings = Some settings
 source_name (Code coding input output) ins.Hp = Some input
 source_name (Code coding input output) ins.Lp = None
 source_name (Code coding input output) ins.Cells = None
+source_name (Modulate settings hp lp cells) ins.Settings = Some settings
+source_name (Modulate settings hp lp cells) ins.Hp = Some hp
+source_name (Modulate settings hp lp cells) ins.Lp = lp
+source_name (Modulate settings hp lp cells) ins.Cells = None
 
 -- the name of the file that a command writes at a port, if it writes there
 abbrev pub sink_name : Command → OutPort → Option (List ℕ)
@@ -53,3 +62,8 @@ sink_name (Code coding input output) outs.Hp = None
 sink_name (Code coding input output) outs.Lp = None
 sink_name (Code coding input output) outs.Bytes = Some output
 sink_name (Code coding input output) outs.Report = None
+sink_name (Modulate settings hp lp cells) outs.Cells = Some cells
+sink_name (Modulate settings hp lp cells) outs.Hp = None
+sink_name (Modulate settings hp lp cells) outs.Lp = None
+sink_name (Modulate settings hp lp cells) outs.Bytes = None
+sink_name (Modulate settings hp lp cells) outs.Report = None

@@ -1,7 +1,9 @@
 pub mod Command
 pub mod Packets
 pub mod SettingsFile
+pub mod StatedSettings
 pub mod InnerBytes
 pub mod Text
+pub mod Modulation
 pub mod Outcome
 pub mod Runs

@@ -37,6 +37,10 @@ unfoldable pub first_packets : ℕ → List ℕ → List (List ℕ)
 first_packets zero bytes = []
 first_packets (suc n) bytes = first_packets n bytes ++ file_packet bytes n ∷ []
 
+-- all whole packets of the file
+abbrev pub packets_of : List ℕ → List (List ℕ)
+packets_of bytes = first_packets (whole_packets bytes) bytes
+
 -- packets one after another, dispersed: packet i at phase i modulo 8
 unfoldable pub dispersed_packets : List (List ℕ) → List ℕ
 dispersed_packets packets = flat_map (λ p. dispersed (p.0 % 8) p.1) (enumerate_from 0 packets)

@@ -10,7 +10,7 @@ use Rattle.run_clauses.specs.declared.work.Refusal.TheVariants.{Usage, ReadFault
 use Rattle.run_clauses.specs.Command.{Command, TakesMemory, source_name, sink_name}
 use Rattle.run_clauses.specs.SettingsFile.{most_settings}
 use Rattle.run_clauses.specs.Text.{status_of, refusal_text, text_if_refused}
-use Rattle.run_clauses.specs.Outcome.{early_refusal, refusal_of, output_of, output_so_far, IsInOrder, lines_of}
+use Rattle.run_clauses.specs.Outcome.{early_refusal, refusal_of, output_of, HoldsSoFar, lines_of}
 
 -- both counts of faults are as before
 pub record IsFaultless (old new : Meaning) : Type 0 where
@@ -82,9 +82,9 @@ pub record Stands (limit : ℕ) (command : Option Command) (old new : Meaning) (
   pub none : status ≡ 2 ⊎ (status ≡ 3 ⊎ (status ≡ 7)) → (port : OutPort) → (sink_at port new).created ≡ (sink_at port old).created
   -- a refused packet, or one past the limit: each output holds what the packets before give
   pub refused : old.tells ≡ true → status ≡ 4 ⊎ (status ≡ 8) → IfSome command (λ c. HoldOutputs limit c old new)
-  -- a failed read: each output that was created holds what the whole packets taken give, of which none is refused
+  -- a failed read: each output that was created holds what the whole packets taken give
   pub so_far : old.tells ≡ true → status ≡ 5 → IfSome command (λ c. (port : OutPort) → IsOutput c port → (sink_at port new).created ≡ true
-      → ((sink_at port new).written ≡ output_so_far old.file new c port) × IsInOrder limit old.file new c)
+      → HoldsSoFar limit old.file new c port)
   -- a failed write or close: each output that was created is a prefix of what it would hold
   pub front : old.tells ≡ true → status ≡ 6 → IfSome command (λ c. (port : OutPort) → IsOutput c port → (sink_at port new).created ≡ true
       → (k : ℕ) × ((sink_at port new).written ≡ take k (output_of limit old.file c port)))

@@ -21,6 +21,7 @@ settings_text (settings.Unknown place) = codes "unknown " ++ decimal place
 settings_text (settings.Missing key) = codes "missing " ++ key_text key
 settings_text (settings.Value key) = codes "value " ++ key_text key
 settings_text (settings.Clash key) = codes "clash " ++ key_text key
+settings_text settings.Form = codes "form"
 
 -- the text of a refusal
 abbrev pub refusal_text : Refusal → List ℕ

@@ -9,5 +9,5 @@
 mod text;
 mod work;
 
-pub use text::{Line, closing_line_of, text_of};
-pub use work::{Counts, Limits, Refusal, SettingsRefusal};
+pub use text::{Line, closing_line_of, packets_line_of, super_frames_line_of, text_of};
+pub use work::{Counts, Limits, Refusal, SettingsRefusal, TransmissionCounts};

@@ -3,6 +3,7 @@ ghost use Rattle.std.specs.Prelude.{◌≡◌, ◌≤◌, ◌<◌, ◌+◌, ◌+
 ghost use Rattle.mode_set.specs.Keys.{key_text};
 ghost use Rattle.arrayvec.specs.ArrayString.{array_string_len};
 ghost use Rattle.run_clauses.specs.Text.{refusal_text, settings_text, closing_line, stream_text};
+ghost use Rattle.run_clauses.specs.Modulation.{packets_line, super_frames_line};
 
 use crate::{Counts, Refusal, SettingsRefusal};
 use arrayvec::ArrayString;
@@ -60,6 +61,7 @@ fn push_settings(line: &mut Line, reason: &SettingsRefusal)
         SettingsRefusal::Missing(key) => push_key(line, "missing ", *key),
         SettingsRefusal::Value(key) => push_key(line, "value ", *key),
         SettingsRefusal::Clash(key) => push_key(line, "clash ", *key),
+        SettingsRefusal::Form => line.push_str("form"),
     }
 }
 
@@ -95,11 +97,30 @@ pub fn text_of(refusal: &Refusal) -> Line
 pub fn closing_line_of(counts: &Counts) -> Line
     ensures { result.bytes ≡ closing_line counts.now }
 {
+    packets_line_of(Stream::Hp, counts)
+}
+
+/// The closing line of the input of a stream that was taken whole.
+pub fn packets_line_of(stream: Stream, counts: &Counts) -> Line
+    ensures { result.bytes ≡ packets_line stream counts.now }
+{
     let mut line = Line::new();
-    line.push_str("hp packets ");
+    line.push_str(name_of(stream));
+    line.push_str(" packets ");
     push_number(&mut line, counts.packets);
     line.push_str(" tail ");
     push_number(&mut line, counts.tail);
+    line.push_str("\n");
+    line
+}
+
+/// The closing line of the super-frames that were sent.
+pub fn super_frames_line_of(super_frames: u64) -> Line
+    ensures { result.bytes ≡ super_frames_line super_frames }
+{
+    let mut line = Line::new();
+    line.push_str("superframes ");
+    push_number(&mut line, super_frames);
     line.push_str("\n");
     line
 }

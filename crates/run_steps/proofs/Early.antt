@@ -11,6 +11,7 @@ use Rattle.station_core.specs.declared.ports.InPort.TheVariants as ins
 use Rattle.station_core.specs.declared.ports.OutPort.{OutPort}
 use Rattle.station_core.specs.declared.ports.OutPort.TheVariants as outs
 use Rattle.run_clauses.specs.declared.work.Refusal.{Refusal}
+use Rattle.run_clauses.specs.declared.work.SettingsRefusal.{SettingsRefusal}
 use Rattle.run_clauses.specs.declared.work.Refusal.TheVariants.{Usage, Settings, ReadFault, WriteFault, NotSync, Memory, Limit}
 use Rattle.run_clauses.specs.Command.{Command, TakesMemory, source_name, sink_name}
 use Rattle.run_clauses.specs.SettingsFile.{settings_refusal}
@@ -21,13 +22,31 @@ use Rattle.run_steps.specs.Report.{WritesText}
 use Rattle.run_steps.specs.SettingsStep.{AsksSettings, ReadsSettings}
 
 -- a command that reads these settings
-pub record ReadsFirst (c : Command) (name : List ℕ) (old : Meaning) : Type 0 where
+pub record ReadsFirst (c : Command) (name : List ℕ) : Type 0 where
   pub named : source_name c ins.Settings ≡ Some name
   pub memory : TakesMemory c
-  pub early : early_refusal old.file c ≡ settings_refusal (old.file name)
   pub no_report : sink_name c outs.Report ≡ None
 
-module _ (limit : ℕ) (c : Command) (name : List ℕ) (old mid new : Meaning) (first : ReadsFirst c name old) (fresh : IsFresh old) (asks : AsksSettings name old mid) where
+-- how it is refused before another port is asked: for its settings, for want of memory, or where they could not be read
+abbrev pub RefusedEarly : Command → Meaning → Meaning → Refusal → Type 0
+RefusedEarly c old mid ReadFault = Rose old.read_faults mid.read_faults
+RefusedEarly c old mid Memory = mid.read_faults ≡ old.read_faults
+RefusedEarly c old mid (Settings reason) = (mid.read_faults ≡ old.read_faults) × (old.tells ≡ true → early_refusal old.file c ≡ Some (Settings reason))
+RefusedEarly c old mid refusal = ⊥
+
+-- what the settings are refused for is a refusal of the run
+pub refused_early : (c : Command) (name : List ℕ) (old mid : Meaning) (r : Refusal)
+    → ((reason : SettingsRefusal) → settings_refusal (old.file name) ≡ Some (Settings reason) → early_refusal old.file c ≡ Some (Settings reason))
+    → ReadsSettings name old mid (Err r) → RefusedEarly c old mid r
+refused_early c name old mid Usage same reads = reads
+refused_early c name old mid (Settings reason) same reads = (reads.0, λ t. same reason (reads.1 t))
+refused_early c name old mid ReadFault same reads = reads
+refused_early c name old mid WriteFault same reads = reads
+refused_early c name old mid (NotSync stream n) same reads = reads
+refused_early c name old mid Memory same reads = reads
+refused_early c name old mid (Limit n) same reads = reads
+
+module _ (limit : ℕ) (c : Command) (name : List ℕ) (old mid new : Meaning) (first : ReadsFirst c name) (fresh : IsFresh old) (asks : AsksSettings name old mid) where
   -- the ports, once the text was written
   module _ (text : List ℕ) (tells : WritesText text mid new) where
     -- all but the settings, the report's text and the counts
@@ -116,11 +135,11 @@ module _ (limit : ℕ) (c : Command) (name : List ℕ) (old mid new : Meaning) (
         )
 
   -- what is refused for the settings is what the run comes to
-  comes_to : (reason : Refusal) → settings_refusal (old.file name) ≡ Some reason → refusal_of limit old.file c ≡ Some reason
-  comes_to reason is = ap (λ (x : Option Refusal). option_or x (work_refusal limit old.file c)) (first.early ∙ is)
+  comes_to : (reason : Refusal) → early_refusal old.file c ≡ Some reason → refusal_of limit old.file c ≡ Some reason
+  comes_to reason is = ap (λ (x : Option Refusal). option_or x (work_refusal limit old.file c)) is
 
   -- the clauses, by the refusal
-  pub status_early : (r : Refusal) → ReadsSettings name old mid (Err r) → WritesText (refusal_text r) mid new → HasStatus limit (Some c) old new (refusal_status r)
+  pub status_early : (r : Refusal) → RefusedEarly c old mid r → WritesText (refusal_text r) mid new → HasStatus limit (Some c) old new (refusal_status r)
   status_early Usage reads tells = absurd reads
   status_early WriteFault reads tells = absurd reads
   status_early (NotSync stream n) reads tells = absurd reads
@@ -148,7 +167,7 @@ module _ (limit : ℕ) (c : Command) (name : List ℕ) (old mid new : Meaning) (
   }
 
   -- no such refusal has status 0
-  not_done : (r : Refusal) → ReadsSettings name old mid (Err r) → refusal_status r ≢ 0
+  not_done : (r : Refusal) → RefusedEarly c old mid r → refusal_status r ≢ 0
   not_done Usage reads is = absurd reads
   not_done WriteFault reads is = absurd reads
   not_done (NotSync stream n) reads is = absurd reads
@@ -158,7 +177,7 @@ module _ (limit : ℕ) (c : Command) (name : List ℕ) (old mid new : Meaning) (
   not_done Memory reads is = absurd (omega arith)
 
   -- nor one of those of the work
-  not_work : (r : Refusal) → ReadsSettings name old mid (Err r) → (refusal_status r ≢ 4) × (refusal_status r ≢ 6) × (refusal_status r ≢ 8)
+  not_work : (r : Refusal) → RefusedEarly c old mid r → (refusal_status r ≢ 4) × (refusal_status r ≢ 6) × (refusal_status r ≢ 8)
   not_work Usage reads = absurd reads
   not_work WriteFault reads = absurd reads
   not_work (NotSync stream n) reads = absurd reads
@@ -167,7 +186,7 @@ module _ (limit : ℕ) (c : Command) (name : List ℕ) (old mid new : Meaning) (
   not_work ReadFault reads = ((λ is. absurd (omega arith)), (λ is. absurd (omega arith)), (λ is. absurd (omega arith)))
   not_work Memory reads = ((λ is. absurd (omega arith)), (λ is. absurd (omega arith)), (λ is. absurd (omega arith)))
 
-  reads_kept : (r : Refusal) → ReadsSettings name old mid (Err r) → refusal_status r ≢ 5 → mid.read_faults ≡ old.read_faults
+  reads_kept : (r : Refusal) → RefusedEarly c old mid r → refusal_status r ≢ 5 → mid.read_faults ≡ old.read_faults
   reads_kept Usage reads other = absurd reads
   reads_kept WriteFault reads other = absurd reads
   reads_kept (NotSync stream n) reads other = absurd reads
@@ -176,7 +195,7 @@ module _ (limit : ℕ) (c : Command) (name : List ℕ) (old mid new : Meaning) (
   reads_kept ReadFault reads other = absurd (other refl)
   reads_kept Memory reads other = reads
 
-  pub asks_early : (r : Refusal) → ReadsSettings name old mid (Err r) → WritesText (refusal_text r) mid new → AsksOnly (Some c) old new (refusal_status r)
+  pub asks_early : (r : Refusal) → RefusedEarly c old mid r → WritesText (refusal_text r) mid new → AsksOnly (Some c) old new (refusal_status r)
   asks_early r reads tells = record {
     sources = sources_asked (refusal_text r) tells;
     sinks = sinks_asked (refusal_text r) tells;
@@ -191,7 +210,7 @@ module _ (limit : ℕ) (c : Command) (name : List ℕ) (old mid new : Meaning) (
   }
 
   -- the text that the files name
-  named_by : (r : Refusal) → ReadsSettings name old mid (Err r) → old.tells ≡ true → text_of limit (Some c) old.file (refusal_status r) ≡ refusal_text r
+  named_by : (r : Refusal) → RefusedEarly c old mid r → old.tells ≡ true → text_of limit (Some c) old.file (refusal_status r) ≡ refusal_text r
   named_by Usage reads t = absurd reads
   named_by WriteFault reads t = absurd reads
   named_by (NotSync stream n) reads t = absurd reads
@@ -200,7 +219,7 @@ module _ (limit : ℕ) (c : Command) (name : List ℕ) (old mid new : Meaning) (
   named_by ReadFault reads t = refl
   named_by Memory reads t = refl
 
-  pub stands_early : (r : Refusal) → ReadsSettings name old mid (Err r) → WritesText (refusal_text r) mid new → Stands limit (Some c) old new (refusal_status r)
+  pub stands_early : (r : Refusal) → RefusedEarly c old mid r → WritesText (refusal_text r) mid new → Stands limit (Some c) old new (refusal_status r)
   stands_early r reads tells = record {
     none = λ is port. created_as (refusal_text r) tells port;
     refused = λ t is. elim is [ inl e ↦ absurd ((not_work r reads).0 e) | inr e ↦ absurd ((not_work r reads).2 e) ];
@@ -211,7 +230,7 @@ module _ (limit : ℕ) (c : Command) (name : List ℕ) (old mid new : Meaning) (
     lines = λ t is. absurd ((not_work r reads).1 is);
   }
 
-  pub complete_early : (r : Refusal) → ReadsSettings name old mid (Err r) → WritesText (refusal_text r) mid new → IsComplete limit c old new (refusal_status r)
+  pub complete_early : (r : Refusal) → RefusedEarly c old mid r → WritesText (refusal_text r) mid new → IsComplete limit c old new (refusal_status r)
   complete_early Usage reads tells t none a b = absurd reads
   complete_early WriteFault reads tells t none a b = absurd reads
   complete_early (NotSync stream n) reads tells t none a b = absurd reads

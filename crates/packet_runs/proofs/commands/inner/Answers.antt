@@ -4,7 +4,7 @@ use Rattle.outer_chain.specs.Sending.{Sender, Sends}
 use Rattle.run_clauses.specs.Command.{Command, Inner, Code}
 use Rattle.run_clauses.specs.Runs.{HasStatus, AsksOnly, Stands, IsComplete}
 use Rattle.run_clauses.specs.declared.work.Refusal.TheVariants.{Memory}
-use Rattle.run_steps.proofs.Early.{ReadsFirst, status_early, asks_early, stands_early, complete_early}
+use Rattle.run_steps.proofs.Early.{ReadsFirst, refused_early, status_early, asks_early, stands_early, complete_early}
 use Rattle.packet_runs.specs.Inner.{IsAfter}
 use Rattle.mode_set.specs.declared.modes.Rate.{Rate}
 use Rattle.packet_runs.proofs.InnerRuns.{ready, after_nothing, nothing_coded, inner_done, inner_status, inner_asks, inner_stands, inner_complete}
@@ -51,7 +51,7 @@ returns-in-Err-new-clause-status g c =
     let mid : Meaning = g.S.Station.meaning c.read_settings.new.station in
     let new : Meaning = g.S.Station.meaning c.refuse.new.station in
     let command : Command = Code (Inner c.args.settings.now) c.args.input.now c.args.output.now in
-    let first : ReadsFirst command c.args.settings.now old = record { named = refl; memory = tt; early = refl; no_report = refl } in
+    let first : ReadsFirst command c.args.settings.now = record { named = refl; memory = tt; no_report = refl } in
     subst (λ (n : ℕ). HasStatus c.args.limits.now.packets (Some command) old new n) (sym c.refuse.ensures.status)
     (status_early c.args.limits.now.packets command c.args.settings.now old mid new first c.requires.fresh c.in-Ok.ensures.asks Memory c.in-Ok.ensures.reads.0 c.refuse.ensures.text)
 
@@ -61,7 +61,7 @@ returns-in-Err-new-clause-asks g c =
     let mid : Meaning = g.S.Station.meaning c.read_settings.new.station in
     let new : Meaning = g.S.Station.meaning c.refuse.new.station in
     let command : Command = Code (Inner c.args.settings.now) c.args.input.now c.args.output.now in
-    let first : ReadsFirst command c.args.settings.now old = record { named = refl; memory = tt; early = refl; no_report = refl } in
+    let first : ReadsFirst command c.args.settings.now = record { named = refl; memory = tt; no_report = refl } in
     subst (λ (n : ℕ). AsksOnly (Some command) old new n) (sym c.refuse.ensures.status)
     (asks_early c.args.limits.now.packets command c.args.settings.now old mid new first c.requires.fresh c.in-Ok.ensures.asks Memory c.in-Ok.ensures.reads.0 c.refuse.ensures.text)
 
@@ -71,7 +71,7 @@ returns-in-Err-new-clause-stands g c =
     let mid : Meaning = g.S.Station.meaning c.read_settings.new.station in
     let new : Meaning = g.S.Station.meaning c.refuse.new.station in
     let command : Command = Code (Inner c.args.settings.now) c.args.input.now c.args.output.now in
-    let first : ReadsFirst command c.args.settings.now old = record { named = refl; memory = tt; early = refl; no_report = refl } in
+    let first : ReadsFirst command c.args.settings.now = record { named = refl; memory = tt; no_report = refl } in
     subst (λ (n : ℕ). Stands c.args.limits.now.packets (Some command) old new n) (sym c.refuse.ensures.status)
     (stands_early c.args.limits.now.packets command c.args.settings.now old mid new first c.requires.fresh c.in-Ok.ensures.asks Memory c.in-Ok.ensures.reads.0 c.refuse.ensures.text)
 
@@ -81,7 +81,7 @@ returns-in-Err-new-clause-complete g c =
     let mid : Meaning = g.S.Station.meaning c.read_settings.new.station in
     let new : Meaning = g.S.Station.meaning c.refuse.new.station in
     let command : Command = Code (Inner c.args.settings.now) c.args.input.now c.args.output.now in
-    let first : ReadsFirst command c.args.settings.now old = record { named = refl; memory = tt; early = refl; no_report = refl } in
+    let first : ReadsFirst command c.args.settings.now = record { named = refl; memory = tt; no_report = refl } in
     subst (λ (n : ℕ). IsComplete c.args.limits.now.packets command old new n) (sym c.refuse.ensures.status)
     (complete_early c.args.limits.now.packets command c.args.settings.now old mid new first c.requires.fresh c.in-Ok.ensures.asks Memory c.in-Ok.ensures.reads.0 c.refuse.ensures.text)
 
@@ -91,9 +91,9 @@ returns-in-Err-clause-status g c =
     let mid : Meaning = g.S.Station.meaning c.read_settings.new.station in
     let new : Meaning = g.S.Station.meaning c.refuse-in-Err.new.station in
     let command : Command = Code (Inner c.args.settings.now) c.args.input.now c.args.output.now in
-    let first : ReadsFirst command c.args.settings.now old = record { named = refl; memory = tt; early = refl; no_report = refl } in
+    let first : ReadsFirst command c.args.settings.now = record { named = refl; memory = tt; no_report = refl } in
     subst (λ (n : ℕ). HasStatus c.args.limits.now.packets (Some command) old new n) (sym c.refuse-in-Err.ensures.status)
-    (status_early c.args.limits.now.packets command c.args.settings.now old mid new first c.requires.fresh c.in-Err.ensures.asks c.in-Err.refusal c.in-Err.ensures.reads c.refuse-in-Err.ensures.text)
+    (status_early c.args.limits.now.packets command c.args.settings.now old mid new first c.requires.fresh c.in-Err.ensures.asks c.in-Err.refusal (refused_early command c.args.settings.now old mid c.in-Err.refusal (λ reason is. is) c.in-Err.ensures.reads) c.refuse-in-Err.ensures.text)
 
 pub returns-in-Err-clause-asks : goal.returns-in-Err-clause-asks
 returns-in-Err-clause-asks g c =
@@ -101,9 +101,9 @@ returns-in-Err-clause-asks g c =
     let mid : Meaning = g.S.Station.meaning c.read_settings.new.station in
     let new : Meaning = g.S.Station.meaning c.refuse-in-Err.new.station in
     let command : Command = Code (Inner c.args.settings.now) c.args.input.now c.args.output.now in
-    let first : ReadsFirst command c.args.settings.now old = record { named = refl; memory = tt; early = refl; no_report = refl } in
+    let first : ReadsFirst command c.args.settings.now = record { named = refl; memory = tt; no_report = refl } in
     subst (λ (n : ℕ). AsksOnly (Some command) old new n) (sym c.refuse-in-Err.ensures.status)
-    (asks_early c.args.limits.now.packets command c.args.settings.now old mid new first c.requires.fresh c.in-Err.ensures.asks c.in-Err.refusal c.in-Err.ensures.reads c.refuse-in-Err.ensures.text)
+    (asks_early c.args.limits.now.packets command c.args.settings.now old mid new first c.requires.fresh c.in-Err.ensures.asks c.in-Err.refusal (refused_early command c.args.settings.now old mid c.in-Err.refusal (λ reason is. is) c.in-Err.ensures.reads) c.refuse-in-Err.ensures.text)
 
 pub returns-in-Err-clause-stands : goal.returns-in-Err-clause-stands
 returns-in-Err-clause-stands g c =
@@ -111,9 +111,9 @@ returns-in-Err-clause-stands g c =
     let mid : Meaning = g.S.Station.meaning c.read_settings.new.station in
     let new : Meaning = g.S.Station.meaning c.refuse-in-Err.new.station in
     let command : Command = Code (Inner c.args.settings.now) c.args.input.now c.args.output.now in
-    let first : ReadsFirst command c.args.settings.now old = record { named = refl; memory = tt; early = refl; no_report = refl } in
+    let first : ReadsFirst command c.args.settings.now = record { named = refl; memory = tt; no_report = refl } in
     subst (λ (n : ℕ). Stands c.args.limits.now.packets (Some command) old new n) (sym c.refuse-in-Err.ensures.status)
-    (stands_early c.args.limits.now.packets command c.args.settings.now old mid new first c.requires.fresh c.in-Err.ensures.asks c.in-Err.refusal c.in-Err.ensures.reads c.refuse-in-Err.ensures.text)
+    (stands_early c.args.limits.now.packets command c.args.settings.now old mid new first c.requires.fresh c.in-Err.ensures.asks c.in-Err.refusal (refused_early command c.args.settings.now old mid c.in-Err.refusal (λ reason is. is) c.in-Err.ensures.reads) c.refuse-in-Err.ensures.text)
 
 pub returns-in-Err-clause-complete : goal.returns-in-Err-clause-complete
 returns-in-Err-clause-complete g c =
@@ -121,9 +121,9 @@ returns-in-Err-clause-complete g c =
     let mid : Meaning = g.S.Station.meaning c.read_settings.new.station in
     let new : Meaning = g.S.Station.meaning c.refuse-in-Err.new.station in
     let command : Command = Code (Inner c.args.settings.now) c.args.input.now c.args.output.now in
-    let first : ReadsFirst command c.args.settings.now old = record { named = refl; memory = tt; early = refl; no_report = refl } in
+    let first : ReadsFirst command c.args.settings.now = record { named = refl; memory = tt; no_report = refl } in
     subst (λ (n : ℕ). IsComplete c.args.limits.now.packets command old new n) (sym c.refuse-in-Err.ensures.status)
-    (complete_early c.args.limits.now.packets command c.args.settings.now old mid new first c.requires.fresh c.in-Err.ensures.asks c.in-Err.refusal c.in-Err.ensures.reads c.refuse-in-Err.ensures.text)
+    (complete_early c.args.limits.now.packets command c.args.settings.now old mid new first c.requires.fresh c.in-Err.ensures.asks c.in-Err.refusal (refused_early command c.args.settings.now old mid c.in-Err.refusal (λ reason is. is) c.in-Err.ensures.reads) c.refuse-in-Err.ensures.text)
 
 pub run_coding-requires : goal.run_coding-requires
 run_coding-requires g c κs =
