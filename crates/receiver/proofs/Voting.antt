@@ -103,9 +103,9 @@ whole_word mode x cells n long last h =
     let size : length (drop 1 x.bits) ≡ 67 = length-drop 1 x.bits ∙ (omega (arith, long)) in
     ext_get_or false (drop 1 x.bits) (map (frame_bit cells (n / 68)) (range_with_len 0 67)) (size ∙ sym (length-map-range_with_len (frame_bit cells (n / 68)) 0 67))
     (λ i l.
-        let place : 0 + i ≡ i = omega arith in
-        let next : 1 + i ≡ i + 1 = omega arith in
-        get_or-drop 1 x.bits i false ∙ ap (λ k. get_or x.bits k false) next ∙ h.bits i (omega (arith, l, size, last)) ∙ sym (get_or-map-range_with_len (frame_bit cells (n / 68)) 0 67 i i false (omega (arith, l, size)) place))
+    let place : 0 + i ≡ i = omega arith in
+    let next : 1 + i ≡ i + 1 = omega arith in
+    get_or-drop 1 x.bits i false ∙ ap (λ k. get_or x.bits k false) next ∙ h.bits i (omega (arith, l, size, last)) ∙ sym (get_or-map-range_with_len (frame_bit cells (n / 68)) 0 67 i i false (omega (arith, l, size)) place))
 
 pub ends_frame : (mode : Mode) (x y : FrameReader) (cells : ℕ → List Cell) (n : ℕ) (word : List Bool) (b : Bool) → length x.bits ≡ 68 → x.symbol < 68 → 67 ≤ x.symbol → y.symbol ≡ 0 → word ≡ drop 1 x.bits → (IsTrue b ↔ IsReadable word)
     → y.read ≡ cond b 1 0 + x.read → y.read + y.bad ≡ x.read + x.bad + 1 → IsVoted mode x cells n → FrameStands mode y cells (n + 1)

@@ -13,10 +13,10 @@ ghost use Rattle.reception.specs.Feeds.{Feeds, Finishes};
 ghost use Rattle.receiver.specs.Seen.{stream_of};
 ghost use Rattle.receiver.specs.Standing.{StandsFor, HasBits};
 
+use crate::RxOut;
 use crate::frames::FrameReader;
 use crate::stream::StreamRx;
 use crate::symbol::SymbolRx;
-use crate::RxOut;
 use crate::words::StreamBranch;
 use frame_build::SymbolIn;
 use inner_chain::InnerRx;
@@ -70,13 +70,13 @@ impl<M: Carriers> Model for Receiver<M> {
     ghost Value = { ReceiverState };
 
     ghost view = { λ x. record {
-        settings = x.settings;
-        rest = x.input;
-        taken = x.taken;
-        hp = record { branch = x.streams.hp.branch; outer = x.streams.hp.outer; counts = x.streams.hp.counts };
-        lp = record { branch = x.streams.lp.branch; outer = x.streams.lp.outer; counts = x.streams.lp.counts };
-        frames = x.streams.frames;
-        ended = x.ended;
+      settings = x.settings;
+      rest = x.input;
+      taken = x.taken;
+      hp = record { branch = x.streams.hp.branch; outer = x.streams.hp.outer; counts = x.streams.hp.counts };
+      lp = record { branch = x.streams.lp.branch; outer = x.streams.lp.outer; counts = x.streams.lp.counts };
+      frames = x.streams.frames;
+      ended = x.ended;
     } };
 
     ghost invariant = { λ x. IsReceiving M.MODE M.K x.settings x.input x.streams.inner (vec_capacity x.streams.pairs) x.streams.hp x.streams.lp x.streams.frames x.taken x.ended };

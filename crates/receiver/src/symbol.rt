@@ -105,9 +105,23 @@ impl<M: Carriers> SymbolRx<M> {
     {
         let l = (taken % 68) as u8;
         self.frames.take(settings.mode, cells);
-        put_pairs(settings, &mut self.inner, cells, l, Stream::Hp, &mut self.pairs);
+        put_pairs(
+            settings,
+            &mut self.inner,
+            cells,
+            l,
+            Stream::Hp,
+            &mut self.pairs,
+        );
         self.hp.take(Stream::Hp, &self.pairs, hp, events);
-        put_pairs(settings, &mut self.inner, cells, l, Stream::Lp, &mut self.pairs);
+        put_pairs(
+            settings,
+            &mut self.inner,
+            cells,
+            l,
+            Stream::Lp,
+            &mut self.pairs,
+        );
         self.lp.take(Stream::Lp, &self.pairs, lp, events);
     }
 }

@@ -138,12 +138,7 @@ fn append_packet(packet: &Option<Packet>, to: &mut Vec<u8>)
 }
 
 /// Finishes a decoded word: counts it and writes its packet, where it has one.
-fn finish_word(
-    outer: &mut OuterRx,
-    slot: &WordSlot,
-    counts: &mut StreamCounts,
-    to: &mut Vec<u8>,
-)
+fn finish_word(outer: &mut OuterRx, slot: &WordSlot, counts: &mut StreamCounts, to: &mut Vec<u8>)
     requires room { vec_len to.old + 188 ≤ vec_capacity to.old }
     requires few { AreFew counts.old (2 ^ 62) }
     ensures len { vec_len to.new ≤ vec_len to.old + 188 }

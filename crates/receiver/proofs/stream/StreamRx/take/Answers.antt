@@ -23,6 +23,6 @@ returns-clause-fed c = λ a s g t r h.
     let x = c.give.new.self in
     let run = subst (λ (z : BranchState). (a : Option (List Bool)) (s : List CostPair) (g : List Bool) → Stands memory c.load.new.branch.decoder a s g → RanSymbol memory c.run_symbol.new.self.decoder a s g c.load.new.branch.loaded c.load.new.branch.wait c.run_symbol.new.self.wait (ats z.events)) (sym c.give.ensures.rest) c.run_symbol.ensures.ran in
     let gave = symbol_gave c.args.self.now.branch c.load.new.branch c.run_symbol.new.self x.branch c.args.self.now.outer x.outer c.args.self.now.counts x.counts (record x.counts { unmerged = x.counts.unmerged + length x.branch.events }) c.args.pairs.now (ats x.branch.events) c.args.to.now.items c.give.new.to.items
-        c.load.ensures run c.run_symbol.ensures.going c.run_symbol.ensures.loaded c.give.ensures.rest c.give.ensures.wait c.give.ensures.gives
-        (ap (λ (k : ℕ). record x.counts { unmerged = x.counts.unmerged + k }) (sym (length_ats x.branch.events))) a s g t r h in
+    c.load.ensures run c.run_symbol.ensures.going c.run_symbol.ensures.loaded c.give.ensures.rest c.give.ensures.wait c.give.ensures.gives
+    (ap (λ (k : ℕ). record x.counts { unmerged = x.counts.unmerged + k }) (sym (length_ats x.branch.events))) a s g t r h in
     subst (λ (z : StreamRx). StreamGave so_far (seen z) a (s ++ c.args.pairs.now) g (r ++ ats z.branch.events) c.args.to.now.items c.give.new.to.items) (sym c.report.ensures.counted) gave
