@@ -252,7 +252,11 @@ fn with_hierarchy(rt: &impl Abort, alloc: Global, mode: Mode, rate_hp: Rate, rat
     for shape in [Shape::Qam16, Shape::Qam64] {
         for hierarchy in [Hierarchy::Alpha1, Hierarchy::Alpha2, Hierarchy::Alpha4] {
             if !shape.is_qpsk() && !hierarchy.is_flat() {
-                check(rt, alloc, &hierarchical(mode, shape, hierarchy, rate_hp, rate_lp));
+                check(
+                    rt,
+                    alloc,
+                    &hierarchical(mode, shape, hierarchy, rate_hp, rate_lp),
+                );
             }
         }
     }

@@ -57,8 +57,8 @@ counted : (word longer : ℕ → List Bool) (n m read bad more_read more_bad : �
     → (read ≤ more_read) × (more_read ≤ read + (m - n)) × (read + bad ≡ n) × (more_read + more_bad ≡ m)
 counted word longer n m read bad more_read more_bad l same x y =
     let alike : count y.is_read n ≡ count x.is_read n = count_same y.is_read x.is_read n (λ f k. same_test (y.is_read f) (x.is_read f)
-        (λ t. (x.reads f k).1 (subst IsReadable (same f k) ((y.reads f (omega (arith, k, l))).0 t)))
-        (λ t. (y.reads f (omega (arith, k, l))).1 (subst IsReadable (sym (same f k)) ((x.reads f k).0 t)))) in
+    (λ t. (x.reads f k).1 (subst IsReadable (same f k) ((y.reads f (omega (arith, k, l))).0 t)))
+    (λ t. (y.reads f (omega (arith, k, l))).1 (subst IsReadable (sym (same f k)) ((x.reads f k).0 t)))) in
     let e : count y.is_read (m - n + n) ≡ count y.is_read m = ap (count y.is_read) (let e : m - n + n ≡ m = omega (arith, l) in e) in
     let r = count_more y.is_read n (m - n) in
     (omega (arith, x.read_is, y.read_is, alike, e, r.0), omega (arith, x.read_is, y.read_is, alike, e, r.1), x.all, y.all)
@@ -84,7 +84,7 @@ frames_grow s bytes more read bad more_read more_bad x y =
     let n = symbols s bytes in
     let l = more_symbols s bytes more in
     let r = counted (frame_bits (tps_cells s bytes)) (frame_bits (tps_cells s (bytes ++ more))) (n / 68) (symbols s (bytes ++ more) / 68) read bad more_read more_bad (omega (arith, l))
-        (λ f k. same_bits (tps_cells s bytes) (tps_cells s (bytes ++ more)) f (λ m j. tps_cells_stay s bytes more m (omega (arith, j, k)))) x y in
+    (λ f k. same_bits (tps_cells s bytes) (tps_cells s (bytes ++ more)) f (λ m j. tps_cells_stay s bytes more m (omega (arith, j, k)))) x y in
     (r.0, omega (arith, r.0, r.1, r.2, r.3, l))
 
 -- ---- one reception

@@ -56,7 +56,7 @@ pub stated : (s : Settings) (bytes : List ℕ) → IsStatedBy s bytes → settin
 unfolding settings_of
 stated s bytes =
     elim (document bytes) as (λ d. IsSomeAnd d (λ ms. States ms s)
-        → option_and_then (λ ms. settings_from (mode_in ms) (shape_in ms) (hierarchy_in ms) (rate_hp_in ms) (rate_lp_in ms) (guard_in ms) (cell_id_in ms) (start_in ms) (workers_in ms) (max_symbols_in ms)) d ≡ Some s) [
+    → option_and_then (λ ms. settings_from (mode_in ms) (shape_in ms) (hierarchy_in ms) (rate_hp_in ms) (rate_lp_in ms) (guard_in ms) (cell_id_in ms) (start_in ms) (workers_in ms) (max_symbols_in ms)) d ≡ Some s) [
       | None ↦ λ h. absurd h
       | Some ms ↦ λ h.
           rw h.mode (rw h.shape (rw h.hierarchy (rw h.rate_hp (rw h.rate_lp (rw h.guard (rw h.cell_id (rw h.start (rw h.workers (rw h.max_symbols

@@ -49,5 +49,8 @@ fn lines_of_reports(rt: HostRuntime) {
         stream: Stream::Lp,
         at: u64::MAX,
     };
-    assert_eq!(&rt; event.line().as_str(), "lp unmerged at 18446744073709551615\n");
+    assert_eq!(&rt;
+        event.line().as_str(),
+        "lp unmerged at 18446744073709551615\n"
+    );
 }
