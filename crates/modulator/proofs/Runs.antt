@@ -1,10 +1,11 @@
 -- Runs of a path's bits.
-use Rattle.std.proofs.Common.{◌≡◌, ℕ, zero, suc, ◌+◌, ◌-◌, ◌*◌, ◌/◌, ◌%◌, ◌<◌, ◌≤◌, ◌⊎◌, inl, inr, Bool, true, false, cond, List, [], ◌∷◌, ◌++◌, length, take, drop, map, get_or, refl, sym, ap, ◌∙◌, subst, arith}
+use Rattle.std.proofs.Common.{◌≡◌, ℕ, zero, suc, ◌+◌, ◌-◌, ◌*◌, ◌/◌, ◌%◌, ◌<◌, ◌≤◌, ◌⊎◌, inl, inr, Bool, true, false, cond, List, [], ◌∷◌, ◌++◌, length, take, drop, map, get_or, refl, sym, ap, ◌∙◌, subst, arith, append-nil, append_assoc}
 use Rattle.std.specs.Prelude.{nat_lt}
 use Rattle.std.specs.List.{range_with_len}
 use Rattle.std.proofs.Math.Seq.{drop-append_seam}
 use Rattle.std.proofs.lemmas.Bool.{cases_lt, lt-ltb}
 use Rattle.std.proofs.lemmas.List.FromFn.{length-map-range_with_len, take-map-range_with_len}
+use Rattle.std.proofs.lemmas.List.{take_more}
 use Rattle.spec_words.specs.Bits.{is_set, spelled}
 use Rattle.bit_pack.specs.Queue.{bits_of_bytes}
 use Rattle.puncture.specs.SentBits.{path_of, bits_from}
@@ -75,3 +76,13 @@ same_path bytes other n i same l = go (cases_lt i 6)
     go : (i < 6) ⊎ (6 ≤ i) → path_of bytes i ≡ path_of other i
     go (inl k) = let test : nat_lt i 6 ≡ true = lt-ltb i 6 k in rw test refl
     go (inr k) = ap (λ (z : ℕ). cond (nat_lt i 6) false (is_set z (7 - (i - 6) % 8))) (same ((i - 6) / 8) (omega (arith, l, k)))
+
+bits_push : (xs : List ℕ) (b : ℕ) → bits_of_bytes (xs ++ b ∷ []) ≡ bits_of_bytes xs ++ spelled 8 b
+bits_push [] b = append-nil (spelled 8 b)
+bits_push (x ∷ xs) b = ap (λ (z : List Bool). spelled 8 x ++ z) (bits_push xs b) ∙ sym (append_assoc (spelled 8 x) (bits_of_bytes xs) (spelled 8 b))
+
+-- a byte more of a word
+pub byte_more : (old now new : List Bool) (w : List ℕ) (i : ℕ) → i < length w → now ≡ old ++ bits_of_bytes (take i w) → new ≡ now ++ spelled 8 (get_or w i 0) → new ≡ old ++ bits_of_bytes (take (i + 1) w)
+byte_more old now new w i l e is =
+    is ∙ ap (λ (z : List Bool). z ++ spelled 8 (get_or w i 0)) e ∙ append_assoc old (bits_of_bytes (take i w)) (spelled 8 (get_or w i 0))
+    ∙ ap (λ (z : List Bool). old ++ z) (sym (ap bits_of_bytes (take_more w i 0 l) ∙ bits_push (take i w) (get_or w i 0)))

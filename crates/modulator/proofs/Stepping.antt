@@ -221,8 +221,8 @@ kept_lp m s made p next room sender waiting kept amount =
     record { mode = kept.mode; inner = kept.inner; hp_register = kept.hp_register; lp_register = kept.lp_register; out = kept.out; symbol = kept.symbol; hp_whole = kept.hp_whole; lp_whole = (one_packet (made * need s Lp) p.lp_waiting waiting amount).1 kept.lp_whole; labels = kept.labels }
 
 -- the list of packets put grows by the packet
-pub stands_more : SameBeginning → (old new : Transmitter) (packet : List ℕ) → WasPut old new packet → (packets : Inputs) → StandsFor old packets → StandsFor new (with_packet packets (wanted old) packet)
-stands_more alike old new packet was packets st = go (wanted old) refl
+pub stands_more : OtherStreams → (old new : Transmitter) (packet : List ℕ) → WasPut old new packet → (packets : Inputs) → StandsFor old packets → StandsFor new (with_packet packets (wanted old) packet)
+stands_more others old new packet was packets st = go (wanted old) refl
   where
     front : (xs : List (List ℕ)) (n i : ℕ) → length xs ≡ n → i < n → packet_at xs i ≡ packet_at (xs ++ packet ∷ []) i
     front xs n i e l = sym (get_or_append_left xs (packet ∷ []) null_packet i (omega (arith, l, e)))
@@ -253,14 +253,14 @@ stands_more alike old new packet was packets st = go (wanted old) refl
         record {
           hp = length_push (packets Hp) packet ∙ ap (λ (z : ℕ). z + 1) st.hp ∙ sym more.0;
           lp = st.lp ∙ sym more.1;
-          put = was.put (with_packet packets (Some Hp) packet) (other_streams alike old packets (with_packet packets (Some Hp) packet) st.put hp_alike) (next_is (Some Hp) (with_packet packets (Some Hp) packet) e (last (packets Hp) old.hp st.hp));
+          put = was.put (with_packet packets (Some Hp) packet) (others old packets (with_packet packets (Some Hp) packet) st.put hp_alike) (next_is (Some Hp) (with_packet packets (Some Hp) packet) e (last (packets Hp) old.hp st.hp));
         }
     go (Some Lp) e =
         let more = counts_at (Some Lp) e in
         record {
           hp = st.hp ∙ sym more.0;
           lp = length_push (packets Lp) packet ∙ ap (λ (z : ℕ). z + 1) st.lp ∙ sym more.1;
-          put = was.put (with_packet packets (Some Lp) packet) (other_streams alike old packets (with_packet packets (Some Lp) packet) st.put lp_alike) (next_is (Some Lp) (with_packet packets (Some Lp) packet) e (last (packets Lp) old.lp st.lp));
+          put = was.put (with_packet packets (Some Lp) packet) (others old packets (with_packet packets (Some Lp) packet) st.put lp_alike) (next_is (Some Lp) (with_packet packets (Some Lp) packet) e (last (packets Lp) old.lp st.lp));
         }
 
 -- ---- a symbol more
@@ -342,3 +342,38 @@ unfolding tx_symbol tx_label
 symbol_is s z made number inputs labels es en repeats follows agree =
     ap (λ (y : Settings). symbol_bytes y number (bits_of labels)) es ∙ ap (λ (n : ℕ). symbol_bytes s n (bits_of labels)) en ∙ sym (repeats (bits_of labels))
     ∙ follows (bits_of labels) (tx_label s inputs made) agree
+
+-- the modulator after a symbol, whose parts took these bits
+pub record AfterSymbol (old new : Transmitter) : Type 0 where
+  pub hp : new.hp ≡ old.hp
+  pub lp : new.lp ≡ old.lp
+  pub put : (inputs : Inputs) → HasPut old inputs → HasPut new inputs
+
+taken_at : (s z : Settings) (σ : Stream) (waiting new : List Bool) → z ≡ s → new ≡ drop (need z σ) waiting → drop (need s σ) waiting ≡ new
+taken_at s z σ waiting new e is = sym (is ∙ ap (λ (y : Settings). drop (need y σ) waiting) e)
+
+pub symbol_made : (m : Mode) (s : Settings) (made : ℕ) (p : Parts) (next : NextSymbol) (room : ℕ) (inner : TxState) (hp lp : List Bool) → IsKept m s made p next room → wanted (transmitter s made p) ≡ None → inner.settings ≡ p.inner.settings
+    → hp ≡ drop (need p.inner.settings Hp) p.hp_waiting → lp ≡ drop (need p.inner.settings Lp) p.lp_waiting
+    → ((paths : Paths) (n : ℕ) → IsAtSymbol p.inner paths n → take (need p.inner.settings Hp) p.hp_waiting ≡ input_bits p.inner.settings paths n Hp → take (need p.inner.settings Lp) p.lp_waiting ≡ input_bits p.inner.settings paths n Lp → IsAtSymbol inner paths (n + 1))
+    → AfterSymbol (transmitter s made p) (transmitter s (made + 1) (parts_of p.hp_sender p.lp_sender hp lp inner))
+symbol_made m s made p next room inner hp lp kept none same eh el goes =
+    subst (λ (z : List Bool). AfterSymbol (transmitter s made p) (transmitter s (made + 1) (parts_of p.hp_sender p.lp_sender z lp inner))) (taken_at s p.inner.settings Hp p.hp_waiting hp kept.inner eh)
+    (subst (λ (z : List Bool). AfterSymbol (transmitter s made p) (transmitter s (made + 1) (parts_of p.hp_sender p.lp_sender (drop (need s Hp) p.hp_waiting) z inner))) (taken_at s p.inner.settings Lp p.lp_waiting lp kept.inner el)
+     (record {
+        hp = (counts_kept m s made p next room inner kept none).0;
+        lp = (counts_kept m s made p next room inner kept none).1;
+        put = λ inputs h. put_kept m s made p next room inner inputs kept none same (goes (paths_of inputs) made h.inner (hp_input m s made p next room inputs kept none h) (lp_input m s made p next room inputs kept none h)) h;
+      }))
+
+-- what is written
+pub bytes_made : (m : Mode) (s : Settings) (made : ℕ) (p : Parts) (next : NextSymbol) (room : ℕ) (labels : List ℕ) (inputs : Inputs) → IsKept m s made p next room → wanted (transmitter s made p) ≡ None
+    → ((l : ℕ → ℕ → Bool) → symbol_bytes s made l ≡ symbol_bytes s (made % 272) l)
+    → ((l k : ℕ → ℕ → Bool) → Agree s l k → symbol_bytes s made l ≡ symbol_bytes s made k)
+    → ((paths : Paths) (n : ℕ) → IsAtSymbol p.inner paths n → take (need p.inner.settings Hp) p.hp_waiting ≡ input_bits p.inner.settings paths n Hp → take (need p.inner.settings Lp) p.lp_waiting ≡ input_bits p.inner.settings paths n Lp
+        → Agree p.inner.settings (bits_of labels) (label_bit p.inner.settings (is_odd made) (coded_bits p.inner.settings paths n)))
+    → HasPut (transmitter s made p) inputs → symbol_bytes next.settings next.number (bits_of labels) ≡ tx_symbol s inputs made
+bytes_made m s made p next room labels inputs kept none repeats follows agrees h =
+    let agree : Agree s (bits_of labels) (label_bit s (is_odd made) (coded_bits s (paths_of inputs) made)) =
+    subst (λ (z : Settings). Agree z (bits_of labels) (label_bit z (is_odd made) (coded_bits z (paths_of inputs) made))) kept.inner
+    (agrees (paths_of inputs) made h.inner (hp_input m s made p next room inputs kept none h) (lp_input m s made p next room inputs kept none h)) in
+    symbol_is s next.settings made next.number inputs labels kept.out kept.symbol repeats follows agree

@@ -1,0 +1,7 @@
+pub mod Cells
+pub mod Places
+pub mod Steps
+pub mod Favoured
+pub mod Received
+pub mod ReadBack
+pub mod Joined

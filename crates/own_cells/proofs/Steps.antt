@@ -1,0 +1,161 @@
+-- The numbers of the bits of a step, and what they are on a path.
+use Rattle.std.proofs.Common.{◌≡◌, ℕ, zero, suc, ◌+◌, ◌-◌, ◌*◌, ◌/◌, ◌%◌, ◌<◌, ◌≤◌, ◌⊎◌, inl, inr, List, [], ◌∷◌, ◌++◌, length, map, refl, sym, ap, ◌∙◌, subst, arith, Bool, true, false, cond, not, ◌||◌}
+use Rattle.std.specs.Prelude.{count_by, nat_le, Option, Some, None, option_map}
+use Rattle.std.specs.List.{range_with_len}
+use Rattle.std.proofs.lemmas.Bool.{cases_lt}
+use Rattle.std.proofs.lemmas.List.Sums.{count_by-le-length}
+use Rattle.std.proofs.Math.Nat.{mul_assoc}
+use Rattle.code_paths.specs.Paths.{parity_x, parity_y}
+use Rattle.mode_set.specs.StreamTable.{coded, need, rate, steps_in_period, sent_in_period}
+use Rattle.mode_set.specs.Laws.{periods, HasWholePeriods, SymbolsHaveWholePeriods}
+use Rattle.mode_set.specs.declared.modes.Rate.{Rate}
+use Rattle.mode_set.specs.declared.modes.Rate.TheVariants.{R1of2, R2of3, R3of4, R5of6, R7of8}
+use Rattle.mode_set.specs.declared.modes.Stream.{Stream}
+use Rattle.mode_set.specs.declared.settings.Settings.{Settings}
+use Rattle.puncture.specs.SentBits.{Coded, X, Y, sent, sent_bit, sent_bits, window}
+use Rattle.puncture.specs.Steps.{is_sent, number_of, sent_before, step_in_period, bits_sent}
+use Rattle.puncture.specs.Laws.{StepsSendInOrder, StepsAreNumbered, PeriodsShift}
+
+-- ---- how many bits are sent
+none_yet : (r : Rate) → count_by (λ c. nat_le (step_in_period c) 0) (sent r) ≡ 0
+none_yet R1of2 = refl
+none_yet R2of3 = refl
+none_yet R3of4 = refl
+none_yet R5of6 = refl
+none_yet R7of8 = refl
+
+many : (r : Rate) → length (sent r) ≡ sent_in_period r
+many R1of2 = refl
+many R2of3 = refl
+many R3of4 = refl
+many R5of6 = refl
+many R7of8 = refl
+
+-- a step is one of the first p periods, or the first behind them
+in_periods : (r : Rate) (p u : ℕ) → u ≤ p * steps_in_period r → (u / steps_in_period r < p) ⊎ ((u / steps_in_period r ≡ p) × (u % steps_in_period r ≡ 0))
+in_periods R1of2 p u l = elim (cases_lt (u / 1) p) [ | inl a ↦ inl a | inr a ↦ inr (omega (arith, a, l), omega arith) ]
+in_periods R2of3 p u l = elim (cases_lt (u / 2) p) [ | inl a ↦ inl a | inr a ↦ inr (omega (arith, a, l), omega (arith, a, l)) ]
+in_periods R3of4 p u l = elim (cases_lt (u / 3) p) [ | inl a ↦ inl a | inr a ↦ inr (omega (arith, a, l), omega (arith, a, l)) ]
+in_periods R5of6 p u l = elim (cases_lt (u / 5) p) [ | inl a ↦ inl a | inr a ↦ inr (omega (arith, a, l), omega (arith, a, l)) ]
+in_periods R7of8 p u l = elim (cases_lt (u / 7) p) [ | inl a ↦ inl a | inr a ↦ inr (omega (arith, a, l), omega (arith, a, l)) ]
+
+row_within : (a p n k : ℕ) → a < p → k ≤ n → a * n + k ≤ p * n
+row_within a p n k l m = grind arith
+
+before_most : (r : Rate) (p u : ℕ) → u ≤ p * steps_in_period r → sent_before r u ≤ p * sent_in_period r
+before_most r p u l = go (in_periods r p u l)
+  where
+    go : (u / steps_in_period r < p) ⊎ ((u / steps_in_period r ≡ p) × (u % steps_in_period r ≡ 0)) → sent_before r u ≤ p * sent_in_period r
+    go (inl a) = row_within (u / steps_in_period r) p (sent_in_period r) _ a (subst (λ (z : ℕ). count_by (λ c. nat_le (step_in_period c) (u % steps_in_period r)) (sent r) ≤ z) (many r) (count_by-le-length (λ c. nat_le (step_in_period c) (u % steps_in_period r)) (sent r)))
+    go (inr b) =
+        let whole : u / steps_in_period r * sent_in_period r ≡ p * sent_in_period r = ap (λ (z : ℕ). z * sent_in_period r) b.0 in
+        let none : count_by (λ c. nat_le (step_in_period c) (u % steps_in_period r)) (sent r) ≡ 0 = ap (λ (z : ℕ). count_by (λ c. nat_le (step_in_period c) z) (sent r)) b.1 ∙ none_yet r in
+        omega (arith, whole, none)
+
+-- ---- the bits of one step
+-- X of a step has the number n, and so has Y, where they are sent
+pub record IsNumberOf (r : Rate) (t : ℕ) (sx sy : Bool) (n : ℕ) : Type 0 where
+  pub x : number_of r X t ≡ cond sx (Some n) None
+  pub y : number_of r Y t ≡ cond sy (Some (n + cond sx 1 0)) None
+  pub some : (sx || sy) ≡ true
+
+-- what is sent of a step are the bits with these numbers
+two_sent : (f : ℕ → Bool) (a b : ℕ) (sx sy x y : Bool) → b ≡ a + cond sx 1 0 + cond sy 1 0 → bits_sent sx sy x y ≡ map f (range_with_len a (b - a)) → (sx ≡ true → f a ≡ x) × (sy ≡ true → f (a + cond sx 1 0) ≡ y)
+two_sent f a b true true x y e h =
+    let n : b - a ≡ 2 = omega (arith, e) in
+    let l : x ∷ y ∷ [] ≡ f a ∷ f (a + 1) ∷ [] = h ∙ ap (λ (z : ℕ). map f (range_with_len a z)) n in
+    (λ p. cc, λ p. cc)
+two_sent f a b true false x y e h =
+    let n : b - a ≡ 1 = omega (arith, e) in
+    let l : x ∷ [] ≡ f a ∷ [] = h ∙ ap (λ (z : ℕ). map f (range_with_len a z)) n in
+    (λ p. cc, λ p. absurd (cc))
+two_sent f a b false true x y e h =
+    let n : b - a ≡ 1 = omega (arith, e) in
+    let same : a + 0 ≡ a = omega arith in
+    let l : y ∷ [] ≡ f a ∷ [] = h ∙ ap (λ (z : ℕ). map f (range_with_len a z)) n in
+    let here : f a ≡ y = cc in
+    (λ p. absurd (cc), λ p. ap f same ∙ here)
+two_sent f a b false false x y e h = (λ p. absurd (cc), λ p. absurd (cc))
+
+pub record AreParities (r : Rate) (path : ℕ → Bool) (t : ℕ) (sx sy : Bool) (n : ℕ) : Type 0 where
+  pub x : sx ≡ true → sent_bit r path n ≡ parity_x (window path t)
+  pub y : sy ≡ true → sent_bit r path (n + cond sx 1 0) ≡ parity_y (window path t)
+
+pub parities : StepsSendInOrder → StepsAreNumbered → (r : Rate) (path : ℕ → Bool) (t : ℕ) → AreParities r path t (is_sent r X t) (is_sent r Y t) (sent_before r t)
+parities order law r path t =
+    let p = two_sent (sent_bit r path) (sent_before r t) (sent_before r (t + 1)) (is_sent r X t) (is_sent r Y t) (parity_x (window path t)) (parity_y (window path t)) (law r t).grows (order r path t) in
+    record { x = p.0; y = p.1 }
+
+-- the numbers of the bits of a step of a symbol are numbers of coded bits
+pub record AreWithin (sx sy : Bool) (n most : ℕ) : Type 0 where
+  pub x : sx ≡ true → n < most
+  pub y : sy ≡ true → n + cond sx 1 0 < most
+
+within_most : (a b most : ℕ) (sx sy : Bool) → b ≡ a + cond sx 1 0 + cond sy 1 0 → b ≤ most → AreWithin sx sy a most
+within_most a b most true true e l = record { x = λ p. omega (arith, e, l); y = λ p. omega (arith, e, l) }
+within_most a b most true false e l = record { x = λ p. omega (arith, e, l); y = λ p. absurd (cc) }
+within_most a b most false true e l = record { x = λ p. absurd (cc); y = λ p. omega (arith, e, l) }
+within_most a b most false false e l = record { x = λ p. absurd (cc); y = λ p. absurd (cc) }
+
+pub numbers_within : StepsAreNumbered → SymbolsHaveWholePeriods → (s : Settings) (σ : Stream) (t : ℕ) → t < need s σ → AreWithin (is_sent (rate s σ) X t) (is_sent (rate s σ) Y t) (sent_before (rate s σ) t) (coded s σ)
+numbers_within law whole s σ t l =
+    let w = whole s σ in
+    let most : sent_before (rate s σ) (t + 1) ≤ coded s σ = up (sent_before (rate s σ) (t + 1)) (before_most (rate s σ) (periods s σ) (t + 1) (next (need s σ) w.need l)) (sym w.coded) in
+    within_most (sent_before (rate s σ) t) (sent_before (rate s σ) (t + 1)) (coded s σ) (is_sent (rate s σ) X t) (is_sent (rate s σ) Y t) (law (rate s σ) t).grows most
+  where
+    next : {p : ℕ} (n : ℕ) → n ≡ p → t < n → t + 1 ≤ p
+    next n e k = omega (arith, e, k)
+
+    up : {b c : ℕ} (a : ℕ) → a ≤ b → b ≡ c → a ≤ c
+    up a k e = omega (arith, k, e)
+
+-- step t of symbol m is step m · need + t of the stream, and its bits have the numbers from m · coded on
+pub shifted : PeriodsShift → SymbolsHaveWholePeriods → (s : Settings) (σ : Stream) (m t : ℕ)
+    → (sent_before (rate s σ) (m * need s σ + t) ≡ m * coded s σ + sent_before (rate s σ) t) × ((xy : ℕ → Coded) → number_of (rate s σ) xy (m * need s σ + t) ≡ option_map (λ n. m * coded s σ + n) (number_of (rate s σ) xy t))
+shifted shift whole s σ m t =
+    let w = whole s σ in
+    let r : Rate = rate s σ in
+    let q : ℕ = m * periods s σ in
+    let steps : q * steps_in_period r ≡ m * need s σ = mul_assoc m (periods s σ) (steps_in_period r) ∙ ap (λ (z : ℕ). m * z) (sym w.need) in
+    let bits : q * sent_in_period r ≡ m * coded s σ = mul_assoc m (periods s σ) (sent_in_period r) ∙ ap (λ (z : ℕ). m * z) (sym w.coded) in
+    let h = shift r q t in (
+      ap (λ (z : ℕ). sent_before r (z + t)) (sym steps) ∙ h.before ∙ ap (λ (z : ℕ). z + sent_before r t) bits,
+      λ xy. ap (λ (z : ℕ). number_of r xy (z + t)) (sym steps) ∙ h.numbers xy ∙ ap (λ (z : ℕ). option_map (λ n. z + n) (number_of r xy t)) bits,
+    )
+
+-- ---- the bits of a step of a symbol
+same_sent : (b c : Bool) (n k j : ℕ) → cond b (Some n) None ≡ option_map (λ i. k + i) (cond c (Some j) None) → b ≡ c
+same_sent true true n k j e = refl
+same_sent true false n k j e = absurd (cc)
+same_sent false true n k j e = absurd (cc)
+same_sent false false n k j e = refl
+
+pub symbol_parities : StepsSendInOrder → StepsAreNumbered → PeriodsShift → SymbolsHaveWholePeriods → (s : Settings) (path : ℕ → Bool) (σ : Stream) (m t : ℕ)
+    → AreParities (rate s σ) path (m * need s σ + t) (is_sent (rate s σ) X t) (is_sent (rate s σ) Y t) (m * coded s σ + sent_before (rate s σ) t)
+symbol_parities order law shift whole s path σ m t =
+    subst (λ (z : ℕ). AreParities r path u sx sy z) h.0
+    (subst (λ (b : Bool). AreParities r path u sx b (sent_before r u)) same_y
+    (subst (λ (b : Bool). AreParities r path u b (is_sent r Y u) (sent_before r u)) same_x (parities order law r path u)))
+  where
+    r : Rate
+    r = rate s σ
+
+    u : ℕ
+    u = m * need s σ + t
+
+    sx : Bool
+    sx = is_sent r X t
+
+    sy : Bool
+    sy = is_sent r Y t
+
+    h : (sent_before r u ≡ m * coded s σ + sent_before r t) × ((xy : ℕ → Coded) → number_of r xy u ≡ option_map (λ n. m * coded s σ + n) (number_of r xy t))
+    h = shifted shift whole s σ m t
+
+    same_x : is_sent r X u ≡ sx
+    same_x = same_sent (is_sent r X u) sx (sent_before r u) (m * coded s σ) (sent_before r t) (sym (law r u).x ∙ h.1 X ∙ ap (option_map (λ n. m * coded s σ + n)) (law r t).x)
+
+    same_y : is_sent r Y u ≡ sy
+    same_y =
+        same_sent (is_sent r Y u) sy (sent_before r u + cond (is_sent r X u) 1 0) (m * coded s σ) (sent_before r t + cond sx 1 0)
+        (sym (law r u).y ∙ h.1 Y ∙ ap (option_map (λ n. m * coded s σ + n)) (law r t).y)

@@ -1,0 +1,87 @@
+-- Cells, costs, votes and lines of known receptions, computed.
+use Rattle.std.proofs.Common.{◌≡◌, ℕ, Bool, List, [], ◌∷◌, ◌++◌, ◌&&◌, map, refl}
+use Rattle.std.specs.Prelude.{pos, neg_ℤ, codes, replicate, nat_le}
+use Rattle.std.specs.Fmt.{digits}
+use Rattle.std.specs.List.{concat}
+use Rattle.spec_words.specs.Bits.{xor}
+use Rattle.spec_words.specs.Words.{numbers}
+use Rattle.mode_set.specs.declared.modes.Stream.{Stream}
+use Rattle.mode_set.specs.declared.modes.Stream.TheVariants.{Hp, Lp}
+use Rattle.mode_set.specs.declared.modes.Rate.TheVariants.{R1of2, R3of4}
+use Rattle.mode_set.specs.declared.settings.Settings.{Settings}
+use Rattle.symbol_interleave.specs.Carried.{h}
+use Rattle.pilots.specs.Carriers.{payload_carriers, is_payload, is_continual, is_scattered, is_tps, tps_carriers}
+use Rattle.pilots.specs.Reference.{reference, eleven_from}
+use Rattle.qam_map.specs.declared.cell.Cell.{Cell}
+use Rattle.soft_metric.specs.Costs.{cost}
+use Rattle.tps_bch.specs.Bch.{bit_distance, tps_parity}
+use Rattle.tps_word.specs.Tps.{tps_word, tps_info, sync_word, length_bits, shape_bits, hierarchy_bits, rate_bits, guard_bits, mode_bits, signalled}
+use Rattle.tps_word.specs.Vote.{vote}
+use Rattle.frame_build.specs.Symbol.{cell_from, tps_sign, real}
+use Rattle.inner_chain.specs.CostPairs.{costs_on}
+use Rattle.inner_chain.specs.PairLists.{pair_of}
+use Rattle.reception.specs.Cells.{symbols, tail, bytes_of_symbol}
+use Rattle.reception.specs.Frames.{frame_bits}
+use Rattle.reception.specs.Streams.{Reception}
+use Rattle.reception.specs.Lines.{events, event_lines, closing_lines}
+use Rattle.reception.specs.Laws.{no_words, nothing}
+use Rattle.reception.proofs.Base.{base, midst, layered}
+
+-- two symbols whose cells are all (0, 11585)
+abbrev two_symbols : List ℕ
+two_symbols = concat (replicate 3410 (0x00 ∷ 0x00 ∷ 0x2D ∷ 0x41 ∷ []))
+
+two : symbols midst two_symbols ∷ tail midst two_symbols ∷ [] ≡ 2 ∷ 0 ∷ []
+two = refl
+
+cell_7 : cell_from (bytes_of_symbol midst two_symbols 1) 7 ≡ record { re = pos 0; im = pos 11585 }
+unfolding cell_from bytes_of_symbol
+cell_7 = refl
+
+abbrev by_stream : List ℕ → List ℕ → Stream → List ℕ
+by_stream hp lp Hp = hp
+by_stream hp lp Lp = lp
+
+-- nothing but these reports
+abbrev reported : List ℕ → List ℕ → Reception
+reported hp lp = record { packets = λ σ. []; reports = by_stream hp lp; tally = λ σ. no_words; read = 0; bad = 0 }
+
+-- no bytes
+lines_of_nothing : closing_lines base [] nothing ≡ codes "symbols 0 tail 0\ntps read 0 bad 0\nhp words 0 clean 0 corrected 0 bad 0 unphased 0 unmerged 0\n"
+unfolding digits
+lines_of_nothing = refl
+
+-- one symbol and a byte
+lines_of_one : closing_lines base (replicate 6821 0) nothing ≡ codes "symbols 1 tail 1\ntps read 0 bad 0\nhp words 0 clean 0 corrected 0 bad 0 unphased 0 unmerged 0\n"
+unfolding digits
+lines_of_one = refl
+
+-- one report
+lines_of_two : closing_lines midst (replicate 13640 0) (reported (2049 ∷ []) []) ≡ codes "symbols 2 tail 0\ntps read 0 bad 0\nhp words 0 clean 0 corrected 0 bad 0 unphased 0 unmerged 1\n"
+unfolding digits
+lines_of_two = refl
+
+event : event_lines midst (replicate 13640 0) (reported (2049 ∷ []) []) ≡ codes "hp unmerged at 2049\n"
+unfolding events numbers digits
+event = refl
+
+-- both streams have 1512 steps a symbol: step 3024 is the last of symbol 1
+order : event_lines (layered R1of2) (replicate 20460 0) (reported (2049 ∷ 3024 ∷ 3025 ∷ []) (3024 ∷ 4100 ∷ [])) ≡ codes "hp unmerged at 2049\nhp unmerged at 3024\nlp unmerged at 3024\nhp unmerged at 3025\nlp unmerged at 4100\n"
+unfolding events numbers digits
+order = refl
+
+-- the word of frame 1, and two TPS cells of its symbols; those of the symbols a to b are negated
+abbrev word : List Bool
+word = tps_word (signalled base 1)
+
+abbrev sent_cells : ℕ → ℕ → ℕ → List Cell
+sent_cells a b l = map (λ k. real 16384 (xor (nat_le a l && nat_le l b) (tps_sign word k l))) (34 ∷ 50 ∷ [])
+
+clean : frame_bits (sent_cells 100 100) 0 ≡ word
+unfolding frame_bits numbers tps_word tps_info sync_word length_bits shape_bits hierarchy_bits rate_bits guard_bits mode_bits tps_parity vote tps_sign reference eleven_from
+clean = refl
+
+-- the cells of the symbols 5 to 59 negated: two bits flip
+two_flips : bit_distance (frame_bits (sent_cells 5 59) 0) word ≡ 2
+unfolding frame_bits numbers tps_word tps_info sync_word length_bits shape_bits hierarchy_bits rate_bits guard_bits mode_bits tps_parity vote tps_sign reference eleven_from
+two_flips = refl

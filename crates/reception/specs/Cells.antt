@@ -1,0 +1,26 @@
+-- The bytes of symbols, and their cells (this project's own format: four bytes a carrier, carriers rising).
+use Rattle.std.specs.Prelude.{ℕ, ◌*◌, ◌/◌, ◌%◌, List, length, take, drop}
+use Rattle.mode_set.specs.StreamTable.{carriers}
+use Rattle.mode_set.specs.declared.settings.Settings.{Settings}
+use Rattle.qam_map.specs.declared.cell.Cell.{Cell}
+use Rattle.frame_build.specs.Symbol.{cells_from}
+
+-- the bytes of a symbol: four for each of the K carriers
+abbrev pub symbol_length : Settings → ℕ
+symbol_length s = 4 * carriers s.mode
+
+-- the whole symbols of the bytes
+abbrev pub symbols : Settings → List ℕ → ℕ
+symbols s bytes = length bytes / symbol_length s
+
+-- the bytes after them
+abbrev pub tail : Settings → List ℕ → ℕ
+tail s bytes = length bytes % symbol_length s
+
+-- the bytes of symbol m
+unfoldable pub bytes_of_symbol : Settings → List ℕ → ℕ → List ℕ
+bytes_of_symbol s bytes m = take (symbol_length s) (drop (m * symbol_length s) bytes)
+
+-- its cells
+unfoldable pub symbol_cells : Settings → List ℕ → ℕ → List Cell
+symbol_cells s bytes m = cells_from (bytes_of_symbol s bytes m) (carriers s.mode)

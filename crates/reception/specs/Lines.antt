@@ -1,0 +1,53 @@
+-- The counts of a reception, and the lines of its report.
+use Rattle.std.specs.Prelude.{ℕ, ◌-◌, ◌/◌, ◌==◌, if◌then◌else◌, List, [], ◌++◌, Option, None, Some, map, filter, flat_map, length}
+use Rattle.std.specs.List.{concat}
+use Rattle.spec_words.specs.Words.{numbers}
+use Rattle.mode_set.specs.Kept.{is_flat}
+use Rattle.mode_set.specs.StreamTable.{need}
+use Rattle.mode_set.specs.declared.modes.Stream.{Stream}
+use Rattle.mode_set.specs.declared.modes.Stream.TheVariants.{Hp, Lp}
+use Rattle.mode_set.specs.declared.settings.Settings.{Settings}
+use Rattle.outer_chain.specs.Words.{Tally}
+use Rattle.rx_report.specs.Text.{event_line}
+use Rattle.rx_report.specs.Text as text
+use Rattle.rx_report.specs.declared.counts.Counts.{Counts}
+use Rattle.rx_report.specs.declared.counts.Event.{Event}
+use Rattle.rx_report.specs.declared.counts.StreamCounts.{StreamCounts}
+use Rattle.reception.specs.Cells.{symbols, tail}
+use Rattle.reception.specs.Streams.{Reception}
+
+-- a report of a stream at a step
+abbrev pub event_at : Stream → ℕ → Event
+event_at σ at = record { stream = σ; at = at }
+
+-- the reports of a stream in symbol m: the step counted as `at` from 1 is one of symbol (at - 1) / need
+abbrev pub events_of : Settings → (Stream → List ℕ) → ℕ → Stream → List Event
+events_of s reports m σ = map (event_at σ) (filter (λ at. (at - 1) / need s σ == m) (reports σ))
+
+-- all reports of n symbols: symbol after symbol, HP before LP
+unfoldable pub events : Settings → ℕ → (Stream → List ℕ) → List Event
+events s n reports = flat_map (λ m. events_of s reports m Hp ++ events_of s reports m Lp) (numbers n)
+
+abbrev pub stream_counts : Tally → ℕ → StreamCounts
+stream_counts t unmerged = record { words = t.words; clean = t.clean; corrected = t.corrected; bad = t.bad; unphased = t.unphased; unmerged = unmerged }
+
+abbrev pub counts_of_stream : Reception → Stream → StreamCounts
+counts_of_stream r σ = stream_counts (r.tally σ) (length (r.reports σ))
+
+-- the counts of a reception of these bytes
+abbrev pub counts_of : Settings → List ℕ → Reception → Counts
+counts_of s bytes r = record {
+  symbols = symbols s bytes;
+  tail = tail s bytes;
+  tps_read = r.read;
+  tps_bad = r.bad;
+  hp = counts_of_stream r Hp;
+  lp = if is_flat s.hierarchy then None else Some (counts_of_stream r Lp);
+}
+
+abbrev pub event_lines : Settings → List ℕ → Reception → List ℕ
+event_lines s bytes r = flat_map event_line (events s (symbols s bytes) r.reports)
+
+-- the lines at the end
+abbrev pub closing_lines : Settings → List ℕ → Reception → List ℕ
+closing_lines s bytes r = concat (text.closing_lines (counts_of s bytes r))

@@ -1,0 +1,11 @@
+//! What a reception counts, and the text of its report.
+#![tactic(auto)]
+
+mod counts;
+mod text;
+
+pub use counts::{Counts, Event, StreamCounts};
+pub use text::Line;
+
+#[cfg(test)]
+mod tests;
