@@ -3,7 +3,7 @@ ghost use Rattle.std.specs.Prelude.{◌≡◌, map, string_bytes};
 ghost use Rattle.std.specs.Option.{option_map};
 ghost use Rattle.run_clauses.specs.Command.{command_of};
 ghost use Rattle.dvbt_top.specs.Form.{command};
-ghost use Rattle.dvbt_top.specs.Words.{TwoAfter};
+ghost use Rattle.dvbt_top.specs.Words.{TwoAfter, ThreeAfter};
 
 use crate::form::Form;
 
@@ -20,6 +20,19 @@ fn two_after<'a>(words: &'a [String], name: &str) -> Option<(&'a str, &'a str)>
     Some((words[1].as_str(), words[2].as_str()))
 }
 
+// The three words behind this name, if there are just these four.
+fn three_after<'a>(words: &'a [String], name: &str) -> Option<(&'a str, &'a str, &'a str)>
+    ensures { ThreeAfter (map string_bytes words.now) name.now result }
+{
+    if words.len() != 4 {
+        return None;
+    }
+    if words[0].as_str() != name {
+        return None;
+    }
+    Some((words[1].as_str(), words[2].as_str(), words[3].as_str()))
+}
+
 /// The form of the words, if they are of one. A word is taken as it stands; there are no options.
 pub fn form_of<'a>(words: &'a [String]) -> Option<Form<'a>>
     ensures { option_map command result ≡ command_of (map string_bytes words.now) }
@@ -29,6 +42,13 @@ pub fn form_of<'a>(words: &'a [String]) -> Option<Form<'a>>
     }
     if let Some((input, output)) = two_after(words, "outer") {
         return Some(Form::Outer { input, output });
+    }
+    if let Some((settings, input, output)) = three_after(words, "inner") {
+        return Some(Form::Inner {
+            settings,
+            input,
+            output,
+        });
     }
     None
 }

@@ -1,6 +1,6 @@
 -- What a modulator stands for, step by step.
-use Rattle.std.proofs.Common.{◌≡◌, ℕ, ◌+◌, ◌-◌, ◌*◌, ◌/◌, ◌%◌, ◌<◌, ◌≤◌, ◌⊎◌, inl, inr, Bool, true, false, cond, List, [], ◌∷◌, ◌++◌, length, take, drop, get_or, refl, sym, ap, ◌∙◌, subst, arith}
-use Rattle.std.specs.Prelude.{Option, Some, None, IfSome, nat_lt, vec_capacity}
+use Rattle.std.proofs.Common.{◌≡◌, ℕ, ◌+◌, ◌-◌, ◌*◌, ◌/◌, ◌%◌, ◌<◌, ◌≤◌, Bool, true, false, cond, List, [], ◌∷◌, ◌++◌, length, take, drop, refl, sym, ap, ◌∙◌, subst, arith}
+use Rattle.std.specs.Prelude.{Option, Some, None, IfSome, nat_lt}
 use Rattle.std.proofs.lemmas.Bool.{lt-ltb, le-ltb, ltb-false}
 use Rattle.std.proofs.lemmas.List.{get_or_push, length_push, get_or_append_left, length-drop}
 use Rattle.spec_words.specs.Words.{rounded_up}
@@ -16,13 +16,13 @@ use Rattle.conv_code.specs.Coded.{zeros}
 use Rattle.outer_chain.specs.Sent.{packet_at, outer_byte}
 use Rattle.outer_chain.specs.Sending.{Sender, Sends}
 use Rattle.outer_chain.specs.SendingLaws.{SameBeginning}
-use Rattle.inner_chain.specs.Labels.{Paths, TxState, IsAtSymbol, register_of, input_bits, coded_bits, label_bit}
+use Rattle.inner_chain.specs.Labels.{Paths, TxState, IsAtSymbol, input_bits, coded_bits, label_bit}
 use Rattle.frame_build.specs.Symbol.{Agree, symbol_bytes, bits_of}
 use Rattle.frame_build.specs.State.{NextSymbol}
 use Rattle.transmission.specs.Transmission.{Inputs, by_stream, paths_of, tx_label, tx_symbol}
 use Rattle.transmission.specs.SuperFrames.{packets_for}
 use Rattle.modulator.specs.Streams.{HoldsBits}
-use Rattle.modulator.specs.State.{Parts, Transmitter, packets_in, transmitter, IsKept, wanted, HasPut, StandsFor, IsNext, with_packet, no_packets, HasOneMore}
+use Rattle.modulator.specs.State.{Parts, Transmitter, packets_in, transmitter, IsKept, wanted, HasPut, StandsFor, IsNext, with_packet, HasOneMore}
 use Rattle.modulator.specs.Wants.{stream_of}
 use Rattle.modulator.specs.Laws.{OtherStreams}
 use Rattle.modulator.specs.declared.want.Want.{Want}
@@ -359,18 +359,18 @@ pub symbol_made : (m : Mode) (s : Settings) (made : ℕ) (p : Parts) (next : Nex
 symbol_made m s made p next room inner hp lp kept none same eh el goes =
     subst (λ (z : List Bool). AfterSymbol (transmitter s made p) (transmitter s (made + 1) (parts_of p.hp_sender p.lp_sender z lp inner))) (taken_at s p.inner.settings Hp p.hp_waiting hp kept.inner eh)
     (subst (λ (z : List Bool). AfterSymbol (transmitter s made p) (transmitter s (made + 1) (parts_of p.hp_sender p.lp_sender (drop (need s Hp) p.hp_waiting) z inner))) (taken_at s p.inner.settings Lp p.lp_waiting lp kept.inner el)
-     (record {
-        hp = (counts_kept m s made p next room inner kept none).0;
-        lp = (counts_kept m s made p next room inner kept none).1;
-        put = λ inputs h. put_kept m s made p next room inner inputs kept none same (goes (paths_of inputs) made h.inner (hp_input m s made p next room inputs kept none h) (lp_input m s made p next room inputs kept none h)) h;
-      }))
+    (record {
+      hp = (counts_kept m s made p next room inner kept none).0;
+      lp = (counts_kept m s made p next room inner kept none).1;
+      put = λ inputs h. put_kept m s made p next room inner inputs kept none same (goes (paths_of inputs) made h.inner (hp_input m s made p next room inputs kept none h) (lp_input m s made p next room inputs kept none h)) h;
+    }))
 
 -- what is written
 pub bytes_made : (m : Mode) (s : Settings) (made : ℕ) (p : Parts) (next : NextSymbol) (room : ℕ) (labels : List ℕ) (inputs : Inputs) → IsKept m s made p next room → wanted (transmitter s made p) ≡ None
     → ((l : ℕ → ℕ → Bool) → symbol_bytes s made l ≡ symbol_bytes s (made % 272) l)
     → ((l k : ℕ → ℕ → Bool) → Agree s l k → symbol_bytes s made l ≡ symbol_bytes s made k)
     → ((paths : Paths) (n : ℕ) → IsAtSymbol p.inner paths n → take (need p.inner.settings Hp) p.hp_waiting ≡ input_bits p.inner.settings paths n Hp → take (need p.inner.settings Lp) p.lp_waiting ≡ input_bits p.inner.settings paths n Lp
-        → Agree p.inner.settings (bits_of labels) (label_bit p.inner.settings (is_odd made) (coded_bits p.inner.settings paths n)))
+    → Agree p.inner.settings (bits_of labels) (label_bit p.inner.settings (is_odd made) (coded_bits p.inner.settings paths n)))
     → HasPut (transmitter s made p) inputs → symbol_bytes next.settings next.number (bits_of labels) ≡ tx_symbol s inputs made
 bytes_made m s made p next room labels inputs kept none repeats follows agrees h =
     let agree : Agree s (bits_of labels) (label_bit s (is_odd made) (coded_bits s (paths_of inputs) made)) =

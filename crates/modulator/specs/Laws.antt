@@ -3,7 +3,7 @@ use Rattle.std.specs.Prelude.{◌≡◌, ℕ, ◌<◌}
 use Rattle.mode_set.specs.declared.modes.Stream.{Stream}
 use Rattle.outer_chain.specs.Sent.{packet_at}
 use Rattle.transmission.specs.Transmission.{Inputs, by_stream}
-use Rattle.modulator.specs.State.{Transmitter, HasPut, StandsFor}
+use Rattle.modulator.specs.State.{Transmitter, HasPut}
 
 -- the packets put are the first ones of all streams that begin with them
 abbrev pub OtherStreams : Type 0

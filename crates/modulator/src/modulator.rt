@@ -174,9 +174,6 @@ impl<M: Carriers> Modulator<M> {
         if settings.hierarchy.is_flat() {
             return hp;
         }
-        hp.max(frames_for(
-            n_lp,
-            settings.words_per_super_frame(Stream::Lp),
-        ))
+        hp.max(frames_for(n_lp, settings.words_per_super_frame(Stream::Lp)))
     }
 }

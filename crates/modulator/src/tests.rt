@@ -127,9 +127,11 @@ fn check(rt: &impl Abort, alloc: Global, document: &[u8], hp: u16, lp: u16, sum:
     assert!(rt; found.expect(rt, "memory") == sum);
 }
 
-const BASE: &[u8] = b"mode = \"2k\"\nconstellation = \"qpsk\"\nrate_hp = \"1/2\"\nguard = \"1/32\"\n";
+const BASE: &[u8] =
+    b"mode = \"2k\"\nconstellation = \"qpsk\"\nrate_hp = \"1/2\"\nguard = \"1/32\"\n";
 
-const TWO_STREAMS: &[u8] = b"mode = \"8k\"\nconstellation = \"64qam\"\nhierarchy = \"2\"\nrate_hp = \"2/3\"\nrate_lp = \"3/4\"\nguard = \"1/32\"\n";
+const TWO_STREAMS: &[u8] =
+    b"mode = \"8k\"\nconstellation = \"64qam\"\nhierarchy = \"2\"\nrate_hp = \"2/3\"\nrate_lp = \"3/4\"\nguard = \"1/32\"\n";
 
 // Null packets; HP and LP, which end within the super-frame and are followed by null packets; a stream
 // that fills it; both modes.
@@ -195,12 +197,7 @@ fn super_frames_for_packets(rt: HostRuntime) {
         assert!(&rt; Modulator::<Mode2k>::super_frames(&base, packets, 0) == frames);
     }
     let two = settings_of(&rt, alloc, TWO_STREAMS);
-    for (hp, lp, frames) in [
-        (1000, 4000, 2),
-        (1333, 3013, 1),
-        (1334, 0, 2),
-        (0, 3014, 2),
-    ] {
+    for (hp, lp, frames) in [(1000, 4000, 2), (1333, 3013, 1), (1334, 0, 2), (0, 3014, 2)] {
         assert!(&rt; hp <= 100000000 && lp <= 100000000);
         assert!(&rt; Modulator::<Mode8k>::super_frames(&two, hp, lp) == frames);
     }

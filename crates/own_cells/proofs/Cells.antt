@@ -1,13 +1,11 @@
 -- The cell that stands for a label, where it is received near its point.
-use Rattle.std.proofs.Common.{◌≡◌, ℕ, zero, suc, ◌+◌, ◌%◌, ◌*◌, ◌<◌, List, [], ◌∷◌, length, get_or, refl, sym, ap, ap₂, ◌∙◌, subst, arith, Bool, true, false, cond, not, ◌||◌}
-use Rattle.std.specs.Prelude.{IsTrue, filter, count_by, slice_index, slice_index_or, ◌==◌}
+use Rattle.std.proofs.Common.{◌≡◌, ℕ, zero, suc, ◌+◌, ◌%◌, ◌*◌, ◌<◌, List, ◌∷◌, length, get_or, refl, sym, ap, ap₂, ◌∙◌, subst, arith, Bool, true, false, cond, not, ◌||◌}
+use Rattle.std.specs.Prelude.{IsTrue, filter, count_by, slice_index, ◌==◌}
 use Rattle.std.specs.List.{range_with_len}
 use Rattle.spec_words.specs.Words.{numbers}
 use Rattle.mode_set.specs.StreamTable.{carriers, payload, label_bits}
 use Rattle.mode_set.specs.declared.modes.Mode.{Mode}
-use Rattle.mode_set.specs.declared.modes.Mode.TheVariants.{M2k, M8k}
 use Rattle.mode_set.specs.declared.settings.Settings.{Settings}
-use Rattle.pilots.specs.declared.carrier_kind.CarrierKind.{CarrierKind}
 use Rattle.pilots.specs.declared.carrier_kind.CarrierKind.TheVariants.{Continual, Scattered, Tps, Payload}
 use Rattle.pilots.specs.Carriers.{is_continual, is_scattered, is_tps, is_payload, payload_carriers, kind, AreNumbered}
 use Rattle.qam_map.specs.Points.{map_cell, on_axis}

@@ -1,8 +1,8 @@
 -- The costs of each step speak for the path that was sent.
-use Rattle.std.proofs.Common.{◌≡◌, ℕ, ◌+◌, ◌*◌, ◌%◌, ◌<◌, ◌⊎◌, inl, inr, List, refl, sym, ap, ◌∙◌, subst, arith, Bool, true, false, cond, not, ◌||◌}
+use Rattle.std.proofs.Common.{◌≡◌, ℕ, ◌+◌, ◌*◌, ◌%◌, ◌<◌, ◌⊎◌, inl, inr, List, refl, sym, ap, ◌∙◌, subst, Bool, true, false, cond, not, ◌||◌}
 use Rattle.std.specs.Prelude.{IsTrue, Option, Some, None}
 use Rattle.std.proofs.Math.Nat.{add_assoc}
-use Rattle.mode_set.specs.StreamTable.{payload, coded, need, rate, has_stream}
+use Rattle.mode_set.specs.StreamTable.{coded, need, rate, has_stream}
 use Rattle.mode_set.specs.Laws.{SymbolsHaveWholePeriods}
 use Rattle.mode_set.specs.declared.modes.Mode.{Mode}
 use Rattle.mode_set.specs.declared.modes.Rate.{Rate}
@@ -16,11 +16,10 @@ use Rattle.puncture.specs.Laws.{StepsSendInOrder, StepsAreNumbered, PeriodsShift
 use Rattle.bit_interleave.specs.Place.{place_in_label, word_of_bit, IsSent, EachBitIsFound}
 use Rattle.symbol_interleave.specs.Carried.{is_odd, HIsAPermutation, PlacesAndWordsAgree}
 use Rattle.qam_map.specs.Points.{on_axis}
-use Rattle.qam_map.specs.declared.cell.Cell.{Cell}
 use Rattle.soft_metric.specs.Costs.{cost, NearPointsFavourTheirBits}
 use Rattle.inner_chain.specs.CostPairs.{payload_place, costs_of_bit}
 use Rattle.inner_chain.specs.PairLists.{pair_of}
-use Rattle.transmission.specs.Transmission.{Inputs, paths_of, tx_label}
+use Rattle.transmission.specs.Transmission.{Inputs, paths_of}
 use Rattle.transmission.specs.SuperFrames.{symbols_of}
 use Rattle.reception.specs.Cells.{symbol_cells}
 use Rattle.own_cells.specs.Returned.{IsWithin}

@@ -1,16 +1,13 @@
 -- What comes back of a stream are its packets, and then null packets.
-use Rattle.std.proofs.Common.{◌≡◌, ℕ, zero, suc, ◌+◌, ◌-◌, ◌*◌, ◌<◌, ◌≤◌, List, [], ◌∷◌, ◌++◌, length, get_or, take, refl, sym, ap, ◌∙◌, subst, arith, append_assoc, append-nil}
-use Rattle.std.specs.Prelude.{IsTrue, replicate}
+use Rattle.std.proofs.Common.{◌≡◌, ℕ, zero, suc, ◌+◌, ◌-◌, ◌*◌, ◌≤◌, List, [], ◌∷◌, ◌++◌, length, take, refl, sym, ap, ◌∙◌, arith, append_assoc, append-nil}
+use Rattle.std.specs.Prelude.{replicate}
 use Rattle.std.specs.List.{concat}
 use Rattle.std.proofs.lemmas.List.{take_all, get_or_past}
 use Rattle.std.proofs.lemmas.List.Folds.{concat-append}
 use Rattle.std.proofs.Math.Seq.{take-suc}
-use Rattle.mode_set.specs.StreamTable.{has_stream, words_per_super_frame}
-use Rattle.mode_set.specs.declared.modes.Stream.{Stream}
-use Rattle.mode_set.specs.declared.settings.Settings.{Settings}
+use Rattle.mode_set.specs.StreamTable.{words_per_super_frame}
 use Rattle.ts_packet.specs.Packet.{null_packet}
 use Rattle.outer_chain.specs.Sent.{packet_at, joined}
-use Rattle.transmission.specs.Transmission.{Inputs}
 use Rattle.transmission.specs.SuperFrames.{super_frames, counts_of}
 use Rattle.transmission.specs.Laws.{TheFormulaIsLeast}
 use Rattle.own_cells.specs.Returned.{words_of}

@@ -5,3 +5,4 @@ pub mod Favoured
 pub mod Received
 pub mod ReadBack
 pub mod Joined
+mod Vectors

@@ -1,10 +1,9 @@
 -- Where a coded bit stands: the label bit that is sent there is this bit of its stream.
-use Rattle.std.proofs.Common.{◌≡◌, ℕ, zero, suc, ◌+◌, ◌-◌, ◌*◌, ◌/◌, ◌%◌, ◌<◌, ◌≤◌, refl, sym, ap, ◌∙◌, subst, arith, Bool, true, false, cond}
-use Rattle.std.specs.Prelude.{IsTrue, slice_index, nat_lt, ◌==◌}
+use Rattle.std.proofs.Common.{◌≡◌, ℕ, ◌+◌, ◌-◌, ◌*◌, ◌/◌, ◌%◌, ◌<◌, ◌≤◌, refl, sym, ap, ◌∙◌, arith, Bool, true, false, cond}
+use Rattle.std.specs.Prelude.{slice_index, nat_lt, ◌==◌}
 use Rattle.std.proofs.lemmas.Bool.{lt-ltb, le-ltb}
 use Rattle.spec_words.specs.Words.{first_below}
-use Rattle.mode_set.specs.Kept.{is_flat, is_qpsk}
-use Rattle.mode_set.specs.StreamTable.{payload, label_bits, width, coded, has_stream}
+use Rattle.mode_set.specs.StreamTable.{payload, label_bits, width, coded}
 use Rattle.mode_set.specs.declared.modes.Mode.{Mode}
 use Rattle.mode_set.specs.declared.modes.Mode.TheVariants.{M2k, M8k}
 use Rattle.mode_set.specs.declared.modes.Shape.{Shape}

@@ -1,18 +1,18 @@
 -- The cells of a transmission are read from its bytes.
-use Rattle.std.proofs.Common.{◌≡◌, ℕ, zero, suc, ◌+◌, ◌-◌, ◌*◌, ◌/◌, ◌%◌, ◌^◌, ◌<◌, ◌≤◌, List, [], ◌∷◌, ◌++◌, length, get_or, take, drop, map, refl, sym, ap, ap₂, ◌∙◌, subst, arith, append_assoc, length-append, ltb, Bool, true, false, cond, ◌&&◌}
-use Rattle.std.specs.Prelude.{ℤ, pos, neg_ℤ, unsigned_abs, flat_map, IsTrue, slice_index_or}
+use Rattle.std.proofs.Common.{◌≡◌, ℕ, zero, suc, ◌+◌, ◌*◌, ◌/◌, ◌%◌, ◌^◌, ◌<◌, ◌≤◌, List, [], ◌∷◌, ◌++◌, length, take, drop, refl, sym, ap, ap₂, ◌∙◌, subst, arith, append_assoc, length-append, ltb, Bool, true, false, ◌&&◌}
+use Rattle.std.specs.Prelude.{ℤ, pos, unsigned_abs, flat_map}
 use Rattle.std.specs.Int.{cast_signed, cast_unsigned, w16}
 use Rattle.std.specs.List.{range_with_len}
 use Rattle.std.proofs.lemmas.Bool.{and_parts, ltb-true}
 use Rattle.std.proofs.lemmas.Int.{ints, to_z-of_z, fits_signed_from_abs}
-use Rattle.std.proofs.lemmas.List.{drop-drop, length-map}
+use Rattle.std.proofs.lemmas.List.{drop-drop}
 use Rattle.std.proofs.lemmas.List.FromFn.{get_or-map-range_with_len}
 use Rattle.std.proofs.Math.Facts.{Fits-of_z}
-use Rattle.std.proofs.Math.Seq.{drop-append-add, drop-append_seam, take-append_seam}
+use Rattle.std.proofs.Math.Seq.{drop-append-add, take-append_seam}
 use Rattle.byteorder.specs.Endian.{big_bytes, big_number}
 use Rattle.byteorder.specs.Numbers.{big_number-reads_back}
 use Rattle.spec_words.specs.Words.{numbers}
-use Rattle.mode_set.specs.StreamTable.{carriers, label_bits}
+use Rattle.mode_set.specs.StreamTable.{carriers}
 use Rattle.mode_set.specs.declared.modes.Mode.{Mode}
 use Rattle.mode_set.specs.declared.modes.Mode.TheVariants.{M2k, M8k}
 use Rattle.mode_set.specs.declared.modes.Shape.{Shape}
@@ -22,18 +22,16 @@ use Rattle.mode_set.specs.declared.modes.Hierarchy.TheVariants.{Flat, Alpha1, Al
 use Rattle.mode_set.specs.declared.settings.Settings.{Settings}
 use Rattle.pilots.specs.declared.carrier_kind.CarrierKind.{CarrierKind}
 use Rattle.pilots.specs.declared.carrier_kind.CarrierKind.TheVariants.{Continual, Scattered, Tps, Payload}
-use Rattle.pilots.specs.Carriers.{kind, is_payload}
+use Rattle.pilots.specs.Carriers.{kind}
 use Rattle.pilots.specs.Reference.{reference}
 use Rattle.qam_map.specs.declared.cell.Cell.{Cell}
-use Rattle.qam_map.specs.Points.{value_of, real_bits, imaginary_bits, map_cell, distance, tolerance}
+use Rattle.qam_map.specs.Points.{value_of, real_bits, imaginary_bits, distance}
 use Rattle.soft_metric.specs.Costs.{IsNear}
 use Rattle.frame_build.specs.Symbol.{real, cell_of_kind, cell_at, cell_bytes, cell_from, cells_from}
-use Rattle.inner_chain.specs.CostPairs.{cell_of}
 use Rattle.transmission.specs.Transmission.{Inputs, tx_label, tx_cell, tx_symbol, first_symbols}
 use Rattle.transmission.specs.SuperFrames.{symbols_of, tx}
 use Rattle.transmission.specs.Laws.{SymbolsAreCells, SymbolsAreLong}
 use Rattle.reception.specs.Cells.{symbol_length, symbols, bytes_of_symbol, symbol_cells}
-use Rattle.own_cells.specs.Returned.{IsWithin}
 use Rattle.own_cells.specs.Laws.{CellsAreRead, OwnAreWithin, NoiseLaw, NoiseIsClean, CleanLaw, OwnAreClean}
 
 -- ---- both parts of a cell fit 16 bits

@@ -1,7 +1,6 @@
 -- Costs that speak for the path that was sent give its bytes, and these the packets.
-use Rattle.std.proofs.Common.{◌≡◌, ℕ, zero, suc, ◌+◌, ◌-◌, ◌*◌, ◌/◌, ◌%◌, ◌<◌, ◌≤◌, ◌⊎◌, inl, inr, List, [], ◌∷◌, ◌++◌, length, get_or, take, drop, map, refl, sym, ap, ◌∙◌, subst, arith, Bool, true, false, cond}
-use Rattle.std.specs.Prelude.{IsTrue, Some, replicate, slice_index, slice_index_or, nat_lt}
-use Rattle.std.specs.List.{range_with_len, AllByRecursion}
+use Rattle.std.proofs.Common.{◌≡◌, ℕ, zero, suc, ◌+◌, ◌-◌, ◌*◌, ◌/◌, ◌%◌, ◌<◌, List, [], ◌∷◌, ◌++◌, length, get_or, take, drop, map, refl, sym, ap, ◌∙◌, subst, arith, Bool, false, cond}
+use Rattle.std.specs.Prelude.{IsTrue, Some, replicate, slice_index, nat_lt}
 use Rattle.std.proofs.lemmas.Bool.{le-ltb}
 use Rattle.std.proofs.lemmas.List.{length-map}
 use Rattle.std.proofs.lemmas.List.FromFn.{get_or-map-range_with_len}
@@ -29,11 +28,11 @@ use Rattle.outer_chain.specs.Laws.{OuterAreBytes, OwnBytes, OwnTally}
 use Rattle.inner_chain.specs.PairLists.{pair_of}
 use Rattle.transmission.specs.Transmission.{Inputs, paths_of}
 use Rattle.transmission.specs.SuperFrames.{super_frames, counts_of, symbols_of}
-use Rattle.reception.specs.Cells.{symbols, symbol_cells}
+use Rattle.reception.specs.Cells.{symbols}
 use Rattle.reception.specs.Costs.{costs}
 use Rattle.reception.specs.Laws.{CostsAreSteps, CostOfStep}
 use Rattle.reception.specs.Streams.{memory, start_of, Reception, Final}
-use Rattle.own_cells.specs.Returned.{words_of, returned, HavePackets, IsReturned, AreClean, IsWithin}
+use Rattle.own_cells.specs.Returned.{words_of, HavePackets, IsWithin}
 use Rattle.own_cells.specs.Laws.{NoiseLaw, NoiseIsClean}
 use Rattle.own_cells.proofs.Favoured.{AreKnown, step_speaks}
 

@@ -1,18 +1,18 @@
 -- The numbers of the bits of a step, and what they are on a path.
-use Rattle.std.proofs.Common.{◌≡◌, ℕ, zero, suc, ◌+◌, ◌-◌, ◌*◌, ◌/◌, ◌%◌, ◌<◌, ◌≤◌, ◌⊎◌, inl, inr, List, [], ◌∷◌, ◌++◌, length, map, refl, sym, ap, ◌∙◌, subst, arith, Bool, true, false, cond, not, ◌||◌}
-use Rattle.std.specs.Prelude.{count_by, nat_le, Option, Some, None, option_map}
+use Rattle.std.proofs.Common.{◌≡◌, ℕ, ◌+◌, ◌-◌, ◌*◌, ◌/◌, ◌%◌, ◌<◌, ◌≤◌, ◌⊎◌, inl, inr, [], ◌∷◌, length, map, refl, sym, ap, ◌∙◌, subst, arith, Bool, true, false, cond, ◌||◌}
+use Rattle.std.specs.Prelude.{count_by, nat_le, Some, None, option_map}
 use Rattle.std.specs.List.{range_with_len}
 use Rattle.std.proofs.lemmas.Bool.{cases_lt}
 use Rattle.std.proofs.lemmas.List.Sums.{count_by-le-length}
 use Rattle.std.proofs.Math.Nat.{mul_assoc}
 use Rattle.code_paths.specs.Paths.{parity_x, parity_y}
 use Rattle.mode_set.specs.StreamTable.{coded, need, rate, steps_in_period, sent_in_period}
-use Rattle.mode_set.specs.Laws.{periods, HasWholePeriods, SymbolsHaveWholePeriods}
+use Rattle.mode_set.specs.Laws.{periods, SymbolsHaveWholePeriods}
 use Rattle.mode_set.specs.declared.modes.Rate.{Rate}
 use Rattle.mode_set.specs.declared.modes.Rate.TheVariants.{R1of2, R2of3, R3of4, R5of6, R7of8}
 use Rattle.mode_set.specs.declared.modes.Stream.{Stream}
 use Rattle.mode_set.specs.declared.settings.Settings.{Settings}
-use Rattle.puncture.specs.SentBits.{Coded, X, Y, sent, sent_bit, sent_bits, window}
+use Rattle.puncture.specs.SentBits.{Coded, X, Y, sent, sent_bit, window}
 use Rattle.puncture.specs.Steps.{is_sent, number_of, sent_before, step_in_period, bits_sent}
 use Rattle.puncture.specs.Laws.{StepsSendInOrder, StepsAreNumbered, PeriodsShift}
 
@@ -33,11 +33,11 @@ many R7of8 = refl
 
 -- a step is one of the first p periods, or the first behind them
 in_periods : (r : Rate) (p u : ℕ) → u ≤ p * steps_in_period r → (u / steps_in_period r < p) ⊎ ((u / steps_in_period r ≡ p) × (u % steps_in_period r ≡ 0))
-in_periods R1of2 p u l = elim (cases_lt (u / 1) p) [ | inl a ↦ inl a | inr a ↦ inr (omega (arith, a, l), omega arith) ]
-in_periods R2of3 p u l = elim (cases_lt (u / 2) p) [ | inl a ↦ inl a | inr a ↦ inr (omega (arith, a, l), omega (arith, a, l)) ]
-in_periods R3of4 p u l = elim (cases_lt (u / 3) p) [ | inl a ↦ inl a | inr a ↦ inr (omega (arith, a, l), omega (arith, a, l)) ]
-in_periods R5of6 p u l = elim (cases_lt (u / 5) p) [ | inl a ↦ inl a | inr a ↦ inr (omega (arith, a, l), omega (arith, a, l)) ]
-in_periods R7of8 p u l = elim (cases_lt (u / 7) p) [ | inl a ↦ inl a | inr a ↦ inr (omega (arith, a, l), omega (arith, a, l)) ]
+in_periods R1of2 p u l = elim (cases_lt (u / 1) p) [ inl a ↦ inl a | inr a ↦ inr (omega (arith, a, l), omega arith) ]
+in_periods R2of3 p u l = elim (cases_lt (u / 2) p) [ inl a ↦ inl a | inr a ↦ inr (omega (arith, a, l), omega (arith, a, l)) ]
+in_periods R3of4 p u l = elim (cases_lt (u / 3) p) [ inl a ↦ inl a | inr a ↦ inr (omega (arith, a, l), omega (arith, a, l)) ]
+in_periods R5of6 p u l = elim (cases_lt (u / 5) p) [ inl a ↦ inl a | inr a ↦ inr (omega (arith, a, l), omega (arith, a, l)) ]
+in_periods R7of8 p u l = elim (cases_lt (u / 7) p) [ inl a ↦ inl a | inr a ↦ inr (omega (arith, a, l), omega (arith, a, l)) ]
 
 row_within : (a p n k : ℕ) → a < p → k ≤ n → a * n + k ≤ p * n
 row_within a p n k l m = grind arith

@@ -31,8 +31,8 @@ fn counted(mode: Mode)
     counted_at(mode, 3);
 }
 
-/// Cells within the tolerance of a transmission give its packets back, whatever else the cells of
-/// pilots and TPS are: for each stream that exists the packets and then null packets, one packet for
+/// Cells within the tolerance of a transmission give its packets back, whatever stands on the carriers
+/// of pilots and TPS: for each stream that exists its packets and then null packets, one packet for
 /// each outer word of the super-frames but eleven, and all these words are clean.
 pub fn noise()
     ensures packets { NoiseLaw }

@@ -7,7 +7,7 @@ use Rattle.mode_set.specs.declared.modes.Stream.{Stream}
 use Rattle.station_core.specs.Causes.{Rose}
 use Rattle.run_clauses.specs.declared.work.Counts.{Counts}
 use Rattle.run_clauses.specs.declared.work.Refusal.{Refusal}
-use Rattle.run_clauses.specs.declared.work.Refusal.TheVariants.{Usage, ReadFault, WriteFault, NotSync, Memory, Limit}
+use Rattle.run_clauses.specs.declared.work.Refusal.TheVariants.{Usage, Settings, ReadFault, WriteFault, NotSync, Memory, Limit}
 use Rattle.run_clauses.specs.Packets.{whole_packets, first_packets, accepted, AcceptsFirst, counts_of}
 use Rattle.run_steps.specs.Causes.{HasCause}
 use Rattle.run_clauses.specs.Text.{closing_line, refusal_text, refusal_status, status_of, text_if_refused}
@@ -50,6 +50,7 @@ module _ (coded ended : List (List ℕ) → List ℕ) (limit : ℕ) (input outpu
         ap (λ (x : Meaning). x.report.written) tells ∙ ran.0.report t ∙ empty (closing_line counts) t ∙ ap closing_line codes.0,
       )
   done_by mid (Err Usage) ran tells is t = absurd (omega arith)
+  done_by mid (Err (Settings reason)) ran tells is t = absurd (omega arith)
   done_by mid (Err Memory) ran tells is t = absurd (omega arith)
   done_by mid (Err ReadFault) ran tells is t = absurd (omega arith)
   done_by mid (Err WriteFault) ran tells is t = absurd (omega arith)
@@ -73,6 +74,7 @@ module _ (coded ended : List (List ℕ) → List ℕ) (limit : ℕ) (input outpu
       → outcome_status o ≡ status_of (packet_refusal limit file)
   others_by mid (Ok counts) cause ran a b t = ap status_of (sym (no_refusal limit file (ran.1 t).1))
   others_by mid (Err Usage) cause ran a b t = absurd cause
+  others_by mid (Err (Settings reason)) cause ran a b t = absurd cause
   others_by mid (Err Memory) cause ran a b t = absurd cause
   others_by mid (Err ReadFault) cause ran a b t = absurd (a refl)
   others_by mid (Err WriteFault) cause ran a b t = absurd (b refl)
@@ -87,6 +89,7 @@ module _ (coded ended : List (List ℕ) → List ℕ) (limit : ℕ) (input outpu
   reads_by : (mid : Meaning) (o : Result Counts Refusal) → HasCause old mid o → Tells mid new o → outcome_status o ≡ 5 → Rose old.read_faults new.read_faults
   reads_by mid (Ok counts) cause tells is = absurd (omega arith)
   reads_by mid (Err Usage) cause tells is = absurd cause
+  reads_by mid (Err (Settings reason)) cause tells is = absurd cause
   reads_by mid (Err Memory) cause tells is = absurd cause
   reads_by mid (Err ReadFault) cause tells is = subst (λ (n : ℕ). Rose old.read_faults n) (sym (ap (λ (x : Meaning). x.read_faults) tells.others)) cause.0
   reads_by mid (Err WriteFault) cause tells is = absurd (omega arith)
@@ -99,6 +102,7 @@ module _ (coded ended : List (List ℕ) → List ℕ) (limit : ℕ) (input outpu
   writes_by : (mid : Meaning) (o : Result Counts Refusal) → HasCause old mid o → Tells mid new o → outcome_status o ≡ 6 → Rose old.write_faults new.write_faults
   writes_by mid (Ok counts) cause tells is = absurd (omega arith)
   writes_by mid (Err Usage) cause tells is = absurd cause
+  writes_by mid (Err (Settings reason)) cause tells is = absurd cause
   writes_by mid (Err Memory) cause tells is = absurd cause
   writes_by mid (Err ReadFault) cause tells is = absurd (omega arith)
   writes_by mid (Err WriteFault) cause tells is = omega (arith, cause.1, tells.later)
@@ -112,6 +116,7 @@ module _ (coded ended : List (List ℕ) → List ℕ) (limit : ℕ) (input outpu
   usage_by : (mid : Meaning) (o : Result Counts Refusal) → HasCause old mid o → outcome_status o ≢ 2
   usage_by mid (Ok counts) cause is = absurd (omega arith)
   usage_by mid (Err Usage) cause is = absurd cause
+  usage_by mid (Err (Settings reason)) cause is = absurd cause
   usage_by mid (Err Memory) cause is = absurd cause
   usage_by mid (Err ReadFault) cause is = absurd (omega arith)
   usage_by mid (Err WriteFault) cause is = absurd (omega arith)
@@ -121,10 +126,25 @@ module _ (coded ended : List (List ℕ) → List ℕ) (limit : ℕ) (input outpu
   pub usage : (status : ℕ) → RunsCoding coded ended limit input output old new status → status ≢ 2
   usage status r is = usage_by r.mid r.outcome r.cause (sym r.status_is ∙ is)
 
+  -- nor that of refused settings
+  settings_by : (mid : Meaning) (o : Result Counts Refusal) → HasCause old mid o → outcome_status o ≢ 3
+  settings_by mid (Ok counts) cause is = absurd (omega arith)
+  settings_by mid (Err Usage) cause is = absurd cause
+  settings_by mid (Err (Settings reason)) cause is = absurd cause
+  settings_by mid (Err Memory) cause is = absurd cause
+  settings_by mid (Err ReadFault) cause is = absurd (omega arith)
+  settings_by mid (Err WriteFault) cause is = absurd (omega arith)
+  settings_by mid (Err (NotSync stream n)) cause is = absurd (omega arith)
+  settings_by mid (Err (Limit n)) cause is = absurd (omega arith)
+
+  pub settings : (status : ℕ) → RunsCoding coded ended limit input output old new status → status ≢ 3
+  settings status r is = settings_by r.mid r.outcome r.cause (sym r.status_is ∙ is)
+
   -- nor that of want of memory
   memory_by : (mid : Meaning) (o : Result Counts Refusal) → HasCause old mid o → outcome_status o ≢ 7
   memory_by mid (Ok counts) cause is = absurd (omega arith)
   memory_by mid (Err Usage) cause is = absurd cause
+  memory_by mid (Err (Settings reason)) cause is = absurd cause
   memory_by mid (Err Memory) cause is = absurd cause
   memory_by mid (Err ReadFault) cause is = absurd (omega arith)
   memory_by mid (Err WriteFault) cause is = absurd (omega arith)
@@ -138,6 +158,7 @@ module _ (coded ended : List (List ℕ) → List ℕ) (limit : ℕ) (input outpu
   refused_by : (mid : Meaning) (o : Result Counts Refusal) → Ran coded ended limit input old mid o → Tells mid new o → (outcome_status o ≡ 4) ⊎ (outcome_status o ≡ 8) → old.tells ≡ true → new.bytes_out.written ≡ whole_output
   refused_by mid (Ok counts) ran tells is t = elim is [ inl e ↦ absurd (omega arith) | inr e ↦ absurd (omega arith) ]
   refused_by mid (Err Usage) ran tells is t = elim is [ inl e ↦ absurd (omega arith) | inr e ↦ absurd (omega arith) ]
+  refused_by mid (Err (Settings reason)) ran tells is t = elim is [ inl e ↦ absurd (omega arith) | inr e ↦ absurd (omega arith) ]
   refused_by mid (Err Memory) ran tells is t = elim is [ inl e ↦ absurd (omega arith) | inr e ↦ absurd (omega arith) ]
   refused_by mid (Err ReadFault) ran tells is t = elim is [ inl e ↦ absurd (omega arith) | inr e ↦ absurd (omega arith) ]
   refused_by mid (Err WriteFault) ran tells is t = elim is [ inl e ↦ absurd (omega arith) | inr e ↦ absurd (omega arith) ]
@@ -161,6 +182,7 @@ module _ (coded ended : List (List ℕ) → List ℕ) (limit : ℕ) (input outpu
   so_far_by : (mid : Meaning) (o : Result Counts Refusal) → Ran coded ended limit input old mid o → Tells mid new o → outcome_status o ≡ 5 → old.tells ≡ true → new.bytes_out.created ≡ true → SoFar
   so_far_by mid (Ok counts) ran tells is t made = absurd (omega arith)
   so_far_by mid (Err Usage) ran tells is t made = absurd (omega arith)
+  so_far_by mid (Err (Settings reason)) ran tells is t made = absurd (omega arith)
   so_far_by mid (Err Memory) ran tells is t made = absurd (omega arith)
   so_far_by mid (Err ReadFault) ran tells is t made =
       let c = ran.1 t (sym (ap (λ (x : Meaning). x.bytes_out.created) tells.others) ∙ made) in
@@ -205,6 +227,7 @@ module _ (coded ended : List (List ℕ) → List ℕ) (limit : ℕ) (input outpu
       → (mid : Meaning) (o : Result Counts Refusal) → Ran coded ended limit input old mid o → Tells mid new o → outcome_status o ≡ 6 → old.tells ≡ true → new.bytes_out.created ≡ true → Front
   front_by grows ends mid (Ok counts) ran tells is t made = absurd (omega arith)
   front_by grows ends mid (Err Usage) ran tells is t made = absurd (omega arith)
+  front_by grows ends mid (Err (Settings reason)) ran tells is t made = absurd (omega arith)
   front_by grows ends mid (Err Memory) ran tells is t made = absurd (omega arith)
   front_by grows ends mid (Err ReadFault) ran tells is t made = absurd (omega arith)
   front_by grows ends mid (Err WriteFault) ran tells is t made =
@@ -227,6 +250,7 @@ module _ (coded ended : List (List ℕ) → List ℕ) (limit : ℕ) (input outpu
 
   named_by : (mid : Meaning) (r : Refusal) → HasCause {T = Counts} old mid (Err r) → Ran coded ended limit input old mid (Err r) → refusal_status r ≢ 6 → old.tells ≡ true → named_text (refusal_status r) ≡ refusal_text r
   named_by mid Usage cause ran b t = absurd cause
+  named_by mid (Settings reason) cause ran b t = absurd cause
   named_by mid Memory cause ran b t = absurd cause
   named_by mid ReadFault cause ran b t = refl
   named_by mid WriteFault cause ran b t = absurd (b refl)
@@ -235,6 +259,7 @@ module _ (coded ended : List (List ℕ) → List ℕ) (limit : ℕ) (input outpu
 
   kept_report : (mid : Meaning) (r : Refusal) → Ran coded ended limit input old mid (Err r) → refusal_status r ≢ 6 → mid.report ≡ old.report
   kept_report mid Usage ran b = ran.0
+  kept_report mid (Settings reason) ran b = ran.0
   kept_report mid Memory ran b = ran.0
   kept_report mid ReadFault ran b = ran.0
   kept_report mid WriteFault ran b = absurd (b refl)
@@ -246,6 +271,7 @@ module _ (coded ended : List (List ℕ) → List ℕ) (limit : ℕ) (input outpu
 
   later_cause : (mid : Meaning) (r : Refusal) → HasCause {T = Counts} old mid (Err r) → old.write_faults ≤ mid.write_faults
   later_cause mid Usage cause = absurd cause
+  later_cause mid (Settings reason) cause = absurd cause
   later_cause mid Memory cause = absurd cause
   later_cause mid ReadFault cause = cause.2
   later_cause mid WriteFault cause = cause.2
@@ -280,6 +306,7 @@ module _ (coded ended : List (List ℕ) → List ℕ) (limit : ℕ) (input outpu
   lines_by : (mid : Meaning) (o : Result Counts Refusal) → old.tells ≡ mid.tells → Ran coded ended limit input old mid o → Tells mid new o → outcome_status o ≡ 6 → old.tells ≡ true → Lines
   lines_by mid (Ok counts) same ran tells is t = absurd (omega arith)
   lines_by mid (Err Usage) same ran tells is t = absurd (omega arith)
+  lines_by mid (Err (Settings reason)) same ran tells is t = absurd (omega arith)
   lines_by mid (Err Memory) same ran tells is t = absurd (omega arith)
   lines_by mid (Err ReadFault) same ran tells is t = absurd (omega arith)
   lines_by mid (Err WriteFault) same ran tells is t =

@@ -5,7 +5,7 @@ use Rattle.station_core.specs.Meaning.{Meaning}
 use Rattle.mode_set.specs.declared.modes.Stream.TheVariants.{Hp}
 use Rattle.run_clauses.specs.declared.work.Counts.{Counts}
 use Rattle.run_clauses.specs.declared.work.Refusal.{Refusal}
-use Rattle.run_clauses.specs.declared.work.Refusal.TheVariants.{Usage, ReadFault, WriteFault, NotSync, Memory, Limit}
+use Rattle.run_clauses.specs.declared.work.Refusal.TheVariants.{Usage, Settings, ReadFault, WriteFault, NotSync, Memory, Limit}
 use Rattle.run_clauses.specs.Packets.{first_packets, whole_packets, is_sync, AcceptsFirst, counts_of}
 
 -- nothing but what is left of HP, what is written to Bytes and the counts has changed
@@ -31,6 +31,7 @@ Step number piece input before left after (Err ReadFault) =
 Step number piece input before left after (Err WriteFault) =
     (k : ℕ) × (188 ≤ length input) × (is_sync input 0 ≡ true) × (after ≡ before ++ take k piece)
 Step number piece input before left after (Err Usage) = ⊥
+Step number piece input before left after (Err (Settings reason)) = ⊥
 Step number piece input before left after (Err Memory) = ⊥
 
 -- the packet was taken, and what it gives was written, or a front of it
@@ -49,6 +50,7 @@ EndsAtLimit limit input before left after (Err ReadFault) =
     (k : ℕ) × (k < 188) × (k ≤ length input) × (left ≡ drop k input) × (after ≡ before)
 EndsAtLimit limit input before left after (Err WriteFault) = ⊥
 EndsAtLimit limit input before left after (Err Usage) = ⊥
+EndsAtLimit limit input before left after (Err (Settings reason)) = ⊥
 EndsAtLimit limit input before left after (Err Memory) = ⊥
 
 -- All packets of an input: what is left of it and what was written, by the answer
@@ -66,6 +68,7 @@ Codes coded limit input before left after (Err ReadFault) =
 Codes coded limit input before left after (Err WriteFault) =
     (n : ℕ) × (k : ℕ) × (n ≤ whole_packets input) × AcceptsFirst limit input n × (after ≡ before ++ take k (coded (first_packets n input)))
 Codes coded limit input before left after (Err Usage) = ⊥
+Codes coded limit input before left after (Err (Settings reason)) = ⊥
 Codes coded limit input before left after (Err Memory) = ⊥
 
 -- The end of the coding, which gives the last piece

@@ -4,7 +4,7 @@ use Rattle.std.specs.Prelude.{◌≡◌, ◌⊎◌, ◌≤◌, ◌++◌, ℕ, tr
 use Rattle.station_core.specs.Meaning.{Meaning}
 use Rattle.run_clauses.specs.declared.work.Counts.{Counts}
 use Rattle.run_clauses.specs.declared.work.Refusal.{Refusal}
-use Rattle.run_clauses.specs.declared.work.Refusal.TheVariants.{Usage, ReadFault, WriteFault, NotSync, Memory, Limit}
+use Rattle.run_clauses.specs.declared.work.Refusal.TheVariants.{Usage, Settings, ReadFault, WriteFault, NotSync, Memory, Limit}
 use Rattle.run_steps.specs.Causes.{HasCause}
 use Rattle.packet_runs.specs.Coding.{CodesWhole}
 use Rattle.run_clauses.specs.Packets.{counts_of}
@@ -63,6 +63,7 @@ OpensAll input output old new (Ok u) =
 OpensAll input output old new (Err (NotSync stream n)) = ⊥
 OpensAll input output old new (Err (Limit n)) = ⊥
 OpensAll input output old new (Err Usage) = ⊥
+OpensAll input output old new (Err (Settings reason)) = ⊥
 OpensAll input output old new (Err Memory) = ⊥
 OpensAll input output old new (Err refusal) =
     (new.report ≡ old.report) × (new.bytes_out.created ≡ old.bytes_out.created)

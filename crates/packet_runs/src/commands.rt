@@ -1,16 +1,18 @@
 // The commands, each over its part of the station, with the clauses of the whole run.
 ghost use Rattle.std.specs.Prelude.{◌≡◌, ℕ, List, [], true, Some};
 ghost use Rattle.station_core.specs.Meaning.{IsFresh};
-ghost use Rattle.run_clauses.specs.Command.{Disperse, Outer, Code};
+ghost use Rattle.run_clauses.specs.Command.{Disperse, Outer, Inner, Code};
 ghost use Rattle.run_clauses.specs.Runs.{IsDone, HasStatus, AsksOnly, Stands, IsComplete};
 
 use crate::disperser::Disperser;
+use crate::inner_coder::InnerCoder;
 use crate::outer_coder::OuterCoder;
 use crate::packets_command::run_coding;
 use outer_chain::OuterTx;
 use outer_chain::laws::sending;
+use puncture::{sent_bits_are_runs, steps_are_numbered, steps_send_in_order};
 use run_clauses::{Limits, Refusal};
-use run_steps::refuse;
+use run_steps::{read_settings, refuse};
 use station_core::Station;
 use std::alloc::Global;
 
@@ -52,5 +54,39 @@ pub fn outer<'a, S: Station<'a>>(
     match OuterTx::new(alloc) {
         Ok(tx) => run_coding(input, output, limits, &mut OuterCoder::new(tx), station),
         Err(_) => refuse(&Refusal::Memory, station),
+    }
+}
+
+/// Runs `inner SETTINGS TS OUT` and gives its status. The settings are read and checked, and then all
+/// memory is taken, before another port is asked.
+pub fn inner<'a, S: Station<'a>>(
+    alloc: Global,
+    settings: &'a str,
+    input: &'a str,
+    output: &'a str,
+    limits: &Limits,
+    station: &mut S,
+) -> u8
+    requires fresh { IsFresh (S.meaning station.old) }
+    ensures done { result ≡ 0 → (S.meaning station.old).tells ≡ true
+        → IsDone limits.now.packets (Code (Inner settings.now) input.now output.now) (S.meaning station.old) (S.meaning station.new) }
+    ensures status { HasStatus limits.now.packets (Some (Code (Inner settings.now) input.now output.now)) (S.meaning station.old) (S.meaning station.new) result }
+    ensures asks { AsksOnly (Some (Code (Inner settings.now) input.now output.now)) (S.meaning station.old) (S.meaning station.new) result }
+    ensures stands { Stands limits.now.packets (Some (Code (Inner settings.now) input.now output.now)) (S.meaning station.old) (S.meaning station.new) result }
+    ensures complete { IsComplete limits.now.packets (Code (Inner settings.now) input.now output.now) (S.meaning station.old) (S.meaning station.new) result }
+{
+    sending();
+    steps_send_in_order();
+    steps_are_numbered();
+    sent_bits_are_runs();
+    match read_settings(alloc, settings, station) {
+        Ok(read) => match OuterTx::new(alloc) {
+            Ok(tx) => {
+                let mut coder = InnerCoder::new(tx, read.rate_hp);
+                run_coding(input, output, limits, &mut coder, station)
+            }
+            Err(_) => refuse(&Refusal::Memory, station),
+        },
+        Err(refusal) => refuse(&refusal, station),
     }
 }

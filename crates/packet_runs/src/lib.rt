@@ -1,5 +1,5 @@
-//! The commands that code the packets of a transport file, one after another: [`disperse`] and
-//! [`outer`].
+//! The commands that code the packets of a transport file, one after another: [`disperse`],
+//! [`outer`] and [`inner`].
 //!
 //! A command is a [`Coder`] of packets and one run of it over the station. Each call carries the five
 //! clauses of a run.
@@ -9,9 +9,11 @@ mod coder;
 mod coding;
 mod commands;
 mod disperser;
+mod inner_bytes;
+mod inner_coder;
 mod outer_coder;
 mod packets_command;
 mod steps;
 
 pub use coder::Coder;
-pub use commands::{disperse, outer};
+pub use commands::{disperse, inner, outer};

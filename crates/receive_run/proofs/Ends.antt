@@ -33,7 +33,7 @@ module _ (s : TheSettings) (two : Bool) (bytes : List ℕ) (r : Reception) (stan
   no_text : event_text out.events ≡ []
   no_text = ap event_text none
 
-  up : ReceivedUpTo s bytes after
+  abbrev up : ReceivedUpTo s bytes after
   up = record { taken = bytes; rest = []; are = sym (append-nil bytes); within = few; gives = inr (refl, final) }
 
   -- the rest of the packets was not written

@@ -136,9 +136,9 @@ stopped same costs_are tps bits s two file bytes r standing m m' n k few was siz
 pub next_of : (s : Settings) (two : Bool) (standing : List ℕ → Reception → Type 0) (file : List ℕ) (n k : ℕ) (m : Meaning) (bytes piece : List ℕ) (r : Reception)
     → length bytes ≡ n * symbol_length s → length piece ≡ k → IsReceiving s two standing file m (bytes ++ piece) r → (k < symbol_length s → m.tells ≡ true → m.cells.left ≡ [])
     → (b : Bool) → (b ≡ true → k ≡ symbol_length s) → (b ≡ false → k < symbol_length s) → Next s two standing file n m (Ok b)
-next_of s two standing file n k m bytes piece r size part is end true yes no = (bytes ++ piece, r, is, longer s bytes piece n size (part ∙ yes refl))
-next_of s two standing file n k m bytes piece r size part is end false yes no =
-    let short : k < symbol_length s = no refl in
+next_of s two standing file n k m bytes piece r size part is end true same less = (bytes ++ piece, r, is, longer s bytes piece n size (part ∙ same refl))
+next_of s two standing file n k m bytes piece r size part is end false same less =
+    let short : k < symbol_length s = less refl in
     (bytes ++ piece, r, is, not_longer s bytes piece n size (omega (arith, part, short)), end short)
 
 -- a whole symbol more than the limit was read

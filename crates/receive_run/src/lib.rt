@@ -7,5 +7,7 @@
 #![tactic(auto)]
 
 mod cell_receiver;
+mod ports;
 mod receiving;
+mod run;
 mod writing;

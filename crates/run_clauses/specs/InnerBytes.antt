@@ -1,5 +1,5 @@
 -- What the inner code makes of bytes (EN 300 744, 4.3.3).
-use Rattle.std.specs.Prelude.{ℕ, ◌*◌, Bool, false, List, [], ◌∷◌, ◌++◌, length}
+use Rattle.std.specs.Prelude.{ℕ, ◌*◌, Bool, false, List, ◌++◌, length, replicate}
 use Rattle.mode_set.specs.declared.modes.Rate.{Rate}
 use Rattle.forney.specs.Values.{stream_of}
 use Rattle.outer_chain.specs.Bits.{bytes_of}
@@ -10,9 +10,9 @@ use Rattle.puncture.specs.Steps.{sent_before}
 abbrev pub inner_bits : Rate → List ℕ → List Bool
 inner_bits r bytes = sent_bits r (path_of (stream_of bytes)) 0 (sent_before r (8 * length bytes))
 
--- bits with zeros behind them, which fill the last byte
+-- bits with seven zeros behind them, which fill the last byte if it is not whole
 abbrev pub filled : List Bool → List Bool
-filled bits = bits ++ false ∷ false ∷ false ∷ false ∷ false ∷ false ∷ false ∷ []
+filled bits = bits ++ replicate 7 false
 
 -- the whole bytes of those bits, and the same where the last byte is filled with zeros
 abbrev pub inner_bytes : Rate → List ℕ → List ℕ

@@ -10,6 +10,7 @@ use Rattle.run_clauses.specs.declared.work.Refusal.TheVariants.{WriteFault}
 use Rattle.run_clauses.specs.Command.{Command, TakesMemory, source_name, sink_name}
 use Rattle.run_clauses.specs.SettingsFile.{most_settings}
 use Rattle.run_clauses.specs.Text.{status_of, refusal_text}
+pub use Rattle.run_clauses.specs.Outcome.{text_of}
 use Rattle.run_clauses.specs.Outcome.{early_refusal, refusal_of, OfOutput, OfWouldHold, HoldsSoFar, OfLines, OfWouldPrint, OfText}
 
 -- both counts of faults are as before

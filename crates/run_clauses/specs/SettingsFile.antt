@@ -1,5 +1,5 @@
 -- What a settings file comes to, from its bytes alone.
-use Rattle.std.specs.Prelude.{ℕ, List, length, nat_lt, if◌then◌else◌, Option, None, Some, option_map, option_and_then}
+use Rattle.std.specs.Prelude.{ℕ, List, length, nat_lt, if◌then◌else◌, Option, Some, option_map, option_and_then}
 use Rattle.std.specs.Result.{result_ok}
 use Rattle.mode_set.specs.declared.error.SettingsError.{SettingsError}
 use Rattle.mode_set.specs.declared.error.SettingsError.TheVariants as error

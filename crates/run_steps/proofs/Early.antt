@@ -1,16 +1,15 @@
 -- The clauses of a run that was refused before another port than Settings was asked: for its settings, for
 -- want of memory, or where they could not be read.
-use Rattle.std.proofs.Common.{◌≡◌, ◌≢◌, ◌⊎◌, inl, inr, true, ℕ, ◌+◌, ◌<◌, ◌≤◌, ◌-◌, ◌^◌, min, Bool, false, List, [], ◌++◌, take, drop, refl, ◌∙◌, sym, ap, subst, arith, Result, Ok, Err, Option, None, Some}
-use Rattle.std.specs.Prelude.{IsTrue, is_some, IfSome, ◌==◌}
+use Rattle.std.proofs.Common.{◌≡◌, ◌≢◌, ◌⊎◌, inl, inr, true, ℕ, ◌+◌, ◌<◌, ◌≤◌, ◌-◌, ◌^◌, min, Bool, false, List, [], ◌++◌, take, drop, refl, ◌∙◌, sym, ap, subst, arith, Err, Option, None, Some}
+use Rattle.std.specs.Prelude.{is_some, IfSome, ◌==◌}
 use Rattle.std.specs.Option.{option_or}
 use Rattle.std.proofs.lemmas.Bool.{cases_lt, true≢false}
-use Rattle.station_core.specs.Meaning.{Meaning, Source, Sink, IsFresh, source_at, sink_at}
+use Rattle.station_core.specs.Meaning.{Meaning, Source, IsFresh, source_at, sink_at}
 use Rattle.station_core.specs.Causes.{Rose}
 use Rattle.station_core.specs.declared.ports.InPort.{InPort}
 use Rattle.station_core.specs.declared.ports.InPort.TheVariants as ins
 use Rattle.station_core.specs.declared.ports.OutPort.{OutPort}
 use Rattle.station_core.specs.declared.ports.OutPort.TheVariants as outs
-use Rattle.mode_set.specs.declared.settings.Settings.{Settings as TheSettings}
 use Rattle.run_clauses.specs.declared.work.Refusal.{Refusal}
 use Rattle.run_clauses.specs.declared.work.SettingsRefusal.{SettingsRefusal}
 use Rattle.run_clauses.specs.declared.work.Refusal.TheVariants.{Usage, Settings, ReadFault, WriteFault, NotSync, Memory, Limit}

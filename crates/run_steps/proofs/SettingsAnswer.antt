@@ -1,5 +1,5 @@
 -- From what was read of the settings file to the answer of the step.
-use Rattle.std.proofs.Common.{◌≡◌, ◌≤◌, ◌+◌, true, ℕ, List, [], length, drop, ◌∙◌, arith, Result, Ok, Err, Some}
+use Rattle.std.proofs.Common.{◌≡◌, ◌+◌, true, ℕ, List, length, drop, ◌∙◌, arith, Result, Ok, Err, Some}
 use Rattle.std.proofs.lemmas.List.{drop_all}
 use Rattle.station_core.specs.Meaning.{Meaning}
 use Rattle.mode_set.specs.declared.settings.Settings.{Settings as TheSettings}

@@ -18,13 +18,13 @@ use Rattle.mode_set.specs.declared.modes.Rate.TheVariants.{R1of2, R2of3, R3of4, 
 use Rattle.mode_set.specs.declared.modes.Stream.{Stream}
 use Rattle.mode_set.specs.declared.modes.Stream.TheVariants.{Hp, Lp}
 use Rattle.mode_set.specs.declared.settings.Settings.{Settings}
-use Rattle.puncture.specs.SentBits.{Coded, X, Y, sent, path_of, window, sent_bit}
+use Rattle.puncture.specs.SentBits.{X, sent, path_of, window, sent_bit}
 use Rattle.puncture.specs.Steps.{sent_as, step_of, step_in_period}
 use Rattle.puncture.specs.Laws.{SentBitsHaveSteps, parity_of}
-use Rattle.bit_interleave.specs.Place.{place_in_label, word_of_bit, offset, first_place, stands_at, stream_at, IsSent, EachBitIsFound}
-use Rattle.symbol_interleave.specs.Carried.{h, carried, is_odd, place_of_word, HIsAPermutation, PlacesAndWordsAgree}
+use Rattle.bit_interleave.specs.Place.{place_in_label, word_of_bit, offset, stands_at, stream_at, IsSent, EachBitIsFound}
+use Rattle.symbol_interleave.specs.Carried.{h, carried, is_odd, HIsAPermutation, PlacesAndWordsAgree}
 use Rattle.outer_chain.specs.Sent.{packet_at, outer_byte}
-use Rattle.inner_chain.specs.Labels.{number_at, label_bit, coded_bits}
+use Rattle.inner_chain.specs.Labels.{number_at, label_bit}
 use Rattle.frame_build.specs.Symbol.{symbol_bytes, Agree}
 use Rattle.transmission.specs.Transmission.{Inputs, paths_of, tx_label, tx_symbol}
 use Rattle.transmission.specs.SuperFrames.{packets_for}

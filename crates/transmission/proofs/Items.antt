@@ -1,11 +1,11 @@
 -- Lists of items before the first one that is refused.
-use Rattle.std.proofs.Common.{◌≡◌, ℕ, zero, suc, ◌+◌, ◌-◌, ◌≤◌, ◌<◌, List, [], ◌∷◌, ◌++◌, refl, sym, ap, ◌∙◌, subst, arith, append_assoc, Bool, true, false, cond}
-use Rattle.std.specs.Prelude.{map, flat_map, find, take_while, count_by, Option, Some, None, is_some, is_none, option_and_then, ⊤}
+use Rattle.std.proofs.Common.{◌≡◌, ℕ, zero, suc, ◌+◌, ◌-◌, ◌≤◌, ◌<◌, List, [], ◌∷◌, ◌++◌, refl, sym, ap, ◌∙◌, arith, cond}
+use Rattle.std.specs.Prelude.{map, find, take_while, count_by, Option, Some, None, is_some, is_none, option_and_then, ⊤}
 use Rattle.std.specs.List.{range_with_len}
 use Rattle.std.proofs.lemmas.List.Sums.{take_while-cons, sum_by-append}
 use Rattle.spec_words.specs.Words.{numbers}
 use Rattle.mode_set.specs.declared.modes.Stream.{Stream}
-use Rattle.transmission.specs.Agenda.{Item, ask_limit, take_packet, send_symbol, Refusal, is_send}
+use Rattle.transmission.specs.Agenda.{Item, take_packet, Refusal, is_send}
 
 -- no item of the list is refused
 abbrev pub AreClear : (Item → Option Refusal) → List Item → Type 0

@@ -1,5 +1,5 @@
 -- The packets of so many symbols.
-use Rattle.std.proofs.Common.{◌≡◌, ℕ, ◌+◌, ◌-◌, ◌*◌, ◌/◌, ◌<◌, ◌≤◌, ap, sym, ◌∙◌, arith, Bool, false}
+use Rattle.std.proofs.Common.{◌≡◌, ℕ, ◌+◌, ◌*◌, ◌<◌, ◌≤◌, ap, ◌∙◌, arith, false}
 use Rattle.std.proofs.Math.Nat.{mul-le-mul_right}
 use Rattle.std.proofs.lemmas.Bool.{cases_lt}
 use Rattle.std.specs.Prelude.{◌⊎◌}
@@ -8,9 +8,7 @@ use Rattle.spec_words.specs.Words.{rounded_up}
 use Rattle.mode_set.specs.StreamTable.{need, words_per_super_frame}
 use Rattle.mode_set.specs.Laws.{SuperFramesHaveWholeWords}
 use Rattle.mode_set.specs.declared.modes.Stream.{Stream}
-use Rattle.mode_set.specs.declared.settings.Settings.{Settings}
-use Rattle.transmission.specs.SuperFrames.{packets_for, ArePacketsFor}
-use Rattle.transmission.specs.Agenda.{IsEnoughFor}
+use Rattle.transmission.specs.SuperFrames.{packets_for}
 use Rattle.transmission.specs.Laws.{ThePacketsAreLeast, NoPackets, PacketsGrow, PacketsOfSuperFrames}
 use Rattle.transmission.specs.AgendaLaws.{SentAtFault}
 use Rattle.transmission.proofs.Rounding.{enough, least}

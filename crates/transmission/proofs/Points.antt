@@ -1,5 +1,5 @@
 -- The laws of the order of work.
-use Rattle.std.proofs.Common.{◌≡◌, ℕ, zero, suc, ◌+◌, ◌-◌, ◌≤◌, ◌<◌, ◌⊎◌, inl, inr, List, [], ◌∷◌, ◌++◌, refl, sym, ap, ◌∙◌, subst, arith, append_assoc, Bool, true, false, cond}
+use Rattle.std.proofs.Common.{◌≡◌, ℕ, zero, suc, ◌+◌, ◌-◌, ◌≤◌, ◌<◌, ◌⊎◌, inl, inr, List, [], ◌∷◌, ◌++◌, refl, ap, ◌∙◌, subst, arith, append_assoc, Bool, true, false, cond}
 use Rattle.std.specs.Prelude.{map, flat_map, find, take_while, count_by, Option, Some, None, is_some, is_none, option_and_then, nat_lt, nat_le}
 use Rattle.std.specs.List.{range_with_len}
 use Rattle.std.proofs.lemmas.Bool.{cases_lt, ltb-true, ltb-false, le-leb, lt-leb}
@@ -10,8 +10,8 @@ use Rattle.mode_set.specs.declared.modes.Stream.TheVariants.{Hp, Lp}
 use Rattle.mode_set.specs.declared.settings.Settings.{Settings}
 use Rattle.transmission.specs.Transmission.{Inputs, by_stream}
 use Rattle.transmission.specs.SuperFrames.{packets_for, symbols_of}
-use Rattle.transmission.specs.Agenda.{Item, ask_limit, take_packet, send_symbol, takes, items_of, agenda, next_stream, Refusal, Limit, packet_refusal, refusal, first_refusal, done, is_send, symbols_sent}
-use Rattle.transmission.specs.AgendaLaws.{IsAt, StopsAt, GoesThrough, WorkBegins, TakesOfHp, TakesOfLp, SendsSymbol, StopsAtLimit, StopsAtPacket, EndsUnrefused, SentSoFar}
+use Rattle.transmission.specs.Agenda.{Item, ask_limit, take_packet, send_symbol, takes, items_of, agenda, next_stream, Refusal, Limit, packet_refusal, refusal, first_refusal, done, is_send}
+use Rattle.transmission.specs.AgendaLaws.{IsAt, StopsAt, WorkBegins, TakesOfHp, TakesOfLp, SendsSymbol, StopsAtLimit, StopsAtPacket, EndsUnrefused, SentSoFar}
 use Rattle.transmission.proofs.PacketCounts.{packets_grow, no_packets}
 use Rattle.transmission.proofs.Items.{AreClear, both_clear, found_at, found_none, taken_at, taken_all, taken_through, count_both, takes_clear, takes_send, takes_part, numbers_at, numbers_to}
 
@@ -270,8 +270,8 @@ unfolding items_of
 stops_at_hp s most inputs m hp lp e at more less few refused =
     stops s most inputs (before s m ++ ask_limit m ∷ front) _ (take_packet Hp hp) e m
     (agenda_at s inputs m more
-     ∙ ap (λ (z : List Item). before s m ++ ((((ask_limit m ∷ z) ++ takes s Lp m) ++ send_symbol m ∷ []) ++ rest)) (takes_at s Hp m hp at.hp_least few)
-     ∙ hp_place (before s m) front behind (takes s Lp m) (send_symbol m ∷ []) rest (ask_limit m) (take_packet Hp hp))
+    ∙ ap (λ (z : List Item). before s m ++ ((((ask_limit m ∷ z) ++ takes s Lp m) ++ send_symbol m ∷ []) ++ rest)) (takes_at s Hp m hp at.hp_least few)
+    ∙ hp_place (before s m) front behind (takes s Lp m) (send_symbol m ∷ []) rest (ask_limit m) (take_packet Hp hp))
     (both_clear r (before s m) (ask_limit m ∷ front) (before_clear s most inputs m hp lp at) (limit_clear s most inputs m less, part_clear s most inputs Hp (packets_for s Hp m) hp at.hp_least (at.accepted Hp)))
     refused
     (count_both (before s m) (ask_limit m ∷ front) ∙ sum_up _ _ _ (sends_before s m) (count_both (ask_limit m ∷ []) front) (takes_send Hp (packets_for s Hp m) (hp - packets_for s Hp m)))
@@ -297,13 +297,13 @@ unfolding items_of
 stops_at_lp s most inputs m hp lp e at more less all few refused =
     stops s most inputs (before s m ++ ((ask_limit m ∷ takes s Hp m) ++ front)) _ (take_packet Lp lp) e m
     (agenda_at s inputs m more
-     ∙ ap (λ (z : List Item). before s m ++ ((((ask_limit m ∷ takes s Hp m) ++ z) ++ send_symbol m ∷ []) ++ rest)) (takes_at s Lp m lp at.lp_least few)
-     ∙ lp_place (before s m) (takes s Hp m) front behind (send_symbol m ∷ []) rest (ask_limit m) (take_packet Lp lp))
+    ∙ ap (λ (z : List Item). before s m ++ ((((ask_limit m ∷ takes s Hp m) ++ z) ++ send_symbol m ∷ []) ++ rest)) (takes_at s Lp m lp at.lp_least few)
+    ∙ lp_place (before s m) (takes s Hp m) front behind (send_symbol m ∷ []) rest (ask_limit m) (take_packet Lp lp))
     (both_clear r (before s m) ((ask_limit m ∷ takes s Hp m) ++ front) (before_clear s most inputs m hp lp at)
-     (both_clear r (ask_limit m ∷ takes s Hp m) front (limit_clear s most inputs m less, stream_clear s most inputs Hp m hp all (at.accepted Hp)) (part_clear s most inputs Lp (packets_for s Lp m) lp at.lp_least (at.accepted Lp))))
+    (both_clear r (ask_limit m ∷ takes s Hp m) front (limit_clear s most inputs m less, stream_clear s most inputs Hp m hp all (at.accepted Hp)) (part_clear s most inputs Lp (packets_for s Lp m) lp at.lp_least (at.accepted Lp))))
     refused
     (count_both (before s m) ((ask_limit m ∷ takes s Hp m) ++ front)
-     ∙ sum_up _ _ _ _ _ (sends_before s m) (count_both (ask_limit m ∷ takes s Hp m) front) (count_both (ask_limit m ∷ []) (takes s Hp m)) (takes_send Hp (packets_for s Hp m) (packets_for s Hp (m + 1) - packets_for s Hp m)) (takes_send Lp (packets_for s Lp m) (lp - packets_for s Lp m)))
+    ∙ sum_up _ _ _ _ _ (sends_before s m) (count_both (ask_limit m ∷ takes s Hp m) front) (count_both (ask_limit m ∷ []) (takes s Hp m)) (takes_send Hp (packets_for s Hp m) (packets_for s Hp (m + 1) - packets_for s Hp m)) (takes_send Lp (packets_for s Lp m) (lp - packets_for s Lp m)))
   where
     r : Item → Option Refusal
     r = refusal s most inputs

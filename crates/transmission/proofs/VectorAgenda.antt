@@ -1,6 +1,6 @@
 -- Refusals of a modulation: a packet without sync byte, a limit of packets, a limit of symbols.
-use Rattle.std.proofs.Common.{◌≡◌, List, ℕ, [], ◌∷◌, refl}
-use Rattle.std.specs.Prelude.{Some, None, replicate}
+use Rattle.std.proofs.Common.{◌≡◌, [], ◌∷◌, refl}
+use Rattle.std.specs.Prelude.{Some, None}
 use Rattle.spec_words.specs.Words.{numbers}
 use Rattle.mode_set.specs.declared.modes.Mode.TheVariants.{M2k}
 use Rattle.mode_set.specs.declared.modes.Shape.TheVariants.{Qpsk}

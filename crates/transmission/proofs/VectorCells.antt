@@ -1,26 +1,24 @@
 -- The first cells of a transmission of null packets: carriers 0, 1, 12 and 34 of symbol 0, carrier 34 of symbol 3.
 use Rattle.std.proofs.Common.{◌≡◌, ℕ, List, [], ◌∷◌, refl, Bool, true, false, sym, subst}
 use Rattle.spec_words.specs.Bits.{is_set}
-use Rattle.spec_words.specs.Words.{numbers, first_below}
+use Rattle.spec_words.specs.Words.{numbers}
 use Rattle.mode_set.specs.declared.modes.Mode.TheVariants.{M2k}
 use Rattle.mode_set.specs.declared.modes.Shape.TheVariants.{Qpsk}
 use Rattle.mode_set.specs.declared.modes.Hierarchy.TheVariants.{Flat}
-use Rattle.mode_set.specs.declared.modes.Stream.TheVariants.{Hp}
 use Rattle.mode_set.specs.declared.modes.Rate.TheVariants.{R1of2}
 use Rattle.mode_set.specs.declared.settings.Settings.{Settings}
 use Rattle.code_paths.specs.Paths.{parity_x, parity_y}
 use Rattle.puncture.specs.SentBits.{sent_bit, path_of}
-use Rattle.bit_interleave.specs.Place.{stands_at}
 use Rattle.symbol_interleave.specs.Carried.{h, words_from, carried}
 use Rattle.rs204.specs.Codes.{codeword}
 use Rattle.outer_chain.specs.Sent.{coded_byte, outer_byte}
-use Rattle.inner_chain.specs.Labels.{number_at, label_bit, coded_bits}
-use Rattle.qam_map.specs.Points.{map_cell, value_of, real_bits, imaginary_bits}
+use Rattle.inner_chain.specs.Labels.{number_at, label_bit}
+use Rattle.qam_map.specs.Points.{map_cell}
 use Rattle.pilots.specs.Reference.{reference, eleven_from}
 use Rattle.pilots.specs.Carriers.{kind, is_continual, is_scattered, is_tps, is_payload, tps_carriers}
 use Rattle.tps_word.specs.Tps.{tps_word, tps_info, sync_word}
 use Rattle.frame_build.specs.Symbol.{cell_at, cell_of_kind, cell_bytes, tps_sign}
-use Rattle.transmission.specs.Transmission.{Inputs, by_stream, paths_of, tx_label, tx_cell}
+use Rattle.transmission.specs.Transmission.{Inputs, by_stream, tx_label, tx_cell}
 use Rattle.transmission.proofs.VectorSettings.{flat}
 
 abbrev base : Settings

@@ -1,5 +1,5 @@
 -- The laws of symbols and of their number, each the clause of a public function of the module laws.
-use Rattle.std.specs.Prelude.{◌≡◌, ℕ, ◌+◌, ◌*◌, ◌<◌, ◌≤◌, IsTrue, List, [], ◌++◌, length, flat_map, take}
+use Rattle.std.specs.Prelude.{◌≡◌, ℕ, ◌+◌, ◌*◌, ◌<◌, ◌≤◌, IsTrue, [], ◌++◌, length, flat_map, take}
 use Rattle.spec_words.specs.Words.{numbers}
 use Rattle.mode_set.specs.StreamTable.{carriers, has_stream, words_per_super_frame}
 use Rattle.mode_set.specs.declared.modes.Stream.{Stream}

@@ -1,8 +1,8 @@
 -- Whatever the streams, there are paths that begin with the registers and the waiting bits.
 use Rattle.std.proofs.Common.{ap, length}
 use Rattle.mode_set.specs.declared.modes.Stream.TheVariants.{Hp, Lp}
-use Rattle.inner_chain.specs.Labels.{AppendsLabels, IsAtSymbol, coded_bits}
-use Rattle.modulator.proofs.Labelling.{own_paths, own_at, own_hp, own_lp, labels_count, labels_small, labels_agree, register_long}
+use Rattle.inner_chain.specs.Labels.{coded_bits}
+use Rattle.modulator.proofs.Labelling.{own_paths, own_at, own_hp, own_lp, labels_count, labels_small}
 use Rattle.modulator.proofs.next_labels.next_labels.Goals as goal
 
 pub returns-clause-hp_register : goal.returns-clause-hp_register

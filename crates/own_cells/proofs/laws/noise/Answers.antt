@@ -10,8 +10,8 @@ both : ((l : ℕ) → AreCounted M2k l) → ((l : ℕ) → AreCounted M8k l) →
 both f g M2k l = f l
 both f g M8k l = g l
 
-pub returns-clause-packets : goal.returns-clause-packets
-returns-clause-packets c =
+pub returns : goal.returns
+returns c =
     let known : AreKnown = record {
       counts = both c.counted.ensures c.counted-2.ensures;
       permutation = c.h_is_a_permutation.ensures;
@@ -33,29 +33,4 @@ returns-clause-packets c =
       tally = c.own_bytes.ensures.tally;
       whole = c.super_frames_have_whole_words.ensures;
     } in
-    noise_law known listed c.lists_are_paths.ensures own
-
-pub returns-clause-clean : goal.returns-clause-clean
-returns-clause-clean c =
-    let known : AreKnown = record {
-      counts = both c.counted.ensures c.counted-2.ensures;
-      permutation = c.h_is_a_permutation.ensures;
-      agree = c.places_and_words_agree.ensures;
-      found = c.each_bit_is_found.ensures;
-      favour = c.near_points_favour_their_bits.ensures;
-      order = c.steps_send_in_order.ensures;
-      numbers = c.steps_are_numbered.ensures;
-      shift = c.periods_shift.ensures;
-      periods = c.symbols_have_whole_periods.ensures;
-    } in
-    let listed : AreListed = record { long = c.costs.ensures.long; step = c.costs.ensures.step } in
-    let own : AreOwn = record {
-      keeps = c.keeps_sent.ensures.law;
-      first = c.bits.ensures.first;
-      bytes = c.own_bytes.ensures.are_bytes;
-      after = c.sending.ensures.bytes;
-      packets = c.own_bytes.ensures.packets;
-      tally = c.own_bytes.ensures.tally;
-      whole = c.super_frames_have_whole_words.ensures;
-    } in
-    noise_is_clean known listed c.lists_are_paths.ensures own
+    record { packets = noise_law known listed c.lists_are_paths.ensures own; clean = noise_is_clean known listed c.lists_are_paths.ensures own }

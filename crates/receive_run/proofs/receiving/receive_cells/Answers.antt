@@ -1,4 +1,4 @@
-use Rattle.std.proofs.Common.{◌≡◌, ◌≢◌, ◌+◌, ◌*◌, ◌<◌, ◌≤◌, true, false, ℕ, List, [], ◌++◌, length, take, length-take-le, refl, sym, ◌∙◌, ap, subst, rules, arith, Ok, Err}
+use Rattle.std.proofs.Common.{◌≡◌, ◌≢◌, Bool, ◌+◌, ◌*◌, ◌<◌, ◌≤◌, true, false, ℕ, List, [], ◌++◌, length, take, length-take-le, refl, sym, ◌∙◌, ap, subst, rules, arith, Ok, Err}
 use Rattle.std.specs.Prelude.{◌==◌}
 use Rattle.station_core.specs.Meaning.{Meaning}
 use Rattle.mode_set.specs.declared.settings.Settings.{Settings}
@@ -20,7 +20,7 @@ returns-in-Ok-false-clause-receives g c =
     let m' : Meaning = g.S.Station.meaning c.loop-number.station in
     let m'' : Meaning = g.S.Station.meaning c.receive_next.new.station in
     let inv = c.loop-number.invariant in
-    let e = rw c.in-Ok-false.field-0-is at c.in-Ok-false.ensures in
+    let e = c.in-Ok-false.ensures in
     let s : Settings = g.X.CellReceiver.settings c.args.receiver.now in
     let s' : Settings = g.X.CellReceiver.settings c.loop-number.receiver in
     let same : s' ≡ s = inv.settings in
@@ -30,7 +30,8 @@ returns-in-Ok-false-clause-receives g c =
     let is = inv.receiving in
     let size : length is.0 ≡ k * symbol_length s' = moved s' s (λ (x : Settings). length is.0 ≡ k * symbol_length x) (sym same) is.3 in
     let was : IsReceiving s' c.args.two standing m.cells.left m' is.0 is.1 = moved s' s (λ (x : Settings). IsReceiving x c.args.two standing m.cells.left m' is.0 is.1) (sym same) is.2 in
-    let next : Next s c.args.two standing' m.cells.left k m'' (Ok false) = moved s s' (λ (x : Settings). Next x c.args.two standing' m.cells.left k m'' (Ok false)) same (e.next m.cells.left is.0 is.1 size was) in
+    let next : Next s c.args.two standing' m.cells.left k m'' (Ok false) = moved s s' (λ (x : Settings). Next x c.args.two standing' m.cells.left k m'' (Ok false)) same
+        (subst (λ (b : Bool). Next s' c.args.two standing' m.cells.left k m'' (Ok b)) c.in-Ok-false.field-0-test (e.next m.cells.left is.0 is.1 size was)) in
     let lt : k < c.args.max_symbols = c.loop-number-test.true in
     let most = c.requires.most in
     let few = next.3 in
@@ -58,7 +59,7 @@ loop-number-preserved g c =
     let m' : Meaning = g.S.Station.meaning c.loop-number.station in
     let m'' : Meaning = g.S.Station.meaning c.receive_next.new.station in
     let inv = c.loop-number.invariant in
-    let e = rw c.in-Ok-true.field-0-is at c.in-Ok-true.ensures in
+    let e = c.in-Ok-true.ensures in
     let s : Settings = g.X.CellReceiver.settings c.args.receiver.now in
     let s' : Settings = g.X.CellReceiver.settings c.loop-number.receiver in
     let same : s' ≡ s = inv.settings in
@@ -76,7 +77,8 @@ loop-number-preserved g c =
       others = keeps_again m m' m'' inv.others e.others;
       read_faults = e.cause.reads ∙ inv.read_faults;
       write_faults = e.cause.writes ∙ inv.write_faults;
-      receiving = moved s s' (λ (x : Settings). Next x c.args.two standing' m.cells.left k m'' (Ok true)) same (e.next m.cells.left is.0 is.1 size was);
+      receiving = moved s s' (λ (x : Settings). Next x c.args.two standing' m.cells.left k m'' (Ok true)) same
+          (subst (λ (b : Bool). Next s' c.args.two standing' m.cells.left k m'' (Ok b)) c.in-Ok-true.field-0-test (e.next m.cells.left is.0 is.1 size was));
     }
 
 pub returns-clause-receives : goal.returns-clause-receives

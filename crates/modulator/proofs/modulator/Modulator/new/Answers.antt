@@ -1,5 +1,5 @@
 -- Nothing was put, and nothing waits.
-use Rattle.std.proofs.Common.{◌≤◌, refl, sym, ap, arith}
+use Rattle.std.proofs.Common.{◌≤◌, sym, ap, arith}
 use Rattle.std.specs.Prelude.{vec_capacity}
 use Rattle.mode_set.specs.StreamTable.{payload}
 use Rattle.modulator.specs.State.{no_packets}

@@ -1,9 +1,8 @@
 -- The packet goes to the stream that is wanted.
-use Rattle.std.proofs.Common.{refl, sym, subst, List, ℕ}
+use Rattle.std.proofs.Common.{refl, sym, subst}
 use Rattle.std.specs.Prelude.{vec_capacity}
-use Rattle.transmission.specs.Transmission.{Inputs}
 use Rattle.modulator.specs.State.{Transmitter, transmitter, HasPut, IsNext, StandsFor, wanted, with_packet}
-use Rattle.modulator.proofs.Stepping.{WasPut, parts_of, put_hp, put_lp, stands_more}
+use Rattle.modulator.proofs.Stepping.{parts_of, put_hp, put_lp, stands_more}
 use Rattle.modulator.proofs.modulator.Modulator.put.Goals as goal
 
 pub returns-in-Hp-clause-put : goal.returns-in-Hp-clause-put

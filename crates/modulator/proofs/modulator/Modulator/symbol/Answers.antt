@@ -1,10 +1,10 @@
 -- The next symbol is made of the first bits that wait.
-use Rattle.std.proofs.Common.{◌≡◌, ◌++◌, List, ℕ, refl, sym, ap, ◌∙◌, subst}
+use Rattle.std.proofs.Common.{◌≡◌, ◌++◌, List, ℕ, sym, ap, ◌∙◌, subst}
 use Rattle.std.specs.Prelude.{vec_capacity, None}
 use Rattle.frame_build.specs.Symbol.{symbol_bytes, bits_of}
-use Rattle.transmission.specs.Transmission.{Inputs, tx_symbol}
-use Rattle.modulator.specs.State.{Transmitter, transmitter, HasPut, StandsFor, wanted}
-use Rattle.modulator.proofs.Stepping.{AfterSymbol, parts_of, symbol_made, bytes_made, stands_kept}
+use Rattle.transmission.specs.Transmission.{tx_symbol}
+use Rattle.modulator.specs.State.{Transmitter, HasPut, StandsFor, wanted}
+use Rattle.modulator.proofs.Stepping.{parts_of, symbol_made, bytes_made, stands_kept}
 use Rattle.modulator.proofs.modulator.Modulator.symbol.Goals as goal
 
 pub returns-clause-put : goal.returns-clause-put

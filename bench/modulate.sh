@@ -1,0 +1,58 @@
+#!/usr/bin/env bash
+# Times `dvbt modulate` in 8K, 64-QAM, rate 2/3 on 100,000 random packets beside the independent reference in the same
+# run, all files in memory (/dev/shm, about 400 MB). Prints seconds, processor seconds (user and system), Mbit/s of
+# transport stream a processor second, the ratio of the two, and whether the two cell files are the same. The best of
+# five runs of the program and of one of the reference, which is no part of this repository: it is sought in
+# ../shared/tools/oracle, or where $REFERENCE says (a command that takes the same words behind `v1`).
+# usage: bench/modulate.sh [PACKETS] [PROGRAM WORDS..]
+set -eu
+top=$(cd "$(dirname "$0")/.." && pwd)
+packets=${1:-100000}
+[ $# -gt 0 ] && shift
+reference=${REFERENCE:-$top/../shared/tools/oracle}
+folder=$(mktemp -d /dev/shm/dvbt-bench.XXXXXX)
+trap 'rm -rf "$folder"' EXIT
+if [ $# -eq 0 ]; then
+  "$top/bin/dvbt" >/dev/null || true
+  set -- "$top/crates/dvbt/out/dvbt"
+fi
+python3 - "$folder" "$top/examples/settings/64qam.toml" "$packets" "$reference" "$@" <<'PY'
+import filecmp, os, random, resource, shutil, subprocess, sys, time
+folder, settings, packets, reference, *program = sys.argv[1:]
+random.seed(1)
+with open(folder + "/in.ts", "wb") as f:
+    for _ in range(int(packets)):
+        f.write(b"\x47" + random.randbytes(187))
+def best(words, target, rounds):
+    found = None
+    for _ in range(rounds):
+        if os.path.exists(target):
+            os.remove(target)
+        before = resource.getrusage(resource.RUSAGE_CHILDREN)
+        start = time.perf_counter()
+        done = subprocess.run([*words, "modulate", settings, folder + "/in.ts", target], stdout=subprocess.PIPE, text=True)
+        wall = time.perf_counter() - start
+        after = resource.getrusage(resource.RUSAGE_CHILDREN)
+        if done.returncode != 0:
+            sys.exit(f"{words[0]} ends with {done.returncode}: {done.stdout.strip()}")
+        cpu = after.ru_utime + after.ru_stime - before.ru_utime - before.ru_stime
+        if found is None or cpu < found[1]:
+            found = (wall, cpu)
+    return (*found, done.stdout)
+ours = best(program, folder + "/ours", 5)
+rows = [("dvbt modulate", ours)]
+# the tool builds the reference first where it must
+if shutil.which(reference):
+    subprocess.run([reference], stdout=subprocess.DEVNULL, stderr=subprocess.DEVNULL)
+    rows.append(("reference", best([reference, "v1"], folder + "/theirs", 1)))
+else:
+    print(f"no reference at {reference}")
+print(", ".join(ours[2].splitlines()), f"| {os.path.getsize(folder + '/ours')} bytes of cells")
+for name, (wall, cpu, _) in rows:
+    print(f"{name:14} {wall:.2f} s, {cpu:.2f} processor s, {int(packets) * 188 * 8 / cpu / 1e6:.1f} Mbit/s a processor second")
+if len(rows) == 2:
+    print(f"ratio of the processor seconds, reference to dvbt: {rows[1][1][1] / ours[1]:.2f}")
+    same = filecmp.cmp(folder + "/ours", folder + "/theirs", shallow=False)
+    print("cells the same" if same and ours[2] == rows[1][1][2] else "CELLS OR REPORTS DIFFER")
+    sys.exit(0 if same and ours[2] == rows[1][1][2] else 1)
+PY

@@ -1,0 +1,15 @@
+use Rattle.std.proofs.Common.{◌∙◌, sym, ap, subst, Option, Some}
+use Rattle.std.specs.Prelude.{IfSome}
+use Rattle.station_core.specs.Meaning.{Meaning}
+use Rattle.run_clauses.specs.Command.{Command}
+use Rattle.run_clauses.specs.Runs.{IsComplete}
+use Rattle.dvbt_top.specs.declared.form.Form.{Form}
+use Rattle.dvbt_top.specs.Form.{command}
+use Rattle.dvbt_top.proofs.top.run_within.Goals as goal
+
+pub returns-in-Some-Inner-clause-complete : goal.returns-in-Some-Inner-clause-complete
+returns-in-Some-Inner-clause-complete g c =
+    let old : Meaning = g.S.Station.meaning c.args.station.now in
+    let new : Meaning = g.S.Station.meaning c.inner.new.station in
+    subst (λ (x : Option Command). IfSome x (λ ordered. IsComplete c.args.limits.packets ordered old new c.inner.result))
+    (ap (λ (f : Form). Some (command f)) (sym c.in-Some-Inner.field-0-is) ∙ c.in-Some-Inner.ensures) c.inner.ensures.complete

@@ -1,0 +1,148 @@
+-- A packet more of a stream, or the stop of the work before its symbol.
+use Rattle.std.proofs.Common.{◌≡◌, ℕ, ◌+◌, ◌-◌, ◌/◌, ◌<◌, ◌≤◌, Bool, true, false, cond, List, [], length, Option, Some, None, Result, Ok, Err, refl, ap, sym, subst, ◌∙◌, arith}
+use Rattle.std.specs.Prelude.{is_some, IfSome, nat_lt}
+use Rattle.std.specs.Option.{option_map}
+use Rattle.std.proofs.lemmas.Bool.{ltb-true, true≢false}
+use Rattle.station_core.specs.Meaning.{Meaning}
+use Rattle.mode_set.specs.declared.modes.Stream.{Stream}
+use Rattle.mode_set.specs.declared.modes.Stream.TheVariants.{Hp, Lp}
+use Rattle.mode_set.specs.declared.settings.Settings.{Settings as TheSettings}
+use Rattle.outer_chain.specs.Sent.{packet_at}
+use Rattle.transmission.specs.Transmission.{Inputs, by_stream, first_symbols}
+use Rattle.transmission.specs.SuperFrames.{packets_for, symbols_of}
+use Rattle.transmission.specs.Agenda.{IsEnoughFor, first_refusal, next_stream, packet_refusal, symbols_sent}
+use Rattle.transmission.specs.Agenda as agenda
+use Rattle.transmission.specs.AgendaLaws.{IsAt, StopsAt, TakesOfHp, TakesOfLp, StopsAtPacket, SentSoFar, SentAtFault}
+use Rattle.run_clauses.specs.declared.work.Refusal.{Refusal}
+use Rattle.run_clauses.specs.declared.work.Refusal.TheVariants.{Usage, Settings, ReadFault, WriteFault, NotSync, Memory, Limit}
+use Rattle.run_clauses.specs.Modulation.{HoldsSymbolsSoFar, cells_sent, inputs_of, left_of, modulation_refusal, refused_by, sent_by, taken_of}
+use Rattle.modulate_run.specs.declared.input.PacketInput.{PacketInput}
+use Rattle.modulate_run.specs.declared.inputs.PacketInputs.{PacketInputs}
+use Rattle.modulate_run.specs.Seen.{Seen, wanted, with_one}
+use Rattle.modulate_run.specs.Work.{BothRead, BothTell, GivesOf, IsAtWork, IsDue, Stops}
+
+-- ---- what is wanted
+hp_only : (b c : Bool) → cond b (Some Hp) (cond c (Some Lp) None) ≡ Some Hp → b ≡ true
+hp_only true c e = refl
+hp_only false true e = cc
+hp_only false false e = cc
+
+lp_only : (b c : Bool) → cond b (Some Hp) (cond c (Some Lp) None) ≡ Some Lp → c ≡ true
+lp_only true c e = cc
+lp_only false true e = refl
+lp_only false false e = cc
+
+-- fewer packets of the stream were put than its next symbol wants
+pub is_short : (s : TheSettings) (m hp lp : ℕ) (σ : Stream) → next_stream s m hp lp ≡ Some σ → by_stream hp lp σ < packets_for s σ (m + 1)
+is_short s m hp lp Hp e = ltb-true hp (packets_for s Hp (m + 1)) (hp_only (nat_lt hp (packets_for s Hp (m + 1))) (nat_lt lp (packets_for s Lp (m + 1))) e)
+is_short s m hp lp Lp e = ltb-true lp (packets_for s Lp (m + 1)) (lp_only (nat_lt hp (packets_for s Hp (m + 1))) (nat_lt lp (packets_for s Lp (m + 1))) e)
+
+-- ---- the work is refused
+-- the cells of the symbols before a refusal
+pub cells_at : (s : TheSettings) (limit : ℕ) (inputs : Inputs) (r : agenda.Refusal) (m : ℕ) → StopsAt s limit inputs r m → cells_sent s limit inputs ≡ first_symbols s inputs m
+cells_at s limit inputs r m stops = ap (sent_by s limit inputs) stops.first ∙ ap (first_symbols s inputs) stops.sent
+
+not_write_fault : (a : agenda.Refusal) → Some (refused_by a) ≡ Some WriteFault → ⊥
+not_write_fault (agenda.Limit n) e = cc
+not_write_fault (agenda.NotSync σ p) e = cc
+
+module _ (at_packet : StopsAtPacket) (so_far : SentSoFar) (at_fault : SentAtFault)
+    (limit : ℕ) (files : Stream → List ℕ) (σ : Stream) (t : Seen) (is_wanted : wanted t ≡ Some σ) (due : IsDue files t)
+    (at : IsAt t.settings limit (inputs_of files) t.made t.hp t.lp) where
+  -- a packet that is refused
+  refused : (r : Refusal) → option_map refused_by (packet_refusal limit (inputs_of files) σ (by_stream t.hp t.lp σ)) ≡ Some r
+      → (modulation_refusal t.settings limit (inputs_of files) ≡ Some r) × (cells_sent t.settings limit (inputs_of files) ≡ first_symbols t.settings (inputs_of files) t.made)
+  refused r is = go (packet_refusal limit (inputs_of files) σ (by_stream t.hp t.lp σ)) refl is
+    where
+      go : (o : Option agenda.Refusal) → packet_refusal limit (inputs_of files) σ (by_stream t.hp t.lp σ) ≡ o → option_map refused_by o ≡ Some r
+          → (modulation_refusal t.settings limit (inputs_of files) ≡ Some r) × (cells_sent t.settings limit (inputs_of files) ≡ first_symbols t.settings (inputs_of files) t.made)
+      go None e is = absurd (let e' : None ≡ Some r = is in cc)
+      go (Some a) e is =
+          let stops = at_packet t.settings limit (inputs_of files) t.made t.hp t.lp σ a at due.more due.within is_wanted e in
+          (ap (option_map refused_by) stops.first ∙ is, cells_at t.settings limit (inputs_of files) a t.made stops)
+
+  never_write_fault : option_map refused_by (packet_refusal limit (inputs_of files) σ (by_stream t.hp t.lp σ)) ≡ Some WriteFault → ⊥
+  never_write_fault is = go (packet_refusal limit (inputs_of files) σ (by_stream t.hp t.lp σ)) is
+    where
+      go : (o : Option agenda.Refusal) → option_map refused_by o ≡ Some WriteFault → ⊥
+      go None is = let e' : None ≡ Some WriteFault = is in cc
+      go (Some a) is = not_write_fault a is
+
+  module _ (m : Meaning) (inputs : PacketInputs) (tail_is : (by_stream inputs.hp inputs.lp σ).tail ≡ None) (tell : BothTell files m inputs t) where
+    -- the streams whose end was met
+    abbrev met : Stream → Bool
+    met τ = is_some (by_stream inputs.hp inputs.lp τ).tail
+
+    not_met : (o : Option ℕ) → is_some o ≡ false → o ≡ None
+    not_met None e = refl
+    not_met (Some n) e = absurd (true≢false e)
+
+    put_is : (τ : Stream) → (by_stream inputs.hp inputs.lp τ).tail ≡ None → taken_of files m τ ≡ by_stream t.hp t.lp τ
+    put_is Hp none = tell.hp.all none
+    put_is Lp none = tell.lp.all none
+
+    least : (τ : Stream) → packets_for t.settings τ t.made ≤ by_stream t.hp t.lp τ
+    least Hp = at.hp_least
+    least Lp = at.lp_least
+
+    through : (a b c : ℕ) → b ≡ c → a ≤ c → a ≤ b
+    through a b c e l = omega (arith, e, l)
+
+    before : (a b c : ℕ) → a ≡ b → b < c → a < c
+    before a b c e l = omega (arith, e, l)
+
+    at_most : (a b : ℕ) → a < b → a ≤ b
+    at_most a b l = omega (arith, l)
+
+    within : (τ : Stream) (p : ℕ) → p < taken_of files m τ → p < by_stream t.hp t.lp τ
+    within Hp p l = omega (arith, l, tell.hp.most)
+    within Lp p l = omega (arith, l, tell.lp.most)
+
+    at_end : (τ : Stream) → met τ ≡ true → left_of m τ ≡ []
+    at_end Hp = tell.hp.none
+    at_end Lp = tell.lp.none
+
+    -- a read that has failed
+    failed : HoldsSymbolsSoFar t.settings limit files m (first_symbols t.settings (inputs_of files) t.made)
+    failed = record {
+      met = met;
+      at_end = at_end;
+      symbols = t.made;
+      enough = at_fault t.settings (taken_of files m) met t.made σ
+          (λ τ e. through (packets_for t.settings τ t.made) (taken_of files m τ) (by_stream t.hp t.lp τ) (put_is τ (not_met (by_stream inputs.hp inputs.lp τ).tail e)) (least τ))
+          (ap is_some tail_is)
+          (before (taken_of files m σ) (by_stream t.hp t.lp σ) (packets_for t.settings σ (t.made + 1)) (put_is σ tail_is) (is_short t.settings t.made t.hp t.lp σ is_wanted));
+      is = refl;
+      in_order = so_far t.settings limit (inputs_of files) t.made t.hp t.lp at (at_most t.made (symbols_of t.settings (inputs_of files)) due.more);
+      accepted = λ τ p l. at.accepted τ p (within τ p l);
+    }
+
+  pub stops : (m : Meaning) (inputs : PacketInputs) (r : Refusal) → GivesOf limit files σ t m inputs (Err r) → Stops limit files m t r
+  stops m inputs Usage g = refused Usage g
+  stops m inputs (Settings reason) g = refused (Settings reason) g
+  stops m inputs ReadFault g = failed m inputs g.0 g.1
+  stops m inputs WriteFault g = never_write_fault g
+  stops m inputs (NotSync τ p) g = refused (NotSync τ p) g
+  stops m inputs Memory g = refused Memory g
+  stops m inputs (Limit n) g = refused (Limit n) g
+
+-- ---- a packet was put
+module _ (takes_hp : TakesOfHp) (takes_lp : TakesOfLp) (limit : ℕ) (files : Stream → List ℕ) (t : Seen)
+    (at : IsAt t.settings limit (inputs_of files) t.made t.hp t.lp) where
+  one_more : (σ : Stream) → wanted t ≡ Some σ → packet_refusal limit (inputs_of files) σ (by_stream t.hp t.lp σ) ≡ None
+      → IsAt (with_one σ t).settings limit (inputs_of files) (with_one σ t).made (with_one σ t).hp (with_one σ t).lp
+  one_more Hp is ok = takes_hp t.settings limit (inputs_of files) t.made t.hp t.lp at is ok
+  one_more Lp is ok = takes_lp t.settings limit (inputs_of files) t.made t.hp t.lp at is ok
+
+  pub goes_on : (σ : Stream) (is_wanted : wanted t ≡ Some σ) (m : Meaning) (inputs : PacketInputs) (t' : Seen) (put : Inputs → Type 0) (packet : List ℕ)
+      → GivesOf limit files σ t m inputs (Ok packet)
+      → IfSome (wanted t) (λ τ. t' ≡ with_one τ t)
+      → (IfSome (wanted t) (λ τ. packet ≡ packet_at (inputs_of files τ) (by_stream t.hp t.lp τ)) → put (inputs_of files))
+      → IsAtWork limit files m inputs t' put
+  goes_on σ is_wanted m inputs t' put packet gives seen stands =
+      let same : t' ≡ with_one σ t = subst (λ (o : Option Stream). IfSome o (λ τ. t' ≡ with_one τ t)) is_wanted seen in
+      record {
+        at = subst (λ (x : Seen). IsAt x.settings limit (inputs_of files) x.made x.hp x.lp) (sym same) (one_more σ is_wanted gives.1);
+        stands = stands (subst (λ (o : Option Stream). IfSome o (λ τ. packet ≡ packet_at (inputs_of files τ) (by_stream t.hp t.lp τ))) (sym is_wanted) gives.0);
+        read = subst (λ (x : Seen). BothRead files m inputs x) (sym same) gives.2;
+      }

@@ -1,0 +1,169 @@
+-- The work from its first symbol to its end.
+use Rattle.std.proofs.Common.{◌≡◌, ◌≢◌, ◌⊎◌, inl, inr, ℕ, ◌+◌, ◌*◌, ◌<◌, ◌≤◌, List, [], length, drop, Option, Some, None, Ok, refl, ap, sym, subst, ◌∙◌, arith}
+use Rattle.std.specs.Prelude.{IsTrue}
+use Rattle.std.specs.Option.{option_map}
+use Rattle.std.proofs.lemmas.Bool.{cases_lt}
+use Rattle.station_core.specs.Meaning.{Meaning}
+use Rattle.mode_set.specs.StreamTable.{has_stream, words_per_super_frame}
+use Rattle.mode_set.specs.declared.modes.Stream.{Stream}
+use Rattle.mode_set.specs.declared.modes.Stream.TheVariants.{Hp, Lp}
+use Rattle.mode_set.specs.declared.settings.Settings.{Settings as TheSettings}
+use Rattle.transmission.specs.Transmission.{Inputs, by_stream, first_symbols}
+use Rattle.transmission.specs.SuperFrames.{AreSuperFrames, packets_for, super_frames, symbols_of}
+use Rattle.transmission.specs.Agenda as agenda
+use Rattle.transmission.specs.AgendaLaws.{EndsUnrefused, StopsAtLimit}
+use Rattle.transmission.specs.Laws.{PacketsOfSuperFrames, TheFormulaIsLeast}
+use Rattle.run_clauses.specs.declared.work.Counts.{Counts}
+use Rattle.run_clauses.specs.declared.work.TransmissionCounts.{TransmissionCounts}
+use Rattle.run_clauses.specs.declared.work.Refusal.{Refusal}
+use Rattle.run_clauses.specs.declared.work.Refusal.TheVariants.{Limit}
+use Rattle.run_clauses.specs.Packets.{counts_of, packets_of, tail_of, whole_packets}
+use Rattle.run_clauses.specs.Modulation.{cells_sent, inputs_of, left_of, modulation_refusal, refused_by, sent_by, transmission_counts}
+use Rattle.run_clauses.proofs.FilePackets.{count_is}
+use Rattle.modulate_run.specs.declared.input.PacketInput.{PacketInput}
+use Rattle.modulate_run.specs.declared.inputs.PacketInputs.{PacketInputs}
+use Rattle.modulate_run.specs.Inputs.{HasLeft, Reads}
+use Rattle.modulate_run.specs.Seen.{Seen}
+use Rattle.modulate_run.specs.Work.{CountsAt, Ends, IsDue, IsWritten, Modulates}
+use Rattle.modulate_run.proofs.Stopping.{cells_at}
+
+-- ---- one input
+-- its end was met
+at_end : (file left : List ℕ) (taken put tail : ℕ) (o : Option ℕ) → o ≡ Some tail → HasLeft file left taken o put → (left ≡ []) × (taken ≡ whole_packets file) × (tail ≡ tail_of file)
+at_end file left taken put tail o is h = let h' : HasLeft file left taken (Some tail) put = subst (λ (x : Option ℕ). HasLeft file left taken x put) is h in (h'.0, h'.1, h'.2)
+
+-- it was not
+all_put : (file left : List ℕ) (taken put : ℕ) (o : Option ℕ) → o ≡ None → HasLeft file left taken o put → put ≡ taken
+all_put file left taken put o is h = let h' : HasLeft file left taken None put = subst (λ (x : Option ℕ). HasLeft file left taken x put) is h in h'.1
+
+all_taken : (file left : List ℕ) (taken put : ℕ) (o : Option ℕ) → (o ≡ None → ⊥) → HasLeft file left taken o put → taken ≡ whole_packets file
+all_taken file left taken put None some h = absurd (some refl)
+all_taken file left taken put (Some tail) some h = h.1
+
+within_file : (file : List ℕ) (taken : ℕ) → 188 * taken ≤ length file → taken ≤ whole_packets file
+within_file file taken le = omega (arith, le)
+
+-- ---- all of them
+some_symbol : (n : ℕ) → 1 ≤ n → 0 < 272 * n
+some_symbol n l = omega (arith, l)
+
+-- a transmission has some symbol
+pub begins : TheFormulaIsLeast → (s : TheSettings) (inputs : Inputs) → 0 < symbols_of s inputs
+unfolding symbols_of
+begins least s inputs = some_symbol (super_frames s (λ σ. length (inputs σ))) (least s (λ σ. length (inputs σ))).some
+
+-- the packets of all its symbols are eleven more than its inputs have, at least
+carried : PacketsOfSuperFrames → TheFormulaIsLeast → (s : TheSettings) (inputs : Inputs) (σ : Stream) → IsTrue (has_stream s.hierarchy σ) → length (inputs σ) + 11 ≤ packets_for s σ (symbols_of s inputs)
+unfolding symbols_of
+carried packets least s inputs σ exists =
+    let n : ℕ = super_frames s (λ τ. length (inputs τ)) in
+    let enough : length (inputs σ) + 11 ≤ n * words_per_super_frame s σ = (least s (λ τ. length (inputs τ))).suffices σ exists in
+    subst (λ (k : ℕ). length (inputs σ) + 11 ≤ k) (sym (packets s σ n)) enough
+
+-- the super-frames of so many packets
+frames_of : (s : TheSettings) (a b c d : ℕ) → a ≡ c → b ≡ d → super_frames s (by_stream a b) ≡ super_frames s (by_stream c d)
+frames_of s a b c d e f = ap (λ (x : ℕ). super_frames s (by_stream x b)) e ∙ ap (λ (x : ℕ). super_frames s (by_stream c x)) f
+
+symbols_are : (s : TheSettings) (files : Stream → List ℕ) → 272 * super_frames s (by_stream (whole_packets (files Hp)) (whole_packets (files Lp))) ≡ symbols_of s (inputs_of files)
+unfolding symbols_of
+symbols_are s files = ap (λ (n : ℕ). 272 * n) (frames_of s _ _ _ _ (sym (count_is (whole_packets (files Hp)) (files Hp))) (sym (count_is (whole_packets (files Lp)) (files Lp))))
+
+frames_are : (s : TheSettings) (files : Stream → List ℕ) (a b : ℕ) → a ≡ whole_packets (files Hp) → b ≡ whole_packets (files Lp) → super_frames s (by_stream a b) ≡ (transmission_counts s files).super_frames
+frames_are s files a b e f =
+    frames_of s a b (length (packets_of (files Hp))) (length (packets_of (files Lp)))
+    (e ∙ sym (count_is (whole_packets (files Hp)) (files Hp))) (f ∙ sym (count_is (whole_packets (files Lp)) (files Lp)))
+
+module _ (limit : ℕ) (files : Stream → List ℕ) (m : Meaning) (inputs : PacketInputs) (t : Seen) (put : Inputs → Type 0) (w : IsWritten limit files m inputs t put) where
+  -- all inputs have ended, and their super-frames were sent
+  pub ends_done : EndsUnrefused → (n : ℕ) (counts : TransmissionCounts) → t.made ≡ n → CountsAt t.settings inputs n (Some counts)
+      → Modulates t.settings limit files m (Ok counts)
+  ends_done ends n counts made c =
+      let hp = at_end (files Hp) (left_of m Hp) inputs.hp.taken t.hp counts.hp.tail inputs.hp.tail c.0 w.work.read.hp.rest in
+      let lp = at_end (files Lp) (left_of m Lp) inputs.lp.taken t.lp counts.lp.tail inputs.lp.tail c.2 w.work.read.lp.rest in
+      let hp_packets : counts.hp.packets ≡ whole_packets (files Hp) = c.1 ∙ hp.1 in
+      let lp_packets : counts.lp.packets ≡ whole_packets (files Lp) = c.3 ∙ lp.1 in
+      let frames : counts.super_frames ≡ (transmission_counts t.settings files).super_frames = c.4 ∙ frames_are t.settings files inputs.hp.taken inputs.lp.taken hp.1 lp.1 in
+      let all : t.made ≡ symbols_of t.settings (inputs_of files) =
+      made ∙ c.5 ∙ ap (λ (k : ℕ). 272 * k) (c.4 ∙ frames_of t.settings inputs.hp.taken inputs.lp.taken (whole_packets (files Hp)) (whole_packets (files Lp)) hp.1 lp.1) ∙ symbols_are t.settings files in
+      let through = ends t.settings limit (inputs_of files) t.made t.hp t.lp w.work.at all in (
+        (λ i. record { hp = record { packets = hp_packets i; tail = hp.2 i }; lp = record { packets = lp_packets i; tail = lp.2 i }; super_frames = frames i }),
+        hp.0,
+        lp.0,
+        ap (option_map refused_by) through.none,
+        w.written ∙ ap (first_symbols t.settings (inputs_of files)) all ∙ sym (ap (sent_by t.settings limit (inputs_of files)) through.none),
+      )
+
+  -- the limit of symbols is passed
+  pub ends_at_limit : StopsAtLimit → (most : ℕ) → t.settings.max_symbols ≡ most → most ≤ t.made → t.made < symbols_of t.settings (inputs_of files) → Ends t.settings limit files m (Limit most)
+  ends_at_limit at_limit most is past more =
+      let stops = at_limit t.settings limit (inputs_of files) t.made t.hp t.lp w.work.at more (omega (arith, is, past)) in (
+        ap (option_map refused_by) stops.first ∙ ap (λ (n : ℕ). Some (Limit n)) is,
+        w.written ∙ sym (cells_at t.settings limit (inputs_of files) (agenda.Limit t.settings.max_symbols) t.made stops),
+      )
+
+  -- the transmission goes on
+  module _ (packets : PacketsOfSuperFrames) (least : TheFormulaIsLeast) (two : inputs.lp.tail ≡ None → IsTrue (has_stream t.settings.hierarchy Lp)) where
+    apart : (a b c d e : ℕ) → a + 11 ≤ b → b ≤ c → c ≡ d → d ≤ e → e ≡ a → ⊥
+    apart a b c d e l l' p l'' q = omega (arith, l, l', p, l'', q)
+
+    module _ (all : t.made ≡ symbols_of t.settings (inputs_of files)) where
+      put_at : (σ : Stream) → packets_for t.settings σ t.made ≤ by_stream t.hp t.lp σ → packets_for t.settings σ (symbols_of t.settings (inputs_of files)) ≤ by_stream t.hp t.lp σ
+      put_at σ l = subst (λ (n : ℕ). packets_for t.settings σ n ≤ by_stream t.hp t.lp σ) all l
+
+      hp_ended : inputs.hp.tail ≡ None → ⊥
+      hp_ended none =
+          apart (length (packets_of (files Hp))) (packets_for t.settings Hp (symbols_of t.settings (inputs_of files))) t.hp inputs.hp.taken (whole_packets (files Hp))
+          (carried packets least t.settings (inputs_of files) Hp refl) (put_at Hp w.work.at.hp_least)
+          (all_put (files Hp) (left_of m Hp) inputs.hp.taken t.hp inputs.hp.tail none w.work.read.hp.rest)
+          (within_file (files Hp) inputs.hp.taken w.work.read.hp.within) (sym (count_is (whole_packets (files Hp)) (files Hp)))
+
+      lp_ended : inputs.lp.tail ≡ None → ⊥
+      lp_ended none =
+          apart (length (packets_of (files Lp))) (packets_for t.settings Lp (symbols_of t.settings (inputs_of files))) t.lp inputs.lp.taken (whole_packets (files Lp))
+          (carried packets least t.settings (inputs_of files) Lp (two none)) (put_at Lp w.work.at.lp_least)
+          (all_put (files Lp) (left_of m Lp) inputs.lp.taken t.lp inputs.lp.tail none w.work.read.lp.rest)
+          (within_file (files Lp) inputs.lp.taken w.work.read.lp.within) (sym (count_is (whole_packets (files Lp)) (files Lp)))
+
+      frames_sent : 272 * super_frames t.settings (by_stream inputs.hp.taken inputs.lp.taken) ≡ t.made
+      frames_sent =
+          ap (λ (k : ℕ). 272 * k) (frames_of t.settings inputs.hp.taken inputs.lp.taken (whole_packets (files Hp)) (whole_packets (files Lp))
+          (all_taken (files Hp) (left_of m Hp) inputs.hp.taken t.hp inputs.hp.tail hp_ended w.work.read.hp.rest)
+          (all_taken (files Lp) (left_of m Lp) inputs.lp.taken t.lp inputs.lp.tail lp_ended w.work.read.lp.rest))
+          ∙ symbols_are t.settings files ∙ sym all
+
+      not_all : (n : ℕ) → t.made ≡ n → CountsAt t.settings inputs n None → ⊥
+      not_all n made c = elim c [
+        | inl none ↦ hp_ended none
+        | inr d ↦ elim d [ inl none ↦ lp_ended none | inr differs ↦ differs (sym made ∙ sym frames_sent) ]
+      ]
+
+    less : (a b : ℕ) → a ≤ b → (a ≡ b → ⊥) → a < b
+    less a b l differs = elim (cases_lt a b) [ inl lt ↦ lt | inr ge ↦ absurd (differs (omega (arith, l, ge))) ]
+
+    pub goes_further : (n : ℕ) → t.made ≡ n → CountsAt t.settings inputs n None → t.made ≤ symbols_of t.settings (inputs_of files) → t.made < symbols_of t.settings (inputs_of files)
+    goes_further n made c le = less t.made (symbols_of t.settings (inputs_of files)) le (λ all. not_all all n made c)
+
+-- ---- the loop over the symbols, as the transmitter is seen before it and now
+pub due_more : (files : Stream → List ℕ) (t t' : Seen) (n : ℕ) → t'.settings ≡ t.settings → t'.made ≡ n → n < symbols_of t.settings (inputs_of files) → t'.made < symbols_of t'.settings (inputs_of files)
+due_more files t t' n settings made more =
+    subst (λ (s : TheSettings). t'.made < symbols_of s (inputs_of files)) (sym settings) (subst (λ (k : ℕ). k < symbols_of t.settings (inputs_of files)) (sym made) more)
+
+pub due_at : (files : Stream → List ℕ) (t t' : Seen) (n most : ℕ) → t'.settings ≡ t.settings → t'.made ≡ n → t.settings.max_symbols ≡ most → n < symbols_of t.settings (inputs_of files) → n < most → IsDue files t'
+due_at files t t' n most settings made is more within = record {
+  more = due_more files t t' n settings made more;
+  within = omega (arith, made, within, is, ap (λ (s : TheSettings). s.max_symbols) settings);
+}
+
+at_most : (a b c : ℕ) → a ≡ b + 1 → b < c → a ≤ c
+at_most a b c e l = omega (arith, e, l)
+
+-- the next symbol is one of the transmission again
+pub more_again : PacketsOfSuperFrames → TheFormulaIsLeast → (limit : ℕ) (files : Stream → List ℕ) (m : Meaning) (inputs : PacketInputs) (t t' : Seen) (put : Inputs → Type 0)
+    → IsWritten limit files m inputs t' put → (n : ℕ) → t'.settings ≡ t.settings → t'.made ≡ n + 1 → CountsAt t'.settings inputs (n + 1) None → n < symbols_of t.settings (inputs_of files)
+    → (inputs.lp.tail ≡ None → IsTrue (has_stream t.settings.hierarchy Lp)) → n + 1 < symbols_of t.settings (inputs_of files)
+more_again packets least limit files m inputs t t' put w n settings made counts more two =
+    let two' : inputs.lp.tail ≡ None → IsTrue (has_stream t'.settings.hierarchy Lp) = λ none. subst (λ (s : TheSettings). IsTrue (has_stream s.hierarchy Lp)) (sym settings) (two none) in
+    let more' : n < symbols_of t'.settings (inputs_of files) = subst (λ (s : TheSettings). n < symbols_of s (inputs_of files)) (sym settings) more in
+    let le : t'.made ≤ symbols_of t'.settings (inputs_of files) = at_most t'.made n (symbols_of t'.settings (inputs_of files)) made more' in
+    let on : t'.made < symbols_of t'.settings (inputs_of files) = goes_further limit files m inputs t' put w packets least two' (n + 1) made counts le in
+    subst (λ (k : ℕ). k < symbols_of t.settings (inputs_of files)) made (subst (λ (s : TheSettings). t'.made < symbols_of s (inputs_of files)) settings on)

@@ -1,0 +1,11 @@
+use Rattle.std.proofs.Common.{◌∙◌, sym}
+use Rattle.station_core.specs.Meaning.{Meaning}
+use Rattle.run_clauses.specs.Modulation.{left_of}
+use Rattle.modulate_run.proofs.Taking.{behind}
+use Rattle.modulate_run.proofs.input.PacketInput.next.Goals as goal
+
+pub returns-then-is_some-clause-gives : goal.returns-then-is_some-clause-gives
+returns-then-is_some-clause-gives g c = λ t files put reads.
+    let m : Meaning = g.S.Station.meaning c.args.station.now in
+    let b = behind c.args.limit files c.args.stream put (left_of m c.args.stream) c.args.self.now (sym c.is_some.ensures ∙ c.if-is_some.true) reads in
+    (c.null.ensures.null ∙ b.0, b.1, b.2)

@@ -1,0 +1,22 @@
+use Rattle.std.proofs.Common.{List, ℕ}
+use Rattle.station_core.specs.Meaning.{Meaning}
+use Rattle.run_clauses.specs.Modulation.{inputs_of}
+use Rattle.modulate_run.specs.Seen.{Seen}
+use Rattle.modulate_run.proofs.Stopping.{goes_on, stops}
+use Rattle.modulate_run.proofs.inputs.PacketInputs.put_next.Goals as goal
+
+pub returns-in-Ok-clause-works : goal.returns-in-Ok-clause-works
+returns-in-Ok-clause-works g c = λ t files due work.
+    let m : Meaning = g.S.Station.meaning c.next_packet.new.station in
+    let seen : Seen = g.T.Transmitter.seen c.args.tx.now in
+    let seen' : Seen = g.T.Transmitter.seen c.put.new.self in
+    goes_on c.work.ensures.takes_hp c.work.ensures.takes_lp c.args.limit files seen work.at c.args.stream c.requires.wanted m c.next_packet.new.self seen'
+    (g.T.Transmitter.stands c.put.new.self) c.in-Ok.packet (c.in-Ok.ensures.gives t files seen work.read) c.put.ensures.seen
+    (c.put.ensures.stands (inputs_of files) work.stands)
+
+pub returns-in-Err-clause-works : goal.returns-in-Err-clause-works
+returns-in-Err-clause-works g c = λ t files due work.
+    let m : Meaning = g.S.Station.meaning c.next_packet.new.station in
+    let seen : Seen = g.T.Transmitter.seen c.args.tx.now in
+    stops c.work.ensures.at_packet c.work.ensures.so_far c.work.ensures.at_fault c.args.limit files c.args.stream seen c.requires.wanted due work.at
+    m c.next_packet.new.self c.in-Err.refusal (c.in-Err.ensures.gives t files seen work.read)

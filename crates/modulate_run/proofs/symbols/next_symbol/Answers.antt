@@ -1,0 +1,23 @@
+use Rattle.std.proofs.Common.{◌∙◌, ap, sym}
+use Rattle.station_core.specs.Meaning.{Meaning}
+use Rattle.run_clauses.specs.Modulation.{inputs_of}
+use Rattle.modulate_run.specs.Seen.{Seen}
+use Rattle.modulate_run.proofs.Sending.{still_due, still_written, sends_on}
+use Rattle.modulate_run.proofs.symbols.next_symbol.Goals as goal
+
+pub returns-in-Ok-clause-sends : goal.returns-in-Ok-clause-sends
+returns-in-Ok-clause-sends g c = λ t files due written.
+    let m : Meaning = g.S.Station.meaning c.args.station.now in
+    let m' : Meaning = g.S.Station.meaning c.put_wanted.new.station in
+    let m'' : Meaning = g.S.Station.meaning c.send_symbol.new.station in
+    let seen : Seen = g.T.Transmitter.seen c.args.tx.now in
+    let seen' : Seen = g.T.Transmitter.seen c.put_wanted.new.tx in
+    let seen'' : Seen = g.T.Transmitter.seen c.send_symbol.new.tx in
+    let e = c.in-Ok.ensures in
+    let tells = ap (λ (x : Meaning). x.tells) e.others in
+    let work = e.works t files due written.work in
+    sends_on c.work.ensures.sends c.work.ensures.so_far c.symbols.ensures.next c.symbols.ensures.part c.args.limit files seen' seen'' m' m''
+    c.put_wanted.new.inputs (g.T.Transmitter.stands c.put_wanted.new.tx) (g.T.Transmitter.stands c.send_symbol.new.tx) e.suffices
+    (still_due files seen seen' e.settings e.made due) work (still_written files seen seen' m m' e.settings e.made e.others written.written)
+    c.send_symbol.ensures.seen c.send_symbol.ensures.others (c.send_symbol.ensures.stands (inputs_of files) work.stands)
+    c.send_symbol.result (c.send_symbol.ensures.written (tells ∙ t) (inputs_of files) work.stands)

@@ -1,0 +1,5 @@
+pub mod Seen
+pub mod Inputs
+pub mod Work
+pub mod Reporting
+pub mod Steps

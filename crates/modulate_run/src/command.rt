@@ -1,0 +1,113 @@
+// The command.
+ghost use Rattle.std.specs.Prelude.{◌≡◌, ◌≤◌, true, Some};
+ghost use Rattle.std.specs.Option.{option_copied};
+ghost use Rattle.station_core.specs.Meaning.{IsFresh, IsUnasked};
+ghost use Rattle.run_clauses.specs.Command.{Modulate};
+ghost use Rattle.run_clauses.specs.Modulation.{fits_form};
+ghost use Rattle.run_clauses.specs.Runs.{IsDone, HasStatus, AsksOnly, Stands, IsComplete};
+ghost use Rattle.run_steps.specs.SettingsStep.{AsksSettings};
+ghost use Rattle.modulate_run.specs.Steps.{Accepts, IsReady, RunsOrLacks};
+
+use crate::run::{Names, run_modulation};
+use mode_set::{Carriers, Mode, Mode2k, Mode8k, Settings};
+use modulator::Modulator;
+use run_clauses::{Limits, Refusal, SettingsRefusal};
+use run_steps::{read_settings, refuse};
+use station_core::Station;
+use std::alloc::Global;
+
+// Reads the settings, which fit the form: there is a file of LP exactly with a hierarchy.
+fn read_fitting<'a, S: Station<'a>>(
+    alloc: Global,
+    name: &'a str,
+    lp: Option<&'a str>,
+    station: &mut S,
+) -> Result<Settings, Refusal>
+    requires unasked { IsUnasked (S.meaning station.old).settings }
+    ensures asks { AsksSettings name.now (S.meaning station.old) (S.meaning station.new) }
+    ensures accepts { Accepts name.now (option_copied lp.entry) (S.meaning station.old) (S.meaning station.new) result }
+{
+    match read_settings(alloc, name, station) {
+        Ok(settings) => {
+            if lp.is_some() == settings.hierarchy.is_flat() {
+                Err(Refusal::Settings(SettingsRefusal::Form))
+            } else {
+                Ok(settings)
+            }
+        }
+        Err(refusal) => Err(refusal),
+    }
+}
+
+// Takes the memory of a mode's modulator and of one symbol, and runs the modulation.
+fn modulate_in<'a, M: Carriers, S: Station<'a>>(
+    alloc: Global,
+    settings: &Settings,
+    names: Names<'a>,
+    limits: &Limits,
+    station: &mut S,
+) -> u8
+    requires mode { settings.now.mode ≡ M.MODE }
+    requires form { fits_form settings.now (option_copied names.lp) ≡ true }
+    requires few { limits.now.packets ≤ 100000000 }
+    requires ready { IsReady (S.meaning station.old) }
+    ensures { RunsOrLacks settings.now limits.now.packets names.entry.hp.now (option_copied names.entry.lp) names.entry.cells.now (S.meaning station.old) (S.meaning station.new) result }
+{
+    let Ok(mut tx) = Modulator::<M>::new(alloc, settings) else {
+        return refuse(&Refusal::Memory, station);
+    };
+    let Ok(mut bytes) = Vec::with_capacity(alloc, 4 * M::K as usize) else {
+        return refuse(&Refusal::Memory, station);
+    };
+    run_modulation(names, limits, settings, &mut tx, &mut bytes, station)
+}
+
+// The same in the mode that is set.
+fn modulate_accepted<'a, S: Station<'a>>(
+    alloc: Global,
+    settings: &Settings,
+    names: Names<'a>,
+    limits: &Limits,
+    station: &mut S,
+) -> u8
+    requires form { fits_form settings.now (option_copied names.lp) ≡ true }
+    requires few { limits.now.packets ≤ 100000000 }
+    requires ready { IsReady (S.meaning station.old) }
+    ensures { RunsOrLacks settings.now limits.now.packets names.entry.hp.now (option_copied names.entry.lp) names.entry.cells.now (S.meaning station.old) (S.meaning station.new) result }
+{
+    match settings.mode {
+        Mode::M2k => modulate_in::<Mode2k, S>(alloc, settings, names, limits, station),
+        Mode::M8k => modulate_in::<Mode8k, S>(alloc, settings, names, limits, station),
+    }
+}
+
+/// Runs `modulate SETTINGS HP CELLS` or, with a file of LP, `modulate SETTINGS HP LP CELLS`, and gives
+/// its status.
+///
+/// The settings are read and checked, and then all memory is taken, before another port is asked.
+pub fn modulate<'a, S: Station<'a>>(
+    alloc: Global,
+    settings: &'a str,
+    hp: &'a str,
+    lp: Option<&'a str>,
+    cells: &'a str,
+    limits: &Limits,
+    station: &mut S,
+) -> u8
+    requires fresh { IsFresh (S.meaning station.old) }
+    requires few { limits.now.packets ≤ 100000000 }
+    ensures done { result ≡ 0 → (S.meaning station.old).tells ≡ true
+        → IsDone limits.now.packets (Modulate settings.now hp.now (option_copied lp.entry) cells.now) (S.meaning station.old) (S.meaning station.new) }
+    ensures status { HasStatus limits.now.packets (Some (Modulate settings.now hp.now (option_copied lp.entry) cells.now)) (S.meaning station.old) (S.meaning station.new) result }
+    ensures asks { AsksOnly (Some (Modulate settings.now hp.now (option_copied lp.entry) cells.now)) (S.meaning station.old) (S.meaning station.new) result }
+    ensures stands { Stands limits.now.packets (Some (Modulate settings.now hp.now (option_copied lp.entry) cells.now)) (S.meaning station.old) (S.meaning station.new) result }
+    ensures complete { IsComplete limits.now.packets (Modulate settings.now hp.now (option_copied lp.entry) cells.now) (S.meaning station.old) (S.meaning station.new) result }
+{
+    match read_fitting(alloc, settings, lp, station) {
+        Ok(accepted) => {
+            let names = Names { hp, lp, cells };
+            modulate_accepted(alloc, &accepted, names, limits, station)
+        }
+        Err(refusal) => refuse(&refusal, station),
+    }
+}

@@ -1,0 +1,96 @@
+// A whole run behind its settings.
+ghost use Rattle.std.specs.Prelude.{◌≡◌, ◌≤◌, ◌*◌, ℕ, true, vec_capacity};
+ghost use Rattle.std.specs.Option.{option_copied};
+ghost use Rattle.transmission.specs.Transmission.{Inputs};
+ghost use Rattle.run_clauses.specs.Modulation.{fits_form};
+ghost use Rattle.run_steps.specs.Causes.{HasCause};
+ghost use Rattle.modulate_run.specs.Steps.{AsksPorts, IsNew, IsReady, Ran, RunsModulation};
+
+use crate::inputs::PacketInputs;
+use crate::steps::{close_refused, finish, open};
+use crate::symbols::send_all;
+use crate::transmitter::Transmitter;
+use mode_set::Settings;
+use run_clauses::{Limits, Refusal, TransmissionCounts};
+use run_steps::refuse;
+use station_core::Station;
+use transmission::laws::{symbols, work};
+
+/// The names of the files of a modulation.
+#[derive(Clone, Copy)]
+pub(crate) struct Names<'a> {
+    /// The transport file of high priority, or the only one.
+    pub hp: &'a str,
+    /// The transport file of low priority, if there is one.
+    pub lp: Option<&'a str>,
+    /// The cells that are written.
+    pub cells: &'a str,
+}
+
+// From the opening of the ports to their closing.
+fn modulate_all<'a, T: Transmitter, S: Station<'a>>(
+    names: Names<'a>,
+    limits: &Limits,
+    settings: &Settings,
+    tx: &mut T,
+    bytes: &mut Vec<u8>,
+    station: &mut S,
+) -> Result<TransmissionCounts, Refusal>
+    requires ready { IsReady (S.meaning station.old) }
+    requires few { limits.now.packets ≤ 100000000 }
+    requires same { (T.seen tx.old).settings ≡ settings.now }
+    requires form { fits_form (T.seen tx.old).settings (option_copied names.lp) ≡ true }
+    requires new { IsNew (T.seen tx.old) }
+    requires stands { (inputs : Inputs) → T.stands tx.old inputs }
+    requires room { T.symbol_len ≤ vec_capacity bytes.old }
+    ensures asks { AsksPorts names.entry.hp.now (option_copied names.entry.lp) names.entry.cells.now (S.meaning station.old) (S.meaning station.new) }
+    ensures cause { HasCause (S.meaning station.old) (S.meaning station.new) result }
+    ensures ran { Ran (T.seen tx.old).settings limits.now.packets names.entry.hp.now (option_copied names.entry.lp) (S.meaning station.old) (S.meaning station.new) result }
+{
+    work();
+    symbols();
+    match open(names.hp, names.lp, names.cells, station) {
+        Ok(()) => {}
+        Err(refusal) => return Err(refusal),
+    }
+    let two = names.lp.is_some();
+    match send_all(
+        limits,
+        settings,
+        PacketInputs::first(two),
+        tx,
+        bytes,
+        station,
+    ) {
+        Ok(counts) => finish(two, counts, station),
+        Err(refusal) => {
+            close_refused(station);
+            Err(refusal)
+        }
+    }
+}
+
+/// Runs a modulation by this transmitter, which has had no packet, and gives its status. `bytes` has
+/// room for a symbol.
+pub(crate) fn run_modulation<'a, T: Transmitter, S: Station<'a>>(
+    names: Names<'a>,
+    limits: &Limits,
+    settings: &Settings,
+    tx: &mut T,
+    bytes: &mut Vec<u8>,
+    station: &mut S,
+) -> u8
+    requires ready { IsReady (S.meaning station.old) }
+    requires few { limits.now.packets ≤ 100000000 }
+    requires same { (T.seen tx.old).settings ≡ settings.now }
+    requires form { fits_form (T.seen tx.old).settings (option_copied names.lp) ≡ true }
+    requires new { IsNew (T.seen tx.old) }
+    requires stands { (inputs : Inputs) → T.stands tx.old inputs }
+    requires room { T.symbol_len ≤ vec_capacity bytes.old }
+    ensures runs { RunsModulation (T.seen tx.old).settings limits.now.packets names.entry.hp.now (option_copied names.entry.lp) names.entry.cells.now (S.meaning station.old) (S.meaning station.new) result }
+{
+    match modulate_all(names, limits, settings, tx, bytes, station) {
+        Ok(_) => 0,
+        Err(refusal) => refuse(&refusal, station),
+    }
+}

@@ -1,0 +1,160 @@
+// The steps of a run: the ports are opened, and closed behind the work.
+ghost use Rattle.std.specs.Prelude.{◌≡◌, ◌≤◌, ◌++◌, ℕ, List, [], true, false, None, if◌then◌else◌};
+ghost use Rattle.mode_set.specs.declared.modes.Stream.TheVariants.{Lp};
+ghost use Rattle.std.specs.Option.{option_copied};
+ghost use Rattle.run_clauses.specs.Modulation.{packets_line, super_frames_line, transmission_lines};
+ghost use Rattle.run_steps.specs.Causes.{HasCause};
+ghost use Rattle.modulate_run.specs.Reporting.{Finishes, IsFinish, IsWriting, WritesLines};
+ghost use Rattle.modulate_run.specs.Steps.{AsksPorts, ClosesRefused, OpensAll, OpensLp};
+
+use mode_set::Stream;
+use run_clauses::{
+    Counts, Line, Refusal, TransmissionCounts, packets_line_of, super_frames_line_of,
+};
+use station_core::{InPort, OutPort, Station};
+
+// Opens the file of LP to be read, if there is one.
+fn open_lp<'a, S: Station<'a>>(lp: Option<&'a str>, station: &mut S) -> Result<(), Refusal>
+    requires { (S.meaning station.old).lp.asked ≡ None }
+    ensures cause { HasCause (S.meaning station.old) (S.meaning station.new) result }
+    ensures opened { OpensLp (option_copied lp.entry) (S.meaning station.old) (S.meaning station.new) result }
+{
+    match lp {
+        Some(name) => match station.attach(InPort::Lp, name) {
+            Ok(()) => Ok(()),
+            Err(_) => Err(Refusal::ReadFault),
+        },
+        None => Ok(()),
+    }
+}
+
+/// Opens HP and LP to be read, and then makes the output.
+pub(crate) fn open<'a, S: Station<'a>>(
+    hp: &'a str,
+    lp: Option<&'a str>,
+    cells: &'a str,
+    station: &mut S,
+) -> Result<(), Refusal>
+    requires hp { (S.meaning station.old).hp.asked ≡ None }
+    requires lp { (S.meaning station.old).lp.asked ≡ None }
+    requires cells { (S.meaning station.old).cells_out.asked ≡ None }
+    ensures asks { AsksPorts hp.now (option_copied lp.entry) cells.now (S.meaning station.old) (S.meaning station.new) }
+    ensures cause { HasCause (S.meaning station.old) (S.meaning station.new) result }
+    ensures opened { OpensAll hp.now (option_copied lp.entry) cells.now (S.meaning station.old) (S.meaning station.new) result }
+{
+    if station.attach(InPort::Hp, hp).is_err() {
+        return Err(Refusal::ReadFault);
+    }
+    match open_lp(lp, station) {
+        Ok(()) => {}
+        Err(refusal) => return Err(refusal),
+    }
+    match station.create(OutPort::Cells, cells) {
+        Ok(()) => Ok(()),
+        Err(_) => Err(Refusal::WriteFault),
+    }
+}
+
+// Writes a line to Report.
+fn write_line<'a, S: Station<'a>>(line: &Line, station: &mut S) -> Result<(), Refusal>
+    requires created { (S.meaning station.old).report.created ≡ true }
+    requires report_open { (S.meaning station.old).report.closed ≡ false }
+    ensures cause { HasCause (S.meaning station.old) (S.meaning station.new) result }
+    ensures kind { IsWriting result }
+    ensures writes { WritesLines line.now.bytes (S.meaning station.old) (S.meaning station.new) result }
+{
+    match station.write(OutPort::Report, line.as_str().as_bytes()) {
+        Ok(()) => Ok(()),
+        Err(_) => Err(Refusal::WriteFault),
+    }
+}
+
+// Writes the closing line of LP, if there is LP.
+fn write_lp_line<'a, S: Station<'a>>(
+    two: bool,
+    counts: &Counts,
+    station: &mut S,
+) -> Result<(), Refusal>
+    requires created { (S.meaning station.old).report.created ≡ true }
+    requires report_open { (S.meaning station.old).report.closed ≡ false }
+    ensures cause { HasCause (S.meaning station.old) (S.meaning station.new) result }
+    ensures kind { IsWriting result }
+    ensures writes { WritesLines (if two then packets_line Lp counts.now else []) (S.meaning station.old) (S.meaning station.new) result }
+{
+    if two {
+        write_line(&packets_line_of(Stream::Lp, counts), station)
+    } else {
+        Ok(())
+    }
+}
+
+// Writes the closing line of LP, if there is LP, and that of the super-frames.
+fn write_lp_and_frames<'a, S: Station<'a>>(
+    two: bool,
+    counts: &TransmissionCounts,
+    station: &mut S,
+) -> Result<(), Refusal>
+    requires created { (S.meaning station.old).report.created ≡ true }
+    requires report_open { (S.meaning station.old).report.closed ≡ false }
+    ensures cause { HasCause (S.meaning station.old) (S.meaning station.new) result }
+    ensures kind { IsWriting result }
+    ensures writes { WritesLines ((if two then packets_line Lp counts.now.lp else []) ++ super_frames_line counts.now.super_frames) (S.meaning station.old) (S.meaning station.new) result }
+{
+    match write_lp_line(two, &counts.lp, station) {
+        Ok(()) => write_line(&super_frames_line_of(counts.super_frames), station),
+        Err(refusal) => Err(refusal),
+    }
+}
+
+// Writes the closing lines.
+fn write_lines<'a, S: Station<'a>>(
+    two: bool,
+    counts: &TransmissionCounts,
+    station: &mut S,
+) -> Result<(), Refusal>
+    requires created { (S.meaning station.old).report.created ≡ true }
+    requires report_open { (S.meaning station.old).report.closed ≡ false }
+    ensures cause { HasCause (S.meaning station.old) (S.meaning station.new) result }
+    ensures kind { IsWriting result }
+    ensures writes { WritesLines (transmission_lines two counts.now) (S.meaning station.old) (S.meaning station.new) result }
+{
+    match write_line(&packets_line_of(Stream::Hp, &counts.hp), station) {
+        Ok(()) => write_lp_and_frames(two, counts, station),
+        Err(refusal) => Err(refusal),
+    }
+}
+
+/// Writes the closing lines and closes the output, also where a line was not written.
+pub(crate) fn finish<'a, S: Station<'a>>(
+    two: bool,
+    counts: TransmissionCounts,
+    station: &mut S,
+) -> Result<TransmissionCounts, Refusal>
+    requires report { (S.meaning station.old).report.created ≡ true }
+    requires report_open { (S.meaning station.old).report.closed ≡ false }
+    requires cells { (S.meaning station.old).cells_out.created ≡ true }
+    requires cells_open { (S.meaning station.old).cells_out.closed ≡ false }
+    ensures cause { HasCause (S.meaning station.old) (S.meaning station.new) result }
+    ensures kind { IsFinish counts result }
+    ensures finished { Finishes two counts (S.meaning station.old) (S.meaning station.new) result }
+{
+    match write_lines(two, &counts, station) {
+        Ok(()) => match station.close(OutPort::Cells) {
+            Ok(()) => Ok(counts),
+            Err(_) => Err(Refusal::WriteFault),
+        },
+        Err(refusal) => {
+            let _ = station.close(OutPort::Cells);
+            Err(refusal)
+        }
+    }
+}
+
+/// Closes the output after a refusal. What it answers changes neither status nor text.
+pub(crate) fn close_refused<'a, S: Station<'a>>(station: &mut S)
+    requires cells { (S.meaning station.old).cells_out.created ≡ true }
+    requires cells_open { (S.meaning station.old).cells_out.closed ≡ false }
+    ensures closed { ClosesRefused (S.meaning station.old) (S.meaning station.new) }
+{
+    let _ = station.close(OutPort::Cells);
+}

@@ -1,0 +1,151 @@
+// The work: symbol after symbol.
+ghost use Rattle.std.specs.Prelude.{◌≡◌, ◌≤◌, ◌<◌, ◌*◌, ◌+◌, ◌^◌, ℕ, List, [], Some, None, true, false, IsTrue, OnOk, OnErr, vec_capacity};
+ghost use Rattle.mode_set.specs.StreamTable.{has_stream};
+ghost use Rattle.mode_set.specs.declared.modes.Stream.TheVariants.{Lp};
+ghost use Rattle.mode_set.specs.declared.modes.Stream.{Stream as AnyStream};
+ghost use Rattle.transmission.specs.Transmission.{Inputs, tx_symbol};
+ghost use Rattle.run_steps.specs.Causes.{HasCause};
+ghost use Rattle.modulate_run.specs.Seen.{wanted};
+ghost use Rattle.modulate_run.specs.Work.{AreOpen, AreWithin, GoesOn, IsAtWork, IsDue, IsWritten, KeepsOthers, KeepsOutputs, Modulates, Sends, WritesCells, WritesSymbol};
+
+use crate::inputs::PacketInputs;
+use crate::transmitter::Transmitter;
+use mode_set::Settings;
+use run_clauses::{Limits, Refusal, TransmissionCounts};
+use station_core::{OutPort, Station};
+use transmission::laws::{packets, super_frames, symbols, work};
+
+// Puts packets until they suffice for the next symbol.
+fn put_wanted<'a, T: Transmitter, S: Station<'a>>(
+    limit: u64,
+    inputs: &mut PacketInputs,
+    tx: &mut T,
+    station: &mut S,
+) -> Result<(), Refusal>
+    requires open { AreOpen inputs.old (S.meaning station.old) }
+    requires within { AreWithin limit inputs.old }
+    ensures open { AreOpen inputs.new (S.meaning station.new) }
+    ensures within { AreWithin limit inputs.new }
+    ensures met { inputs.new.lp.tail ≡ None → inputs.old.lp.tail ≡ None }
+    ensures others { KeepsOutputs (S.meaning station.old) (S.meaning station.new) }
+    ensures cause { HasCause (S.meaning station.old) (S.meaning station.new) result }
+    ensures settings { (T.seen tx.new).settings ≡ (T.seen tx.old).settings }
+    ensures made { (T.seen tx.new).made ≡ (T.seen tx.old).made }
+    ensures suffices { OnOk result (wanted (T.seen tx.new) ≡ None) }
+    ensures works { IsTrue (S.meaning station.old).tells → (files : AnyStream → List ℕ) → IsDue files (T.seen tx.old)
+        → IsAtWork limit files (S.meaning station.old) inputs.old (T.seen tx.old) (T.stands tx.old)
+        → GoesOn limit files (S.meaning station.new) inputs.new (T.seen tx.new) (T.stands tx.new) result }
+{
+    while let Some(stream) = tx.wants() {
+        match inputs.put_next(stream, limit, tx, station) {
+            Ok(()) => {}
+            Err(refusal) => return Err(refusal),
+        }
+    }
+    Ok(())
+}
+
+// Makes the next symbol in the place of what stands in `bytes`, and writes it.
+fn send_symbol<'a, T: Transmitter, S: Station<'a>>(
+    tx: &mut T,
+    bytes: &mut Vec<u8>,
+    station: &mut S,
+) -> Result<(), Refusal>
+    requires suffices { wanted (T.seen tx.old) ≡ None }
+    requires few { (T.seen tx.old).made < 2 ^ 32 }
+    requires room { T.symbol_len ≤ vec_capacity bytes.old }
+    requires created { (S.meaning station.old).cells_out.created ≡ true }
+    requires open { (S.meaning station.old).cells_out.closed ≡ false }
+    ensures room { vec_capacity bytes.new ≡ vec_capacity bytes.old }
+    ensures seen { T.seen tx.new ≡ record (T.seen tx.old) { made = (T.seen tx.old).made + 1 } }
+    ensures cause { HasCause (S.meaning station.old) (S.meaning station.new) result }
+    ensures others { WritesCells (S.meaning station.old) (S.meaning station.new) }
+    ensures stands { (inputs : Inputs) → T.stands tx.old inputs → T.stands tx.new inputs }
+    ensures written { IsTrue (S.meaning station.old).tells → (inputs : Inputs) → T.stands tx.old inputs
+        → WritesSymbol (tx_symbol (T.seen tx.old).settings inputs (T.seen tx.old).made) (S.meaning station.old) (S.meaning station.new) result }
+{
+    bytes.clear();
+    tx.symbol(bytes);
+    match station.write(OutPort::Cells, bytes.as_slice()) {
+        Ok(()) => Ok(()),
+        Err(_) => Err(Refusal::WriteFault),
+    }
+}
+
+// Puts the packets of the next symbol, and sends it.
+fn next_symbol<'a, T: Transmitter, S: Station<'a>>(
+    limit: u64,
+    inputs: &mut PacketInputs,
+    tx: &mut T,
+    bytes: &mut Vec<u8>,
+    station: &mut S,
+) -> Result<(), Refusal>
+    requires few { (T.seen tx.old).made < 2 ^ 32 }
+    requires room { T.symbol_len ≤ vec_capacity bytes.old }
+    requires created { (S.meaning station.old).cells_out.created ≡ true }
+    requires open { (S.meaning station.old).cells_out.closed ≡ false }
+    requires inputs_open { AreOpen inputs.old (S.meaning station.old) }
+    requires within { AreWithin limit inputs.old }
+    ensures room { vec_capacity bytes.new ≡ vec_capacity bytes.old }
+    ensures inputs_open { AreOpen inputs.new (S.meaning station.new) }
+    ensures within { AreWithin limit inputs.new }
+    ensures met { inputs.new.lp.tail ≡ None → inputs.old.lp.tail ≡ None }
+    ensures settings { (T.seen tx.new).settings ≡ (T.seen tx.old).settings }
+    ensures made { OnOk result ((T.seen tx.new).made ≡ (T.seen tx.old).made + 1) }
+    ensures others { KeepsOthers (S.meaning station.old) (S.meaning station.new) }
+    ensures cause { HasCause (S.meaning station.old) (S.meaning station.new) result }
+    ensures sends { IsTrue (S.meaning station.old).tells → (files : AnyStream → List ℕ) → IsDue files (T.seen tx.old)
+        → IsWritten limit files (S.meaning station.old) inputs.old (T.seen tx.old) (T.stands tx.old)
+        → Sends limit files (S.meaning station.new) inputs.new (T.seen tx.new) (T.stands tx.new) result }
+{
+    work();
+    symbols();
+    match put_wanted(limit, inputs, tx, station) {
+        Ok(()) => send_symbol(tx, bytes, station),
+        Err(refusal) => Err(refusal),
+    }
+}
+
+/// Sends all symbols of the transmission: it ends with the first super-frame at whose end all inputs
+/// have ended and their packets, and eleven words more, were carried.
+///
+/// It answers what was counted, or the first refusal: one more symbol than the limit, one more packet
+/// than the limit, a packet without its sync byte, a fault.
+pub(crate) fn send_all<'a, T: Transmitter, S: Station<'a>>(
+    limits: &Limits,
+    settings: &Settings,
+    mut inputs: PacketInputs,
+    tx: &mut T,
+    bytes: &mut Vec<u8>,
+    station: &mut S,
+) -> Result<TransmissionCounts, Refusal>
+    requires few { limits.now.packets ≤ 100000000 }
+    requires same { (T.seen tx.old).settings ≡ settings.now }
+    requires two { inputs.lp.tail ≡ None → IsTrue (has_stream (T.seen tx.old).settings.hierarchy Lp) }
+    requires none_made { (T.seen tx.old).made ≡ 0 }
+    requires room { T.symbol_len ≤ vec_capacity bytes.old }
+    requires created { (S.meaning station.old).cells_out.created ≡ true }
+    requires open { (S.meaning station.old).cells_out.closed ≡ false }
+    requires inputs_open { AreOpen inputs (S.meaning station.old) }
+    requires within { AreWithin limits.now.packets inputs }
+    ensures others { KeepsOthers (S.meaning station.old) (S.meaning station.new) }
+    ensures cause { HasCause (S.meaning station.old) (S.meaning station.new) result }
+    ensures modulates { IsTrue (S.meaning station.old).tells → (files : AnyStream → List ℕ)
+        → IsWritten limits.now.packets files (S.meaning station.old) inputs (T.seen tx.old) (T.stands tx.old)
+        → Modulates (T.seen tx.old).settings limits.now.packets files (S.meaning station.new) result }
+{
+    work();
+    packets();
+    super_frames();
+    for symbol in 0..settings.max_symbols {
+        match next_symbol(limits.packets, &mut inputs, tx, bytes, station) {
+            Ok(()) => {}
+            Err(refusal) => return Err(refusal),
+        }
+        match inputs.counts_at::<T>(settings, symbol as u64 + 1) {
+            Some(counts) => return Ok(counts),
+            None => {}
+        }
+    }
+    Err(Refusal::Limit(settings.max_symbols as u64))
+}

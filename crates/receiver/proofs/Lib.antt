@@ -1,0 +1,4 @@
+mod Voting
+mod Pending
+mod Stepping
+mod Feeding

@@ -1,0 +1,6 @@
+pub mod Framing
+pub mod Words
+pub mod Seen
+pub mod Standing
+pub mod Ready
+pub mod Kept

@@ -1,0 +1,24 @@
+-- A stream between two symbols.
+use Rattle.std.specs.Prelude.{◌≡◌, ℕ, ◌*◌, ◌<◌, ◌≤◌, false, [], length, vec_capacity}
+use Rattle.receiver.specs.Seen.{StreamState}
+use Rattle.receiver.specs.Words.{Started, AreFew}
+use Rattle.receiver.specs.declared.stream.StreamRx.{StreamRx}
+
+abbrev pub seen : StreamRx → StreamState
+seen x = record { branch = x.branch; outer = x.outer; counts = x.counts }
+
+-- no pair is loaded, fewer than eight bits wait, and all words are finished
+pub record IsReady (x : StreamRx) : Type 0 where
+  pub going : x.branch.decoder.ended ≡ false
+  pub loaded : x.branch.loaded ≡ []
+  pub wait : length x.branch.wait < 8
+  pub none : x.slots.items ≡ []
+  pub slots : 24 ≤ vec_capacity x.slots
+  pub started : Started x.outer
+
+-- a stream after so many symbols of so many steps each, before it has ended
+pub record IsKeptStream (x : StreamRx) (steps taken : ℕ) : Type 0 where
+  pub ready : IsReady x
+  pub most : x.branch.most ≡ steps
+  pub steps_are : x.branch.decoder.steps ≡ taken * steps
+  pub counts : AreFew x.counts (40 * taken)

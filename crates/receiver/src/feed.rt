@@ -1,0 +1,211 @@
+// The receiver.
+ghost use Rattle.std.specs.Prelude.{◌≡◌, ◌+◌, ◌-◌, ◌*◌, ◌<◌, ◌≤◌, ◌^◌, ◌++◌, [], ℕ, List, IsTrue, true, false, min, take, length, IfOk, if◌then◌else◌, None, Some};
+ghost use Rattle.mode_set.specs.Kept.{is_flat};
+ghost use Rattle.mode_set.specs.StreamTable.{has_stream};
+ghost use Rattle.mode_set.specs.declared.modes.Stream.TheVariants.{Hp, Lp};
+ghost use Rattle.reception.specs.Streams.{so_far, at_end, start_of, Moment, Reception};
+ghost use Rattle.reception.specs.Lines.{counts_of};
+ghost use Rattle.reception.specs.Laws.{nothing};
+ghost use Rattle.reception.specs.Cells.{symbols};
+ghost use Rattle.reception.specs.Costs.{costs};
+ghost use Rattle.inner_decoder.specs.Starts as inner;
+ghost use Rattle.reception.specs.Feeds.{Feeds, Finishes};
+ghost use Rattle.receiver.specs.Seen.{stream_of};
+ghost use Rattle.receiver.specs.Standing.{StandsFor, HasBits};
+
+use crate::RxOut;
+use crate::frames::FrameReader;
+use crate::stream::StreamRx;
+use crate::symbol::SymbolRx;
+use crate::words::StreamBranch;
+use frame_build::SymbolIn;
+use inner_chain::InnerRx;
+use inner_decoder::StartState;
+use mode_set::{Carriers, Settings, Start, Stream};
+use rx_report::{Counts, StreamCounts};
+use std::alloc::{AllocError, Global};
+use std::marker::Model;
+use std::thread::Threads;
+
+// The start of the decoders.
+fn start_state(start: Start) -> StartState
+    ensures { inner.start_of result ≡ start_of start }
+{
+    match start {
+        Start::Zero => StartState::Zero,
+        Start::Any => StartState::Any,
+    }
+}
+
+// The counts of LP, where there is a hierarchy.
+fn where_layered(settings: &Settings, counts: StreamCounts) -> Option<StreamCounts>
+    ensures { result ≡ (if is_flat settings.now.hierarchy then None else Some counts) }
+{
+    if settings.hierarchy.is_flat() {
+        None
+    } else {
+        Some(counts)
+    }
+}
+
+/// Receives the cells of a transmission, as bytes that are cut anywhere, and gives the packets of its
+/// streams as far as they are decided.
+///
+/// It stands for the bytes that it has had and for what it gave. No call but `new` takes memory or is
+/// refused.
+#[derive(Drop)]
+pub struct Receiver<M: Carriers> {
+    settings: Settings,
+    input: SymbolIn<M>,
+    streams: SymbolRx<M>,
+    taken: u64,
+    ended: bool,
+}
+
+impl<M: Carriers> Model for Receiver<M> {
+    ghost use Rattle.receiver.specs.Seen.{ReceiverState};
+    ghost use Rattle.receiver.specs.Kept.{IsReceiving};
+    ghost use Rattle.std.specs.Prelude.{vec_capacity};
+
+    ghost Value = { ReceiverState };
+
+    ghost view = { λ x. record {
+      settings = x.settings;
+      rest = x.input;
+      taken = x.taken;
+      hp = record { branch = x.streams.hp.branch; outer = x.streams.hp.outer; counts = x.streams.hp.counts };
+      lp = record { branch = x.streams.lp.branch; outer = x.streams.lp.outer; counts = x.streams.lp.counts };
+      frames = x.streams.frames;
+      ended = x.ended;
+    } };
+
+    ghost invariant = { λ x. IsReceiving M.MODE M.K x.settings x.input x.streams.inner (vec_capacity x.streams.pairs) x.streams.hp x.streams.lp x.streams.frames x.taken x.ended };
+}
+
+impl<M: Carriers> Receiver<M> {
+    /// A receiver that has had no byte. It takes all its memory; the only error is want of it.
+    pub fn new(alloc: Global, settings: &Settings) -> Result<Self, AllocError>
+        requires mode { settings.now.mode ≡ M.MODE }
+        ensures settings { IfOk result (λ x. x.settings ≡ settings.now) }
+        ensures going { IfOk result (λ x. x.ended ≡ false) }
+        ensures taken { IfOk result (λ x. x.taken ≡ 0) }
+        ensures stands { IfOk result (λ x. StandsFor so_far x [] nothing) }
+    {
+        let start = start_state(settings.start);
+        let hp_steps = settings.need(Stream::Hp);
+        let lp_steps = settings.need(Stream::Lp);
+        reception::laws::nothing();
+        reception::laws::costs();
+        let streams = SymbolRx {
+            inner: InnerRx::new(alloc, settings)?,
+            pairs: Vec::with_capacity(alloc, hp_steps.max(lp_steps) as usize)?,
+            hp: StreamRx::new(alloc, start, hp_steps)?,
+            lp: StreamRx::new(alloc, start, lp_steps)?,
+            frames: FrameReader::new(),
+        };
+        Ok(Receiver {
+            settings: *settings,
+            input: SymbolIn::new(alloc)?,
+            streams,
+            taken: 0,
+            ended: false,
+        })
+    }
+
+    /// Takes bytes from the front of the piece, as many as it has or the current symbol wants, and answers
+    /// how many. `out` has then exactly what became defined by them.
+    ///
+    /// Fewer than 2^32 symbols were received so far, and the receiver has not ended.
+    pub fn feed<R: Threads + Sync>(&mut self, _rt: &R, piece: &[u8], out: &mut RxOut) -> usize
+        requires going { self.old.ended ≡ false }
+        requires few { self.old.taken < 2 ^ 32 }
+        ensures settings { self.new.settings ≡ self.old.settings }
+        ensures going { self.new.ended ≡ false }
+        ensures count { result ≡ min (length piece.now) (4 * M.K - length self.old.rest) }
+        ensures taken { self.new.taken ≤ self.old.taken + 1 }
+        ensures fed { (bytes : List ℕ) (r : Reception) → StandsFor so_far self.old bytes r → Feeds (StandsFor so_far self.new) self.old.settings bytes piece.now r result out.new }
+    {
+        reception::laws::symbols();
+        reception::laws::costs();
+        reception::laws::events();
+        outer_chain::laws::bits();
+        outer_chain::laws::receiving();
+        out.clear();
+        let count = self.input.take(piece);
+        if !self.input.whole() {
+            return count;
+        }
+        self.streams.take(
+            &self.settings,
+            self.taken,
+            self.input.cells(),
+            &mut out.hp,
+            &mut out.lp,
+            &mut out.events,
+        );
+        self.input.next();
+        self.taken += 1;
+        count
+    }
+
+    /// Ends the reception: `out` has then the rest of the packets.
+    ///
+    /// The receiver has not ended.
+    pub fn finish<R: Threads + Sync>(&mut self, _rt: &R, out: &mut RxOut)
+        requires going { self.old.ended ≡ false }
+        ensures settings { self.new.settings ≡ self.old.settings }
+        ensures ended { self.new.ended ≡ true }
+        ensures taken { self.new.taken ≡ self.old.taken }
+        ensures finished { (bytes : List ℕ) (r : Reception) → StandsFor so_far self.old bytes r → Finishes (StandsFor at_end self.new) self.old.settings bytes r out.new }
+    {
+        outer_chain::laws::bits();
+        outer_chain::laws::receiving();
+        out.clear();
+        self.streams.hp.finish(&mut out.hp);
+        self.streams.lp.finish(&mut out.lp);
+        self.ended = true;
+    }
+
+    /// Was `finish` called?
+    pub fn ended(&self) -> bool
+        ensures { result ≡ self.now.ended }
+    {
+        self.ended
+    }
+
+    /// The whole symbols received so far.
+    pub fn symbols(&self) -> u64
+        ensures number { result ≡ self.now.taken }
+        ensures symbols { (moment : Moment) (bytes : List ℕ) (r : Reception) → StandsFor moment self.now bytes r → result ≡ symbols self.now.settings bytes }
+    {
+        self.taken
+    }
+
+    /// The counts so far, or at the end.
+    pub fn counts(&self) -> Counts
+        ensures { (moment : Moment) (bytes : List ℕ) (r : Reception) → StandsFor moment self.now bytes r → result ≡ counts_of self.now.settings bytes r }
+    {
+        reception::laws::symbols();
+        Counts {
+            symbols: self.taken,
+            tail: self.input.waiting(),
+            tps_read: self.streams.frames.read,
+            tps_bad: self.streams.frames.bad,
+            hp: self.streams.hp.counts,
+            lp: where_layered(&self.settings, self.streams.lp.counts),
+        }
+    }
+
+    /// The inner decoder of a stream that exists, also after `finish`.
+    pub fn branch(&self, stream: Stream) -> &StreamBranch
+        requires exists { IsTrue (has_stream self.now.settings.hierarchy stream) }
+        ensures branch { result.now ≡ (stream_of self.now stream).branch }
+        ensures loaded { (moment : Moment) (bytes : List ℕ) (r : Reception) → StandsFor moment self.now bytes r → result.now.loaded ≡ [] }
+        ensures stands { (moment : Moment) (bytes : List ℕ) (r : Reception) → StandsFor moment self.now bytes r → HasBits moment result.now (start_of self.now.settings.start) (costs self.now.settings bytes stream) }
+    {
+        match stream {
+            Stream::Hp => &self.streams.hp.branch,
+            Stream::Lp => &self.streams.lp.branch,
+        }
+    }
+}

@@ -1,0 +1,158 @@
+// The TPS words of frames, as their symbols come.
+ghost use Rattle.std.specs.Prelude.{◌≡◌, ◌+◌, ◌<◌, ◌≤◌, ◌^◌, ◌↔◌, ℕ, List, All, IsTrue, drop, length, map, slice_set, take};
+ghost use Rattle.tps_word.specs.Vote.{vote};
+ghost use Rattle.mode_set.specs.StreamTable.{carriers};
+ghost use Rattle.pilots.specs.Carriers.{tps_carriers};
+ghost use Rattle.mode_set.specs.declared.modes.Mode.{Mode as AnyMode};
+ghost use Rattle.qam_map.specs.declared.cell.Cell.{Cell as AnyCell};
+ghost use Rattle.inner_chain.specs.CostPairs.{cell_of};
+ghost use Rattle.reception.specs.Frames.{IsReadable};
+ghost use Rattle.receiver.specs.Framing.{FrameStands, IsVoted};
+
+use mode_set::Mode;
+use pilots::tps_carriers;
+use qam_map::Cell;
+use tps_bch::{TpsOutcome, correct};
+use tps_word::{TpsWord, vote};
+
+/// The most TPS carriers of a symbol.
+const MOST: usize = 68;
+
+// Are the bits within two errors of a word of the code whose fields can be sent?
+fn is_readable(bits: &[bool; 67]) -> bool
+    ensures { IsTrue result ↔ IsReadable bits.now }
+{
+    let mut word = *bits;
+    match correct(&mut word) {
+        TpsOutcome::Read(_) => TpsWord::read(&word).is_some(),
+        TpsOutcome::Unreadable => false,
+    }
+}
+
+// The cells of these carriers.
+fn gather(carriers: &[u16], cells: &[Cell], to: &mut [Cell])
+    requires within { All (λ k. k < length cells.now) carriers.now }
+    requires room { length carriers.now ≤ length to.old }
+    ensures { take (length carriers.now) to.new ≡ map (cell_of cells.now) carriers.now }
+{
+    for (i, k) in carriers.iter().enumerate() {
+        to[i] = cells[*k as usize];
+    }
+}
+
+// The TPS carriers of a mode.
+fn carriers_of(mode: Mode) -> &'static [u16]
+    ensures carriers { result.now ≡ tps_carriers mode }
+    ensures few { length result.now ≤ 68 }
+    ensures within { All (λ k. k < carriers mode) result.now }
+{
+    tps_carriers(mode)
+}
+
+/// Reads the TPS word of each frame of 68 symbols, and counts those that are read and those that are not.
+#[derive(Drop)]
+pub(crate) struct FrameReader {
+    // The TPS cells of the symbol before.
+    pub(crate) before: [Cell; 68],
+    // The bits of the frame so far, bit l behind symbol l.
+    pub(crate) bits: [bool; 68],
+    // The number of the next symbol in its frame.
+    pub(crate) symbol: u8,
+    pub(crate) read: u64,
+    pub(crate) bad: u64,
+}
+
+// Bit l of a frame's bits.
+fn put_bit(bits: &mut [bool; 68], l: u8, bit: bool)
+    requires within { l < 68 }
+    ensures set { bits.new ≡ slice_set bits.old l bit }
+    ensures long { length bits.old ≡ 68 }
+{
+    bits[l as usize] = bit;
+}
+
+// The bits s1 to s67.
+fn word_of(bits: &[bool; 68]) -> [bool; 67]
+    ensures word { result ≡ drop 1 bits.now }
+    ensures long { length bits.now ≡ 68 }
+{
+    let mut word = [false; 67];
+    word.copy_from_slice(&bits[1..]);
+    word
+}
+
+// The vote of the first so many cells.
+fn vote_of(before: &[Cell; 68], now: &[Cell; 68], count: usize) -> bool
+    requires few { count ≤ 68 }
+    ensures { result ≡ vote (take count before.now) (take count now.now) }
+{
+    vote(&before[..count], &now[..count])
+}
+
+impl FrameReader {
+    pub(crate) fn new() -> FrameReader
+        ensures none { (mode : AnyMode) (cells : ℕ → List AnyCell) → FrameStands mode result cells 0 }
+        ensures symbol { result.symbol ≡ 0 }
+        ensures read { result.read ≡ 0 }
+        ensures bad { result.bad ≡ 0 }
+    {
+        FrameReader {
+            before: [Cell { re: 0, im: 0 }; MOST],
+            bits: [false; 68],
+            symbol: 0,
+            read: 0,
+            bad: 0,
+        }
+    }
+
+    // Takes the vote of the symbol before and this one.
+    fn note(&mut self, mode: Mode, cells: &[Cell])
+        requires cells { length cells.now ≡ carriers mode }
+        requires symbol { self.old.symbol < 68 }
+        ensures symbol { self.new.symbol ≡ self.old.symbol }
+        ensures read { self.new.read ≡ self.old.read }
+        ensures bad { self.new.bad ≡ self.old.bad }
+        ensures voted { (shown : ℕ → List AnyCell) (n : ℕ) → shown n ≡ map (cell_of cells.now) (tps_carriers mode) → FrameStands mode self.old shown n → IsVoted mode self.new shown n }
+    {
+        let carriers = carriers_of(mode);
+        let mut now = [Cell { re: 0, im: 0 }; MOST];
+        gather(carriers, cells, &mut now);
+        let bit = vote_of(&self.before, &now, carriers.len());
+        put_bit(&mut self.bits, self.symbol, bit);
+        self.before = now;
+    }
+
+    // Goes on to the next symbol, and counts the word behind the last one of a frame.
+    fn advance(&mut self)
+        requires symbol { self.old.symbol < 68 }
+        requires few { self.old.read + self.old.bad < 2 ^ 62 }
+        ensures symbol { self.new.symbol < 68 }
+        ensures few { self.new.read + self.new.bad ≤ self.old.read + self.old.bad + 1 }
+        ensures stands { (mode : AnyMode) (shown : ℕ → List AnyCell) (n : ℕ) → IsVoted mode self.old shown n → FrameStands mode self.new shown (n + 1) }
+    {
+        if self.symbol < 67 {
+            self.symbol += 1;
+            return;
+        }
+        self.symbol = 0;
+        let word = word_of(&self.bits);
+        if is_readable(&word) {
+            self.read += 1;
+        } else {
+            self.bad += 1;
+        }
+    }
+
+    /// Takes the next symbol by the cells of all its carriers.
+    pub(crate) fn take(&mut self, mode: Mode, cells: &[Cell])
+        requires cells { length cells.now ≡ carriers mode }
+        requires symbol { self.old.symbol < 68 }
+        requires few { self.old.read + self.old.bad < 2 ^ 62 }
+        ensures symbol { self.new.symbol < 68 }
+        ensures few { self.new.read + self.new.bad ≤ self.old.read + self.old.bad + 1 }
+        ensures taken { (shown : ℕ → List AnyCell) (n : ℕ) → shown n ≡ map (cell_of cells.now) (tps_carriers mode) → FrameStands mode self.old shown n → FrameStands mode self.new shown (n + 1) }
+    {
+        self.note(mode, cells);
+        self.advance();
+    }
+}

@@ -1,0 +1,181 @@
+// The receiving of one stream, symbol by symbol.
+ghost use Rattle.std.specs.Prelude.{◌≡◌, ◌+◌, ◌<◌, ◌≤◌, ◌^◌, ◌++◌, [], ℕ, List, Bool, map, length, vec_len, vec_capacity, IfOk, true, false};
+ghost use Rattle.std.specs.declared.option.Option.{Option};
+ghost use Rattle.code_paths.specs.declared.costs.CostPair.{CostPair as Pair};
+ghost use Rattle.inner_decoder.specs.Events.{ats};
+ghost use Rattle.inner_decoder.specs.Starts.{start_of};
+ghost use Rattle.outer_chain.specs.Words.{Tally, word_count};
+ghost use Rattle.outer_chain.specs.Running.{Finished, no_words};
+ghost use Rattle.reception.specs.Streams.{so_far, at_end};
+ghost use Rattle.reception.specs.Lines.{event_at, stream_counts};
+ghost use Rattle.receiver.specs.Words.{Started, Gives, AreFew};
+ghost use Rattle.receiver.specs.Standing.{StreamStands, StreamGave};
+ghost use Rattle.receiver.specs.Ready.{IsReady, seen};
+
+use crate::words::{StreamBranch, WORDS, collect, decode, finish_words};
+use conv_code::CostPair;
+use inner_decoder::{StartState, Unmerged};
+use mode_set::Stream;
+use outer_chain::{OuterRx, WordSlot};
+use rx_report::{Event, StreamCounts};
+use std::alloc::{AllocError, Global};
+
+/// The decoder of one stream, and what becomes of the bits that it gives: bytes, words, packets and counts.
+#[derive(Drop)]
+pub(crate) struct StreamRx {
+    pub(crate) branch: StreamBranch,
+    pub(crate) outer: OuterRx,
+    // The words that a symbol completes, none between two symbols.
+    pub(crate) slots: Vec<WordSlot>,
+    pub(crate) counts: StreamCounts,
+}
+
+/// The counts of nothing.
+fn no_counts() -> StreamCounts
+    ensures { result ≡ stream_counts no_words 0 }
+{
+    StreamCounts {
+        words: 0,
+        clean: 0,
+        corrected: 0,
+        bad: 0,
+        unphased: 0,
+        unmerged: 0,
+    }
+}
+
+/// Loads the pairs of a symbol.
+fn load(branch: &mut StreamBranch, pairs: &[CostPair])
+    requires going { branch.old.decoder.ended ≡ false }
+    requires none { branch.old.loaded ≡ [] }
+    requires room { length pairs.now ≤ branch.old.most }
+    ensures { branch.new ≡ record branch.old { loaded = pairs.now } }
+{
+    for pair in pairs {
+        branch.load(*pair);
+    }
+}
+
+/// Appends the reports of a symbol.
+fn push_events(stream: Stream, reports: &[Unmerged], to: &mut Vec<Event>)
+    requires room { vec_len to.old + length reports.now ≤ vec_capacity to.old }
+    ensures events { to.new.items ≡ to.old.items ++ map (event_at stream) (ats reports.now) }
+    ensures capacity { vec_capacity to.new ≡ vec_capacity to.old }
+{
+    for report in reports {
+        to.push_reserved(Event {
+            stream,
+            at: report.at,
+        });
+    }
+}
+
+impl StreamRx {
+    /// A stream of which nothing was received, with room for the pairs of a symbol. The only error is want
+    /// of memory.
+    pub(crate) fn new(alloc: Global, start: StartState, most: u32) -> Result<Self, AllocError>
+        ensures ready { IfOk result (λ x. IsReady x) }
+        ensures steps { IfOk result (λ x. x.branch.decoder.steps ≡ 0) }
+        ensures most { IfOk result (λ x. x.branch.most ≡ most) }
+        ensures counts { IfOk result (λ x. AreFew x.counts 0) }
+        ensures stands { IfOk result (λ x. StreamStands so_far (seen x) (start_of start) [] [] no_words []) }
+    {
+        outer_chain::laws::receiving();
+        reception::laws::nothing();
+        Ok(StreamRx {
+            branch: StreamBranch::new(alloc, start, most)?,
+            outer: OuterRx::new(alloc)?,
+            slots: Vec::with_capacity(alloc, WORDS)?,
+            counts: no_counts(),
+        })
+    }
+
+    /// Takes the whole bytes of the bits that wait, decodes the words that end with them, and appends
+    /// their packets.
+    fn give(&mut self, to: &mut Vec<u8>)
+        requires started { Started self.old.outer }
+        requires none { self.old.slots.items ≡ [] }
+        requires slots { 24 ≤ vec_capacity self.old.slots }
+        requires room { vec_len to.old + 4512 ≤ vec_capacity to.old }
+        requires few { AreFew self.old.counts (2 ^ 61) }
+        ensures none { self.new.slots.items ≡ [] }
+        ensures slots { vec_capacity self.new.slots ≡ vec_capacity self.old.slots }
+        ensures capacity { vec_capacity to.new ≡ vec_capacity to.old }
+        ensures wait { length self.new.branch.wait < 8 }
+        ensures rest { self.new.branch ≡ record self.old.branch { wait = self.new.branch.wait } }
+        ensures few { (n : ℕ) → AreFew self.old.counts n → AreFew self.new.counts (n + 24) }
+        ensures started { Started self.new.outer }
+        ensures gives { (bytes given : List ℕ) (tally : Tally) → Finished self.old.outer bytes given tally (word_count bytes)
+            → Gives self.old.branch.wait self.new.branch.wait self.new.outer bytes given tally to.old.items to.new.items self.old.counts self.new.counts }
+    {
+        collect(&mut self.branch, &mut self.outer, &mut self.slots);
+        decode(&mut self.slots);
+        finish_words(&mut self.outer, &self.slots, &mut self.counts, to);
+        self.slots.clear();
+    }
+
+    /// Counts and appends the reports of the last symbol.
+    fn report(&mut self, stream: Stream, to: &mut Vec<Event>)
+        requires room { vec_len to.old + 16 ≤ vec_capacity to.old }
+        requires few { AreFew self.old.counts (2 ^ 62) }
+        ensures events { to.new.items ≡ to.old.items ++ map (event_at stream) (ats self.old.branch.events) }
+        ensures len { vec_len to.new ≤ vec_len to.old + 16 }
+        ensures capacity { vec_capacity to.new ≡ vec_capacity to.old }
+        ensures few { (n : ℕ) → AreFew self.old.counts n → AreFew self.new.counts (n + 16) }
+        ensures counted { self.new ≡ record self.old { counts = record self.old.counts { unmerged = self.old.counts.unmerged + length self.old.branch.events } } }
+    {
+        let reports = self.branch.events();
+        push_events(stream, reports, to);
+        self.counts.unmerged += reports.len() as u64;
+    }
+
+    /// Takes the cost pairs of a symbol: decodes them, appends the packets of the words that are then
+    /// complete, and appends the reports.
+    pub(crate) fn take(
+        &mut self,
+        stream: Stream,
+        pairs: &[CostPair],
+        to: &mut Vec<u8>,
+        events: &mut Vec<Event>,
+    )
+        requires ready { IsReady self.old }
+        requires steps { self.old.branch.decoder.steps < 2 ^ 61 }
+        requires most { self.old.branch.most ≤ 31752 }
+        requires counts { AreFew self.old.counts (2 ^ 60) }
+        requires pairs { length pairs.now ≤ self.old.branch.most }
+        requires room { vec_len to.old + 4512 ≤ vec_capacity to.old }
+        requires event_room { vec_len events.old + 16 ≤ vec_capacity events.old }
+        ensures ready { IsReady self.new }
+        ensures steps { self.new.branch.decoder.steps ≡ self.old.branch.decoder.steps + length pairs.now }
+        ensures most { self.new.branch.most ≡ self.old.branch.most }
+        ensures counts { (n : ℕ) → AreFew self.old.counts n → AreFew self.new.counts (n + 40) }
+        ensures capacity { vec_capacity to.new ≡ vec_capacity to.old }
+        ensures event_len { vec_len events.new ≤ vec_len events.old + 16 }
+        ensures event_capacity { vec_capacity events.new ≡ vec_capacity events.old }
+        ensures events { events.new.items ≡ events.old.items ++ map (event_at stream) (ats self.new.branch.events) }
+        ensures fed { (a : Option (List Bool)) (c : List Pair) (given : List ℕ) (tally : Tally) (reports : List ℕ) → StreamStands so_far (seen self.old) a c given tally reports
+            → StreamGave so_far (seen self.new) a (c ++ pairs.now) given (reports ++ ats self.new.branch.events) to.old.items to.new.items }
+    {
+        load(&mut self.branch, pairs);
+        self.branch.run_symbol();
+        self.give(to);
+        self.report(stream, events);
+    }
+
+    /// Decodes what is left, and appends the packets of the words that are then complete.
+    pub(crate) fn finish(&mut self, to: &mut Vec<u8>)
+        requires ready { IsReady self.old }
+        requires counts { AreFew self.old.counts (2 ^ 60) }
+        requires room { vec_len to.old + 4512 ≤ vec_capacity to.old }
+        ensures ended { self.new.branch.decoder.ended ≡ true }
+        ensures steps { self.new.branch.decoder.steps ≡ self.old.branch.decoder.steps }
+        ensures most { self.new.branch.most ≡ self.old.branch.most }
+        ensures counts { (n : ℕ) → AreFew self.old.counts n → AreFew self.new.counts (n + 40) }
+        ensures capacity { vec_capacity to.new ≡ vec_capacity to.old }
+        ensures ended_stream { (a : Option (List Bool)) (c : List Pair) (given : List ℕ) (tally : Tally) (reports : List ℕ) → StreamStands so_far (seen self.old) a c given tally reports
+            → StreamGave at_end (seen self.new) a c given reports to.old.items to.new.items }
+    {
+        self.branch.finish();
+        self.give(to);
+    }
+}

@@ -1,0 +1,174 @@
+// From the bits that a decoder gives to packets.
+ghost use Rattle.std.specs.Prelude.{◌≡◌, ◌+◌, ◌-◌, ◌*◌, ◌/◌, ◌<◌, ◌≤◌, ◌^◌, ◌++◌, ◌∷◌, [], ℕ, List, Bool, not, cond, length, vec_len, vec_capacity};
+ghost use Rattle.rs204.specs.Decoded.{Decoded};
+ghost use Rattle.outer_chain.specs.Words.{Tally, word_at, word_count};
+ghost use Rattle.outer_chain.specs.Running.{Finished, bytes_given, is_clean_outcome, is_corrected_outcome, is_bad_outcome};
+ghost use Rattle.receiver.specs.Words.{AreDecoded, DecodesAll, Started, Took, Passed, Collected, counted, Wrote, AreFew};
+
+use acs_lanes::LaneAcs;
+use inner_decoder::Branch;
+use outer_chain::laws::receiving;
+use outer_chain::{OuterRx, WordSlot};
+use rs204::Outcome;
+use rx_report::StreamCounts;
+use survivor_ring::RingSurvivors;
+use ts_packet::Packet;
+
+/// The decoder of one stream.
+pub(crate) type StreamBranch = Branch<LaneAcs, RingSurvivors<2048>>;
+
+/// The most words that one symbol completes.
+pub(crate) const WORDS: usize = 24;
+
+/// Takes a byte of the stream, and keeps the word that ends with it, if one does.
+fn take_byte(outer: &mut OuterRx, byte: u8, slots: &mut Vec<WordSlot>)
+    requires room { vec_len slots.old < vec_capacity slots.old }
+    ensures capacity { vec_capacity slots.new ≡ vec_capacity slots.old }
+    ensures small { byte < 256 }
+    ensures took { (bytes given : List ℕ) (tally : Tally) (done : ℕ) → Finished outer.old bytes given tally done → Took outer.new byte bytes given tally done slots.old.items slots.new.items }
+{
+    receiving();
+    outer_chain::laws::growth();
+    match outer.take_byte(byte) {
+        Some(slot) => slots.push_reserved(slot),
+        None => {}
+    }
+}
+
+/// Takes the first byte of the bits that wait, of which there are eight at least.
+fn pass_byte(branch: &mut StreamBranch, outer: &mut OuterRx, slots: &mut Vec<WordSlot>)
+    requires wait { 8 ≤ length branch.old.wait }
+    requires room { vec_len slots.old < vec_capacity slots.old }
+    ensures capacity { vec_capacity slots.new ≡ vec_capacity slots.old }
+    ensures wait { length branch.old.wait ≡ length branch.new.wait + 8 }
+    ensures rest { branch.new ≡ record branch.old { wait = branch.new.wait } }
+    ensures passed { (bytes given : List ℕ) (tally : Tally) (done : ℕ) → Finished outer.old bytes given tally done → Passed branch.old.wait branch.new.wait outer.new bytes given tally done slots.old.items slots.new.items }
+{
+    match branch.take_byte() {
+        Some(byte) => take_byte(outer, byte, slots),
+        None => {}
+    }
+}
+
+/// Takes the whole bytes of the bits that wait, and keeps the words that end with them, of which there
+/// are 24 at most.
+pub(crate) fn collect(branch: &mut StreamBranch, outer: &mut OuterRx, slots: &mut Vec<WordSlot>)
+    requires started { Started outer.old }
+    requires none { slots.old.items ≡ [] }
+    requires room { 24 ≤ vec_capacity slots.old }
+    ensures capacity { vec_capacity slots.new ≡ vec_capacity slots.old }
+    ensures few { vec_len slots.new ≤ 24 }
+    ensures wait { length branch.new.wait < 8 }
+    ensures rest { branch.new ≡ record branch.old { wait = branch.new.wait } }
+    ensures collected { (bytes given : List ℕ) (tally : Tally) → Finished outer.old bytes given tally (word_count bytes)
+        → Collected branch.old.wait bytes given tally (word_count bytes) (length branch.old.wait / 8) outer.new branch.new.wait slots.new.items }
+{
+    for _k in 0..branch.waiting() / 8 {
+        pass_byte(branch, outer, slots);
+    }
+}
+
+/// Decodes each word.
+pub(crate) fn decode(slots: &mut Vec<WordSlot>)
+    ensures capacity { vec_capacity slots.new ≡ vec_capacity slots.old }
+    ensures decoded { DecodesAll slots.old.items slots.new.items }
+{
+    for slot in slots.iter_mut() {
+        slot.decode();
+    }
+}
+
+/// One where the outcome is that of a clean, a corrected or a bad word.
+fn kinds(outcome: Outcome) -> (u64, u64, u64)
+    ensures clean { result.0 ≡ cond (is_clean_outcome outcome) 1 0 }
+    ensures corrected { result.1 ≡ cond (is_corrected_outcome outcome) 1 0 }
+    ensures bad { result.2 ≡ cond (is_bad_outcome outcome) 1 0 }
+    ensures one { result.0 + result.1 + result.2 ≡ 1 }
+{
+    match outcome {
+        Outcome::Clean => (1, 0, 0),
+        Outcome::Corrected(_) => (0, 1, 0),
+        Outcome::Bad => (0, 0, 1),
+    }
+}
+
+/// One where there is no phase.
+fn without(phased: bool) -> u64
+    ensures is { result ≡ cond (not phased) 1 0 }
+    ensures small { result ≤ 1 }
+{
+    if phased { 0 } else { 1 }
+}
+
+/// Counts a word.
+fn count(counts: &mut StreamCounts, outcome: Outcome, phased: bool)
+    requires few { AreFew counts.old (2 ^ 62) }
+    ensures few { (n : ℕ) → AreFew counts.old n → AreFew counts.new (n + 1) }
+    ensures counted { counts.new ≡ counted counts.old outcome phased }
+{
+    let (clean, corrected, bad) = kinds(outcome);
+    counts.words += 1;
+    counts.clean += clean;
+    counts.corrected += corrected;
+    counts.bad += bad;
+    counts.unphased += without(phased);
+}
+
+/// Appends bytes, for which there is room.
+fn append(bytes: &[u8], to: &mut Vec<u8>)
+    requires room { vec_len to.old + length bytes.now ≤ vec_capacity to.old }
+    ensures items { to.new.items ≡ to.old.items ++ bytes.now }
+    ensures capacity { vec_capacity to.new ≡ vec_capacity to.old }
+{
+    for byte in bytes {
+        to.push_reserved(*byte);
+    }
+}
+
+/// Appends the packet of a word, where it has one.
+fn append_packet(packet: &Option<Packet>, to: &mut Vec<u8>)
+    requires room { vec_len to.old + 188 ≤ vec_capacity to.old }
+    ensures items { to.new.items ≡ to.old.items ++ bytes_given packet.now }
+    ensures len { vec_len to.new ≤ vec_len to.old + 188 }
+    ensures capacity { vec_capacity to.new ≡ vec_capacity to.old }
+{
+    if let Some(packet) = packet {
+        append(packet.bytes(), to);
+    }
+}
+
+/// Finishes a decoded word: counts it and writes its packet, where it has one.
+fn finish_word(outer: &mut OuterRx, slot: &WordSlot, counts: &mut StreamCounts, to: &mut Vec<u8>)
+    requires room { vec_len to.old + 188 ≤ vec_capacity to.old }
+    requires few { AreFew counts.old (2 ^ 62) }
+    ensures len { vec_len to.new ≤ vec_len to.old + 188 }
+    ensures capacity { vec_capacity to.new ≡ vec_capacity to.old }
+    ensures few { (n : ℕ) → AreFew counts.old n → AreFew counts.new (n + 1) }
+    ensures wrote { (bytes given : List ℕ) (tally : Tally) (done : ℕ) → Finished outer.old bytes given tally done → done < word_count bytes → Decoded (word_at bytes done) slot.now.word slot.now.outcome
+        → Wrote outer.new bytes given (done + 1) to.old.items to.new.items counts.old counts.new tally }
+{
+    receiving();
+    let packet = outer.finish_word(slot);
+    count(counts, slot.outcome, packet.is_some());
+    append_packet(&packet, to);
+}
+
+/// Finishes decoded words in order.
+pub(crate) fn finish_words(
+    outer: &mut OuterRx,
+    slots: &[WordSlot],
+    counts: &mut StreamCounts,
+    to: &mut Vec<u8>,
+)
+    requires number { length slots.now ≤ 24 }
+    requires room { vec_len to.old + 188 * length slots.now ≤ vec_capacity to.old }
+    requires few { AreFew counts.old (2 ^ 61) }
+    ensures capacity { vec_capacity to.new ≡ vec_capacity to.old }
+    ensures few { (n : ℕ) → AreFew counts.old n → AreFew counts.new (n + 24) }
+    ensures wrote { (bytes given : List ℕ) (tally : Tally) (done : ℕ) → Finished outer.old bytes given tally done → done + length slots.now ≤ word_count bytes → AreDecoded bytes done slots.now
+        → Wrote outer.new bytes given (done + length slots.now) to.old.items to.new.items counts.old counts.new tally }
+{
+    for slot in slots {
+        finish_word(outer, slot, counts, to);
+    }
+}
