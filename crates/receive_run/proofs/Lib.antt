@@ -5,3 +5,9 @@ pub mod Events
 pub mod Parts
 pub mod Steps
 pub mod Ends
+pub mod Opening
+pub mod Clauses
+pub mod Asking
+pub mod Returning
+pub mod WholeRun
+pub mod Taking

@@ -12,7 +12,7 @@ use rx_report::{Counts, Event};
 /// A receiver with what its last call gave.
 ///
 /// `stands moment bytes reception` says that it has had these bytes of cells and has given this
-/// reception of them, so far or at the end.
+/// reception of them, so far or at the end; `has_threads`, that its runtime's threads may be used.
 pub(crate) trait CellReceiver {
     ghost settings: { Self → Settings };
 
@@ -20,9 +20,12 @@ pub(crate) trait CellReceiver {
 
     ghost gave: { Self → Output };
 
+    ghost has_threads: { Type 0 };
+
     /// Takes a piece of the cells that goes no further than the current symbol, whole.
     fn feed(&mut self, piece: &[u8])
-        requires { GoesOn (settings self.old) (stands self.old so_far) }
+        requires threads { has_threads }
+        requires going { GoesOn (settings self.old) (stands self.old so_far) }
         ensures settings { settings self.new ≡ settings self.old }
         ensures takes { (bytes : List ℕ) (before : Reception) → stands self.old so_far bytes before
             → tail (settings self.old) bytes + length piece.now ≤ symbol_length (settings self.old)
@@ -30,7 +33,8 @@ pub(crate) trait CellReceiver {
 
     /// Ends the reception.
     fn finish(&mut self)
-        requires { GoesOn (settings self.old) (stands self.old so_far) }
+        requires threads { has_threads }
+        requires going { GoesOn (settings self.old) (stands self.old so_far) }
         ensures settings { settings self.new ≡ settings self.old }
         ensures finishes { (bytes : List ℕ) (before : Reception) → stands self.old so_far bytes before
             → Finishes (stands self.new at_end) (settings self.old) bytes before (gave self.new) };

@@ -7,7 +7,11 @@
 #![tactic(auto)]
 
 mod cell_receiver;
+mod command;
 mod ports;
+mod receivers;
 mod receiving;
 mod run;
 mod writing;
+
+pub use command::receive;

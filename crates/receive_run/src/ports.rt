@@ -48,7 +48,8 @@ pub(crate) fn create_outputs<'a, S: Station<'a>>(
 
 // Closes Lp, if there are two streams.
 fn close_lp<'a, S: Station<'a>>(two: bool, station: &mut S) -> Result<(), Refusal>
-    requires { AreOpen two (S.meaning station.old) }
+    requires created { two ≡ true → (S.meaning station.old).lp_out.created ≡ true }
+    requires open { two ≡ true → (S.meaning station.old).lp_out.closed ≡ false }
     ensures cause { HasCause (S.meaning station.old) (S.meaning station.new) result }
     ensures closes { ClosesLp two (S.meaning station.old) (S.meaning station.new) result }
 {

@@ -22,6 +22,7 @@ fn receive_next<'a, X: CellReceiver, S: Station<'a>>(
     symbol: &mut [u8],
     station: &mut S,
 ) -> Result<bool, Refusal>
+    requires threads { X.has_threads }
     requires attached { (S.meaning station.old).cells.attached ≡ true }
     requires open { AreOpen two (S.meaning station.old) }
     requires size { length symbol.old ≡ symbol_length (X.settings receiver.old) }
@@ -57,6 +58,7 @@ fn receive_rest<'a, X: CellReceiver, S: Station<'a>>(
     symbol: &mut [u8],
     station: &mut S,
 ) -> Result<(), Refusal>
+    requires threads { X.has_threads }
     requires attached { (S.meaning station.old).cells.attached ≡ true }
     requires open { AreOpen two (S.meaning station.old) }
     requires most { (X.settings receiver.old).max_symbols ≡ max_symbols }
@@ -90,6 +92,7 @@ fn receive_cells<'a, X: CellReceiver, S: Station<'a>>(
     symbol: &mut [u8],
     station: &mut S,
 ) -> Result<(), Refusal>
+    requires threads { X.has_threads }
     requires attached { (S.meaning station.old).cells.attached ≡ true }
     requires open { AreOpen two (S.meaning station.old) }
     requires most { (X.settings receiver.old).max_symbols ≡ max_symbols }
@@ -119,6 +122,7 @@ fn end_reception<'a, X: CellReceiver, S: Station<'a>>(
     receiver: &mut X,
     station: &mut S,
 ) -> Result<(), Refusal>
+    requires threads { X.has_threads }
     requires open { AreOpen two (S.meaning station.old) }
     requires going { GoesOn (X.settings receiver.old) (X.stands receiver.old so_far) }
     ensures others { KeepsOthers (S.meaning station.old) (S.meaning station.new) }
@@ -147,6 +151,7 @@ pub(crate) fn receive_file<'a, X: CellReceiver, S: Station<'a>>(
     symbol: &mut [u8],
     station: &mut S,
 ) -> Result<(), Refusal>
+    requires threads { X.has_threads }
     requires attached { (S.meaning station.old).cells.attached ≡ true }
     requires open { AreOpen two (S.meaning station.old) }
     requires most { (X.settings receiver.old).max_symbols ≡ max_symbols }

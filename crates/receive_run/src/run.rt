@@ -33,18 +33,19 @@ fn receive_all<'a, X: CellReceiver, S: Station<'a>>(
     symbol: &mut [u8],
     station: &mut S,
 ) -> Result<(), Refusal>
+    requires threads { X.has_threads }
     requires ready { IsReady (S.meaning station.old) }
     requires most { (X.settings receiver.old).max_symbols ≡ max_symbols }
     requires size { length symbol.old ≡ symbol_length (X.settings receiver.old) }
     requires start { X.stands receiver.old so_far [] nothing }
     ensures asks { AsksPorts names.entry.cells.now names.entry.hp.now (option_copied names.entry.lp) (S.meaning station.old) (S.meaning station.new) }
     ensures cause { HasCause (S.meaning station.old) (S.meaning station.new) result }
-    ensures ran { Ran (X.settings receiver.old) names.entry.cells.now (is_some names.entry.lp) (S.meaning station.old) (S.meaning station.new) result }
+    ensures ran { Ran (X.settings receiver.old) names.entry.cells.now (is_some (option_copied names.entry.lp)) (S.meaning station.old) (S.meaning station.new) result }
 {
     reception::laws::nothing();
-    reception::laws::events();
-    if station.attach(InPort::Cells, names.cells).is_err() {
-        return Err(Refusal::ReadFault);
+    match station.attach(InPort::Cells, names.cells) {
+        Ok(()) => {}
+        Err(_) => return Err(Refusal::ReadFault),
     }
     match create_outputs(names.hp, names.lp, station) {
         Ok(()) => {}
@@ -69,6 +70,7 @@ pub(crate) fn run_reception<'a, X: CellReceiver, S: Station<'a>>(
     symbol: &mut [u8],
     station: &mut S,
 ) -> u8
+    requires threads { X.has_threads }
     requires ready { IsReady (S.meaning station.old) }
     requires most { (X.settings receiver.old).max_symbols ≡ max_symbols }
     requires size { length symbol.old ≡ symbol_length (X.settings receiver.old) }
