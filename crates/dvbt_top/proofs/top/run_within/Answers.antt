@@ -13,3 +13,10 @@ returns-in-Some-Inner-clause-complete g c =
     let new : Meaning = g.S.Station.meaning c.inner.new.station in
     subst (λ (x : Option Command). IfSome x (λ ordered. IsComplete c.args.limits.packets ordered old new c.inner.result))
     (ap (λ (f : Form). Some (command f)) (sym c.in-Some-Inner.field-0-is) ∙ c.in-Some-Inner.ensures) c.inner.ensures.complete
+
+pub returns-in-Some-Modulate-clause-complete : goal.returns-in-Some-Modulate-clause-complete
+returns-in-Some-Modulate-clause-complete g c =
+    let old : Meaning = g.S.Station.meaning c.args.station.now in
+    let new : Meaning = g.S.Station.meaning c.modulate.new.station in
+    subst (λ (x : Option Command). IfSome x (λ ordered. IsComplete c.args.limits.packets ordered old new c.modulate.result))
+    (ap (λ (f : Form). Some (command f)) (sym c.in-Some-Modulate.field-0-is) ∙ c.in-Some-Modulate.ensures) c.modulate.ensures.complete
