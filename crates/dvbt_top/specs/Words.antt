@@ -11,3 +11,8 @@ TwoAfter words name (Some two) = words ≡ name ∷ two.0.now ∷ two.1.now ∷ 
 abbrev pub ThreeAfter : List (List ℕ) → List ℕ → Option (Bor (List ℕ) × Bor (List ℕ) × Bor (List ℕ)) → Type 0
 ThreeAfter words name None = (a b c : List ℕ) → words ≡ name ∷ a ∷ b ∷ c ∷ [] → ⊥
 ThreeAfter words name (Some three) = words ≡ name ∷ three.0.now ∷ three.1.now ∷ three.2.now ∷ []
+
+-- the four words behind a name, if there are just these five
+abbrev pub FourAfter : List (List ℕ) → List ℕ → Option (Bor (List ℕ) × Bor (List ℕ) × Bor (List ℕ) × Bor (List ℕ)) → Type 0
+FourAfter words name None = (a b c d : List ℕ) → words ≡ name ∷ a ∷ b ∷ c ∷ d ∷ [] → ⊥
+FourAfter words name (Some four) = words ≡ name ∷ four.0.now ∷ four.1.now ∷ four.2.now ∷ four.3.now ∷ []

@@ -3,7 +3,7 @@ ghost use Rattle.std.specs.Prelude.{◌≡◌, map, string_bytes};
 ghost use Rattle.std.specs.Option.{option_map};
 ghost use Rattle.run_clauses.specs.Command.{command_of};
 ghost use Rattle.dvbt_top.specs.Form.{command};
-ghost use Rattle.dvbt_top.specs.Words.{TwoAfter, ThreeAfter};
+ghost use Rattle.dvbt_top.specs.Words.{TwoAfter, ThreeAfter, FourAfter};
 
 use crate::form::Form;
 
@@ -33,6 +33,24 @@ fn three_after<'a>(words: &'a [String], name: &str) -> Option<(&'a str, &'a str,
     Some((words[1].as_str(), words[2].as_str(), words[3].as_str()))
 }
 
+// The four words behind this name, if there are just these five.
+fn four_after<'a>(words: &'a [String], name: &str) -> Option<(&'a str, &'a str, &'a str, &'a str)>
+    ensures { FourAfter (map string_bytes words.now) name.now result }
+{
+    if words.len() != 5 {
+        return None;
+    }
+    if words[0].as_str() != name {
+        return None;
+    }
+    Some((
+        words[1].as_str(),
+        words[2].as_str(),
+        words[3].as_str(),
+        words[4].as_str(),
+    ))
+}
+
 /// The form of the words, if they are of one. A word is taken as it stands; there are no options.
 pub fn form_of<'a>(words: &'a [String]) -> Option<Form<'a>>
     ensures { option_map command result ≡ command_of (map string_bytes words.now) }
@@ -48,6 +66,38 @@ pub fn form_of<'a>(words: &'a [String]) -> Option<Form<'a>>
             settings,
             input,
             output,
+        });
+    }
+    if let Some((settings, hp, cells)) = three_after(words, "modulate") {
+        return Some(Form::Modulate {
+            settings,
+            hp,
+            lp: None,
+            cells,
+        });
+    }
+    if let Some((settings, hp, lp, cells)) = four_after(words, "modulate") {
+        return Some(Form::Modulate {
+            settings,
+            hp,
+            lp: Some(lp),
+            cells,
+        });
+    }
+    if let Some((settings, cells, hp)) = three_after(words, "receive") {
+        return Some(Form::Receive {
+            settings,
+            cells,
+            hp,
+            lp: None,
+        });
+    }
+    if let Some((settings, cells, hp, lp)) = four_after(words, "receive") {
+        return Some(Form::Receive {
+            settings,
+            cells,
+            hp,
+            lp: Some(lp),
         });
     }
     None
