@@ -84,5 +84,21 @@ pub fn form_of<'a>(words: &'a [String]) -> Option<Form<'a>>
             cells,
         });
     }
+    if let Some((settings, cells, hp)) = three_after(words, "receive") {
+        return Some(Form::Receive {
+            settings,
+            cells,
+            hp,
+            lp: None,
+        });
+    }
+    if let Some((settings, cells, hp, lp)) = four_after(words, "receive") {
+        return Some(Form::Receive {
+            settings,
+            cells,
+            hp,
+            lp: Some(lp),
+        });
+    }
     None
 }

@@ -22,6 +22,8 @@ pub data Command : Type 0 where
   Code : Coding → List ℕ → List ℕ → Command
   -- modulate SETTINGS HP CELLS, modulate SETTINGS HP LP CELLS
   Modulate : List ℕ → List ℕ → Option (List ℕ) → List ℕ → Command
+  -- receive SETTINGS CELLS HP, receive SETTINGS CELLS HP LP
+  Receive : List ℕ → List ℕ → List ℕ → Option (List ℕ) → Command
 
 -- the coding that is named by one word
 abbrev pub coding_of : List ℕ → Option Coding
@@ -31,8 +33,10 @@ coding_of name = if bytes_eq name (codes "disperse") then Some Disperse else if 
 abbrev pub command_of : List (List ℕ) → Option Command
 command_of (name ∷ input ∷ output ∷ []) = option_map (λ coding. Code coding input output) (coding_of name)
 command_of (name ∷ settings ∷ input ∷ output ∷ []) = if bytes_eq name (codes "inner") then Some (Code (Inner settings) input output)
-    else if bytes_eq name (codes "modulate") then Some (Modulate settings input None output) else None
-command_of (name ∷ settings ∷ hp ∷ lp ∷ cells ∷ []) = if bytes_eq name (codes "modulate") then Some (Modulate settings hp (Some lp) cells) else None
+    else if bytes_eq name (codes "modulate") then Some (Modulate settings input None output)
+    else if bytes_eq name (codes "receive") then Some (Receive settings input output None) else None
+command_of (name ∷ settings ∷ first ∷ second ∷ third ∷ []) = if bytes_eq name (codes "modulate") then Some (Modulate settings first (Some second) third)
+    else if bytes_eq name (codes "receive") then Some (Receive settings first second (Some third)) else None
 command_of words = None
 
 -- a command takes memory for its work, or none
@@ -41,6 +45,7 @@ TakesMemory (Code Disperse input output) = ⊥
 TakesMemory (Code Outer input output) = ⊤
 TakesMemory (Code (Inner settings) input output) = ⊤
 TakesMemory (Modulate settings hp lp cells) = ⊤
+TakesMemory (Receive settings cells hp lp) = ⊤
 
 -- the name of the file that a command reads at a port, if it reads there
 abbrev pub source_name : Command → InPort → Option (List ℕ)
@@ -54,6 +59,10 @@ source_name (Modulate settings hp lp cells) ins.Settings = Some settings
 source_name (Modulate settings hp lp cells) ins.Hp = Some hp
 source_name (Modulate settings hp lp cells) ins.Lp = lp
 source_name (Modulate settings hp lp cells) ins.Cells = None
+source_name (Receive settings cells hp lp) ins.Settings = Some settings
+source_name (Receive settings cells hp lp) ins.Hp = None
+source_name (Receive settings cells hp lp) ins.Lp = None
+source_name (Receive settings cells hp lp) ins.Cells = Some cells
 
 -- the name of the file that a command writes at a port, if it writes there
 abbrev pub sink_name : Command → OutPort → Option (List ℕ)
@@ -67,3 +76,8 @@ sink_name (Modulate settings hp lp cells) outs.Hp = None
 sink_name (Modulate settings hp lp cells) outs.Lp = None
 sink_name (Modulate settings hp lp cells) outs.Bytes = None
 sink_name (Modulate settings hp lp cells) outs.Report = None
+sink_name (Receive settings cells hp lp) outs.Cells = None
+sink_name (Receive settings cells hp lp) outs.Hp = Some hp
+sink_name (Receive settings cells hp lp) outs.Lp = lp
+sink_name (Receive settings cells hp lp) outs.Bytes = None
+sink_name (Receive settings cells hp lp) outs.Report = None

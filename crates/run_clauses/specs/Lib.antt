@@ -5,5 +5,6 @@ pub mod StatedSettings
 pub mod InnerBytes
 pub mod Text
 pub mod Modulation
+pub mod ReceivedCells
 pub mod Outcome
 pub mod Runs

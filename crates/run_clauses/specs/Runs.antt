@@ -6,11 +6,12 @@ use Rattle.station_core.specs.Causes.{Rose}
 use Rattle.station_core.specs.declared.ports.InPort.{InPort}
 use Rattle.station_core.specs.declared.ports.InPort.TheVariants.{Settings}
 use Rattle.station_core.specs.declared.ports.OutPort.{OutPort}
-use Rattle.run_clauses.specs.declared.work.Refusal.TheVariants.{Usage, ReadFault, WriteFault, Memory}
+use Rattle.run_clauses.specs.declared.work.Refusal.TheVariants.{WriteFault}
 use Rattle.run_clauses.specs.Command.{Command, TakesMemory, source_name, sink_name}
 use Rattle.run_clauses.specs.SettingsFile.{most_settings}
-use Rattle.run_clauses.specs.Text.{status_of, refusal_text, text_if_refused}
-use Rattle.run_clauses.specs.Outcome.{early_refusal, refusal_of, output_of, HoldsSoFar, lines_of}
+use Rattle.run_clauses.specs.Text.{status_of, refusal_text}
+pub use Rattle.run_clauses.specs.Outcome.{text_of}
+use Rattle.run_clauses.specs.Outcome.{early_refusal, refusal_of, OfOutput, OfWouldHold, HoldsSoFar, OfLines, OfWouldPrint, OfText}
 
 -- both counts of faults are as before
 pub record IsFaultless (old new : Meaning) : Type 0 where
@@ -32,12 +33,12 @@ IsInput c port = IsTrue (is_some (source_name c port))
 
 -- each output holds what the command comes to
 abbrev pub HoldOutputs : ℕ → Command → Meaning → Meaning → Type 0
-HoldOutputs limit c old new = (port : OutPort) → IsOutput c port → (sink_at port new).written ≡ output_of limit old.file c port
+HoldOutputs limit c old new = (port : OutPort) → IsOutput c port → OfOutput limit old.file c port (λ output. (sink_at port new).written ≡ output)
 
 -- 1. A run that is done has written what the command comes to.
 pub record IsDone (limit : ℕ) (c : Command) (old new : Meaning) : Type 0 where
   pub outputs : HoldOutputs limit c old new
-  pub report : new.report.written ≡ lines_of old.file c
+  pub report : OfLines old.file c (λ lines. new.report.written ≡ lines)
 
 -- 2. Each status has its cause: a fault of the outside, want of memory, or else what the files come to.
 pub record HasStatus (limit : ℕ) (command : Option Command) (old new : Meaning) (status : ℕ) : Type 0 where
@@ -69,13 +70,6 @@ pub record AsksOnly (command : Option Command) (old new : Meaning) (status : ℕ
   pub settings_first : old.tells ≡ true → IfSome command (λ c. IsTrue (is_some (early_refusal old.file c)) → AsksNoOther old new)
   pub early : status ≡ 3 ⊎ (status ≡ 7) → AsksNoOther old new
 
--- the text of a run that was refused: a fault of the outside, want of memory, or else what the files come to
-abbrev pub text_of : ℕ → Option Command → (List ℕ → List ℕ) → ℕ → List ℕ
-text_of limit None file status = refusal_text Usage
-text_of limit (Some c) file status =
-    if status == 5 then refusal_text ReadFault else if status == 6 then refusal_text WriteFault
-    else if status == 7 then refusal_text Memory else text_if_refused (refusal_of limit file c)
-
 -- 4. What stands after a refusal.
 pub record Stands (limit : ℕ) (command : Option Command) (old new : Meaning) (status : ℕ) : Type 0 where
   -- words of no form, refused settings and want of memory create no output
@@ -87,13 +81,14 @@ pub record Stands (limit : ℕ) (command : Option Command) (old new : Meaning) (
       → HoldsSoFar limit old.file new c port)
   -- a failed write or close: each output that was created is a prefix of what it would hold
   pub front : old.tells ≡ true → status ≡ 6 → IfSome command (λ c. (port : OutPort) → IsOutput c port → (sink_at port new).created ≡ true
-      → (k : ℕ) × ((sink_at port new).written ≡ take k (output_of limit old.file c port)))
-  -- Report is the text alone, or a front of it where a write has failed
-  pub text : old.tells ≡ true → status ≢ 0 → status ≢ 6 → (k : ℕ) × (new.report.written ≡ take k (text_of limit command old.file status))
+      → OfWouldHold limit old.file c port (λ output. (k : ℕ) × ((sink_at port new).written ≡ take k output)))
+  -- Report is the text, of a reception behind its event lines, or a front of that where a write has failed
+  pub text : old.tells ≡ true → status ≢ 0 → status ≢ 6 → OfText limit command old.file new status (λ text. (k : ℕ) × (new.report.written ≡ take k text))
   pub whole_text : old.tells ≡ true → status ≢ 0 → status ≢ 6 → (Rose old.write_faults new.write_faults → ⊥)
-      → new.report.written ≡ text_of limit command old.file status
-  -- after a failed write or close it is a front of the closing lines, then a front of the text
-  pub lines : old.tells ≡ true → status ≡ 6 → IfSome command (λ c. (j k : ℕ) × (new.report.written ≡ take j (lines_of old.file c) ++ take k (refusal_text WriteFault)))
+      → OfText limit command old.file new status (λ text. new.report.written ≡ text)
+  -- after a failed write or close it is a front of the lines of the run, then a front of the text
+  pub lines : old.tells ≡ true → status ≡ 6
+      → IfSome command (λ c. OfWouldPrint old.file c (λ lines. (j k : ℕ) × (new.report.written ≡ take j lines ++ take k (refusal_text WriteFault))))
 
 -- 5. Where nothing in the files is refused and nothing fails the run is done, or has no memory.
 abbrev pub IsComplete : ℕ → Command → Meaning → Meaning → ℕ → Type 0

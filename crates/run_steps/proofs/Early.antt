@@ -1,7 +1,7 @@
 -- The clauses of a run that was refused before another port than Settings was asked: for its settings, for
 -- want of memory, or where they could not be read.
-use Rattle.std.proofs.Common.{◌≡◌, ◌≢◌, ◌⊎◌, inl, inr, true, ℕ, ◌+◌, ◌<◌, ◌≤◌, ◌-◌, ◌^◌, min, List, ◌++◌, take, drop, refl, ◌∙◌, sym, ap, subst, arith, Err, Option, None, Some}
-use Rattle.std.specs.Prelude.{is_some, IfSome}
+use Rattle.std.proofs.Common.{◌≡◌, ◌≢◌, ◌⊎◌, inl, inr, true, ℕ, ◌+◌, ◌<◌, ◌≤◌, ◌-◌, ◌^◌, min, Bool, false, List, [], ◌++◌, take, drop, refl, ◌∙◌, sym, ap, subst, arith, Err, Option, None, Some}
+use Rattle.std.specs.Prelude.{is_some, IfSome, ◌==◌}
 use Rattle.std.specs.Option.{option_or}
 use Rattle.std.proofs.lemmas.Bool.{cases_lt, true≢false}
 use Rattle.station_core.specs.Meaning.{Meaning, Source, IsFresh, source_at, sink_at}
@@ -13,11 +13,11 @@ use Rattle.station_core.specs.declared.ports.OutPort.TheVariants as outs
 use Rattle.run_clauses.specs.declared.work.Refusal.{Refusal}
 use Rattle.run_clauses.specs.declared.work.SettingsRefusal.{SettingsRefusal}
 use Rattle.run_clauses.specs.declared.work.Refusal.TheVariants.{Usage, Settings, ReadFault, WriteFault, NotSync, Memory, Limit}
-use Rattle.run_clauses.specs.Command.{Command, TakesMemory, source_name, sink_name}
+use Rattle.run_clauses.specs.Command.{Command, Code, Modulate, Receive, TakesMemory, source_name, sink_name}
 use Rattle.run_clauses.specs.SettingsFile.{settings_refusal}
 use Rattle.run_clauses.specs.Text.{refusal_text, refusal_status, status_of, text_if_refused}
-use Rattle.run_clauses.specs.Outcome.{early_refusal, work_refusal, refusal_of}
-use Rattle.run_clauses.specs.Runs.{HasStatus, AsksOnly, AsksNoOther, Stands, IsComplete, IsOutput, text_of}
+use Rattle.run_clauses.specs.Outcome.{early_refusal, work_refusal, refusal_of, text_of, OfText, HasEvents}
+use Rattle.run_clauses.specs.Runs.{HasStatus, AsksOnly, AsksNoOther, Stands, IsComplete, IsOutput}
 use Rattle.run_steps.specs.Report.{WritesText}
 use Rattle.run_steps.specs.SettingsStep.{AsksSettings, ReadsSettings}
 
@@ -45,6 +45,17 @@ refused_early c name old mid WriteFault same reads = reads
 refused_early c name old mid (NotSync stream n) same reads = reads
 refused_early c name old mid Memory same reads = reads
 refused_early c name old mid (Limit n) same reads = reads
+
+-- before the outputs are made no event line stands before the text
+pub of_text : (limit : ℕ) (file : List ℕ → List ℕ) (new : Meaning) (c : Command) → new.hp_out.created ≡ false
+    → (status : ℕ) (Fact : List ℕ → Type 0) → Fact (text_of limit (Some c) file status) → OfText limit (Some c) file new status Fact
+of_text limit file new (Code coding input output) unmade status Fact is = is
+of_text limit file new (Modulate settings hp lp cells) unmade status Fact is = is
+of_text limit file new (Receive settings cells hp lp) unmade status Fact is = ([], none new.hp_out.created unmade, is)
+  where
+    none : (made : Bool) → made ≡ false → HasEvents made (status == 5) file new settings cells []
+    none true unmade = absurd (true≢false unmade)
+    none false unmade = refl
 
 module _ (limit : ℕ) (c : Command) (name : List ℕ) (old mid new : Meaning) (first : ReadsFirst c name) (fresh : IsFresh old) (asks : AsksSettings name old mid) where
   -- the ports, once the text was written
@@ -225,10 +236,14 @@ module _ (limit : ℕ) (c : Command) (name : List ℕ) (old mid new : Meaning) (
     refused = λ t is. elim is [ inl e ↦ absurd ((not_work r reads).0 e) | inr e ↦ absurd ((not_work r reads).2 e) ];
     so_far = λ t is port output made. absurd (no_output (refusal_text r) tells port output made);
     front = λ t is. absurd ((not_work r reads).1 is);
-    text = λ t a b. let f = front (refusal_text r) tells t in (f.0, f.1 ∙ ap (take f.0) (sym (named_by r reads t)));
-    whole_text = λ t a b rose. whole (refusal_text r) tells t rose ∙ sym (named_by r reads t);
+    text = λ t a b. let f = front (refusal_text r) tells t in
+        of_text limit old.file new c unmade (refusal_status r) (λ text. (k : ℕ) × (new.report.written ≡ take k text)) (f.0, f.1 ∙ ap (take f.0) (sym (named_by r reads t)));
+    whole_text = λ t a b rose. of_text limit old.file new c unmade (refusal_status r) (λ text. new.report.written ≡ text) (whole (refusal_text r) tells t rose ∙ sym (named_by r reads t));
     lines = λ t is. absurd ((not_work r reads).1 is);
   }
+    where
+      unmade : new.hp_out.created ≡ false
+      unmade = created_as (refusal_text r) tells outs.Hp ∙ fresh.hp_out.created
 
   pub complete_early : (r : Refusal) → RefusedEarly c old mid r → WritesText (refusal_text r) mid new → IsComplete limit c old new (refusal_status r)
   complete_early Usage reads tells t none a b = absurd reads

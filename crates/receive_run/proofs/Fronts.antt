@@ -1,0 +1,68 @@
+-- Fronts of lists, and the lines of a report one after another.
+use Rattle.std.proofs.Common.{◌≡◌, ℕ, zero, suc, ◌+◌, ◌≤◌, List, [], ◌∷◌, ◌++◌, length, take, Some, refl, ◌∙◌, sym, ap, arith, append_assoc}
+use Rattle.std.specs.Prelude.{min, Option, None, slice_get}
+use Rattle.std.specs.List.{concat}
+use Rattle.std.proofs.lemmas.List.{append-nil, take_all}
+use Rattle.std.proofs.Math.Seq.{take-append-add}
+use Rattle.rx_report.specs.Text.{closing_lines, lp_lines, symbols_line, tps_line, stream_line}
+use Rattle.mode_set.specs.declared.modes.Stream.TheVariants.{Hp}
+use Rattle.rx_report.specs.declared.counts.Counts.{Counts}
+use Rattle.rx_report.specs.declared.counts.StreamCounts.{StreamCounts}
+
+-- a front of a list is a front of a longer one
+pub front_of : (few rest : List ℕ) (k : ℕ) → (j : ℕ) × (take k few ≡ take j (few ++ rest))
+front_of few rest k = (min k (length few), front few rest k)
+  where
+    front : (few rest : List ℕ) (k : ℕ) → take k few ≡ take (min k (length few)) (few ++ rest)
+    front [] rest zero = ap (λ (n : ℕ). take n rest) (let e : 0 ≡ min 0 0 = omega arith in e)
+    front [] rest (suc k) = ap (λ (n : ℕ). take n rest) (let e : 0 ≡ min (suc k) 0 = omega arith in e)
+    front (x ∷ few) rest zero = ap (λ (n : ℕ). take n (x ∷ (few ++ rest))) (let e : 0 ≡ min 0 (suc (length few)) = omega arith in e)
+    front (x ∷ few) rest (suc k) = ap (λ (l : List ℕ). x ∷ l) (front few rest k) ∙ ap (λ (n : ℕ). take n (x ∷ (few ++ rest))) (let e : suc (min k (length few)) ≡ min (suc k) (suc (length few)) = omega arith in e)
+
+-- what stood there and a front of what follows is a front of both
+pub front_more : (a b c w : List ℕ) (k : ℕ) → w ≡ a ++ take k b → c ≡ a ++ b → (j : ℕ) × (w ≡ take j c)
+front_more a b c w k p e = (length a + k, p ∙ sym (take-append-add a b k) ∙ ap (λ (l : List ℕ). take (length a + k) l) (sym e))
+
+-- the whole is a front
+pub front_whole : (c w : List ℕ) → w ≡ c → (j : ℕ) × (w ≡ take j c)
+front_whole c w e = (length c, e ∙ sym (take_all (length c) c (omega arith)))
+
+-- all of what was to be appended, and none of it
+pub all_of : (a b w : List ℕ) → w ≡ a ++ b → (k : ℕ) × (w ≡ a ++ take k b)
+all_of a b w e = (length b, e ∙ ap (λ (l : List ℕ). a ++ l) (sym (take_all (length b) b (omega arith))))
+
+pub none_of : (a b w : List ℕ) → w ≡ a → (k : ℕ) × (w ≡ a ++ take k b)
+none_of a b w e = (0, e ∙ sym (append-nil a))
+
+-- the lines before one, and that line
+pub line_more : (lines : List (List ℕ)) (n : ℕ) (x : List ℕ) → slice_get lines n ≡ Some x → concat (take (suc n) lines) ≡ concat (take n lines) ++ x
+line_more [] n x e = cc
+line_more (y ∷ ys) zero x e = append-nil y ∙ (let e' : y ≡ x = cc in e')
+line_more (y ∷ ys) (suc n) x e = ap (λ (l : List ℕ). y ++ l) (line_more ys n x e) ∙ sym (append_assoc y (concat (take n ys)) x)
+
+line_splits : (lines : List (List ℕ)) (n : ℕ) (x : List ℕ) → slice_get lines n ≡ Some x → (rest : List ℕ) × (concat lines ≡ concat (take n lines) ++ (x ++ rest))
+line_splits [] n x e = cc
+line_splits (y ∷ ys) zero x e = (concat ys, ap (λ (l : List ℕ). l ++ concat ys) (let e' : y ≡ x = cc in e'))
+line_splits (y ∷ ys) (suc n) x e =
+    let s = line_splits ys n x e in
+    (s.0, ap (λ (l : List ℕ). y ++ l) s.1 ∙ sym (append_assoc y (concat (take n ys)) (x ++ s.0)))
+
+-- the lines before one, and a front of that line, are a front of all
+pub line_front : (lines : List (List ℕ)) (n : ℕ) (x before after : List ℕ) (k : ℕ) → slice_get lines n ≡ Some x → after ≡ (before ++ concat (take n lines)) ++ take k x
+    → (j : ℕ) × (after ≡ before ++ take j (concat lines))
+line_front lines n x before after k e p =
+    let s = line_splits lines n x e in
+    let f = front_of x s.0 k in
+    let first = concat (take n lines) in (
+      length first + f.0,
+      p ∙ append_assoc before first (take k x) ∙ ap (λ (l : List ℕ). before ++ (first ++ l)) f.1
+        ∙ ap (λ (l : List ℕ). before ++ l) (sym (take-append-add first (x ++ s.0) f.0) ∙ ap (λ (l : List ℕ). take (length first + f.0) l) (sym s.1)),
+    )
+
+-- there are four closing lines at most
+pub all_lines : (c : Counts) → take 4 (closing_lines c) ≡ closing_lines c
+all_lines c = go c.lp
+  where
+    go : (o : Option StreamCounts) → take 4 (symbols_line c ∷ tps_line c ∷ stream_line Hp c.hp ∷ lp_lines o) ≡ symbols_line c ∷ tps_line c ∷ stream_line Hp c.hp ∷ lp_lines o
+    go None = refl
+    go (Some s) = refl

@@ -1,0 +1,13 @@
+pub mod Fronts
+pub mod Keeping
+pub mod Lines
+pub mod Events
+pub mod Parts
+pub mod Steps
+pub mod Ends
+pub mod Opening
+pub mod Clauses
+pub mod Asking
+pub mod Returning
+pub mod WholeRun
+pub mod Taking

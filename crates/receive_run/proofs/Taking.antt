@@ -1,0 +1,22 @@
+-- A piece that goes no further than the symbol is taken whole.
+use Rattle.std.proofs.Common.{◌≡◌, ℕ, ◌+◌, ◌-◌, ◌≤◌, List, ◌++◌, length, take, subst, arith}
+use Rattle.std.specs.Prelude.{min}
+use Rattle.std.proofs.lemmas.List.{take_all}
+use Rattle.mode_set.specs.declared.settings.Settings.{Settings}
+use Rattle.reception.specs.Cells.{symbol_length, tail}
+use Rattle.reception.specs.Streams.{Reception, Live}
+use Rattle.reception.specs.Feeds.{Feeds, Follows, Output}
+use Rattle.receive_run.specs.Receiving.{Takes}
+
+pub took : (s : Settings) (bytes piece : List ℕ) (before : Reception) (n : ℕ) (out : Output) (standing : List ℕ → Reception → Type 0)
+    → tail s bytes + length piece ≤ symbol_length s → Feeds standing s bytes piece before n out → Takes standing s bytes piece before out
+took s bytes piece before n out standing fits f =
+    let count = f.count in
+    let all : length piece ≤ n = omega (arith, count, fits) in
+    let whole : take n piece ≡ piece = take_all n piece all in
+    record {
+      after = f.after;
+      stands = subst (λ (l : List ℕ). standing (bytes ++ l) f.after) whole f.stands;
+      live = subst (λ (l : List ℕ). Live s (bytes ++ l) f.after) whole f.live;
+      follows = subst (λ (l : List ℕ). Follows s bytes (bytes ++ l) before f.after out) whole f.follows;
+    }

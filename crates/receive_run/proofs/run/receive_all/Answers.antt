@@ -1,0 +1,50 @@
+use Rattle.std.proofs.Common.{◌≡◌, ◌∙◌, ℕ, Bool, List, Option, Ok, Err, subst}
+use Rattle.std.specs.Prelude.{is_some}
+use Rattle.std.specs.Option.{option_copied}
+use Rattle.station_core.specs.Meaning.{Meaning}
+use Rattle.mode_set.specs.declared.settings.Settings.{Settings}
+use Rattle.receive_run.specs.Receiving.{Works}
+use Rattle.receive_run.specs.Ports.{Closes}
+use Rattle.receive_run.proofs.Opening.{closed_with, copied_some, ended, refused, unmade}
+use Rattle.receive_run.proofs.run.receive_all.Goals as goal
+
+pub returns-in-Err-create_outputs-clause-ran : goal.returns-in-Err-create_outputs-clause-ran
+returns-in-Err-create_outputs-clause-ran g c =
+    let old : Meaning = g.S.Station.meaning c.args.station.now in
+    let m : Meaning = g.S.Station.meaning c.attach.new.self in
+    let m' : Meaning = g.S.Station.meaning c.create_outputs.new.station in
+    let s : Settings = g.X.CellReceiver.settings c.args.receiver.now in
+    let lp : Option (List ℕ) = option_copied c.args.names.lp in
+    unmade s c.args.names.cells.now c.args.names.hp.now lp old m c.requires.ready c.in-Ok.ensures.ok c.nothing.ensures.live m' c.in-Err-create_outputs.refusal c.in-Err-create_outputs.ensures.made
+
+pub returns-in-Ok-receive_file-clause-ran : goal.returns-in-Ok-receive_file-clause-ran
+returns-in-Ok-receive_file-clause-ran g c =
+    let old : Meaning = g.S.Station.meaning c.args.station.now in
+    let m : Meaning = g.S.Station.meaning c.attach.new.self in
+    let m' : Meaning = g.S.Station.meaning c.create_outputs.new.station in
+    let w : Meaning = g.S.Station.meaning c.receive_file.new.station in
+    let new : Meaning = g.S.Station.meaning c.close_outputs.new.station in
+    let s : Settings = g.X.CellReceiver.settings c.args.receiver.now in
+    let lp : Option (List ℕ) = option_copied c.args.names.lp in
+    let two : c.is_some-two.result ≡ is_some lp = c.is_some-two.ensures ∙ copied_some c.args.names.lp in
+    let closes : Closes (is_some lp) w new c.close_outputs.result = subst (λ (b : Bool). Closes b w new c.close_outputs.result) two c.close_outputs.ensures.closes in
+    let works : Works s (is_some lp) m'.cells.left w (Ok tt) = subst (λ (b : Bool). Works s b m'.cells.left w (Ok tt)) two c.in-Ok-receive_file.ensures.works in
+    let with = closed_with (is_some lp) w new c.close_outputs.result closes in
+    ended s c.args.names.cells.now c.args.names.hp.now lp old m c.requires.ready c.in-Ok.ensures.ok m' c.in-Ok-create_outputs.ensures.made w new c.in-Ok-receive_file.ensures.others with.0 with.1 works c.close_outputs.result closes
+
+pub returns-in-Err-receive_file-clause-ran : goal.returns-in-Err-receive_file-clause-ran
+returns-in-Err-receive_file-clause-ran g c =
+    let old : Meaning = g.S.Station.meaning c.args.station.now in
+    let m : Meaning = g.S.Station.meaning c.attach.new.self in
+    let m' : Meaning = g.S.Station.meaning c.create_outputs.new.station in
+    let w : Meaning = g.S.Station.meaning c.receive_file.new.station in
+    let new : Meaning = g.S.Station.meaning c.close_outputs-in-Err-receive_file.new.station in
+    let s : Settings = g.X.CellReceiver.settings c.args.receiver.now in
+    let lp : Option (List ℕ) = option_copied c.args.names.lp in
+    let two : c.is_some-two.result ≡ is_some lp = c.is_some-two.ensures ∙ copied_some c.args.names.lp in
+    let result = c.close_outputs-in-Err-receive_file.result in
+    let r = c.in-Err-receive_file.refusal in
+    let closes : Closes (is_some lp) w new result = subst (λ (b : Bool). Closes b w new result) two c.close_outputs-in-Err-receive_file.ensures.closes in
+    let works : Works s (is_some lp) m'.cells.left w (Err r) = subst (λ (b : Bool). Works s b m'.cells.left w (Err r)) two c.in-Err-receive_file.ensures.works in
+    let with = closed_with (is_some lp) w new result closes in
+    refused s c.args.names.cells.now c.args.names.hp.now lp old m c.requires.ready c.in-Ok.ensures.ok m' c.in-Ok-create_outputs.ensures.made w new c.in-Err-receive_file.ensures.others with.0 with.1 r works

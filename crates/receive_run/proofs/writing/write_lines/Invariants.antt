@@ -1,0 +1,14 @@
+use Rattle.std.proofs.Common.{◌≡◌, ◌++◌, true, ℕ, List, take}
+use Rattle.std.specs.List.{concat}
+use Rattle.rx_report.specs.Text.{closing_lines}
+use Rattle.receive_run.specs.Writing.{IsPrinting, ReportOnly}
+use Rattle.receive_run.proofs.writing.write_lines.Given as goal
+
+-- as many lines as the loop has gone through were written
+abbrev pub invariant-loop-number : goal.invariant-loop-number
+invariant-loop-number g l = record {
+  printing : IsPrinting (g.S.Station.meaning l.station);
+  others : ReportOnly (g.S.Station.meaning l.initial.station) (g.S.Station.meaning l.station);
+  write_faults : (g.S.Station.meaning l.station).write_faults ≡ (g.S.Station.meaning l.initial.station).write_faults;
+  written : (g.S.Station.meaning l.initial.station).tells ≡ true → (g.S.Station.meaning l.station).report.written ≡ (g.S.Station.meaning l.initial.station).report.written ++ concat (take l.number (closing_lines l.counts));
+}

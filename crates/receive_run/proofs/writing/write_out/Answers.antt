@@ -1,0 +1,39 @@
+use Rattle.std.proofs.Common.{◌≡◌, true, ℕ, List, sym, ◌∙◌, ap, subst, Ok, Err}
+use Rattle.station_core.specs.Meaning.{Meaning}
+use Rattle.station_core.specs.declared.ports.OutPort.TheVariants as outs
+use Rattle.rx_report.specs.declared.counts.Event.{Event}
+use Rattle.reception.specs.Feeds.{Output}
+use Rattle.receive_run.specs.Writing.{Appends, WritesAt, WritesLp, WritesOnly, event_text}
+use Rattle.receive_run.proofs.Keeping.{hp_frame, lp_frame, report_frame, writes_again}
+use Rattle.receive_run.proofs.Lines.{failed_hp, failed_lp, wrote}
+use Rattle.receive_run.proofs.writing.write_out.Goals as goal
+
+pub returns-in-Err-clause-written : goal.returns-in-Err-clause-written
+returns-in-Err-clause-written g c = λ t.
+    let m : Meaning = g.S.Station.meaning c.args.station.now in
+    let m' : Meaning = g.S.Station.meaning c.write_some.new.station in
+    let out : Output = g.X.CellReceiver.gave c.args.receiver.now in
+    failed_hp c.args.two out m m' c.in-Err.refusal t (subst (λ (b : List ℕ). WritesAt outs.Hp b m m' (Err c.in-Err.refusal)) c.hp.ensures c.in-Err.ensures.writes)
+
+pub returns-in-Err-write_lp-clause-written : goal.returns-in-Err-write_lp-clause-written
+returns-in-Err-write_lp-clause-written g c = λ t.
+    let m : Meaning = g.S.Station.meaning c.args.station.now in
+    let m' : Meaning = g.S.Station.meaning c.write_some.new.station in
+    let m'' : Meaning = g.S.Station.meaning c.write_lp.new.station in
+    let out : Output = g.X.CellReceiver.gave c.args.receiver.now in
+    failed_lp c.args.two out m m' m'' t (subst (λ (b : List ℕ). WritesAt outs.Hp b m m' (Ok tt)) c.hp.ensures c.in-Ok.ensures.writes) c.in-Err-write_lp.refusal
+    (subst (λ (b : List ℕ). WritesLp c.args.two b m' m'' (Err c.in-Err-write_lp.refusal)) c.lp.ensures c.in-Err-write_lp.ensures.writes)
+
+pub returns-clause-written : goal.returns-clause-written
+returns-clause-written g c = λ t.
+    let m : Meaning = g.S.Station.meaning c.args.station.now in
+    let m' : Meaning = g.S.Station.meaning c.write_some.new.station in
+    let m'' : Meaning = g.S.Station.meaning c.write_lp.new.station in
+    let m''' : Meaning = g.S.Station.meaning c.write_events.new.station in
+    let out : Output = g.X.CellReceiver.gave c.args.receiver.now in
+    let w : WritesAt outs.Hp out.hp m m' (Ok tt) = subst (λ (b : List ℕ). WritesAt outs.Hp b m m' (Ok tt)) c.hp.ensures c.in-Ok.ensures.writes in
+    let v : WritesLp c.args.two out.lp m' m'' (Ok tt) = subst (λ (b : List ℕ). WritesLp c.args.two b m' m'' (Ok tt)) c.lp.ensures c.in-Ok-write_lp.ensures.writes in
+    let both : WritesOnly m m'' = writes_again m m' m'' (hp_frame out.hp m m' (Ok tt) w) (lp_frame c.args.two out.lp m' m'' (Ok tt) v) in
+    wrote c.args.two out m m' m'' t w m''' v c.write_events.ensures.others c.write_events.result
+    (subst (λ (es : List Event). Appends (event_text es) m''.report.written m'''.report.written c.write_events.result) c.events.ensures
+        (c.write_events.ensures.written (ap (λ (x : Meaning). x.tells) both ∙ t)))

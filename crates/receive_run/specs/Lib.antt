@@ -1,0 +1,4 @@
+pub mod Writing
+pub mod Receiving
+pub mod Ports
+pub mod Returns

@@ -1,0 +1,78 @@
+-- What is written behind what the outputs of a reception hold.
+use Rattle.std.specs.Prelude.{◌≡◌, ◌⊎◌, ℕ, Bool, true, false, List, [], ◌++◌, take, flat_map, Result, Ok, Err}
+use Rattle.station_core.specs.Meaning.{Meaning, sink_at, with_sink, written_sink, with_write_faults}
+use Rattle.station_core.specs.declared.ports.OutPort.{OutPort}
+use Rattle.station_core.specs.declared.ports.OutPort.TheVariants as outs
+use Rattle.rx_report.specs.Text.{event_line}
+use Rattle.rx_report.specs.declared.counts.Event.{Event}
+use Rattle.reception.specs.Feeds.{Output}
+use Rattle.run_clauses.specs.declared.work.Refusal.{Refusal}
+use Rattle.run_clauses.specs.declared.work.Refusal.TheVariants.{WriteFault}
+
+-- bytes were written at a port, or a front of them
+abbrev pub WritesAt : OutPort → List ℕ → Meaning → Meaning → Result (Unit {0}) Refusal → Type 0
+WritesAt port bytes old new (Ok u) = new ≡ with_sink port (written_sink old.tells bytes (sink_at port old)) old
+WritesAt port bytes old new (Err r) =
+    (r ≡ WriteFault) × (k : ℕ) × (new ≡ with_write_faults new.write_faults (with_sink port (written_sink old.tells (take k bytes) (sink_at port old)) old))
+
+-- the same at Lp, where there are two streams
+abbrev pub WritesLp : Bool → List ℕ → Meaning → Meaning → Result (Unit {0}) Refusal → Type 0
+WritesLp true bytes old new result = WritesAt outs.Lp bytes old new result
+WritesLp false bytes old new (Ok u) = new ≡ old
+WritesLp false bytes old new (Err r) = ⊥
+
+-- bytes follow what stood there, or a front of them
+abbrev pub Appends : List ℕ → List ℕ → List ℕ → Result (Unit {0}) Refusal → Type 0
+Appends bytes before after (Ok u) = after ≡ before ++ bytes
+Appends bytes before after (Err r) = (r ≡ WriteFault) × (k : ℕ) × (after ≡ before ++ take k bytes)
+
+-- a line was put behind a text that waits, and the text was written where there was no room for both; or a front of it was
+abbrev pub Pushes : List ℕ → List ℕ → List ℕ → List ℕ → List ℕ → Result (Unit {0}) Refusal → Type 0
+Pushes line text text' before after (Ok u) = ((after ≡ before) × (text' ≡ text ++ line)) ⊎ ((after ≡ before ++ text) × (text' ≡ line))
+Pushes line text text' before after (Err r) = (r ≡ WriteFault) × (k : ℕ) × (after ≡ before ++ take k text)
+
+-- only what is written to Report and the count of write faults have changed
+abbrev pub ReportOnly : Meaning → Meaning → Type 0
+ReportOnly old new = new ≡ record old { report = record old.report { written = new.report.written }; write_faults = new.write_faults }
+
+-- only what is written to Hp, Lp and Report and the count of write faults have changed
+abbrev pub WritesOnly : Meaning → Meaning → Type 0
+WritesOnly old new = new ≡ record old {
+  hp_out = record old.hp_out { written = new.hp_out.written };
+  lp_out = record old.lp_out { written = new.lp_out.written };
+  report = record old.report { written = new.report.written };
+  write_faults = new.write_faults;
+}
+
+-- Report is open
+pub record IsPrinting (m : Meaning) : Type 0 where
+  pub created : m.report.created ≡ true
+  pub opened : m.report.closed ≡ false
+
+-- the outputs are open: Hp, with two streams Lp, and Report
+pub record AreOpen (two : Bool) (m : Meaning) : Type 0 where
+  pub hp : m.hp_out.created ≡ true
+  pub hp_open : m.hp_out.closed ≡ false
+  pub lp : two ≡ true → m.lp_out.created ≡ true
+  pub lp_open : two ≡ true → m.lp_out.closed ≡ false
+  pub report : IsPrinting m
+
+-- the lines of events
+abbrev pub event_text : List Event → List ℕ
+event_text events = flat_map event_line events
+
+-- what a receiver gave was written: packets of HP, packets of LP, the lines of events
+pub record IsWritten (two : Bool) (out : Output) (old new : Meaning) : Type 0 where
+  pub hp : new.hp_out.written ≡ old.hp_out.written ++ out.hp
+  pub lp : two ≡ true → new.lp_out.written ≡ old.lp_out.written ++ out.lp
+  pub report : new.report.written ≡ old.report.written ++ event_text out.events
+
+-- a front of each was
+pub record IsPartlyWritten (two : Bool) (out : Output) (old new : Meaning) : Type 0 where
+  pub hp : (k : ℕ) × (new.hp_out.written ≡ old.hp_out.written ++ take k out.hp)
+  pub lp : two ≡ true → (k : ℕ) × (new.lp_out.written ≡ old.lp_out.written ++ take k out.lp)
+  pub report : (k : ℕ) × (new.report.written ≡ old.report.written ++ take k (event_text out.events))
+
+abbrev pub WritesOut : Bool → Output → Meaning → Meaning → Result (Unit {0}) Refusal → Type 0
+WritesOut two out old new (Ok u) = IsWritten two out old new
+WritesOut two out old new (Err r) = (r ≡ WriteFault) × IsPartlyWritten two out old new

@@ -1,0 +1,17 @@
+//! The command [`receive`]: a file of cells becomes the packets of one transport file, or of two with a
+//! hierarchy.
+//!
+//! The cells are read symbol by symbol and given to a receiver; after each symbol what it gave is
+//! written: the packets of HP, those of LP, and the lines of its unmerged reports. The call carries the
+//! five clauses of a run.
+#![tactic(auto)]
+
+mod cell_receiver;
+mod command;
+mod ports;
+mod receivers;
+mod receiving;
+mod run;
+mod writing;
+
+pub use command::receive;
