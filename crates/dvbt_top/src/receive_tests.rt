@@ -61,8 +61,16 @@ fn receives<R: Threads + Sync>(
 {
     let words = words_of(alloc, "receive s a hp")?;
     let settings = settings_and(alloc, lines)?;
-    let (status, station) =
-        run_files(rt, alloc, &words, settings, cells, &[], most_per_read, failing)?;
+    let (status, station) = run_files(
+        rt,
+        alloc,
+        &words,
+        settings,
+        cells,
+        &[],
+        most_per_read,
+        failing,
+    )?;
     Ok(
         status == expected.0
             && station.written(OutPort::Hp) == expected.1
@@ -78,12 +86,23 @@ fn transmission<'a, R: Threads + Sync>(
     file: &[u8],
 ) -> Result<MemoryStation<'a>, AllocError> {
     let settings = settings_and(alloc, "")?;
-    let (_, station) = run_files(rt, alloc, words, settings, file, &[], u32::MAX, Vec::new(alloc))?;
+    let (_, station) = run_files(
+        rt,
+        alloc,
+        words,
+        settings,
+        file,
+        &[],
+        u32::MAX,
+        Vec::new(alloc),
+    )?;
     Ok(station)
 }
 
 const NOTHING: &str = "hp words 0 clean 0 corrected 0 bad 0 unphased 0 unmerged 0\n";
-const WHOLE: &str = "symbols 272 tail 0\ntps read 4 bad 0\nhp words 241 clean 241 corrected 0 bad 0 unphased 0 unmerged 0\n";
+
+const WHOLE: &str =
+    "symbols 272 tail 0\ntps read 4 bad 0\nhp words 241 clean 241 corrected 0 bad 0 unphased 0 unmerged 0\n";
 
 // The null super-frame: whole, within the limit of symbols, past it, and with a read that fails; a symbol
 // and a byte of it, and no byte.
@@ -129,9 +148,20 @@ fn unmerged_at_2049(rt: HostRuntime) -> Result<(), Fail> {
     for _ in 0..2 * SYMBOL / 4 {
         cells.extend_from_slice([0x00u8, 0x00, 0x2D, 0x41].as_slice())?;
     }
-    let report = "hp unmerged at 2049\nsymbols 2 tail 0\ntps read 0 bad 0\nhp words 0 clean 0 corrected 0 bad 0 unphased 0 unmerged 1\n";
+    let report =
+        "hp unmerged at 2049\nsymbols 2 tail 0\ntps read 0 bad 0\nhp words 0 clean 0 corrected 0 bad 0 unphased 0 unmerged 1\n";
     let expected = (0, [].as_slice(), report);
-    assert!(rt; receives(&rt, alloc, "start = \"any\"\n", &cells, u32::MAX, Vec::new(alloc), expected)?);
+    assert!(rt;
+        receives(
+            &rt,
+            alloc,
+            "start = \"any\"\n",
+            &cells,
+            u32::MAX,
+            Vec::new(alloc),
+            expected
+        )?
+    );
     Ok(())
 }
 
@@ -151,9 +181,20 @@ fn start_in_the_second_super_frame(rt: HostRuntime) -> Result<(), Fail> {
     let mut packets = Vec::new(alloc);
     packets.extend_from_slice(&file[256 * 188..])?;
     packets.extend_from_slice(&null_packets(alloc, 193, 0)?)?;
-    let report = "symbols 272 tail 0\ntps read 4 bad 0\nhp words 241 clean 241 corrected 0 bad 0 unphased 4 unmerged 0\n";
+    let report =
+        "symbols 272 tail 0\ntps read 4 bad 0\nhp words 241 clean 241 corrected 0 bad 0 unphased 4 unmerged 0\n";
     let expected = (0, packets.as_slice(), report);
-    assert!(rt; receives(&rt, alloc, "start = \"any\"\n", &cells[272 * SYMBOL..], u32::MAX, Vec::new(alloc), expected)?);
+    assert!(rt;
+        receives(
+            &rt,
+            alloc,
+            "start = \"any\"\n",
+            &cells[272 * SYMBOL..],
+            u32::MAX,
+            Vec::new(alloc),
+            expected
+        )?
+    );
     Ok(())
 }
 
@@ -161,18 +202,37 @@ fn start_in_the_second_super_frame(rt: HostRuntime) -> Result<(), Fail> {
 #[test]
 fn two_streams(rt: HostRuntime) -> Result<(), Fail> {
     let alloc = rt.alloc();
-    let layered = "mode = \"2k\"\nconstellation = \"16qam\"\nhierarchy = \"4\"\nrate_hp = \"1/2\"\nrate_lp = \"3/4\"\nguard = \"1/32\"\n";
+    let layered =
+        "mode = \"2k\"\nconstellation = \"16qam\"\nhierarchy = \"4\"\nrate_hp = \"1/2\"\nrate_lp = \"3/4\"\nguard = \"1/32\"\n";
     let mut settings = Vec::new(alloc);
     settings.extend_from_slice(layered.as_bytes())?;
     let hp = sample(alloc)?;
     let mut lp = sample(alloc)?;
     lp.extend_from_slice(&sample(alloc)?)?;
     let words = words_of(alloc, "modulate s a b cells")?;
-    let (status, sender) = run_files(&rt, alloc, &words, settings.clone()?, &hp, &lp, u32::MAX, Vec::new(alloc))?;
+    let (status, sender) = run_files(
+        &rt,
+        alloc,
+        &words,
+        settings.clone()?,
+        &hp,
+        &lp,
+        u32::MAX,
+        Vec::new(alloc),
+    )?;
     assert_eq!(rt; status, 0);
     let cells = sender.written(OutPort::Cells);
     let words = words_of(alloc, "receive s a hp lp")?;
-    let (status, station) = run_files(&rt, alloc, &words, settings.clone()?, cells, &[], u32::MAX, Vec::new(alloc))?;
+    let (status, station) = run_files(
+        &rt,
+        alloc,
+        &words,
+        settings.clone()?,
+        cells,
+        &[],
+        u32::MAX,
+        Vec::new(alloc),
+    )?;
     assert_eq!(rt; status, 0);
     let mut packets = sample(alloc)?;
     packets.extend_from_slice(&null_packets(alloc, 141, 0)?)?;
@@ -181,7 +241,16 @@ fn two_streams(rt: HostRuntime) -> Result<(), Fail> {
     packets.extend_from_slice(&null_packets(alloc, 167, 0)?)?;
     assert!(rt; station.written(OutPort::Lp) == packets.as_slice());
     let words = words_of(alloc, "receive s a hp")?;
-    let (status, station) = run_files(&rt, alloc, &words, settings, cells, &[], u32::MAX, Vec::new(alloc))?;
+    let (status, station) = run_files(
+        &rt,
+        alloc,
+        &words,
+        settings,
+        cells,
+        &[],
+        u32::MAX,
+        Vec::new(alloc),
+    )?;
     assert_eq!(rt; status, 3);
     assert!(rt; station.written(OutPort::Report) == b"settings form\n".as_slice());
     Ok(())

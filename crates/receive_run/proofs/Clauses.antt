@@ -223,9 +223,9 @@ module _ (limit : ℕ) (name cells hp : List ℕ) (lp : Option (List ℕ)) (star
       let received = first_received p.given p.past p.live in
       only Outputs
       (by_settings (λ x. (r : Reception) × Received x file r × (new.hp_out.written ≡ packets_at outs.Hp r)) t
-          (p.given, received, ap (λ (k : Sink). k.written) (hp_same (Limit n) tells) ∙ p.holds.hp))
+      (p.given, received, ap (λ (k : Sink). k.written) (hp_same (Limit n) tells) ∙ p.holds.hp))
       (λ is. by_settings (λ x. (r : Reception) × Received x file r × (new.lp_out.written ≡ packets_at outs.Lp r)) t
-          (p.given, received, ap (λ (k : Sink). k.written) (lp_same (Limit n) tells) ∙ p.holds.lp is))
+      (p.given, received, ap (λ (k : Sink). k.written) (lp_same (Limit n) tells) ∙ p.holds.lp is))
 
   abbrev SoFar : OutPort → Type 0
   SoFar port = (sink_at port new).created ≡ true → HoldsSoFar limit start.file new c port
@@ -248,9 +248,9 @@ module _ (limit : ℕ) (name cells hp : List ℕ) (lp : Option (List ℕ)) (star
     | inr worked ↦
         let p = worked.1 (told t) in only SoFar
         (λ made. by_settings (λ x. (r : Reception) × ReceivedSoFar x file new.cells.left r × (new.hp_out.written ≡ packets_at outs.Hp r)) t
-            (p.given, taken_by tells p, ap (λ (k : Sink). k.written) (hp_same ReadFault tells) ∙ p.holds.hp))
+        (p.given, taken_by tells p, ap (λ (k : Sink). k.written) (hp_same ReadFault tells) ∙ p.holds.hp))
         (λ is made. by_settings (λ x. (r : Reception) × ReceivedSoFar x file new.cells.left r × (new.lp_out.written ≡ packets_at outs.Lp r)) t
-            (p.given, taken_by tells p, ap (λ (k : Sink). k.written) (lp_same ReadFault tells) ∙ p.holds.lp is))
+        (p.given, taken_by tells p, ap (λ (k : Sink). k.written) (lp_same ReadFault tells) ∙ p.holds.lp is))
   ]
   so_far_by (Err WriteFault) ran tells is t = absurd (omega arith)
   so_far_by (Err Usage) ran tells is t = absurd (omega arith)
@@ -267,13 +267,13 @@ module _ (limit : ℕ) (name cells hp : List ℕ) (lp : Option (List ℕ)) (star
   front_by (Err WriteFault) ran tells is t =
       let p = ran (told t) in only Front
       (λ made.
-          let f = p.hp (sym (ap (λ (k : Sink). k.created) (hp_same WriteFault tells)) ∙ made) in
-          by_settings (λ x. (r : Reception) × ReceivedUpTo x file r × ((k : ℕ) × (new.hp_out.written ≡ take k (packets_at outs.Hp r)))) t
-          (p.given, p.up, (f.0, ap (λ (k : Sink). k.written) (hp_same WriteFault tells) ∙ f.1)))
+      let f = p.hp (sym (ap (λ (k : Sink). k.created) (hp_same WriteFault tells)) ∙ made) in
+      by_settings (λ x. (r : Reception) × ReceivedUpTo x file r × ((k : ℕ) × (new.hp_out.written ≡ take k (packets_at outs.Hp r)))) t
+      (p.given, p.up, (f.0, ap (λ (k : Sink). k.written) (hp_same WriteFault tells) ∙ f.1)))
       (λ is made.
-          let f = p.lp is (sym (ap (λ (k : Sink). k.created) (lp_same WriteFault tells)) ∙ made) in
-          by_settings (λ x. (r : Reception) × ReceivedUpTo x file r × ((k : ℕ) × (new.lp_out.written ≡ take k (packets_at outs.Lp r)))) t
-          (p.given, p.up, (f.0, ap (λ (k : Sink). k.written) (lp_same WriteFault tells) ∙ f.1)))
+      let f = p.lp is (sym (ap (λ (k : Sink). k.created) (lp_same WriteFault tells)) ∙ made) in
+      by_settings (λ x. (r : Reception) × ReceivedUpTo x file r × ((k : ℕ) × (new.lp_out.written ≡ take k (packets_at outs.Lp r)))) t
+      (p.given, p.up, (f.0, ap (λ (k : Sink). k.written) (lp_same WriteFault tells) ∙ f.1)))
   front_by (Err ReadFault) ran tells is t = absurd (omega arith)
   front_by (Err Usage) ran tells is t = absurd (omega arith)
   front_by (Err (Settings reason)) ran tells is t = absurd (omega arith)
@@ -316,18 +316,18 @@ module _ (limit : ℕ) (name cells hp : List ℕ) (lp : Option (List ℕ)) (star
   named_by (NotSync σ p) cause ran tells b t = absurd (ran.1 (told t))
   named_by ReadFault cause ran tells b t = elim ran [
     | inl none ↦ record {
-        lines = [];
-        are = subst (λ (made : Bool). made_events made true []) (sym (ap (λ (k : Sink). k.created) (hp_same ReadFault tells) ∙ none.hp)) refl;
-        report = ap (λ (k : Sink). k.written) none.report ∙ fresh.report_empty t;
-        text = refl;
-      }
+      lines = [];
+      are = subst (λ (made : Bool). made_events made true []) (sym (ap (λ (k : Sink). k.created) (hp_same ReadFault tells) ∙ none.hp)) refl;
+      report = ap (λ (k : Sink). k.written) none.report ∙ fresh.report_empty t;
+      text = refl;
+    }
     | inr worked ↦ let p = worked.1 (told t) in record {
-        lines = event_lines s p.taken p.given;
-        are = subst (λ (made : Bool). made_events made true (event_lines s p.taken p.given)) (sym (ap (λ (k : Sink). k.created) (hp_same ReadFault tells) ∙ worked.0))
-            (by_settings (λ x. (r : Reception) × (taken : ReceivedSoFar x file new.cells.left r) × (event_lines s p.taken p.given ≡ event_lines x taken.taken r)) t (p.given, taken_by tells p, refl));
-        report = p.holds.report;
-        text = refl;
-      }
+      lines = event_lines s p.taken p.given;
+      are = subst (λ (made : Bool). made_events made true (event_lines s p.taken p.given)) (sym (ap (λ (k : Sink). k.created) (hp_same ReadFault tells) ∙ worked.0))
+          (by_settings (λ x. (r : Reception) × (taken : ReceivedSoFar x file new.cells.left r) × (event_lines s p.taken p.given ≡ event_lines x taken.taken r)) t (p.given, taken_by tells p, refl));
+      report = p.holds.report;
+      text = refl;
+    }
   ]
   named_by (Limit n) cause ran tells b t = let q = ran.1 (told t) in let p = q.1 in record {
     lines = event_lines s (within_limit s file) p.given;

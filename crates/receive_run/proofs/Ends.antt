@@ -43,7 +43,7 @@ module _ (s : TheSettings) (two : Bool) (bytes : List ℕ) (r : Reception) (stan
       let w = (written t).1 in
       let h = was.holds t in
       let same : m'.report.written ≡ event_lines s bytes after =
-          w.report.1 ∙ (λ i. h.report i ++ take w.report.0 (no_text i)) ∙ ap (λ (l : List ℕ). event_lines s bytes r ++ l) (take_all w.report.0 [] (omega arith)) ∙ append-nil (event_lines s bytes r) ∙ sym lines_are in
+      w.report.1 ∙ (λ i. h.report i ++ take w.report.0 (no_text i)) ∙ ap (λ (l : List ℕ). event_lines s bytes r ++ l) (take_all w.report.0 [] (omega arith)) ∙ append-nil (event_lines s bytes r) ∙ sym lines_are in
       let fronts : HoldsFronts s two bytes m' = record {
         given = after;
         up = up;

@@ -44,8 +44,8 @@ waits_front waiting before now after text all rest k w e p =
     let f = front_of text rest (length w.0 + k) in (
       f.0,
       p ∙ ap (λ (z : List ℕ). z ++ take k waiting) w.1 ∙ append_assoc before w.0 (take k waiting)
-        ∙ ap (λ (z : List ℕ). before ++ z) (
-            sym (take-append-add w.0 waiting k) ∙ ap (λ (z : List ℕ). take (length w.0 + k) z) w.2 ∙ f.1 ∙ ap (λ (z : List ℕ). take f.0 z) (sym e)),
+          ∙ ap (λ (z : List ℕ). before ++ z) (
+          sym (take-append-add w.0 waiting k) ∙ ap (λ (z : List ℕ). take (length w.0 + k) z) w.2 ∙ f.1 ∙ ap (λ (z : List ℕ). take f.0 z) (sym e)),
     )
 
 -- the events before one are a front of all

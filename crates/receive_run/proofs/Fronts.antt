@@ -56,7 +56,7 @@ line_front lines n x before after k e p =
     let first = concat (take n lines) in (
       length first + f.0,
       p ∙ append_assoc before first (take k x) ∙ ap (λ (l : List ℕ). before ++ (first ++ l)) f.1
-        ∙ ap (λ (l : List ℕ). before ++ l) (sym (take-append-add first (x ++ s.0) f.0) ∙ ap (λ (l : List ℕ). take (length first + f.0) l) (sym s.1)),
+          ∙ ap (λ (l : List ℕ). before ++ l) (sym (take-append-add first (x ++ s.0) f.0) ∙ ap (λ (l : List ℕ). take (length first + f.0) l) (sym s.1)),
     )
 
 -- there are four closing lines at most

@@ -148,7 +148,7 @@ pub past : (s : Settings) (two : Bool) (standing : List ℕ → Reception → Ty
 past s two standing file bytes r m m' was size t more n read =
     let are : file ≡ bytes ++ m.cells.left = was.are t in
     let within : within_limit s file ≡ bytes =
-        ap (λ (l : List ℕ). take (s.max_symbols * symbol_length s) l) are ∙ ap (λ (k : ℕ). take k (bytes ++ m.cells.left)) (sym size) ∙ take-append_seam bytes m.cells.left in
+    ap (λ (l : List ℕ). take (s.max_symbols * symbol_length s) l) are ∙ ap (λ (k : ℕ). take k (bytes ++ m.cells.left)) (sym size) ∙ take-append_seam bytes m.cells.left in
     record {
       given = r;
       past = at_least s file s.max_symbols (omega (arith, ap length are, length-append bytes m.cells.left, size, one_more s.max_symbols (symbol_length s), more));

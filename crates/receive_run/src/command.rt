@@ -59,7 +59,13 @@ fn receive_in<'a, M: Carriers, R: Threads + Sync, S: Station<'a>>(
     let Ok(mut symbol) = vec![in alloc; 0u8; 4 * M::K as usize] else {
         return refuse(&Refusal::Memory, station);
     };
-    run_reception(settings.max_symbols, names, &mut receiver, &mut symbol, station)
+    run_reception(
+        settings.max_symbols,
+        names,
+        &mut receiver,
+        &mut symbol,
+        station,
+    )
 }
 
 // The same in the mode that is set.

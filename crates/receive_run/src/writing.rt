@@ -37,11 +37,7 @@ fn write_some<'a, S: Station<'a>>(
 }
 
 // Writes the packets of LP, where there are two streams.
-fn write_lp<'a, S: Station<'a>>(
-    two: bool,
-    bytes: &[u8],
-    station: &mut S,
-) -> Result<(), Refusal>
+fn write_lp<'a, S: Station<'a>>(two: bool, bytes: &[u8], station: &mut S) -> Result<(), Refusal>
     requires open { AreOpen two (S.meaning station.old) }
     ensures cause { HasCause (S.meaning station.old) (S.meaning station.new) result }
     ensures writes { WritesLp two bytes.now (S.meaning station.old) (S.meaning station.new) result }
@@ -80,10 +76,7 @@ fn push_line<'a, S: Station<'a>>(
 }
 
 // Writes the lines of the events of a symbol, by one write.
-fn write_events<'a, S: Station<'a>>(
-    events: &[Event],
-    station: &mut S,
-) -> Result<(), Refusal>
+fn write_events<'a, S: Station<'a>>(events: &[Event], station: &mut S) -> Result<(), Refusal>
     requires printing { IsPrinting (S.meaning station.old) }
     ensures cause { HasCause (S.meaning station.old) (S.meaning station.new) result }
     ensures others { ReportOnly (S.meaning station.old) (S.meaning station.new) }

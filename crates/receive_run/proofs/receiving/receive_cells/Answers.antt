@@ -31,7 +31,7 @@ returns-in-Ok-false-clause-receives g c =
     let size : length is.0 ≡ k * symbol_length s' = moved s' s (λ (x : Settings). length is.0 ≡ k * symbol_length x) (sym same) is.3 in
     let was : IsReceiving s' c.args.two standing m.cells.left m' is.0 is.1 = moved s' s (λ (x : Settings). IsReceiving x c.args.two standing m.cells.left m' is.0 is.1) (sym same) is.2 in
     let next : Next s c.args.two standing' m.cells.left k m'' (Ok false) = moved s s' (λ (x : Settings). Next x c.args.two standing' m.cells.left k m'' (Ok false)) same
-        (subst (λ (b : Bool). Next s' c.args.two standing' m.cells.left k m'' (Ok b)) c.in-Ok-false.field-0-test (e.next m.cells.left is.0 is.1 size was)) in
+    (subst (λ (b : Bool). Next s' c.args.two standing' m.cells.left k m'' (Ok b)) c.in-Ok-false.field-0-test (e.next m.cells.left is.0 is.1 size was)) in
     let lt : k < c.args.max_symbols = c.loop-number-test.true in
     let most = c.requires.most in
     let few = next.3 in
@@ -97,6 +97,6 @@ returns-clause-receives g c =
     let le = c.loop-number.auto.number-end in
     let all : c.loop-number.number ≡ c.args.max_symbols = omega (arith, ge, le) in
     let size : length is.0 ≡ c.args.max_symbols * symbol_length s' =
-        moved s' s (λ (x : Settings). length is.0 ≡ c.args.max_symbols * symbol_length x) (sym same) (is.3 ∙ ap (λ (k : ℕ). k * symbol_length s) all) in
+    moved s' s (λ (x : Settings). length is.0 ≡ c.args.max_symbols * symbol_length x) (sym same) (is.3 ∙ ap (λ (k : ℕ). k * symbol_length s) all) in
     let was : IsReceiving s' c.args.two standing m.cells.left m' is.0 is.1 = moved s' s (λ (x : Settings). IsReceiving x c.args.two standing m.cells.left m' is.0 is.1) (sym same) is.2 in
     moved s s' (λ (x : Settings). ReceivesAll x c.args.two standing' m.cells.left m'' c.receive_rest.result) same (c.receive_rest.ensures.receives m.cells.left is.0 is.1 size was)

@@ -45,7 +45,7 @@ returns-in-Ok-write_out-clause-next g c = λ file bytes r size was.
     next_of s c.args.two standing' file c.args.number k m'' bytes piece takes.after size count
     (goes_on s c.args.two file bytes r standing standing' m m' m'' k was c.in-Ok.ensures.ok piece (λ t. (front t).front) out takes w.others w.written)
     (λ short. steps.at_end s c.args.two file bytes r standing standing' m m' m'' k was c.in-Ok.ensures.ok piece (λ t. (front t).front) out takes w.others
-        (λ t. (front t).all (omega (arith, short, c.requires.size))))
+    (λ t. (front t).all (omega (arith, short, c.requires.size))))
     (k == length buffer) (λ e. cases.0 e ∙ whole) (λ e. let lt : k < length buffer = cases.1 e in omega (arith, lt, whole))
 
 pub returns-in-Err-write_out-clause-next : goal.returns-in-Err-write_out-clause-next

@@ -62,5 +62,5 @@ returns-clause-receives g c = λ file bytes r size was.
     rest_of s c.args.two file bytes r standing standing' m m' m'' k was c.in-Ok.ensures.ok piece (λ t. (front t).front) out takes w.others
     c.write_out.result (omega (arith, few, most))
     (steps.at_end s c.args.two file bytes r standing standing' m m' m'' k was c.in-Ok.ensures.ok piece (λ t. (front t).front) out takes w.others
-        (λ t. (front t).all (omega (arith, short, c.requires.size))))
+    (λ t. (front t).all (omega (arith, short, c.requires.size))))
     w.written

@@ -19,7 +19,7 @@ returns-in-Err-clause-written g c = λ t.
     let text : c.as_bytes.result.now ≡ c.in-Some.line.bytes = c.as_bytes.ensures.value ∙ c.as_str.ensures.value in
     let a = report_appends c.as_bytes.result.now m' m'' (Err WriteFault) (ap (λ (x : Meaning). x.tells) inv.others ∙ t) (refl, c.in-Err.ensures.err.0, c.in-Err.ensures.err.1) in
     let f = line_front (closing_lines c.args.counts.now) c.loop-number.number c.in-Some.line.bytes m.report.written m''.report.written a.1 c.in-Some.ensures.line
-        (a.2 ∙ (λ i. inv.written t i ++ take a.1 (text i))) in
+    (a.2 ∙ (λ i. inv.written t i ++ take a.1 (text i))) in
     (refl, f.0, f.1)
 
 pub returns-in-None-clause-written : goal.returns-in-None-clause-written
@@ -44,5 +44,5 @@ loop-number-preserved g c =
     let one : n + 1 ≡ suc n = omega arith in
     let more : concat (take (n + 1) lines) ≡ concat (take n lines) ++ line = ap (λ (k : ℕ). concat (take k lines)) one ∙ line_more lines n line c.in-Some.ensures.line in
     let p : Printed m m'' (concat (take (n + 1) lines)) = subst (Printed m m'') (sym more)
-        (line_printed m m' m'' (concat (take n lines)) line (inv.printing, inv.others, inv.write_faults, inv.written) w) in
+    (line_printed m m' m'' (concat (take n lines)) line (inv.printing, inv.others, inv.write_faults, inv.written) w) in
     record { printing = p.0; others = p.1; write_faults = p.2; written = p.3 }

@@ -36,4 +36,4 @@ returns-clause-written g c = λ t.
     let both : WritesOnly m m'' = writes_again m m' m'' (hp_frame out.hp m m' (Ok tt) w) (lp_frame c.args.two out.lp m' m'' (Ok tt) v) in
     wrote c.args.two out m m' m'' t w m''' v c.write_events.ensures.others c.write_events.result
     (subst (λ (es : List Event). Appends (event_text es) m''.report.written m'''.report.written c.write_events.result) c.events.ensures
-        (c.write_events.ensures.written (ap (λ (x : Meaning). x.tells) both ∙ t)))
+    (c.write_events.ensures.written (ap (λ (x : Meaning). x.tells) both ∙ t)))
