@@ -11,7 +11,7 @@ use crate::cell_receiver::CellReceiver;
 use crate::writing::{write_lines, write_out};
 use run_clauses::Refusal;
 use run_steps::fill;
-use station_core::{InPort, Station};
+use station_core::{Failed, InPort, Station};
 
 // Receives the symbol of this number, or the bytes that are left of the cells, and writes what that gives;
 // whether the symbol was whole. Each read asks for the bytes that the symbol lacks.
@@ -75,12 +75,13 @@ fn receive_rest<'a, X: CellReceiver, S: Station<'a>>(
     reception::laws::costs();
     let filled = match fill(station, InPort::Cells, symbol) {
         Ok(filled) => filled,
-        Err(_) => return Err(Refusal::ReadFault),
+        Err(Failed) => return Err(Refusal::ReadFault),
     };
     if filled == symbol.len() {
         return Err(Refusal::Limit(u64::from(max_symbols)));
     }
-    receiver.feed(&symbol[..filled]);
+    let rest = &symbol[..filled];
+    receiver.feed(rest);
     write_out(two, receiver, station)
 }
 
