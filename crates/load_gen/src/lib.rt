@@ -1,0 +1,2 @@
+//! Draws.
+#![tactic(auto)]

@@ -1,0 +1,67 @@
+-- The draws of a trial, in their order (this project's own): the counts of packets; then for each symbol the packets that it wants,
+-- a shift for each axis of its data cells, and the lengths of the pieces in which it is fed.
+use Rattle.std.specs.Prelude.{ℕ, zero, suc, ◌+◌, ◌-◌, ◌*◌, min, if◌then◌else◌, List, map, flat_map, sum, nat_le}
+use Rattle.spec_words.specs.Words.{numbers, first_below}
+use Rattle.mode_set.specs.Kept.{is_flat}
+use Rattle.mode_set.specs.StreamTable.{payload}
+use Rattle.mode_set.specs.declared.modes.Stream.{Stream}
+use Rattle.mode_set.specs.declared.modes.Stream.TheVariants.{Hp, Lp}
+use Rattle.mode_set.specs.declared.settings.Settings.{Settings}
+use Rattle.rand_pcg.specs.Lcg.{Lcg}
+use Rattle.load_gen.specs.Draws.{generator, after, count_of, length_of, packet_of, packet_words}
+use Rattle.transmission.specs.Transmission.{Inputs, by_stream}
+use Rattle.transmission.specs.SuperFrames.{packets_for}
+use Rattle.reception.specs.Cells.{symbol_length}
+
+-- the packets of each stream that are drawn: the first word tells those of HP, the second those of LP where it exists
+abbrev pub hp_count : ℕ → ℕ
+hp_count number = count_of (generator number)
+
+abbrev pub lp_count : Settings → ℕ → ℕ
+lp_count s number = if is_flat s.hierarchy then 0 else count_of (after 1 (generator number))
+
+abbrev pub drawn_count : Settings → ℕ → Stream → ℕ
+drawn_count s number = by_stream (hp_count number) (lp_count s number)
+
+abbrev pub count_words : Settings → ℕ
+count_words s = if is_flat s.hierarchy then 1 else 2
+
+-- the packets of a stream that were drawn for the symbols before m: those that they want, up to the count; and those drawn for symbol m
+abbrev pub drawn_before : Settings → ℕ → Stream → ℕ → ℕ
+drawn_before s number σ m = min (drawn_count s number σ) (packets_for s σ m)
+
+abbrev pub drawn_for : Settings → ℕ → Stream → ℕ → ℕ
+drawn_for s number σ m = drawn_before s number σ (m + 1) - drawn_before s number σ m
+
+-- how many pieces are drawn until they reach the end of so many bytes
+unfoldable pub pieces : Lcg → ℕ → ℕ
+pieces g bytes = first_below bytes (λ n. nat_le bytes (sum (map (λ i. length_of (after i g)) (numbers n))))
+
+-- from where the packets of HP are drawn for a symbol before which the generator is g; then those of LP, the shifts and the pieces
+abbrev pub lp_from : Settings → ℕ → ℕ → Lcg → Lcg
+lp_from s number m g = after (packet_words * drawn_for s number Hp m) g
+
+abbrev pub shifts_from : Settings → ℕ → ℕ → Lcg → Lcg
+shifts_from s number m g = after (packet_words * drawn_for s number Lp m) (lp_from s number m g)
+
+abbrev pub pieces_from : Settings → ℕ → ℕ → Lcg → Lcg
+pieces_from s number m g = after (2 * payload s.mode) (shifts_from s number m g)
+
+abbrev pub symbol_from : Settings → ℕ → ℕ → Lcg → Lcg
+symbol_from s number m g = let h = pieces_from s number m g in after (pieces h (symbol_length s)) h
+
+-- the generator before the draws of symbol m
+unfoldable pub before : Settings → ℕ → ℕ → Lcg
+before s number zero = after (count_words s) (generator number)
+before s number (suc m) = symbol_from s number m (before s number m)
+
+-- the packets that are drawn for symbol m, of each stream
+abbrev pub packets_from : Settings → ℕ → ℕ → Stream → Lcg
+packets_from s number m = by_stream (before s number m) (lp_from s number m (before s number m))
+
+unfoldable pub packets_of_symbol : Settings → ℕ → Stream → ℕ → List (List ℕ)
+packets_of_symbol s number σ m = map (λ i. packet_of (after (packet_words * i) (packets_from s number m σ))) (numbers (drawn_for s number σ m))
+
+-- all packets that are drawn: those of the 272 symbols of a super-frame, which wants more than any count
+unfoldable pub drawn : Settings → ℕ → Inputs
+drawn s number σ = flat_map (packets_of_symbol s number σ) (numbers 272)

@@ -1,0 +1,9 @@
+//! What a trial is: the packets drawn from a number, the disturbed cells of their transmission, and what a
+//! receiver gives for them.
+//!
+//! The definitions stand in `specs/`, with their laws. [`TrialCounts`] is what a trial counts.
+#![tactic(auto)]
+
+mod counts;
+
+pub use counts::{StreamReturn, TrialCounts};
