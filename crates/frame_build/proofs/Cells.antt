@@ -1,5 +1,5 @@
 -- The cell of a carrier, by its kind; and the state of a builder.
-use Rattle.std.proofs.Common.{◌≡◌, ℕ, zero, suc, ◌+◌, ◌-◌, ◌*◌, ◌%◌, ◌^◌, ◌<◌, ◌≤◌, ◌≢◌, ◌⊎◌, inl, inr, ◌||◌, not, if◌then◌else◌, length, set, append_assoc, List, [], ◌∷◌, ◌++◌, refl, sym, ap, ◌∙◌, arith, Bool, true, false, get_or, pos, ℤ, subst}
+use Rattle.std.proofs.Common.{◌≡◌, ℕ, zero, suc, ◌+◌, ◌-◌, ◌*◌, ◌%◌, ◌^◌, ◌<◌, ◌≤◌, ◌≢◌, ◌⊎◌, inl, inr, ◌||◌, not, if◌then◌else◌, length, set, append_assoc, List, [], ◌∷◌, ◌++◌, refl, sym, ap, ◌∙◌, arith, Bool, true, false, get_or, ℤ, subst}
 use Rattle.std.specs.Prelude.{flat_map, count_by}
 use Rattle.std.proofs.lemmas.List.Concat.{flat_map-append}
 use Rattle.std.proofs.lemmas.List.Sums.{sum_by-append, count_by-le-length}
@@ -193,8 +193,8 @@ carrier_sent m s frame l word turned cells lists v labels k next source label re
     let before : next ≡ labels_before m l k = en ∙ ap (λ (z : ℕ). labels_before m z k) in_frame in
     ap (λ (z : Source). bytes_sent z turned label) here
     ∙ kind_sent m s frame l word turned cells lists labels k next (kind m l k) label ready (λ p. is (here ∙ ap (λ (z : CarrierKind). source_of z (reference k)) p))
-      (λ p ep. let label_source : source ≡ Label = here ∙ ap (λ (z : CarrierKind). source_of z (reference k)) ep in
-          payload_same p next (sym ep ∙ is_next_label m l k source here label_source ∙ ap Payload (sym before)))
+    (λ p ep. let label_source : source ≡ Label = here ∙ ap (λ (z : CarrierKind). source_of z (reference k)) ep in
+    payload_same p next (sym ep ∙ is_next_label m l k source here label_source ∙ ap Payload (sym before)))
     ∙ ap cell_bytes (by_kind m s frame l word turned cells lists v (bits_of labels) k (kind m l k) ready seen refl)
 
 pub in_frame : (m : Mode) (s : Settings) (frame l : ℕ) (word : List Bool) (turned : Bool) (cells : List (List ℕ)) (lists : List (List Source)) (v : NextSymbol)

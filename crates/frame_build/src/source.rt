@@ -26,7 +26,10 @@ impl Source {
     {
         match self {
             Source::Label => next + 1,
-            Source::Pilot | Source::OppositePilot | Source::Signalling | Source::OppositeSignalling => next,
+            Source::Pilot
+            | Source::OppositePilot
+            | Source::Signalling
+            | Source::OppositeSignalling => next,
         }
     }
 }

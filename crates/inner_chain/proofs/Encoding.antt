@@ -1,5 +1,5 @@
 -- The parities of the input bits, some steps at a time.
-use Rattle.std.proofs.Common.{◌≡◌, ℕ, zero, suc, ◌+◌, ◌-◌, ◌*◌, ◌/◌, ◌%◌, ◌<◌, ◌≤◌, ◌≢◌, ◌⊎◌, inl, inr, Bool, true, false, cond, List, [], ◌∷◌, ◌++◌, length, get_or, set, take, drop, refl, sym, ap, ◌∙◌, subst, arith, eqb}
+use Rattle.std.proofs.Common.{◌≡◌, ℕ, zero, suc, ◌+◌, ◌-◌, ◌*◌, ◌/◌, ◌%◌, ◌<◌, ◌≤◌, ◌≢◌, ◌⊎◌, inl, inr, Bool, false, cond, List, [], ◌∷◌, ◌++◌, length, get_or, set, take, drop, refl, sym, ap, ◌∙◌, arith, eqb}
 use Rattle.std.proofs.lemmas.List.{get_or-take, get_or-drop, get_or_append_left, get_or-append_right, get_or_push, get_or-set_same, get_or-set_other, length_push, length-set, drop-drop, length-drop, length-append, ext_get_or}
 use Rattle.std.proofs.lemmas.List.FromFn.{get_or-map-range_with_len}
 use Rattle.std.proofs.Math.Seq.{drop-append_seam}
@@ -162,7 +162,7 @@ encode_on w e x first n i waiting register xs more waiting' register' xs' s few 
     after : (path : ℕ → Bool) → e ≡ bits_from path 0 6 → take n w ≡ bits_from path 6 n → register' ≡ bits_from path (i + length more) 6
     after path is taken = six_are register' path (i + length more) (size (ap length is))
         (λ m l. let place : i + (length more + m) ≡ i + length more + m = omega arith in
-            ap (λ (z : List Bool). bit z m) er ∙ get_or-drop (length more) (register ++ more) m false ∙ on path is taken (length more + m) (omega (arith, l)) ∙ ap path place)
+        ap (λ (z : List Bool). bit z m) er ∙ get_or-drop (length more) (register ++ more) m false ∙ on path is taken (length more + m) (omega (arith, l)) ∙ ap path place)
 
     parities : (path : ℕ → Bool) → e ≡ bits_from path 0 6 → take n w ≡ bits_from path 6 n → (t k : ℕ) → t < i + length more → k < 2 → read_bit xs' (2 * (first + t) + k) ≡ parity_at k path t
     parities path is taken t k l two = go (cases_lt t i)

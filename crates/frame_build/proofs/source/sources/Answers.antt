@@ -1,8 +1,6 @@
 -- One carrier more has what it sends.
-use Rattle.std.proofs.Common.{◌≡◌, ◌≢◌, ◌<◌, ◌≤◌, ◌∙◌, sym, ap, subst, arith, ℕ, inl, inr, length}
-use Rattle.std.proofs.lemmas.List.{get_or-set_same, get_or-set_other, length-set}
-use Rattle.std.proofs.lemmas.Bool.{cases_lt}
-use Rattle.mode_set.specs.StreamTable.{carriers}
+use Rattle.std.proofs.Common.{◌<◌, ◌∙◌, arith, length}
+use Rattle.std.proofs.lemmas.List.{length-set}
 use Rattle.frame_build.proofs.Cells.{few_carriers, sources_more}
 use Rattle.frame_build.proofs.source.sources.Goals as goal
 

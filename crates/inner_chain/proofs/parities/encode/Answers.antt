@@ -1,7 +1,6 @@
-use Rattle.std.proofs.Common.{◌≡◌, ℕ, ◌+◌, ◌-◌, ◌≤◌, length, drop, ap, ◌∙◌, subst, arith, List}
+use Rattle.std.proofs.Common.{◌≡◌, ℕ, ◌+◌, ◌-◌, ◌≤◌, length, ap, ◌∙◌, subst, arith}
 use Rattle.std.proofs.lemmas.List.{length-drop}
 use Rattle.puncture.specs.SentBits.{bits_from}
-use Rattle.inner_chain.specs.Tables.{AreParities}
 use Rattle.inner_chain.proofs.Encoding.{encode_begins}
 use Rattle.inner_chain.proofs.parities.encode.Goals as goal
 

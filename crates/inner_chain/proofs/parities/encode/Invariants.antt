@@ -1,4 +1,4 @@
-use Rattle.std.proofs.Common.{◌-◌, ◌≤◌, ◌≡◌, length}
+use Rattle.std.proofs.Common.{◌-◌, ◌≤◌}
 use Rattle.inner_chain.specs.Tables.{IsEncoded}
 use Rattle.inner_chain.proofs.parities.encode.Given as goal
 

@@ -1,4 +1,4 @@
-use Rattle.std.proofs.Common.{List, ℕ, Bool, sym, subst}
+use Rattle.std.proofs.Common.{List, Bool, sym, subst}
 use Rattle.inner_chain.specs.Tables.{AreRows}
 use Rattle.inner_chain.proofs.Encoding.{no_rows, rows_more}
 use Rattle.inner_chain.proofs.parities.rows.Goals as goal

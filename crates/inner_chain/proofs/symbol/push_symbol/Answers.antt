@@ -1,4 +1,4 @@
-use Rattle.std.proofs.Common.{ap, ◌∙◌, sym}
+use Rattle.std.proofs.Common.{ap, sym}
 use Rattle.mode_set.specs.StreamTable.{label_bits}
 use Rattle.inner_chain.proofs.Symbols.{entries_within, labels_are}
 use Rattle.inner_chain.proofs.symbol.push_symbol.Goals as goal

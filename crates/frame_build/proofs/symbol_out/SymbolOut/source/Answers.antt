@@ -1,11 +1,8 @@
 -- The symbol's carriers send what those of the symbol at its place among four do.
-use Rattle.std.proofs.Common.{◌≡◌, ℕ, ◌%◌, ◌<◌, ap, subst, arith}
+use Rattle.std.proofs.Common.{◌≡◌, ◌%◌, ◌<◌, ap, subst, arith}
 use Rattle.mode_set.specs.StreamTable.{carriers}
 use Rattle.mode_set.specs.declared.modes.Mode.{Mode}
 use Rattle.pilots.specs.Carriers.{kind}
-use Rattle.pilots.specs.Reference.{reference}
-use Rattle.pilots.specs.declared.carrier_kind.CarrierKind.{CarrierKind}
-use Rattle.frame_build.specs.State.{NextSymbol, source_of}
 use Rattle.frame_build.proofs.Cells.{source_at}
 use Rattle.frame_build.proofs.symbol_out.SymbolOut.source.Goals as goal
 

@@ -1,10 +1,8 @@
 -- Carrier after carrier is appended.
-use Rattle.std.proofs.Common.{◌≡◌, ℕ, ◌+◌, ◌%◌, ◌<◌, ◌++◌, List, refl, sym, ap, ◌∙◌, subst, arith, append_assoc, append-nil}
-use Rattle.mode_set.specs.declared.modes.Mode.{Mode}
-use Rattle.mode_set.specs.StreamTable.{carriers, payload}
-use Rattle.pilots.specs.Carriers.{AreNumbered}
-use Rattle.frame_build.specs.Symbol.{bits_of, cell_bytes, cell_at}
-use Rattle.frame_build.specs.State.{NextSymbol, labels_before, labels_of}
+use Rattle.std.proofs.Common.{◌≡◌, ℕ, ◌+◌, ◌%◌, ◌<◌, ◌++◌, List, refl, sym, ap, ◌∙◌, arith, append_assoc, append-nil}
+use Rattle.mode_set.specs.StreamTable.{carriers}
+use Rattle.frame_build.specs.Symbol.{bits_of}
+use Rattle.frame_build.specs.State.{labels_of}
 use Rattle.frame_build.proofs.Cells.{carrier_bytes, no_carriers, one_carrier, whole_symbol, no_labels, labels_more, in_frame, label_below, few_labels, few_carriers}
 use Rattle.frame_build.proofs.symbol_out.SymbolOut.write.Goals as goal
 
