@@ -1,27 +1,32 @@
 -- The cell of a carrier, by its kind; and the state of a builder.
-use Rattle.std.proofs.Common.{◌≡◌, ℕ, zero, suc, ◌+◌, ◌-◌, ◌*◌, ◌%◌, ◌^◌, ◌<◌, List, [], ◌∷◌, ◌++◌, refl, sym, ap, ◌∙◌, arith, Bool, true, false, get_or, pos, ℤ, subst}
-use Rattle.std.specs.Prelude.{flat_map}
+use Rattle.std.proofs.Common.{◌≡◌, ℕ, zero, suc, ◌+◌, ◌-◌, ◌*◌, ◌%◌, ◌^◌, ◌<◌, ◌≤◌, ◌≢◌, ◌⊎◌, inl, inr, ◌||◌, not, if◌then◌else◌, length, set, append_assoc, List, [], ◌∷◌, ◌++◌, refl, sym, ap, ◌∙◌, arith, Bool, true, false, get_or, ℤ, subst}
+use Rattle.std.specs.Prelude.{flat_map, count_by}
 use Rattle.std.proofs.lemmas.List.Concat.{flat_map-append}
-use Rattle.std.proofs.lemmas.List.{append-nil}
-use Rattle.spec_words.specs.Bits.{bit, xor}
+use Rattle.std.proofs.lemmas.List.Sums.{sum_by-append, count_by-le-length}
+use Rattle.std.proofs.lemmas.List.{append-nil, get_or-set_same, get_or-set_other}
+use Rattle.std.proofs.lemmas.Bool.{cases_lt}
+use Rattle.spec_words.specs.Bits.{bit, xor, is_set}
 use Rattle.spec_words.specs.Words.{numbers}
-use Rattle.spec_words.proofs.Counting.{numbers_end}
+use Rattle.spec_words.proofs.Counting.{numbers_end, length-numbers}
 use Rattle.std.specs.List.{range_with_len}
 use Rattle.mode_set.specs.StreamTable.{carriers, label_bits, payload}
 use Rattle.mode_set.specs.declared.modes.Shape.{Shape}
 use Rattle.mode_set.specs.declared.modes.Shape.TheVariants.{Qpsk, Qam16, Qam64}
 use Rattle.mode_set.specs.declared.modes.Hierarchy.{Hierarchy}
 use Rattle.mode_set.specs.declared.modes.Mode.{Mode}
+use Rattle.mode_set.specs.declared.modes.Mode.TheVariants.{M2k, M8k}
 use Rattle.mode_set.specs.declared.settings.Settings.{Settings}
 use Rattle.pilots.specs.declared.carrier_kind.CarrierKind.{CarrierKind}
 use Rattle.pilots.specs.declared.carrier_kind.CarrierKind.TheVariants.{Continual, Scattered, Tps, Payload}
-use Rattle.pilots.specs.Carriers.{kind, AreNumbered}
+use Rattle.pilots.specs.Carriers.{kind, is_continual, is_scattered, is_tps, is_payload, AreNumbered}
 use Rattle.pilots.specs.Reference.{reference}
 use Rattle.qam_map.specs.declared.cell.Cell.{Cell}
 use Rattle.qam_map.specs.Points.{map_cell, value_of, real_bits, imaginary_bits}
 use Rattle.tps_word.specs.Tps.{tps_word, signalled}
 use Rattle.frame_build.specs.Symbol.{real, tps_sign, frame_of, cell_of_kind, cell_at, cell_bytes, symbol_bytes, bits_of, Agree}
-use Rattle.frame_build.specs.State.{NextSymbol, is_turned, IsLabelTable, IsReady}
+use Rattle.frame_build.specs.State.{NextSymbol, is_turned, IsLabelTable, AreSources, labels_before, labels_of, source_of, IsReady}
+use Rattle.frame_build.specs.declared.source.Source.{Source}
+use Rattle.frame_build.specs.declared.source.Source.TheVariants.{Label, Pilot, OppositePilot, Signalling, OppositeSignalling}
 
 turn : (t r b : Bool) → xor (xor t r) b ≡ xor (xor t b) r
 turn true true true = refl
@@ -48,10 +53,10 @@ abbrev pub number : ℕ → ℕ → ℕ
 number frame l = 68 * (frame - 1) + l
 
 -- the cell by its kind, where the builder is ready for the symbol
-pub by_kind : (m : Mode) (s : Settings) (frame l : ℕ) (word : List Bool) (turned : Bool) (cells : List Cell) (v : NextSymbol) (labels : ℕ → ℕ → Bool) (k : ℕ) (kd : CarrierKind)
-    → IsReady m s frame l word turned cells → record { settings = s; number = number frame l } ≡ v → kd ≡ kind m l k → cell_of_kind s (number frame l) labels k kd ≡ cell_at v.settings v.number labels k
+pub by_kind : (m : Mode) (s : Settings) (frame l : ℕ) (word : List Bool) (turned : Bool) (cells : List (List ℕ)) (lists : List (List Source)) (v : NextSymbol) (labels : ℕ → ℕ → Bool) (k : ℕ) (kd : CarrierKind)
+    → IsReady m s frame l word turned cells lists → record { settings = s; number = number frame l } ≡ v → kd ≡ kind m l k → cell_of_kind s (number frame l) labels k kd ≡ cell_at v.settings v.number labels k
 unfolding cell_at
-by_kind m s frame l word turned cells v labels k kd ready seen is =
+by_kind m s frame l word turned cells lists v labels k kd ready seen is =
     let in_frame : number frame l % 68 ≡ l = omega (arith, ready.symbol) in
     let same : kd ≡ kind s.mode (number frame l % 68) k = is ∙ ap (λ (z : Mode). kind z l k) (sym ready.mode) ∙ ap (λ (z : ℕ). kind s.mode z k) (sym in_frame) in
     ap (cell_of_kind s (number frame l) labels k) same ∙ ap (λ (z : NextSymbol). cell_of_kind z.settings z.number labels k (kind z.settings.mode (z.number % 68) k)) seen
@@ -64,9 +69,9 @@ pub scattered : (s : Settings) (m : ℕ) (labels : ℕ → ℕ → Bool) (k : �
 unfolding cell_of_kind
 scattered s m labels k = refl
 
-pub signal : (m : Mode) (s : Settings) (frame l : ℕ) (word : List Bool) (turned : Bool) (cells : List Cell) (labels : ℕ → ℕ → Bool) (k : ℕ) → IsReady m s frame l word turned cells → real 16384 (xor turned (reference k)) ≡ cell_of_kind s (number frame l) labels k Tps
+pub signal : (m : Mode) (s : Settings) (frame l : ℕ) (word : List Bool) (turned : Bool) (cells : List (List ℕ)) (lists : List (List Source)) (labels : ℕ → ℕ → Bool) (k : ℕ) → IsReady m s frame l word turned cells lists → real 16384 (xor turned (reference k)) ≡ cell_of_kind s (number frame l) labels k Tps
 unfolding cell_of_kind
-signal m s frame l word turned cells labels k ready =
+signal m s frame l word turned cells lists labels k ready =
     let in_frame : number frame l % 68 ≡ l = omega (arith, ready.symbol) in
     let of_frame : frame_of (number frame l) ≡ frame = omega (arith, ready.symbol, ready.first, ready.last) in
     let signs : xor turned (reference k) ≡ tps_sign (tps_word (signalled s (frame_of (number frame l)))) k (number frame l % 68) =
@@ -74,15 +79,167 @@ signal m s frame l word turned cells labels k ready =
     ∙ ap (λ (f : ℕ). tps_sign (tps_word (signalled s f)) k l) (sym of_frame) ∙ ap (tps_sign (tps_word (signalled s (frame_of (number frame l)))) k) (sym in_frame) in
     ap (real 16384) signs
 
-pub data_cell : (s : Settings) (m : ℕ) (cells : List Cell) (labels : List ℕ) (k q : ℕ) → IsLabelTable s cells (2 ^ label_bits s.shape) → get_or labels q 0 < 2 ^ label_bits s.shape
-    → get_or cells (get_or labels q 0) (record { re = pos 0; im = pos 0 }) ≡ cell_of_kind s m (bits_of labels) k (Payload q)
+pub data_cell : (s : Settings) (m : ℕ) (labels : List ℕ) (k q : ℕ) → map_cell s.shape s.hierarchy (bits_of labels q) ≡ cell_of_kind s m (bits_of labels) k (Payload q)
 unfolding cell_of_kind
-data_cell s m cells labels k q table small = table (get_or labels q 0) small
+data_cell s m labels k q = refl
+
+-- ---- what the carriers send
+-- the kind of a carrier, by what it is for
+abbrev kind_by : Bool → Bool → Bool → ℕ → CarrierKind
+kind_by continual is_at tps q = if continual then Continual else if is_at then Scattered else if tps then Tps else Payload q
+
+kind_is : (m : Mode) (l k : ℕ) → kind m l k ≡ kind_by (is_continual m k) (is_scattered l k) (is_tps m k) (labels_before m l k)
+unfolding kind labels_before
+kind_is m l k = refl
+
+one_label : (a b c : Bool) (q : ℕ) (r : Bool) → labels_of (source_of (kind_by a b c q) r) ≡ (if not (a || b || c) then 1 else 0)
+one_label true b c q true = refl
+one_label true b c q false = refl
+one_label false true c q true = refl
+one_label false true c q false = refl
+one_label false false true q true = refl
+one_label false false true q false = refl
+one_label false false false q r = refl
+
+-- a carrier that sends a label is the payload carrier of that number
+number_by : (a b c : Bool) (q : ℕ) (r : Bool) → labels_of (source_of (kind_by a b c q) r) ≡ 1 → kind_by a b c q ≡ Payload q
+number_by true b c q true e = absurd (omega (arith, e))
+number_by true b c q false e = absurd (omega (arith, e))
+number_by false true c q true e = absurd (omega (arith, e))
+number_by false true c q false e = absurd (omega (arith, e))
+number_by false false true q true e = absurd (omega (arith, e))
+number_by false false true q false e = absurd (omega (arith, e))
+number_by false false false q r e = refl
+
+pub is_next_label : (m : Mode) (l k : ℕ) (source : Source) → source ≡ source_of (kind m l k) (reference k) → source ≡ Label → kind m l k ≡ Payload (labels_before m l k)
+is_next_label m l k source e is =
+    let one : labels_of (source_of (kind_by (is_continual m k) (is_scattered l k) (is_tps m k) (labels_before m l k)) (reference k)) ≡ 1 =
+    ap (λ (z : CarrierKind). labels_of (source_of z (reference k))) (sym (kind_is m l k)) ∙ ap labels_of (sym e) ∙ ap labels_of is in
+    kind_is m l k ∙ number_by (is_continual m k) (is_scattered l k) (is_tps m k) (labels_before m l k) (reference k) one
+
+pub no_labels : (m : Mode) (l : ℕ) → labels_before m l 0 ≡ 0
+unfolding labels_before numbers
+no_labels m l = refl
+
+-- no more labels than carriers
+pub few_labels : (m : Mode) (l k : ℕ) → labels_before m l k ≤ k
+unfolding labels_before
+few_labels m l k = omega (arith, count_by-le-length (is_payload m l) (numbers k), length-numbers k)
+
+count_one : (p : ℕ → Bool) (k : ℕ) → count_by p (k ∷ []) ≡ (if p k then 1 else 0)
+count_one p k = omega arith
+
+count_end : (p : ℕ → Bool) (xs : List ℕ) (k : ℕ) → count_by p (xs ++ k ∷ []) ≡ count_by p xs + (if p k then 1 else 0)
+count_end p xs k = sum_by-append (λ (x : ℕ). if p x then 1 else 0) xs (k ∷ []) ∙ ap (λ (z : ℕ). count_by p xs + z) (count_one p k)
+
+payload_is : (m : Mode) (l k : ℕ) → is_payload m l k ≡ not (is_continual m k || is_scattered l k || is_tps m k)
+unfolding is_payload
+payload_is m l k = refl
+
+pub labels_more : (m : Mode) (l k : ℕ) (source : Source) → source ≡ source_of (kind m l k) (reference k) → labels_before m l (k + 1) ≡ labels_before m l k + labels_of source
+unfolding labels_before
+labels_more m l k source e =
+    let here : labels_of source ≡ (if is_payload m l k then 1 else 0) =
+    ap labels_of e ∙ ap (λ (z : CarrierKind). labels_of (source_of z (reference k))) (kind_is m l k)
+    ∙ one_label (is_continual m k) (is_scattered l k) (is_tps m k) (labels_before m l k) (reference k) ∙ ap (λ (z : Bool). if z then 1 else 0) (sym (payload_is m l k)) in
+    ap (count_by (is_payload m l)) (numbers_end k) ∙ count_end (is_payload m l) (numbers k) k ∙ ap (λ (z : ℕ). count_by (is_payload m l) (numbers k) + z) (sym here)
+
+-- the bytes of what a carrier sends
+abbrev pub bytes_sent : Source → Bool → List ℕ → List ℕ
+bytes_sent Label turned label = label
+bytes_sent Pilot turned label = cell_bytes (real 21845 false)
+bytes_sent OppositePilot turned label = cell_bytes (real 21845 true)
+bytes_sent Signalling turned label = cell_bytes (real 16384 turned)
+bytes_sent OppositeSignalling turned label = cell_bytes (real 16384 (not turned))
+
+pilot_bytes : (r turned : Bool) (label : List ℕ) → bytes_sent (if r then OppositePilot else Pilot) turned label ≡ cell_bytes (real 21845 r)
+pilot_bytes true turned label = refl
+pilot_bytes false turned label = refl
+
+signal_bytes : (r turned : Bool) (label : List ℕ) → bytes_sent (if r then OppositeSignalling else Signalling) turned label ≡ cell_bytes (real 16384 (xor turned r))
+signal_bytes true true label = refl
+signal_bytes true false label = refl
+signal_bytes false true label = refl
+signal_bytes false false label = refl
+
+kind_sent : (m : Mode) (s : Settings) (frame l : ℕ) (word : List Bool) (turned : Bool) (cells : List (List ℕ)) (lists : List (List Source)) (labels : List ℕ) (k q : ℕ) (kd : CarrierKind) (label : List ℕ)
+    → IsReady m s frame l word turned cells lists → (kd ≡ Payload q → label ≡ cell_bytes (map_cell s.shape s.hierarchy (bits_of labels q))) → ((p : ℕ) → kd ≡ Payload p → p ≡ q)
+    → bytes_sent (source_of kd (reference k)) turned label ≡ cell_bytes (cell_of_kind s (number frame l) (bits_of labels) k kd)
+kind_sent m s frame l word turned cells lists labels k q Continual label ready is same = pilot_bytes (reference k) turned label ∙ ap cell_bytes (pilot s (number frame l) (bits_of labels) k)
+kind_sent m s frame l word turned cells lists labels k q Scattered label ready is same = pilot_bytes (reference k) turned label ∙ ap cell_bytes (scattered s (number frame l) (bits_of labels) k)
+kind_sent m s frame l word turned cells lists labels k q Tps label ready is same = signal_bytes (reference k) turned label ∙ ap cell_bytes (signal m s frame l word turned cells lists (bits_of labels) k ready)
+kind_sent m s frame l word turned cells lists labels k q (Payload p) label ready is same =
+    let number_is : p ≡ q = same p refl in
+    is (ap Payload number_is) ∙ ap (λ (z : ℕ). cell_bytes (map_cell s.shape s.hierarchy (bits_of labels z))) (sym number_is) ∙ ap cell_bytes (data_cell s (number frame l) labels k p)
+
+number_in : CarrierKind → ℕ
+number_in Continual = 0
+number_in Scattered = 0
+number_in Tps = 0
+number_in (Payload q) = q
+
+payload_same : (p q : ℕ) → ◌≡◌ {A = CarrierKind} (Payload p) (Payload q) → p ≡ q
+unfolding number_in
+payload_same p q e = ap number_in e
+
+-- a carrier's bytes are those of its cell
+pub carrier_sent : (m : Mode) (s : Settings) (frame l : ℕ) (word : List Bool) (turned : Bool) (cells : List (List ℕ)) (lists : List (List Source)) (v : NextSymbol) (labels : List ℕ) (k next : ℕ) (source : Source) (label : List ℕ)
+    → IsReady m s frame l word turned cells lists → record { settings = s; number = number frame l } ≡ v → source ≡ source_of (kind m (v.number % 68) k) (reference k) → next ≡ labels_before m (v.number % 68) k
+    → (source ≡ Label → label ≡ cell_bytes (map_cell s.shape s.hierarchy (bits_of labels next)))
+    → bytes_sent source turned label ≡ cell_bytes (cell_at v.settings v.number (bits_of labels) k)
+carrier_sent m s frame l word turned cells lists v labels k next source label ready seen e en is =
+    let in_frame : v.number % 68 ≡ l = ap (λ (z : NextSymbol). z.number % 68) (sym seen) ∙ (omega (arith, ready.symbol)) in
+    let here : source ≡ source_of (kind m l k) (reference k) = e ∙ ap (λ (z : ℕ). source_of (kind m z k) (reference k)) in_frame in
+    let before : next ≡ labels_before m l k = en ∙ ap (λ (z : ℕ). labels_before m z k) in_frame in
+    ap (λ (z : Source). bytes_sent z turned label) here
+    ∙ kind_sent m s frame l word turned cells lists labels k next (kind m l k) label ready (λ p. is (here ∙ ap (λ (z : CarrierKind). source_of z (reference k)) p))
+    (λ p ep. let label_source : source ≡ Label = here ∙ ap (λ (z : CarrierKind). source_of z (reference k)) ep in
+    payload_same p next (sym ep ∙ is_next_label m l k source here label_source ∙ ap Payload (sym before)))
+    ∙ ap cell_bytes (by_kind m s frame l word turned cells lists v (bits_of labels) k (kind m l k) ready seen refl)
+
+pub in_frame : (m : Mode) (s : Settings) (frame l : ℕ) (word : List Bool) (turned : Bool) (cells : List (List ℕ)) (lists : List (List Source)) (v : NextSymbol)
+    → IsReady m s frame l word turned cells lists → record { settings = s; number = number frame l } ≡ v → v.number % 68 ≡ l
+in_frame m s frame l word turned cells lists v ready seen = ap (λ (z : NextSymbol). z.number % 68) (sym seen) ∙ (omega (arith, ready.symbol))
+
+-- a label that is sent is one of the symbol's
+pub label_below : (m n : Mode) (l number k next : ℕ) (source : Source) → AreNumbered n l → n ≡ m → number % 68 ≡ l → k < carriers m
+    → source ≡ source_of (kind m (number % 68) k) (reference k) → next ≡ labels_before m (number % 68) k → source ≡ Label → next < payload m
+label_below m n l number k next source numbered same place few e en is =
+    let here : kind m l k ≡ Payload next = ap (λ (z : ℕ). kind m z k) (sym place) ∙ is_next_label m (number % 68) k source e is ∙ ap Payload (sym en) in
+    let all : AreNumbered m l = subst (λ (z : Mode). AreNumbered z l) same numbered in
+    ((all k next few).0 here).0
+
+pub never_label : (source : Source) → labels_of source ≡ 0 → source ≡ Label → ⊥
+never_label source none is = let one : labels_of source ≡ 1 = ap labels_of is in omega (arith, none, one)
+
+-- the carriers of a symbol send what those of the symbol at its place among four do
+pub source_at : (m : Mode) (s : Settings) (frame l : ℕ) (word : List Bool) (turned : Bool) (cells : List (List ℕ)) (lists : List (List Source)) (v : NextSymbol) (k : ℕ) (d : List Source) (e : Source)
+    → IsReady m s frame l word turned cells lists → record { settings = s; number = number frame l } ≡ v → k < carriers m → kind m l k ≡ kind m (l % 4) k
+    → get_or (get_or lists (l % 4) d) k e ≡ source_of (kind m (v.number % 68) k) (reference k)
+source_at m s frame l word turned cells lists v k d e ready seen few repeats =
+    let in_frame : l ≡ v.number % 68 = (omega (arith, ready.symbol)) ∙ ap (λ (z : NextSymbol). z.number % 68) seen in
+    ready.send (l % 4) d (omega arith) k e few ∙ ap (λ (z : CarrierKind). source_of z (reference k)) (sym repeats) ∙ ap (λ (z : ℕ). source_of (kind m z k) (reference k)) in_frame
+
+pub sources_more : (m : Mode) (l : ℕ) (list : List Source) (n : ℕ) (source : Source) → AreSources m l list n → n < length list → source ≡ source_of (kind m l n) (reference n) → AreSources m l (set list n source) (n + 1)
+sources_more m l list n source a within is k d less = go (cases_lt k n)
+  where
+    go : (k < n) ⊎ (n ≤ k) → get_or (set list n source) k d ≡ source_of (kind m l k) (reference k)
+    go (inl lt) = let other : k ≢ n = omega (arith, lt) in get_or-set_other list n k source d other ∙ a k d lt
+    go (inr ge) = let same : n ≡ k = omega (arith, less, ge) in
+        subst (λ (z : ℕ). get_or (set list n source) z d ≡ source_of (kind m l z) (reference z)) same (get_or-set_same list n source d within ∙ is)
+
+pub labels_table_more : (s : Settings) (cells : List (List ℕ)) (n : ℕ) (bytes : List ℕ) → IsLabelTable s cells n → n < length cells → bytes ≡ cell_bytes (map_cell s.shape s.hierarchy (is_set n)) → IsLabelTable s (set cells n bytes) (n + 1)
+labels_table_more s cells n bytes t within is k d less = go (cases_lt k n)
+  where
+    go : (k < n) ⊎ (n ≤ k) → get_or (set cells n bytes) k d ≡ cell_bytes (map_cell s.shape s.hierarchy (is_set k))
+    go (inl lt) = let other : k ≢ n = omega (arith, lt) in get_or-set_other cells n k bytes d other ∙ t k d lt
+    go (inr ge) = let same : n ≡ k = omega (arith, less, ge) in
+        subst (λ (z : ℕ). get_or (set cells n bytes) z d ≡ cell_bytes (map_cell s.shape s.hierarchy (is_set z))) same (get_or-set_same cells n bytes d within ∙ is)
 
 -- the next symbol of the frame
-pub within_frame : (m : Mode) (s : Settings) (frame l : ℕ) (word : List Bool) (turned : Bool) (cells : List Cell) → IsReady m s frame l word turned cells → l < 67 → IsReady m s frame (l + 1) word (xor turned (get_or word l false)) cells
+pub within_frame : (m : Mode) (s : Settings) (frame l : ℕ) (word : List Bool) (turned : Bool) (cells : List (List ℕ)) (lists : List (List Source)) → IsReady m s frame l word turned cells lists → l < 67 → IsReady m s frame (l + 1) word (xor turned (get_or word l false)) cells lists
 unfolding is_turned
-within_frame m s frame l word turned cells ready less =
+within_frame m s frame l word turned cells lists ready less =
     let next : suc l ≡ l + 1 = omega arith in
     record {
       mode = ready.mode;
@@ -92,13 +249,14 @@ within_frame m s frame l word turned cells ready less =
       word_is = ready.word_is;
       turned_is = ap (λ (b : Bool). xor b (get_or word l false)) ready.turned_is ∙ ap (is_turned word) next;
       table = ready.table;
+      send = ready.send;
     }
 
 -- the first symbol of the next frame
-pub next_frame : (m : Mode) (s : Settings) (frame l : ℕ) (word new : List Bool) (turned : Bool) (cells : List Cell) → IsReady m s frame l word turned cells → new ≡ tps_word (signalled s (frame % 4 + 1)) → IsReady m s (frame % 4 + 1) 0 new false cells
+pub next_frame : (m : Mode) (s : Settings) (frame l : ℕ) (word new : List Bool) (turned : Bool) (cells : List (List ℕ)) (lists : List (List Source)) → IsReady m s frame l word turned cells lists → new ≡ tps_word (signalled s (frame % 4 + 1)) → IsReady m s (frame % 4 + 1) 0 new false cells lists
 unfolding is_turned
-next_frame m s frame l word new turned cells ready is =
-    record { mode = ready.mode; first = omega arith; last = omega arith; symbol = omega arith; word_is = is; turned_is = refl; table = ready.table }
+next_frame m s frame l word new turned cells lists ready is =
+    record { mode = ready.mode; first = omega arith; last = omega arith; symbol = omega arith; word_is = is; turned_is = refl; table = ready.table; send = ready.send }
 
 -- the bytes of the first n carriers of a symbol
 unfoldable pub carrier_bytes : Settings → ℕ → (ℕ → ℕ → Bool) → ℕ → List ℕ
@@ -120,9 +278,57 @@ unfolding carrier_bytes symbol_bytes
 whole_symbol s m labels n e = ap (λ (z : ℕ). flat_map (λ k. cell_bytes (cell_at s m labels k)) (numbers z)) e
 
 -- the first symbol of a super-frame
-pub at_start : (m : Mode) (s : Settings) (word : List Bool) (cells : List Cell) → s.mode ≡ m → word ≡ tps_word (signalled s 1) → IsLabelTable s cells (2 ^ label_bits s.shape) → IsReady m s 1 0 word false cells
+pub at_start : (m : Mode) (s : Settings) (word : List Bool) (cells : List (List ℕ)) (a b c d : List Source) → s.mode ≡ m → word ≡ tps_word (signalled s 1) → IsLabelTable s cells (2 ^ label_bits s.shape)
+    → AreSources m 0 a (carriers m) → AreSources m 1 b (carriers m) → AreSources m 2 c (carriers m) → AreSources m 3 d (carriers m) → IsReady m s 1 0 word false cells (a ∷ b ∷ c ∷ d ∷ [])
 unfolding is_turned
-at_start m s word cells mode is table = record { mode = mode; first = omega arith; last = omega arith; symbol = omega arith; word_is = is; turned_is = refl; table = table }
+at_start m s word cells a b c d mode is table sa sb sc sd = record { mode = mode; first = omega arith; last = omega arith; symbol = omega arith; word_is = is; turned_is = refl; table = table; send = send }
+  where
+    send : (i : ℕ) (e : List Source) → i < 4 → AreSources m i (get_or (a ∷ b ∷ c ∷ d ∷ []) i e) (carriers m)
+    send zero e l = sa
+    send (suc zero) e l = sb
+    send (suc (suc zero)) e l = sc
+    send (suc (suc (suc zero))) e l = sd
+    send (suc (suc (suc (suc i)))) e l = absurd (omega (arith, l))
+
+pub few_carriers : (m : Mode) → carriers m ≤ 6817
+few_carriers M2k = omega arith
+few_carriers M8k = omega arith
+
+four_are : (p : List ℕ) → length p ≡ 4 → p ≡ get_or p 0 0 ∷ get_or p 1 0 ∷ get_or p 2 0 ∷ get_or p 3 0 ∷ []
+four_are [] e = absurd (omega (arith, e))
+four_are (a ∷ []) e = absurd (omega (arith, e))
+four_are (a ∷ b ∷ []) e = absurd (omega (arith, e))
+four_are (a ∷ b ∷ c ∷ []) e = absurd (omega (arith, e))
+four_are (a ∷ b ∷ c ∷ d ∷ []) e = refl
+four_are (a ∷ b ∷ c ∷ d ∷ f ∷ p) e = absurd (omega (arith, e))
+
+-- four pushes append four bytes
+pub four_pushed : (old p xs ys zs new : List ℕ) → length p ≡ 4 → xs ≡ old ++ get_or p 0 0 ∷ [] → ys ≡ xs ++ get_or p 1 0 ∷ [] → zs ≡ ys ++ get_or p 2 0 ∷ [] → new ≡ zs ++ get_or p 3 0 ∷ [] → new ≡ old ++ p
+four_pushed old p xs ys zs new four ex ey ez en =
+    en ∙ ap (λ (z : List ℕ). z ++ d ∷ []) ez ∙ append_assoc ys (c ∷ []) (d ∷ [])
+    ∙ ap (λ (z : List ℕ). z ++ c ∷ d ∷ []) ey ∙ append_assoc xs (b ∷ []) (c ∷ d ∷ [])
+    ∙ ap (λ (z : List ℕ). z ++ b ∷ c ∷ d ∷ []) ex ∙ append_assoc old (a ∷ []) (b ∷ c ∷ d ∷ [])
+    ∙ ap (λ (z : List ℕ). old ++ z) (sym (four_are p four))
+  where
+    a : ℕ
+    a = get_or p 0 0
+
+    b : ℕ
+    b = get_or p 1 0
+
+    c : ℕ
+    c = get_or p 2 0
+
+    d : ℕ
+    d = get_or p 3 0
+
+-- the bytes of a label
+pub label_sent : (m : Mode) (s : Settings) (frame l : ℕ) (word : List Bool) (turned : Bool) (cells : List (List ℕ)) (lists : List (List Source)) (v : NextSymbol) (labels : List ℕ) (k next : ℕ) (source : Source) (d : List ℕ)
+    → IsReady m s frame l word turned cells lists → record { settings = s; number = number frame l } ≡ v → source ≡ source_of (kind m (v.number % 68) k) (reference k) → next ≡ labels_before m (v.number % 68) k
+    → source ≡ Label → get_or labels next 0 < 2 ^ label_bits s.shape → get_or cells (get_or labels next 0) d ≡ cell_bytes (cell_at v.settings v.number (bits_of labels) k)
+label_sent m s frame l word turned cells lists v labels k next source d ready seen e en is small =
+    ap (λ (z : Source). bytes_sent z turned (get_or cells (get_or labels next 0) d)) (sym is)
+    ∙ carrier_sent m s frame l word turned cells lists v labels k next source (get_or cells (get_or labels next 0) d) ready seen e en (λ same. ready.table (get_or labels next 0) d small)
 
 -- symbols repeat after a super-frame, where their labels do
 same_kinds : (s : Settings) (m n : ℕ) (labels : ℕ → ℕ → Bool) (k : ℕ) (kd : CarrierKind) → m % 68 ≡ n % 68 → frame_of m ≡ frame_of n → cell_of_kind s m labels k kd ≡ cell_of_kind s n labels k kd

@@ -1,13 +1,20 @@
 -- What a builder of symbols keeps.
-use Rattle.std.specs.Prelude.{◌≡◌, ℕ, zero, suc, ◌≤◌, ◌<◌, ◌^◌, Bool, false, List, get_or, pos, length, ◌*◌}
+use Rattle.std.specs.Prelude.{◌≡◌, ℕ, zero, suc, ◌≤◌, ◌<◌, ◌^◌, Bool, false, if◌then◌else◌, List, get_or, length, count_by, ◌*◌}
 use Rattle.spec_words.specs.Bits.{bit, xor, is_set}
-use Rattle.mode_set.specs.StreamTable.{label_bits}
+use Rattle.spec_words.specs.Words.{numbers}
+use Rattle.mode_set.specs.StreamTable.{carriers, label_bits}
 use Rattle.mode_set.specs.declared.modes.Mode.{Mode}
 use Rattle.mode_set.specs.declared.settings.Settings.{Settings}
+use Rattle.pilots.specs.declared.carrier_kind.CarrierKind.{CarrierKind}
+use Rattle.pilots.specs.declared.carrier_kind.CarrierKind.TheVariants.{Continual, Scattered, Tps, Payload}
+use Rattle.pilots.specs.Carriers.{kind, is_payload}
+use Rattle.pilots.specs.Reference.{reference}
 use Rattle.qam_map.specs.declared.cell.Cell.{Cell}
 use Rattle.qam_map.specs.Points.{map_cell}
 use Rattle.tps_word.specs.Tps.{tps_word, signalled}
-use Rattle.frame_build.specs.Symbol.{cells_from}
+use Rattle.frame_build.specs.Symbol.{cell_bytes, cells_from}
+use Rattle.frame_build.specs.declared.source.Source.{Source}
+use Rattle.frame_build.specs.declared.source.Source.TheVariants.{Label, Pilot, OppositePilot, Signalling, OppositeSignalling}
 
 -- what is seen: the settings, and the number of the next symbol in its super-frame of 272
 pub record NextSymbol : Type 0 where
@@ -19,12 +26,35 @@ unfoldable pub is_turned : List Bool → ℕ → Bool
 is_turned word zero = false
 is_turned word (suc l) = xor (is_turned word l) (bit word l)
 
--- the cells of all labels
-abbrev pub IsLabelTable : Settings → List Cell → ℕ → Type 0
-IsLabelTable s cells n = (label : ℕ) → label < n → get_or cells label (record { re = pos 0; im = pos 0 }) ≡ map_cell s.shape s.hierarchy (is_set label)
+-- the bytes of the cells of all labels
+abbrev pub IsLabelTable : Settings → List (List ℕ) → ℕ → Type 0
+IsLabelTable s cells n = (label : ℕ) (d : List ℕ) → label < n → get_or cells label d ≡ cell_bytes (map_cell s.shape s.hierarchy (is_set label))
 
--- the next symbol, its frame's TPS word, and the table of the labels
-pub record IsReady (m : Mode) (s : Settings) (frame l : ℕ) (word : List Bool) (turned : Bool) (cells : List Cell) : Type 0 where
+-- what a carrier sends, by its kind and by its bit of the reference sequence
+abbrev pub source_of : CarrierKind → Bool → Source
+source_of Continual opposite = if opposite then OppositePilot else Pilot
+source_of Scattered opposite = if opposite then OppositePilot else Pilot
+source_of Tps opposite = if opposite then OppositeSignalling else Signalling
+source_of (Payload q) opposite = Label
+
+-- the labels that a carrier sends, one or none
+abbrev pub labels_of : Source → ℕ
+labels_of Label = 1
+labels_of Pilot = 0
+labels_of OppositePilot = 0
+labels_of Signalling = 0
+labels_of OppositeSignalling = 0
+
+-- the labels that the carriers below k send in symbol l
+unfoldable pub labels_before : Mode → ℕ → ℕ → ℕ
+labels_before m l k = count_by (is_payload m l) (numbers k)
+
+-- what the first n carriers of symbol l send
+abbrev pub AreSources : Mode → ℕ → List Source → ℕ → Type 0
+AreSources m l list n = (k : ℕ) (d : Source) → k < n → get_or list k d ≡ source_of (kind m l k) (reference k)
+
+-- the next symbol, its frame's TPS word, the table of the labels, and those of the carriers
+pub record IsReady (m : Mode) (s : Settings) (frame l : ℕ) (word : List Bool) (turned : Bool) (cells : List (List ℕ)) (lists : List (List Source)) : Type 0 where
   pub mode : s.mode ≡ m
   pub first : 1 ≤ frame
   pub last : frame ≤ 4
@@ -32,6 +62,7 @@ pub record IsReady (m : Mode) (s : Settings) (frame l : ℕ) (word : List Bool) 
   pub word_is : word ≡ tps_word (signalled s frame)
   pub turned_is : turned ≡ is_turned word l
   pub table : IsLabelTable s cells (2 ^ label_bits s.shape)
+  pub send : (i : ℕ) (d : List Source) → i < 4 → AreSources m i (get_or lists i d) (carriers m)
 
 -- a symbol of k carriers of which some bytes were taken; a whole one has its cells
 pub record IsTaking (k filled : ℕ) (bytes : List ℕ) (cells : List Cell) : Type 0 where

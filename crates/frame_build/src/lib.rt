@@ -6,6 +6,7 @@
 #![tactic(auto)]
 
 mod laws;
+mod source;
 mod symbol_in;
 mod symbol_out;
 #[cfg(test)]

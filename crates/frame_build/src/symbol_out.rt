@@ -2,12 +2,15 @@
 ghost use Rattle.std.specs.Prelude.{◌≡◌, ℕ, ◌+◌, ◌-◌, ◌*◌, ◌/◌, ◌%◌, ◌^◌, ◌<◌, ◌≤◌, ◌++◌, ◌⊎◌, pos, get_or, length, vec_len, vec_capacity};
 ghost use Rattle.mode_set.specs.StreamTable.{carriers, payload, label_bits};
 ghost use Rattle.mode_set.specs.declared.settings.Settings.{Settings as TheSettings};
+ghost use Rattle.pilots.specs.Carriers.{kind};
+ghost use Rattle.pilots.specs.Reference.{reference};
 ghost use Rattle.frame_build.specs.Symbol.{bits_of, cell_at, cell_bytes, real, symbol_bytes};
-ghost use Rattle.frame_build.specs.State.{IsLabelTable};
+ghost use Rattle.frame_build.specs.State.{IsLabelTable, labels_before, source_of};
 
+use crate::source::{Source, sources};
 use byteorder::{BigEndian, ByteOrder};
 use mode_set::{Carriers, Settings, Shape};
-use pilots::{CarrierKind, kind, reference};
+use pilots::{kinds_repeat, payload_carriers_are_numbered};
 use qam_map::{Cell, map};
 use std::marker::{Model, PhantomData};
 use tps_word::TpsWord;
@@ -22,17 +25,24 @@ fn on_real_axis(value: i16, opposite: bool) -> Cell
     }
 }
 
-// Appends a cell, whose four bytes fit the spare.
+// Both parts of a cell, the high byte of each first.
 #[tactic(auto, unfolding(crate::specs::Symbol::cell_bytes))]
-fn push_cell(cell: Cell, to: &mut Vec<u8>)
-    requires { vec_len to.old + 4 ≤ vec_capacity to.old }
-    ensures bytes { to.new.items ≡ to.old.items ++ cell_bytes cell }
-    ensures len { vec_len to.new ≡ vec_len to.old + 4 }
-    ensures capacity { vec_capacity to.new ≡ vec_capacity to.old }
+fn bytes_of(cell: Cell) -> [u8; 4]
+    ensures { result ≡ cell_bytes cell }
 {
     let mut bytes = [0; 4];
     BigEndian::write_i16(&mut bytes, cell.re);
     BigEndian::write_i16(&mut bytes[2..], cell.im);
+    bytes
+}
+
+// Appends four bytes, which fit the spare.
+fn push_four(bytes: [u8; 4], to: &mut Vec<u8>)
+    requires { vec_len to.old + 4 ≤ vec_capacity to.old }
+    ensures bytes { to.new.items ≡ to.old.items ++ bytes }
+    ensures len { vec_len to.new ≡ vec_len to.old + 4 }
+    ensures capacity { vec_capacity to.new ≡ vec_capacity to.old }
+{
     to.push_reserved(bytes[0]);
     to.push_reserved(bytes[1]);
     to.push_reserved(bytes[2]);
@@ -50,13 +60,13 @@ fn label_count(shape: Shape) -> u8
     }
 }
 
-// The cells of all labels of a constellation, by label.
-fn label_cells(settings: &Settings) -> [Cell; 64]
+// The bytes of the cells of all labels of a constellation, by label.
+fn label_cells(settings: &Settings) -> [[u8; 4]; 64]
     ensures { IsLabelTable settings.now result (2 ^ label_bits settings.now.shape) }
 {
-    let mut cells = [Cell { re: 0, im: 0 }; 64];
+    let mut cells = [[0; 4]; 64];
     for label in 0..label_count(settings.shape) {
-        cells[label as usize] = map(settings.shape, settings.hierarchy, label);
+        cells[label as usize] = bytes_of(map(settings.shape, settings.hierarchy, label));
     }
     cells
 }
@@ -75,7 +85,9 @@ pub struct SymbolOut<M: Carriers> {
     word: [bool; 67],
     // Whether the TPS bits so far turn the sign of the TPS cells.
     turned: bool,
-    cells: [Cell; 64],
+    // The bytes of the cells of the labels, and what the carriers of the symbols 0 to 3 send, which the others repeat.
+    cells: [[u8; 4]; 64],
+    sources: [[Source; 6817]; 4],
     of: PhantomData<M>,
 }
 
@@ -87,7 +99,7 @@ impl<M: Carriers> Model for SymbolOut<M> {
 
     ghost view = { λ o. record { settings = o.settings; number = 68 * (o.frame - 1) + o.symbol } };
 
-    ghost invariant = { λ o. IsReady M.MODE o.settings o.frame o.symbol o.word o.turned o.cells };
+    ghost invariant = { λ o. IsReady M.MODE o.settings o.frame o.symbol o.word o.turned o.cells o.sources };
 }
 
 impl<M: Carriers> SymbolOut<M> {
@@ -104,22 +116,38 @@ impl<M: Carriers> SymbolOut<M> {
             word: TpsWord::signalled(settings, 1).write(),
             turned: false,
             cells: label_cells(settings),
+            sources: [
+                sources::<M>(0),
+                sources::<M>(1),
+                sources::<M>(2),
+                sources::<M>(3),
+            ],
             of: PhantomData,
         }
     }
 
-    // The cell of a carrier in the next symbol.
-    fn cell(&self, labels: &[u8], k: u32) -> Cell
-        requires carrier { k < M.K }
-        requires count { length labels.now ≡ M.NMAX }
-        requires small { (q : ℕ) → q < M.NMAX → get_or labels.now q 0 < 2 ^ label_bits self.now.settings.shape }
-        ensures { result ≡ cell_at self.now.settings self.now.number (bits_of labels.now) k }
+    // What carrier `k` of the next symbol sends.
+    fn source(&self, k: u32) -> Source
+        requires { k < M.K }
+        ensures { result ≡ source_of (kind M.MODE (self.now.number % 68) k) (reference k) }
     {
-        match kind(M::MODE, self.symbol, k) {
-            CarrierKind::Continual => on_real_axis(21845, reference(k)),
-            CarrierKind::Scattered => on_real_axis(21845, reference(k)),
-            CarrierKind::Tps => on_real_axis(16384, self.turned ^ reference(k)),
-            CarrierKind::Payload(q) => self.cells[labels[q as usize] as usize],
+        kinds_repeat(M::MODE, self.symbol);
+        self.sources[(self.symbol % 4) as usize][k as usize]
+    }
+
+    // The bytes of a carrier that sends this, behind those that sent the first `next` labels.
+    fn bytes(&self, source: Source, labels: &[u8], next: usize) -> [u8; 4]
+        requires next { source ≡ Source.Label → next < length labels.now }
+        requires small { source ≡ Source.Label → get_or labels.now next 0 < 2 ^ label_bits self.now.settings.shape }
+        ensures { (k : ℕ) → source ≡ source_of (kind M.MODE (self.now.number % 68) k) (reference k) → next ≡ labels_before M.MODE (self.now.number % 68) k
+            → result ≡ cell_bytes (cell_at self.now.settings self.now.number (bits_of labels.now) k) }
+    {
+        match source {
+            Source::Label => self.cells[labels[next] as usize],
+            Source::Pilot => bytes_of(on_real_axis(21845, false)),
+            Source::OppositePilot => bytes_of(on_real_axis(21845, true)),
+            Source::Signalling => bytes_of(on_real_axis(16384, self.turned)),
+            Source::OppositeSignalling => bytes_of(on_real_axis(16384, !self.turned)),
         }
     }
 
@@ -152,8 +180,12 @@ impl<M: Carriers> SymbolOut<M> {
         ensures settings { self.new.settings ≡ self.old.settings }
         ensures number { self.new.number ≡ (self.old.number + 1) % 272 }
     {
+        payload_carriers_are_numbered(M::MODE, self.symbol);
+        let mut next = 0;
         for k in 0..M::K {
-            push_cell(self.cell(labels, k), to);
+            let source = self.source(k);
+            push_four(self.bytes(source, labels, next), to);
+            next = source.after(next);
         }
         self.advance();
     }

@@ -1,87 +1,259 @@
--- The parities of the input bits, step by step.
-use Rattle.std.proofs.Common.{◌≡◌, ℕ, ◌+◌, ◌<◌, ◌≤◌, ◌≢◌, ◌⊎◌, inl, inr, Bool, false, cond, List, [], ◌∷◌, ◌++◌, length, get_or, take, drop, refl, sym, ap, ◌∙◌, subst, arith, eqb}
-use Rattle.std.specs.Prelude.{slice_index, slice_set}
-use Rattle.std.proofs.lemmas.List.{get_or-take, get_or-drop, get_or-set_same, get_or-set_other, drop-drop, length-drop, length-append}
+-- The parities of the input bits, some steps at a time.
+use Rattle.std.proofs.Common.{◌≡◌, ℕ, zero, suc, ◌+◌, ◌-◌, ◌*◌, ◌/◌, ◌%◌, ◌<◌, ◌≤◌, ◌≢◌, ◌⊎◌, inl, inr, Bool, false, cond, List, [], ◌∷◌, ◌++◌, length, get_or, set, take, drop, refl, sym, ap, ◌∙◌, arith, eqb}
+use Rattle.std.proofs.lemmas.List.{get_or-take, get_or-drop, get_or_append_left, get_or-append_right, get_or_push, get_or-set_same, get_or-set_other, length_push, length-set, drop-drop, length-drop, length-append, ext_get_or}
 use Rattle.std.proofs.lemmas.List.FromFn.{get_or-map-range_with_len}
+use Rattle.std.proofs.Math.Seq.{drop-append_seam}
 use Rattle.std.proofs.lemmas.Bool.{cases_lt}
-use Rattle.spec_words.specs.Bits.{is_set}
+use Rattle.spec_words.specs.Bits.{bit, is_set, spelled}
 use Rattle.code_paths.specs.Paths.{parity_x, parity_y}
+use Rattle.conv_code.specs.Coded.{xs_of, ys_of}
 use Rattle.puncture.specs.SentBits.{bits_from, window}
 use Rattle.inner_chain.specs.Labels.{parity_at}
+use Rattle.inner_chain.specs.Tables.{read_bit, row_of, AreRows, IsEncoded}
 
--- after i of n steps: w0, e0 and x0 are the waiting bits, the register and the numbers before the first
-pub record IsEncoded (w0 e0 : List Bool) (x0 : List ℕ) (first n i : ℕ) (waiting register : List Bool) (xs : List ℕ) : Type 0 where
-  pub left : waiting ≡ drop i w0
-  pub size : length e0 ≡ 6 → length register ≡ 6
-  pub after : (path : ℕ → Bool) → e0 ≡ bits_from path 0 6 → take n w0 ≡ bits_from path 6 n → register ≡ bits_from path i 6
-  pub parities : (path : ℕ → Bool) → e0 ≡ bits_from path 0 6 → take n w0 ≡ bits_from path 6 n → (t k : ℕ) → t < i → k < 2 → is_set (slice_index xs (first + t)) k ≡ parity_at k path t
-  pub before : (k : ℕ) → k < first → slice_index xs k ≡ slice_index x0 k
+-- ---- rows
+pub no_rows : AreRows [] 0
+no_rows = record { long = refl; at = λ n d l. absurd (omega (arith, l)) }
 
+pub rows_more : (rows new : List (List Bool)) (n : ℕ) (row : List Bool) → AreRows rows n → new ≡ rows ++ row ∷ [] → row ≡ row_of n → AreRows new (n + 1)
+rows_more rows new n row r e is = record { long = ap length e ∙ length_push rows row ∙ ap (λ (z : ℕ). z + 1) r.long; at = at }
+  where
+    at : (k : ℕ) (d : List Bool) → k < n + 1 → get_or new k d ≡ row_of k
+    at k d l = go (cases_lt k n)
+      where
+        go : (k < n) ⊎ (n ≤ k) → get_or new k d ≡ row_of k
+        go (inl m) = let within : k < length rows = omega (arith, m, r.long) in ap (λ (z : List (List Bool)). get_or z k d) e ∙ get_or_append_left rows (row ∷ []) d k within ∙ r.at k d m
+        go (inr m) =
+            let same : n ≡ k = omega (arith, l, m) in
+            let last : length rows ≡ k = r.long ∙ same in
+            ap (λ (z : List (List Bool)). get_or z k d) e ∙ get_or_push rows row d k last ∙ is ∙ ap row_of same
+
+is_one : (a b : ℕ) → a ≡ b → eqb a 1 ≡ eqb b 1
+is_one a b e = ap (λ (z : ℕ). eqb z 1) e
+
+-- a byte of X and one of Y have the rows of their upper halves and of their lower halves
+abbrev pub upper : ℕ → ℕ → ℕ
+upper x y = x / 16 * 16 + y / 16
+
+abbrev pub lower : ℕ → ℕ → ℕ
+lower x y = x % 16 * 16 + y % 16
+
+abbrev pub IsHalf : ℕ → ℕ → ℕ → ℕ → Type 0
+IsHalf x y n i = (j k : ℕ) → j < 4 → k < 2 → read_bit (row_of n) (2 * j + k) ≡ is_set (cond (eqb k 0) x y) (i - j)
+
+pub upper_half : (x y : ℕ) → y < 256 → IsHalf x y (upper x y) 7
+upper_half x y l zero zero lj lk = is_one _ _ (omega (arith, l))
+upper_half x y l zero (suc zero) lj lk = is_one _ _ (omega (arith, l))
+upper_half x y l zero (suc (suc k)) lj lk = absurd (omega (arith, lk))
+upper_half x y l (suc zero) zero lj lk = is_one _ _ (omega (arith, l))
+upper_half x y l (suc zero) (suc zero) lj lk = is_one _ _ (omega (arith, l))
+upper_half x y l (suc zero) (suc (suc k)) lj lk = absurd (omega (arith, lk))
+upper_half x y l (suc (suc zero)) zero lj lk = is_one _ _ (omega (arith, l))
+upper_half x y l (suc (suc zero)) (suc zero) lj lk = is_one _ _ (omega (arith, l))
+upper_half x y l (suc (suc zero)) (suc (suc k)) lj lk = absurd (omega (arith, lk))
+upper_half x y l (suc (suc (suc zero))) zero lj lk = is_one _ _ (omega (arith, l))
+upper_half x y l (suc (suc (suc zero))) (suc zero) lj lk = is_one _ _ (omega (arith, l))
+upper_half x y l (suc (suc (suc zero))) (suc (suc k)) lj lk = absurd (omega (arith, lk))
+upper_half x y l (suc (suc (suc (suc j)))) k lj lk = absurd (omega (arith, lj))
+
+pub lower_half : (x y : ℕ) → IsHalf x y (lower x y) 3
+lower_half x y zero zero lj lk = is_one _ _ (omega arith)
+lower_half x y zero (suc zero) lj lk = is_one _ _ (omega arith)
+lower_half x y zero (suc (suc k)) lj lk = absurd (omega (arith, lk))
+lower_half x y (suc zero) zero lj lk = is_one _ _ (omega arith)
+lower_half x y (suc zero) (suc zero) lj lk = is_one _ _ (omega arith)
+lower_half x y (suc zero) (suc (suc k)) lj lk = absurd (omega (arith, lk))
+lower_half x y (suc (suc zero)) zero lj lk = is_one _ _ (omega arith)
+lower_half x y (suc (suc zero)) (suc zero) lj lk = is_one _ _ (omega arith)
+lower_half x y (suc (suc zero)) (suc (suc k)) lj lk = absurd (omega (arith, lk))
+lower_half x y (suc (suc (suc zero))) zero lj lk = is_one _ _ (omega arith)
+lower_half x y (suc (suc (suc zero))) (suc zero) lj lk = is_one _ _ (omega arith)
+lower_half x y (suc (suc (suc zero))) (suc (suc k)) lj lk = absurd (omega (arith, lk))
+lower_half x y (suc (suc (suc (suc j)))) k lj lk = absurd (omega (arith, lj))
+
+-- two rows, one behind the other
+pub both_halves : (x y : ℕ) (old mid new : List Bool) (at : ℕ) → y < 256
+    → ((i : ℕ) → i < 8 → read_bit mid (at + i) ≡ read_bit (row_of (upper x y)) i) → ((i : ℕ) → i < 8 → read_bit new (at + 8 + i) ≡ read_bit (row_of (lower x y)) i)
+    → ((k : ℕ) → k < at + 8 → read_bit new k ≡ read_bit mid k)
+    → (j k : ℕ) → j < 8 → k < 2 → read_bit new (at + 2 * j + k) ≡ is_set (cond (eqb k 0) x y) (7 - j)
+both_halves x y old mid new at l high low kept j k lj lk = go (cases_lt j 4)
+  where
+    go : (j < 4) ⊎ (4 ≤ j) → read_bit new (at + 2 * j + k) ≡ is_set (cond (eqb k 0) x y) (7 - j)
+    go (inl m) =
+        let place : at + 2 * j + k ≡ at + (2 * j + k) = omega arith in
+        ap (read_bit new) place ∙ kept (at + (2 * j + k)) (omega (arith, m, lk)) ∙ high (2 * j + k) (omega (arith, m, lk)) ∙ upper_half x y l j k m lk
+    go (inr m) =
+        let i : ℕ = j - 4 in
+        let place : at + 2 * j + k ≡ at + 8 + (2 * i + k) = omega (arith, m) in
+        let bit_is : 3 - i ≡ 7 - j = omega (arith, m) in
+        ap (read_bit new) place ∙ low (2 * i + k) (omega (arith, m, lj, lk)) ∙ lower_half x y i k (omega (arith, m, lj)) lk ∙ ap (is_set (cond (eqb k 0) x y)) bit_is
+
+-- ---- parities of a window
 later : (path : ℕ → Bool) (t u : ℕ) → t ≡ u → path t ≡ path u
 later path t u e = ap path e
 
-window_is : (path : ℕ → Bool) (t : ℕ) (b : Bool) → b ≡ path (t + 6) → bits_from path t 6 ++ b ∷ [] ≡ window path t
-window_is path t b e =
-    let two : path (t + 1 + 1) ≡ path (t + 2) = later path _ _ (omega arith) in
-    let three : path (t + 1 + 1 + 1) ≡ path (t + 3) = later path _ _ (omega arith) in
-    let four : path (t + 1 + 1 + 1 + 1) ≡ path (t + 4) = later path _ _ (omega arith) in
-    let five : path (t + 1 + 1 + 1 + 1 + 1) ≡ path (t + 5) = later path _ _ (omega arith) in
-    cc
+-- seven bits of a path have the parities of its window
+seven_are : (p : List Bool) (path : ℕ → Bool) (u : ℕ) → ((m : ℕ) → m < 7 → bit p m ≡ path (u + m)) → (parity_x p ≡ parity_x (window path u)) × (parity_y p ≡ parity_y (window path u))
+seven_are p path u is =
+    let a : bit p 0 ≡ path u = is 0 (omega arith) ∙ later path (u + 0) u (omega arith) in
+    let b : bit p 1 ≡ path (u + 1) = is 1 (omega arith) in
+    let c : bit p 3 ≡ path (u + 3) = is 3 (omega arith) in
+    let d : bit p 4 ≡ path (u + 4) = is 4 (omega arith) in
+    let e : bit p 5 ≡ path (u + 5) = is 5 (omega arith) in
+    let f : bit p 6 ≡ path (u + 6) = is 6 (omega arith) in
+    (cc, cc)
 
-next_is : (path : ℕ → Bool) (t : ℕ) → drop 1 (window path t) ≡ bits_from path (t + 1) 6
-next_is path t =
-    let two : path (t + 1 + 1) ≡ path (t + 2) = later path _ _ (omega arith) in
-    let three : path (t + 1 + 1 + 1) ≡ path (t + 3) = later path _ _ (omega arith) in
-    let four : path (t + 1 + 1 + 1 + 1) ≡ path (t + 4) = later path _ _ (omega arith) in
-    let five : path (t + 1 + 1 + 1 + 1 + 1) ≡ path (t + 5) = later path _ _ (omega arith) in
-    let six : path (t + 1 + 1 + 1 + 1 + 1 + 1) ≡ path (t + 6) = later path _ _ (omega arith) in
-    cc
+-- six bits of a path are a register
+six_are : (p : List Bool) (path : ℕ → Bool) (u : ℕ) → length p ≡ 6 → ((m : ℕ) → m < 6 → bit p m ≡ path (u + m)) → p ≡ bits_from path u 6
+six_are p path u long is = ext_get_or false p (bits_from path u 6) long (λ m l. let few : m < 6 = omega (arith, l, long) in is m few ∙ sym (get_or-map-range_with_len path u 6 m (u + m) false few refl))
 
--- the next input bit is that of the path
-input_is : (path : ℕ → Bool) (w0 : List Bool) (n i : ℕ) (b : Bool) (rest : List Bool) → i < n → take n w0 ≡ bits_from path 6 n → drop i w0 ≡ b ∷ rest → b ≡ path (i + 6)
-input_is path w0 n i b rest l taken first =
-    let none : i + 0 ≡ i = omega arith in
-    let place : 6 + i ≡ i + 6 = omega arith in
-    let head : get_or (drop i w0) 0 false ≡ b = ap (λ (z : List Bool). get_or z 0 false) first in
-    let here : get_or w0 i false ≡ b = sym (get_or-drop i w0 0 false ∙ ap (λ (z : ℕ). get_or w0 z false) none) ∙ head in
-    sym here ∙ sym (get_or-take n w0 i false l) ∙ ap (λ (z : List Bool). get_or z i false) taken ∙ get_or-map-range_with_len path 6 n i (i + 6) false l place
+-- ---- some steps more
+-- the register and the bits behind it are bits of the path
+abbrev pub Along : (ℕ → Bool) → ℕ → List Bool → List Bool → Type 0
+Along path i register more = (m : ℕ) → m < 6 + length more → bit (register ++ more) m ≡ path (i + m)
 
-pub encode_begins : (w0 e0 : List Bool) (xs : List ℕ) (first n : ℕ) → IsEncoded w0 e0 xs first n 0 w0 e0 xs
-encode_begins w0 e0 xs first n = record { before = λ k l. refl; left = refl; size = λ long. long; after = λ path e s. e; parities = λ path e s t k l m. absurd (omega (arith, l)) }
-
-pub encode_more : (w0 e0 : List Bool) (x0 : List ℕ) (waiting register : List Bool) (xs : List ℕ) (first n i : ℕ) (b : Bool) (waiting' register' : List Bool) (x y : Bool) (v : ℕ)
-    → IsEncoded w0 e0 x0 first n i waiting register xs → i < n → first + i < length xs → waiting ≡ b ∷ waiting'
-    → x ≡ parity_x (register ++ b ∷ []) → y ≡ parity_y (register ++ b ∷ []) → register' ≡ drop 1 (register ++ b ∷ [])
-    → ((k : ℕ) → k < 2 → is_set v k ≡ cond (eqb k 0) x y) → IsEncoded w0 e0 x0 first n (i + 1) waiting' register' (slice_set xs (first + i) v)
-encode_more w0 e0 x0 waiting register xs first n i b waiting' register' x y v s l here head ex ey er ev =
-    record { left = left; size = size; after = after; parities = parities; before = before }
+along : (path : ℕ → Bool) (w0 register more rest : List Bool) (n i : ℕ) → i + length more ≤ n → take n w0 ≡ bits_from path 6 n → drop i w0 ≡ more ++ rest → register ≡ bits_from path i 6 → Along path i register more
+along path w0 register more rest n i few taken begins is m l = go (cases_lt m 6)
   where
-    begins : drop i w0 ≡ b ∷ waiting'
+    six : length register ≡ 6
+    six = ap length is
+
+    go : (m < 6) ⊎ (6 ≤ m) → bit (register ++ more) m ≡ path (i + m)
+    go (inl less) =
+        let within : m < length register = omega (arith, less, six) in
+        get_or_append_left register more false m within ∙ ap (λ (z : List Bool). get_or z m false) is ∙ get_or-map-range_with_len path i 6 m (i + m) false less refl
+    go (inr past) =
+        let j : ℕ = m - 6 in
+        let within : j < length more = omega (arith, l, past) in
+        let here : i + j < n = omega (arith, within, few) in
+        let place : 6 + (i + j) ≡ i + m = omega (arith, past) in
+        get_or-append_right register more 6 m false six past
+        ∙ sym (get_or_append_left more rest false j within)
+        ∙ ap (λ (z : List Bool). get_or z j false) (sym begins)
+        ∙ get_or-drop i w0 j false
+        ∙ sym (get_or-take n w0 (i + j) false here)
+        ∙ ap (λ (z : List Bool). get_or z (i + j) false) taken
+        ∙ get_or-map-range_with_len path 6 n (i + j) (i + m) false here place
+
+pub encode_begins : (w e x : List Bool) (first n : ℕ) → IsEncoded w e x first n 0 w e x
+encode_begins w e x first n = record { before = λ k l. refl; left = refl; size = λ long. long; after = λ path e s. e; parities = λ path e s t k l m. absurd (omega (arith, l)) }
+
+-- the pairs of some more steps are written, whose parities are those along the path
+encode_on : (w e x : List Bool) (first n i : ℕ) (waiting register xs more waiting' register' xs' : List Bool)
+    → IsEncoded w e x first n i waiting register xs → i + length more ≤ n → waiting ≡ more ++ waiting' → register' ≡ drop (length more) (register ++ more)
+    → ((path : ℕ → Bool) → Along path i register more → (j k : ℕ) → j < length more → k < 2 → read_bit xs' (2 * (first + i) + 2 * j + k) ≡ parity_at k path (i + j))
+    → ((k : ℕ) → k < 2 * (first + i) → read_bit xs' k ≡ read_bit xs k)
+    → IsEncoded w e x first n (i + length more) waiting' register' xs'
+encode_on w e x first n i waiting register xs more waiting' register' xs' s few head er made kept =
+    record { left = left; size = size; after = after; parities = parities; before = λ k l. kept k (omega (arith, l)) ∙ s.before k l }
+  where
+    begins : drop i w ≡ more ++ waiting'
     begins = sym s.left ∙ head
 
-    left : waiting' ≡ drop (i + 1) w0
-    left = ap (λ (z : List Bool). drop 1 z) (sym begins) ∙ drop-drop 1 i w0
+    left : waiting' ≡ drop (i + length more) w
+    left = sym (drop-append_seam more waiting') ∙ ap (drop (length more)) (sym begins) ∙ drop-drop (length more) i w
 
-    size : length e0 ≡ 6 → length register' ≡ 6
-    size long = let long' : length register ≡ 6 = s.size long in ap (λ (z : List Bool). length z) er ∙ simp (length-drop, length-append) (omega (arith, long'))
+    size : length e ≡ 6 → length register' ≡ 6
+    size long = let long' : length register ≡ 6 = s.size long in ap length er ∙ simp (length-drop, length-append) (omega (arith, long'))
 
-    windows : (path : ℕ → Bool) → e0 ≡ bits_from path 0 6 → take n w0 ≡ bits_from path 6 n → register ++ b ∷ [] ≡ window path i
-    windows path e taken = ap (λ (z : List Bool). z ++ b ∷ []) (s.after path e taken) ∙ window_is path i b (input_is path w0 n i b waiting' l taken begins)
+    on : (path : ℕ → Bool) → e ≡ bits_from path 0 6 → take n w ≡ bits_from path 6 n → Along path i register more
+    on path is taken = along path w register more waiting' n i few taken begins (s.after path is taken)
 
-    after : (path : ℕ → Bool) → e0 ≡ bits_from path 0 6 → take n w0 ≡ bits_from path 6 n → register' ≡ bits_from path (i + 1) 6
-    after path e taken = er ∙ ap (λ (z : List Bool). drop 1 z) (windows path e taken) ∙ next_is path i
+    after : (path : ℕ → Bool) → e ≡ bits_from path 0 6 → take n w ≡ bits_from path 6 n → register' ≡ bits_from path (i + length more) 6
+    after path is taken = six_are register' path (i + length more) (size (ap length is))
+        (λ m l. let place : i + (length more + m) ≡ i + length more + m = omega arith in
+        ap (λ (z : List Bool). bit z m) er ∙ get_or-drop (length more) (register ++ more) m false ∙ on path is taken (length more + m) (omega (arith, l)) ∙ ap path place)
 
-    written : (path : ℕ → Bool) → e0 ≡ bits_from path 0 6 → take n w0 ≡ bits_from path 6 n → (k : ℕ) → k < 2 → is_set v k ≡ parity_at k path i
-    written path e taken k m =
-        ev k m ∙ ap (λ (z : Bool). cond (eqb k 0) z y) (ex ∙ ap parity_x (windows path e taken)) ∙ ap (λ (z : Bool). cond (eqb k 0) (parity_x (window path i)) z) (ey ∙ ap parity_y (windows path e taken))
-
-    parities : (path : ℕ → Bool) → e0 ≡ bits_from path 0 6 → take n w0 ≡ bits_from path 6 n → (t k : ℕ) → t < i + 1 → k < 2 → is_set (slice_index (slice_set xs (first + i) v) (first + t)) k ≡ parity_at k path t
-    parities path e taken t k m two = go (cases_lt t i)
+    parities : (path : ℕ → Bool) → e ≡ bits_from path 0 6 → take n w ≡ bits_from path 6 n → (t k : ℕ) → t < i + length more → k < 2 → read_bit xs' (2 * (first + t) + k) ≡ parity_at k path t
+    parities path is taken t k l two = go (cases_lt t i)
       where
-        go : (t < i) ⊎ (i ≤ t) → is_set (slice_index (slice_set xs (first + i) v) (first + t)) k ≡ parity_at k path t
-        go (inl less) = let other : first + t ≢ first + i = omega arith in ap (λ (z : ℕ). is_set z k) (get_or-set_other xs (first + i) (first + t) v 0 other) ∙ s.parities path e taken t k less two
-        go (inr more) = let same : i ≡ t = omega (arith, m, more) in
-            subst (λ (z : ℕ). is_set (slice_index (slice_set xs (first + i) v) (first + z)) k ≡ parity_at k path z) same (ap (λ (z : ℕ). is_set z k) (get_or-set_same xs (first + i) v 0 here) ∙ written path e taken k two)
+        go : (t < i) ⊎ (i ≤ t) → read_bit xs' (2 * (first + t) + k) ≡ parity_at k path t
+        go (inl less) = kept (2 * (first + t) + k) (omega (arith, less, two)) ∙ s.parities path is taken t k less two
+        go (inr past) =
+            let j : ℕ = t - i in
+            let place : 2 * (first + t) + k ≡ 2 * (first + i) + 2 * j + k = omega (arith, past) in
+            let step : i + j ≡ t = omega (arith, past) in
+            ap (read_bit xs') place ∙ made path (on path is taken) j k (omega (arith, past, l)) two ∙ ap (parity_at k path) step
 
-    before : (k : ℕ) → k < first → slice_index (slice_set xs (first + i) v) k ≡ slice_index x0 k
-    before k m = let other : k ≢ first + i = omega (arith, m) in get_or-set_other xs (first + i) k v 0 other ∙ s.before k m
+-- two bits that are written, one behind the other
+pub pair_set : (xs : List Bool) (p : ℕ) (x y : Bool) → p + 1 < length xs
+    → (read_bit (set (set xs p x) (p + 1) y) p ≡ x) × (read_bit (set (set xs p x) (p + 1) y) (p + 1) ≡ y) × ((k : ℕ) → k < p → read_bit (set (set xs p x) (p + 1) y) k ≡ read_bit xs k)
+pair_set xs p x y l = (first, second, before)
+  where
+    here : p < length xs
+    here = omega (arith, l)
+
+    there : p + 1 < length (set xs p x)
+    there = omega (arith, l, length-set xs p x)
+
+    first : read_bit (set (set xs p x) (p + 1) y) p ≡ x
+    first = let apart : p ≢ p + 1 = omega arith in get_or-set_other (set xs p x) (p + 1) p y false apart ∙ get_or-set_same xs p x false here
+
+    second : read_bit (set (set xs p x) (p + 1) y) (p + 1) ≡ y
+    second = get_or-set_same (set xs p x) (p + 1) y false there
+
+    before : (k : ℕ) → k < p → read_bit (set (set xs p x) (p + 1) y) k ≡ read_bit xs k
+    before k m =
+        let one : k ≢ p + 1 = omega (arith, m) in
+        let two : k ≢ p = omega (arith, m) in
+        get_or-set_other (set xs p x) (p + 1) k y false one ∙ get_or-set_other xs p k x false two
+
+-- one step
+pub encode_one : (w e x : List Bool) (first n i : ℕ) (waiting register xs : List Bool) (b : Bool) (waiting' register' xs' : List Bool) (px py : Bool)
+    → IsEncoded w e x first n i waiting register xs → i + 1 ≤ n → waiting ≡ b ∷ waiting'
+    → px ≡ parity_x (register ++ b ∷ []) → py ≡ parity_y (register ++ b ∷ []) → register' ≡ drop 1 (register ++ b ∷ [])
+    → read_bit xs' (2 * (first + i)) ≡ px → read_bit xs' (2 * (first + i) + 1) ≡ py → ((k : ℕ) → k < 2 * (first + i) → read_bit xs' k ≡ read_bit xs k)
+    → IsEncoded w e x first n (i + 1) waiting' register' xs'
+encode_one w e x first n i waiting register xs b waiting' register' xs' px py s few head ex ey er hx hy kept =
+    encode_on w e x first n i waiting register xs (b ∷ []) waiting' register' xs' s few head er made kept
+  where
+    seven : (path : ℕ → Bool) → Along path i register (b ∷ []) → (parity_x (register ++ b ∷ []) ≡ parity_x (window path i)) × (parity_y (register ++ b ∷ []) ≡ parity_y (window path i))
+    seven path a = seven_are (register ++ b ∷ []) path i a
+
+    made : (path : ℕ → Bool) → Along path i register (b ∷ []) → (j k : ℕ) → j < 1 → k < 2 → read_bit xs' (2 * (first + i) + 2 * j + k) ≡ parity_at k path (i + j)
+    made path a (suc j) k l two = absurd (omega (arith, l))
+    made path a zero zero l two =
+        let place : 2 * (first + i) + 2 * 0 + 0 ≡ 2 * (first + i) = omega arith in
+        let step : i ≡ i + 0 = omega arith in
+        ap (read_bit xs') place ∙ hx ∙ ex ∙ (seven path a).0 ∙ ap (parity_at 0 path) step
+    made path a zero (suc zero) l two =
+        let place : 2 * (first + i) + 2 * 0 + 1 ≡ 2 * (first + i) + 1 = omega arith in
+        let step : i ≡ i + 0 = omega arith in
+        ap (read_bit xs') place ∙ hy ∙ ey ∙ (seven path a).1 ∙ ap (parity_at 1 path) step
+    made path a zero (suc (suc k)) l two = absurd (omega (arith, two))
+
+-- ---- eight steps
+spelled_at : (n x j : ℕ) → j < n → bit (spelled n x) j ≡ is_set x (n - 1 - j)
+spelled_at zero x j l = absurd (omega (arith, l))
+spelled_at (suc n) x zero l = let place : n ≡ suc n - 1 - 0 = omega arith in ap (is_set x) place
+spelled_at (suc n) x (suc j) l = let place : n - 1 - j ≡ suc n - 1 - suc j = omega arith in spelled_at n x j (omega (arith, l)) ∙ ap (is_set x) place
+
+x_at : (n j : ℕ) (p : List Bool) → j < n → bit (xs_of n p) j ≡ parity_x (drop j p)
+x_at zero j p l = absurd (omega (arith, l))
+x_at (suc n) zero p l = refl
+x_at (suc n) (suc j) p l = let next : 1 + j ≡ suc j = omega arith in x_at n j (drop 1 p) (omega (arith, l)) ∙ ap parity_x (drop-drop j 1 p ∙ ap (λ (z : ℕ). drop z p) next)
+
+y_at : (n j : ℕ) (p : List Bool) → j < n → bit (ys_of n p) j ≡ parity_y (drop j p)
+y_at zero j p l = absurd (omega (arith, l))
+y_at (suc n) zero p l = refl
+y_at (suc n) (suc j) p l = let next : 1 + j ≡ suc j = omega arith in y_at n j (drop 1 p) (omega (arith, l)) ∙ ap parity_y (drop-drop j 1 p ∙ ap (λ (z : ℕ). drop z p) next)
+
+pub encode_eight : (w e x : List Bool) (first n i : ℕ) (waiting register xs : List Bool) (byte : ℕ) (waiting' register' xs' : List Bool) (px py : ℕ)
+    → IsEncoded w e x first n i waiting register xs → i + 8 ≤ n → waiting ≡ spelled 8 byte ++ waiting'
+    → spelled 8 px ≡ xs_of 8 (register ++ spelled 8 byte) → spelled 8 py ≡ ys_of 8 (register ++ spelled 8 byte) → register' ≡ drop 8 (register ++ spelled 8 byte)
+    → ((j k : ℕ) → j < 8 → k < 2 → read_bit xs' (2 * (first + i) + 2 * j + k) ≡ is_set (cond (eqb k 0) px py) (7 - j)) → ((k : ℕ) → k < 2 * (first + i) → read_bit xs' k ≡ read_bit xs k)
+    → IsEncoded w e x first n (i + 8) waiting' register' xs'
+encode_eight w e x first n i waiting register xs byte waiting' register' xs' px py s few head ex ey er here kept =
+    encode_on w e x first n i waiting register xs (spelled 8 byte) waiting' register' xs' s few head er made kept
+  where
+    p : List Bool
+    p = register ++ spelled 8 byte
+
+    seven : (path : ℕ → Bool) → Along path i register (spelled 8 byte) → (j : ℕ) → j < 8 → (parity_x (drop j p) ≡ parity_x (window path (i + j))) × (parity_y (drop j p) ≡ parity_y (window path (i + j)))
+    seven path a j l = seven_are (drop j p) path (i + j)
+        (λ m few. let place : i + (j + m) ≡ i + j + m = omega arith in get_or-drop j p m false ∙ a (j + m) (omega (arith, few, l)) ∙ ap path place)
+
+    made : (path : ℕ → Bool) → Along path i register (spelled 8 byte) → (j k : ℕ) → j < 8 → k < 2 → read_bit xs' (2 * (first + i) + 2 * j + k) ≡ parity_at k path (i + j)
+    made path a j zero l two = here j 0 l two ∙ sym (spelled_at 8 px j l) ∙ ap (λ (z : List Bool). bit z j) ex ∙ x_at 8 j p l ∙ (seven path a j l).0
+    made path a j (suc zero) l two = here j 1 l two ∙ sym (spelled_at 8 py j l) ∙ ap (λ (z : List Bool). bit z j) ey ∙ y_at 8 j p l ∙ (seven path a j l).1
+    made path a j (suc (suc k)) l two = absurd (omega (arith, two))

@@ -1,7 +1,8 @@
 -- Labels bit by bit.
-use Rattle.std.proofs.Common.{◌≡◌, ℕ, ◌+◌, ◌-◌, ◌*◌, ◌%◌, ◌^◌, ◌<◌, ◌≤◌, ◌⊎◌, inl, inr, List, [], ◌∷◌, ◌++◌, append_assoc, length, sym, ap, ◌∙◌, subst, arith}
+use Rattle.std.proofs.Common.{◌≡◌, ℕ, ◌+◌, ◌-◌, ◌*◌, ◌%◌, ◌^◌, ◌<◌, ◌≤◌, ◌⊎◌, inl, inr, Bool, true, false, List, [], ◌∷◌, ◌++◌, append_assoc, length, refl, sym, ap, ◌∙◌, subst, arith}
 use Rattle.std.specs.Prelude.{slice_index, ◌==◌}
 use Rattle.std.specs.Int.{bit_at}
+use mir.Val.{bool_byte}
 use Rattle.std.proofs.Math.Nat.{pow-le-pow_right, mul-le-mul, mod-eq_of_lt, add_comm}
 use Rattle.std.proofs.lemmas.Nat.Bits.{bit_at_cat_low, bit_at_cat_high}
 use Rattle.std.proofs.lemmas.Bool.{cases_lt}
@@ -31,7 +32,15 @@ bit_here label bit place l b small =
     let same : place ≤ place = omega arith in
     ap (λ (z : ℕ). is_set z place) (sum_is label bit place l b) ∙ ap (λ (z : ℕ). z == 1) (bit_at_cat_high bit place label place small same ∙ ap (bit_at bit) none)
 
-pub gather_more : (xs entries : List ℕ) (first count label new : ℕ) → IsGathered xs entries first count label → new < 2 ^ (count + 1)
+pub bool_small : (b : Bool) → bool_byte b < 2
+bool_small true = omega arith
+bool_small false = omega arith
+
+pub bool_bit : (b : Bool) → is_set (bool_byte b) 0 ≡ b
+bool_bit true = refl
+bool_bit false = refl
+
+pub gather_more : (xs : List Bool) (entries : List ℕ) (first count label new : ℕ) → IsGathered xs entries first count label → new < 2 ^ (count + 1)
     → ((e : ℕ) → e < count → is_set new e ≡ is_set label e) → is_set new count ≡ read_bit xs (slice_index entries (first + count)) → IsGathered xs entries first (count + 1) new
 gather_more xs entries first count label new g small below here = record { small = small; bit = bits }
   where
@@ -42,7 +51,7 @@ gather_more xs entries first count label new g small below here = record { small
         go (inl m) = below e m ∙ g.bit e m
         go (inr m) = let same : count ≡ e = omega (arith, l, m) in subst (λ (z : ℕ). is_set new z ≡ read_bit xs (slice_index entries (first + z))) same here
 
-pub push_more : (xs entries : List ℕ) (n count : ℕ) (old mid new : List ℕ) (label : ℕ) → AppendsGathered xs entries n count old mid → IsGathered xs entries (n * count) count label → new ≡ mid ++ label ∷ []
+pub push_more : (xs : List Bool) (entries : List ℕ) (n count : ℕ) (old mid new : List ℕ) (label : ℕ) → AppendsGathered xs entries n count old mid → IsGathered xs entries (n * count) count label → new ≡ mid ++ label ∷ []
     → AppendsGathered xs entries (n + 1) count old new
 push_more xs entries n count old mid new label g here e = record {
   labels = g.labels ++ label ∷ [];

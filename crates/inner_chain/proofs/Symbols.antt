@@ -113,19 +113,19 @@ symbol_bit s path m σ d =
     ap (λ (z : ℕ). sent_bit r (from_step path z) d) steps ∙ sent_from r path (m * p) d ∙ ap (λ (z : ℕ). sent_bit r path (z + d)) bits
 
 -- ---- parities of both streams
-pub code_parities : (s : Settings) (paths : Paths) (m n1 n2 : ℕ) (xs1 xs2 : List ℕ) → n1 ≡ need s Hp → n2 ≡ need s Lp
-    → AreParities (from_step (paths Hp) (m * need s Hp)) 0 n1 xs1 → AreParities (from_step (paths Lp) (m * need s Lp)) n1 n2 xs2 → ((k : ℕ) → k < n1 → slice_index xs2 k ≡ slice_index xs1 k)
+pub code_parities : (s : Settings) (paths : Paths) (m n1 n2 : ℕ) (xs1 xs2 : List Bool) → n1 ≡ need s Hp → n2 ≡ need s Lp
+    → AreParities (from_step (paths Hp) (m * need s Hp)) 0 n1 xs1 → AreParities (from_step (paths Lp) (m * need s Lp)) n1 n2 xs2 → ((k : ℕ) → k < 2 * n1 → read_bit xs2 k ≡ read_bit xs1 k)
     → AreAllParities s paths m xs2
 code_parities s paths m n1 n2 xs1 xs2 e1 e2 hp lp before = record { at = at }
   where
-    at : (σ : Stream) (t k : ℕ) → t < need s σ → k < 2 → is_set (slice_index xs2 (first_step s σ + t)) k ≡ parity_at k (paths σ) (m * need s σ + t)
+    at : (σ : Stream) (t k : ℕ) → t < need s σ → k < 2 → read_bit xs2 (2 * (first_step s σ + t) + k) ≡ parity_at k (paths σ) (m * need s σ + t)
     at Hp t k l two =
         let here : t < n1 = omega (arith, l, e1) in
-        let place : 0 + t < n1 = omega (arith, here) in
-        ap (λ (z : ℕ). is_set z k) (before (0 + t) place) ∙ hp.at t k here two ∙ parity_from (paths Hp) (m * need s Hp) k t
+        let place : 2 * (0 + t) + k < 2 * n1 = omega (arith, here, two) in
+        before (2 * (0 + t) + k) place ∙ hp.at t k here two ∙ parity_from (paths Hp) (m * need s Hp) k t
     at Lp t k l two =
         let here : t < n2 = omega (arith, l, e2) in
-        ap (λ (z : ℕ). is_set (slice_index xs2 (z + t)) k) (sym e1) ∙ lp.at t k here two ∙ parity_from (paths Lp) (m * need s Lp) k t
+        ap (λ (z : ℕ). read_bit xs2 (2 * (z + t) + k)) (sym e1) ∙ lp.at t k here two ∙ parity_from (paths Lp) (m * need s Lp) k t
 
 pub register_from : (s : Settings) (paths : Paths) (m : ℕ) (σ : Stream) (register : List Bool) → register ≡ bits_from (paths σ) (m * need s σ) 6 → register ≡ bits_from (from_step (paths σ) (m * need s σ)) 0 6
 register_from s paths m σ register e = let same : m * need s σ + 0 ≡ m * need s σ = omega arith in e ∙ sym (bits_from_step (paths σ) (m * need s σ) 0 (m * need s σ) 6 same)
@@ -149,10 +149,10 @@ row_and_rest Qam64 n k l = (omega (arith, l), omega arith, omega arith)
 stream_below : (s : Settings) (σ : Stream) (n : ℕ) → first_step s σ ≤ n → n < first_step s σ + need s σ → n < need s Hp + need s Lp
 stream_below s σ n l m = omega (arith, l, m, in_all_steps s σ (n - first_step s σ) (omega (arith, l, m)))
 
-pub entries_within : (s : Settings) (odd : Bool) (entries : List ℕ) (len : ℕ) → AreEntries s odd entries → len ≡ need s Hp + need s Lp → AreWithin entries len
+pub entries_within : (s : Settings) (odd : Bool) (entries : List ℕ) (len : ℕ) → AreEntries s odd entries → len ≡ 2 * (need s Hp + need s Lp) → AreWithin entries len
 entries_within s odd entries len a e = record { at = at }
   where
-    at : (k : ℕ) → k < length entries → slice_index entries k / 2 < len
+    at : (k : ℕ) → k < length entries → slice_index entries k < len
     at k l =
         let r = row_and_rest s.shape (payload s.mode) k (omega (arith, l, a.long)) in
         let here : IsEntry s (k % label_bits s.shape) (carried s.mode odd (k / label_bits s.shape)) (slice_index entries k) =
@@ -163,7 +163,7 @@ label_is : (s : Settings) (odd : Bool) (bits : Stream → ℕ → Bool) (q e : �
 unfolding label_bit
 label_is s odd bits q e = refl
 
-pub labels_are : (s : Settings) (odd : Bool) (paths : Paths) (m : ℕ) (entries ps old new : List ℕ) (number count : ℕ) → AreEntries s odd entries → number ≡ payload s.mode → count ≡ label_bits s.shape
+pub labels_are : (s : Settings) (odd : Bool) (paths : Paths) (m : ℕ) (entries : List ℕ) (ps : List Bool) (old new : List ℕ) (number count : ℕ) → AreEntries s odd entries → number ≡ payload s.mode → count ≡ label_bits s.shape
     → AreAllParities s paths m ps → AppendsGathered ps entries number count old new → AppendsLabels s odd (coded_bits s paths m) old new
 labels_are s odd paths m entries ps old new number count a en ec all g =
     record { labels = g.labels; are = record { long = g.long ∙ en; small = small; bit = bit }; is = g.is }
@@ -189,13 +189,13 @@ labels_are s odd paths m entries ps old new number count a en ec all g =
         gathered : is_set (slice_index g.labels q) e ≡ read_bit ps n
         gathered = (g.at q (omega (arith, l, en))).bit e (omega (arith, le, ec)) ∙ ap (λ (z : ℕ). read_bit ps (slice_index entries (q * z + e))) ec
 
-        place : first_step s σ + t ≡ n / 2
+        place : 2 * (first_step s σ + t) + n % 2 ≡ n
         place = omega (arith, entry.from)
 
         read : is_set (slice_index g.labels q) e ≡ coded_bits s paths m σ (number_at s e (carried s.mode odd q))
         read =
             gathered
-            ∙ ap (λ (z : ℕ). is_set (slice_index ps z) (n % 2)) (sym place)
+            ∙ ap (read_bit ps) (sym place)
             ∙ all.at σ t (n % 2) (omega (arith, entry.from, entry.to)) (omega arith)
             ∙ sym (parity_from (paths σ) (m * need s σ) (n % 2) t)
             ∙ sym (entry.reads (from_step (paths σ) (m * need s σ)))

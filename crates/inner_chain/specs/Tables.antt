@@ -1,35 +1,52 @@
 -- What the tables and the intermediate lists of the code hold.
-use Rattle.std.specs.Prelude.{◌≡◌, ℕ, ◌+◌, ◌-◌, ◌*◌, ◌/◌, ◌%◌, ◌^◌, ◌<◌, ◌≤◌, Bool, true, false, List, ◌++◌, length, slice_index}
+use Rattle.std.specs.Prelude.{◌≡◌, ℕ, ◌+◌, ◌-◌, ◌*◌, ◌/◌, ◌%◌, ◌^◌, ◌<◌, ◌≤◌, Bool, true, false, List, [], ◌∷◌, ◌++◌, length, get_or, slice_index, take, drop}
 use Rattle.spec_words.specs.Bits.{is_set}
 use Rattle.mode_set.specs.StreamTable.{payload, label_bits, need, rate}
 use Rattle.mode_set.specs.declared.modes.Mode.{Mode}
 use Rattle.mode_set.specs.declared.modes.Stream.{Stream}
 use Rattle.mode_set.specs.declared.modes.Stream.TheVariants.{Hp, Lp}
 use Rattle.mode_set.specs.declared.settings.Settings.{Settings}
-use Rattle.puncture.specs.SentBits.{sent_bit}
+use Rattle.puncture.specs.SentBits.{sent_bit, bits_from}
 use Rattle.bit_interleave.specs.Place.{stream_at}
 use Rattle.symbol_interleave.specs.Carried.{carried}
 use Rattle.inner_chain.specs.Labels.{Paths, number_at, parity_at}
 
--- bit n % 2 of number n / 2 of a list
-abbrev pub read_bit : List ℕ → ℕ → Bool
-read_bit xs n = is_set (slice_index xs (n / 2)) (n % 2)
+-- bit n of a list of bits
+abbrev pub read_bit : List Bool → ℕ → Bool
+read_bit xs n = get_or xs n false
 
--- X and Y of the first `count` steps of a path, as the bits 0 and 1 of the numbers from place `first` on
-pub record AreParities (path : ℕ → Bool) (first count : ℕ) (xs : List ℕ) : Type 0 where
-  pub at : (t k : ℕ) → t < count → k < 2 → is_set (slice_index xs (first + t)) k ≡ parity_at k path t
+-- X and Y of the first `count` steps of a path, in pairs of bits behind `first` other pairs
+pub record AreParities (path : ℕ → Bool) (first count : ℕ) (xs : List Bool) : Type 0 where
+  pub at : (t k : ℕ) → t < count → k < 2 → read_bit xs (2 * (first + t) + k) ≡ parity_at k path t
+
+-- X and Y of four steps: the X are the upper four bits of the number, the Y the lower four, those of the first step the highest
+abbrev pub row_of : ℕ → List Bool
+row_of n = is_set n 7 ∷ is_set n 3 ∷ is_set n 6 ∷ is_set n 2 ∷ is_set n 5 ∷ is_set n 1 ∷ is_set n 4 ∷ is_set n 0 ∷ []
+
+-- the rows of the numbers below `count`
+pub record AreRows (rows : List (List Bool)) (count : ℕ) : Type 0 where
+  pub long : length rows ≡ count
+  pub at : (n : ℕ) (d : List Bool) → n < count → get_or rows n d ≡ row_of n
+
+-- after i of n steps: w, e and x are the waiting bits, the register and the pairs of bits before the first of them
+pub record IsEncoded (w e x : List Bool) (first n i : ℕ) (waiting register xs : List Bool) : Type 0 where
+  pub left : waiting ≡ drop i w
+  pub size : length e ≡ 6 → length register ≡ 6
+  pub after : (path : ℕ → Bool) → e ≡ bits_from path 0 6 → take n w ≡ bits_from path 6 n → register ≡ bits_from path i 6
+  pub parities : (path : ℕ → Bool) → e ≡ bits_from path 0 6 → take n w ≡ bits_from path 6 n → (t k : ℕ) → t < i → k < 2 → read_bit xs (2 * (first + t) + k) ≡ parity_at k path t
+  pub before : (k : ℕ) → k < 2 * first → read_bit xs k ≡ read_bit x k
 
 -- a label whose bits are read at these entries
-pub record IsGathered (xs entries : List ℕ) (first count label : ℕ) : Type 0 where
+pub record IsGathered (xs : List Bool) (entries : List ℕ) (first count label : ℕ) : Type 0 where
   pub small : label < 2 ^ count
   pub bit : (e : ℕ) → e < count → is_set label e ≡ read_bit xs (slice_index entries (first + e))
 
 -- each entry is a bit of the list
 pub record AreWithin (entries : List ℕ) (len : ℕ) : Type 0 where
-  pub at : (k : ℕ) → k < length entries → slice_index entries k / 2 < len
+  pub at : (k : ℕ) → k < length entries → slice_index entries k < len
 
 -- a list is continued by so many labels, each read at `count` entries
-pub record AppendsGathered (xs entries : List ℕ) (number count : ℕ) (old new : List ℕ) : Type 0 where
+pub record AppendsGathered (xs : List Bool) (entries : List ℕ) (number count : ℕ) (old new : List ℕ) : Type 0 where
   pub labels : List ℕ
   pub is : new ≡ old ++ labels
   pub long : length labels ≡ number
@@ -59,14 +76,15 @@ pub record AppendsEntries (s : Settings) (w count : ℕ) (old new : List ℕ) : 
   pub at : (e : ℕ) → e < count → IsEntry s e w (slice_index more e)
 
 -- what an inner coder of a mode keeps
-pub record IsTx (m : Mode) (s : Settings) (hp lp : List Bool) (even odd parities : List ℕ) : Type 0 where
+pub record IsTx (m : Mode) (s : Settings) (hp lp : List Bool) (even odd : List ℕ) (rows : List (List Bool)) (parities : List Bool) : Type 0 where
   pub mode : s.mode ≡ m
   pub hp_long : length hp ≡ 6
   pub lp_long : length lp ≡ 6
   pub are_even : AreEntries s false even
   pub are_odd : AreEntries s true odd
-  pub room : length parities ≡ need s Hp + need s Lp
+  pub are_rows : AreRows rows 256
+  pub room : length parities ≡ 2 * (need s Hp + need s Lp)
 
 -- X and Y of the steps of symbol m of both paths, HP's first
-pub record AreAllParities (s : Settings) (paths : Paths) (m : ℕ) (xs : List ℕ) : Type 0 where
-  pub at : (σ : Stream) (t k : ℕ) → t < need s σ → k < 2 → is_set (slice_index xs (first_step s σ + t)) k ≡ parity_at k (paths σ) (m * need s σ + t)
+pub record AreAllParities (s : Settings) (paths : Paths) (m : ℕ) (xs : List Bool) : Type 0 where
+  pub at : (σ : Stream) (t k : ℕ) → t < need s σ → k < 2 → read_bit xs (2 * (first_step s σ + t) + k) ≡ parity_at k (paths σ) (m * need s σ + t)

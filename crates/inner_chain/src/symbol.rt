@@ -1,29 +1,31 @@
 // The two steps of the inner coding of a symbol: all parities, and the labels that they make.
-ghost use Rattle.std.specs.Prelude.{◌≡◌, ◌+◌, ◌≤◌, ℕ, take, drop, length, vec_capacity, vec_len};
+ghost use Rattle.std.specs.Prelude.{◌≡◌, ◌+◌, ◌*◌, ◌≤◌, ℕ, take, drop, length, vec_capacity, vec_len};
 ghost use Rattle.mode_set.specs.StreamTable.{need, payload};
 ghost use Rattle.mode_set.specs.declared.modes.Stream.TheVariants.{Hp, Lp};
 ghost use Rattle.inner_chain.specs.Labels.{AppendsLabels, IsAtSymbol, Paths, coded_bits, input_bits};
-ghost use Rattle.inner_chain.specs.Tables.{AreAllParities, AreEntries};
+ghost use Rattle.inner_chain.specs.Tables.{AreAllParities, AreEntries, AreRows};
 
 use crate::gather::push_labels;
 use crate::parities::encode;
 use bit_pack::WaitBuf;
 use conv_code::Encoder;
-use mode_set::{Settings, Stream};
+use mode_set::{Settings, Shape, Stream};
 
 // Takes the input bits of a symbol of each stream, and writes the parities of HP's steps and then
 // those of LP's.
 pub(crate) fn code(
     settings: &Settings,
+    rows: &[[bool; 8]],
     hp: &mut WaitBuf,
     hp_encoder: &mut Encoder,
     lp: &mut WaitBuf,
     lp_encoder: &mut Encoder,
-    parities: &mut [u8],
+    parities: &mut [bool],
 )
+    requires rows { AreRows rows.now 256 }
     requires hp { need settings.now Hp ≤ length hp.old }
     requires lp { need settings.now Lp ≤ length lp.old }
-    requires room { length parities.old ≡ need settings.now Hp + need settings.now Lp }
+    requires room { length parities.old ≡ 2 * (need settings.now Hp + need settings.now Lp) }
     ensures hp { hp.new ≡ drop (need settings.now Hp) hp.old }
     ensures lp { lp.new ≡ drop (need settings.now Lp) lp.old }
     ensures hp_size { length hp_encoder.old ≡ 6 → length hp_encoder.new ≡ 6 }
@@ -37,8 +39,8 @@ pub(crate) fn code(
 {
     let hp_steps = settings.need(Stream::Hp) as usize;
     let lp_steps = settings.need(Stream::Lp) as usize;
-    encode(hp, hp_encoder, parities, 0, hp_steps);
-    encode(lp, lp_encoder, parities, hp_steps, lp_steps);
+    encode(rows, hp, hp_encoder, parities, 0, hp_steps);
+    encode(rows, lp, lp_encoder, parities, hp_steps, lp_steps);
 }
 
 // Appends the labels of a symbol of even or of odd number.
@@ -46,16 +48,20 @@ pub(crate) fn push_symbol(
     settings: &Settings,
     odd: bool,
     entries: &[u16],
-    parities: &[u8],
+    parities: &[bool],
     to: &mut Vec<u8>,
 )
     requires entries { AreEntries settings.now odd entries.now }
-    requires room { length parities.now ≡ need settings.now Hp + need settings.now Lp }
+    requires room { length parities.now ≡ 2 * (need settings.now Hp + need settings.now Lp) }
     requires spare { vec_len to.old + payload settings.now.mode ≤ vec_capacity to.old }
     ensures labels { (paths : Paths) (m : ℕ) → AreAllParities settings.now paths m parities.now
         → AppendsLabels settings.now odd (coded_bits settings.now paths m) to.old.items to.new.items }
     ensures capacity { vec_capacity to.new ≡ vec_capacity to.old }
 {
     let number = settings.mode.payload() as usize;
-    push_labels(parities, entries, number, settings.shape.label_bits(), to);
+    match settings.shape {
+        Shape::Qpsk => push_labels::<2>(parities, entries, number, to),
+        Shape::Qam16 => push_labels::<4>(parities, entries, number, to),
+        Shape::Qam64 => push_labels::<6>(parities, entries, number, to),
+    }
 }

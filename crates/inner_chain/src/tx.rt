@@ -7,6 +7,7 @@ ghost use Rattle.conv_code.specs.Coded.{zeros};
 ghost use Rattle.inner_chain.specs.Labels.{AppendsLabels, IsAtSymbol, Paths, coded_bits, input_bits};
 
 use crate::entries::entries;
+use crate::parities::rows;
 use crate::symbol::{code, push_symbol};
 use bit_pack::WaitBuf;
 use conv_code::Encoder;
@@ -27,7 +28,8 @@ pub struct InnerTx<M: Carriers> {
     lp: Encoder,
     even: Vec<u16>,
     odd: Vec<u16>,
-    parities: Vec<u8>,
+    rows: Vec<[bool; 8]>,
+    parities: Vec<bool>,
     of: PhantomData<M>,
 }
 
@@ -39,7 +41,7 @@ impl<M: Carriers> Model for InnerTx<M> {
 
     ghost view = { λ t. record { settings = t.settings; hp = t.hp; lp = t.lp } };
 
-    ghost invariant = { λ t. IsTx M.MODE t.settings t.hp t.lp t.even.items t.odd.items t.parities.items };
+    ghost invariant = { λ t. IsTx M.MODE t.settings t.hp t.lp t.even.items t.odd.items t.rows.items t.parities.items };
 }
 
 impl<M: Carriers> InnerTx<M> {
@@ -54,13 +56,15 @@ impl<M: Carriers> InnerTx<M> {
         let even = entries(alloc, settings, false, &permutation)?;
         let odd = entries(alloc, settings, true, &permutation)?;
         let steps = settings.need(Stream::Hp) + settings.need(Stream::Lp);
-        let parities = vec![in alloc; 0u8; steps as usize]?;
+        let rows = rows(alloc)?;
+        let parities = vec![in alloc; false; 2 * steps as usize]?;
         Ok(InnerTx {
             settings: *settings,
             hp: Encoder::start(),
             lp: Encoder::start(),
             even,
             odd,
+            rows,
             parities,
             of: PhantomData,
         })
@@ -100,6 +104,7 @@ impl<M: Carriers> InnerTx<M> {
     {
         code(
             &self.settings,
+            &self.rows,
             hp,
             &mut self.hp,
             lp,

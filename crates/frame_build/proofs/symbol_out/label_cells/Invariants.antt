@@ -1,11 +1,10 @@
--- The labels so far have their cells.
+-- The labels so far have the bytes of their cells.
 use Rattle.std.proofs.Common.{◌≡◌, ℕ, length, List}
 use Rattle.mode_set.specs.declared.settings.Settings.{Settings}
-use Rattle.qam_map.specs.declared.cell.Cell.{Cell}
 use Rattle.frame_build.specs.State.{IsLabelTable}
 use Rattle.frame_build.proofs.symbol_out.label_cells.Given as goal
 
-pub record Filled (s : Settings) (cells : List Cell) (n : ℕ) : Type 0 where
+pub record Filled (s : Settings) (cells : List (List ℕ)) (n : ℕ) : Type 0 where
   pub long : length cells ≡ 64
   pub table : IsLabelTable s cells n
 

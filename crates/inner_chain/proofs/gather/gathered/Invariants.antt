@@ -2,4 +2,4 @@ use Rattle.inner_chain.specs.Tables.{IsGathered}
 use Rattle.inner_chain.proofs.gather.gathered.Given as goal
 
 abbrev pub invariant-loop-e : goal.invariant-loop-e
-invariant-loop-e l = IsGathered l.numbers l.entries l.first l.e l.label
+invariant-loop-e g l = IsGathered l.bits l.entries l.first l.e l.label

@@ -4,8 +4,8 @@ use Rattle.inner_chain.specs.Tables.{AppendsGathered}
 use Rattle.inner_chain.proofs.gather.push_labels.Given as goal
 
 abbrev pub invariant-loop-place : goal.invariant-loop-place
-invariant-loop-place l = record {
-  labels : AppendsGathered l.numbers l.entries l.place l.count l.initial.to.items l.to.items;
+invariant-loop-place g l = record {
+  labels : AppendsGathered l.bits l.entries l.place g.row.COUNT l.initial.to.items l.to.items;
   len : vec_len l.to ≡ vec_len l.initial.to + l.place;
   capacity : vec_capacity l.to ≡ vec_capacity l.initial.to;
 }

@@ -1,17 +1,36 @@
-use Rattle.std.proofs.Common.{◌≡◌, ℕ, Bool, ◌∷◌, subst, arith, Option}
+use Rattle.std.proofs.Common.{◌≡◌, ℕ, ◌+◌, ◌-◌, ◌≤◌, length, ap, ◌∙◌, subst, arith}
+use Rattle.std.proofs.lemmas.List.{length-drop}
 use Rattle.puncture.specs.SentBits.{bits_from}
-use Rattle.std.specs.Prelude.{IfSome}
-use Rattle.inner_chain.proofs.Encoding.{encode_more}
+use Rattle.inner_chain.proofs.Encoding.{encode_begins}
 use Rattle.inner_chain.proofs.parities.encode.Goals as goal
 
-pub loop-step-preserved : goal.loop-step-preserved
-loop-step-preserved c =
-    let taken : c.loop-step.waiting ≡ c.unwrap-bit.result ∷ c.take_bit.new.self = subst (λ (z : Option Bool). IfSome z (λ b. c.loop-step.waiting ≡ b ∷ c.take_bit.new.self)) c.unwrap-bit.ensures c.take_bit.ensures.taken in
-    encode_more c.args.waiting.now c.args.encoder.now c.args.to.now c.loop-step.waiting c.loop-step.encoder c.loop-step.to c.args.first c.args.count c.loop-step.step
-    c.unwrap-bit.result c.take_bit.new.self c.step.new.self c.step.result.0 c.step.result.1 c.both.result
-    c.loop-step.invariant (omega arith) (omega arith) taken c.step.ensures.x c.step.ensures.y c.step.ensures.register c.both.ensures
+pub loop-done-init : goal.loop-done-init
+loop-done-init c = record { encoded = encode_begins c.args.waiting.now c.args.encoder.now c.args.to.now c.args.first c.args.count; few = omega arith }
+
+pub encode_byte-requires-clause-enough : goal.encode_byte-requires-clause-enough
+encode_byte-requires-clause-enough c =
+    let left : length c.loop-done.waiting ≡ length c.args.waiting.now - c.loop-done.done = ap length c.loop-done.invariant.encoded.left ∙ length-drop c.loop-done.done c.args.waiting.now in
+    omega (arith, left, c.requires.enough)
+
+pub encode_bit-requires-clause-enough : goal.encode_bit-requires-clause-enough
+encode_bit-requires-clause-enough c =
+    let left : length c.loop-done.waiting ≡ length c.args.waiting.now - c.loop-done.done = ap length c.loop-done.invariant.encoded.left ∙ length-drop c.loop-done.done c.args.waiting.now in
+    omega (arith, left, c.requires.enough)
+
+pub loop-done-preserved-then-count-done-ge8 : goal.loop-done-preserved-then-count-done-ge8
+loop-done-preserved-then-count-done-ge8 c =
+    let few : c.loop-done.done + 8 ≤ c.args.count = omega (arith, c.if-count-done-ge8.true, c.loop-done-test.true) in
+    record { encoded = c.encode_byte.ensures.goes c.args.waiting.now c.args.encoder.now c.args.to.now c.args.count few c.loop-done.invariant.encoded; few = few }
+
+pub loop-done-preserved : goal.loop-done-preserved
+loop-done-preserved c =
+    let few : c.loop-done.done + 1 ≤ c.args.count = omega (arith, c.loop-done-test.true) in
+    record { encoded = c.encode_bit.ensures.goes c.args.waiting.now c.args.encoder.now c.args.to.now c.args.count few c.loop-done.invariant.encoded; few = few }
 
 pub returns-clause-register : goal.returns-clause-register
 returns-clause-register c = λ path e s.
-    let all : c.loop-step.step ≡ c.args.count = omega arith in
-    subst (λ (z : ℕ). c.loop-step.encoder ≡ bits_from path z 6) all (c.loop-step.invariant.after path e s)
+    let all : c.loop-done.done ≡ c.args.count = omega (arith, c.loop-done.invariant.few) in
+    subst (λ (z : ℕ). c.loop-done.encoder ≡ bits_from path z 6) all (c.loop-done.invariant.encoded.after path e s)
+
+pub returns-clause-parities : goal.returns-clause-parities
+returns-clause-parities c = λ path e s. record { at = λ t k l m. c.loop-done.invariant.encoded.parities path e s t k (omega (arith, l, c.loop-done.invariant.few)) m }

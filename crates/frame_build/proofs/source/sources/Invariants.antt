@@ -1,0 +1,13 @@
+-- The carriers so far have what they send.
+use Rattle.std.proofs.Common.{◌≡◌, ℕ, length, List}
+use Rattle.mode_set.specs.declared.modes.Mode.{Mode}
+use Rattle.frame_build.specs.State.{AreSources}
+use Rattle.frame_build.specs.declared.source.Source.{Source}
+use Rattle.frame_build.proofs.source.sources.Given as goal
+
+pub record Filled (m : Mode) (l : ℕ) (list : List Source) (n : ℕ) : Type 0 where
+  pub long : length list ≡ 6817
+  pub send : AreSources m l list n
+
+abbrev pub invariant-loop-k : goal.invariant-loop-k
+invariant-loop-k g l = Filled g.M.Carriers.MODE l.l l.sources l.k

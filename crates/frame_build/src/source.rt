@@ -1,0 +1,73 @@
+// What each carrier of a symbol sends.
+ghost use Rattle.std.specs.Prelude.{◌≡◌, ℕ, ◌+◌, ◌<◌};
+ghost use Rattle.mode_set.specs.StreamTable.{carriers};
+ghost use Rattle.pilots.specs.Carriers.{kind};
+ghost use Rattle.pilots.specs.Reference.{reference};
+ghost use Rattle.frame_build.specs.State.{AreSources, labels_of, source_of};
+
+use mode_set::Carriers;
+use pilots::{CarrierKind, kind, reference};
+
+// What a carrier sends: the cell of the next label, or a pilot or a TPS cell, as it is or opposite.
+#[derive(Clone, Copy, Debug, PartialEq, Eq)]
+pub(crate) enum Source {
+    Label,
+    Pilot,
+    OppositePilot,
+    Signalling,
+    OppositeSignalling,
+}
+
+impl Source {
+    // The labels that were sent behind this carrier, of which `next` were before it.
+    pub(crate) fn after(self, next: usize) -> usize
+        requires { next < 65536 }
+        ensures { result ≡ next + labels_of self }
+    {
+        match self {
+            Source::Label => next + 1,
+            Source::Pilot
+            | Source::OppositePilot
+            | Source::Signalling
+            | Source::OppositeSignalling => next,
+        }
+    }
+}
+
+// What carrier `k` of symbol `l` sends.
+fn source_at<M: Carriers>(l: u8, k: u32) -> Source
+    requires symbol { l < 68 }
+    requires carrier { k < M.K }
+    ensures { result ≡ source_of (kind M.MODE l k) (reference k) }
+{
+    let opposite = reference(k);
+    match kind(M::MODE, l, k) {
+        CarrierKind::Continual | CarrierKind::Scattered => {
+            if opposite {
+                Source::OppositePilot
+            } else {
+                Source::Pilot
+            }
+        }
+        CarrierKind::Tps => {
+            if opposite {
+                Source::OppositeSignalling
+            } else {
+                Source::Signalling
+            }
+        }
+        CarrierKind::Payload(_) => Source::Label,
+    }
+}
+
+// What the carriers of symbol `l` send.
+pub(crate) fn sources<M: Carriers>(l: u8) -> [Source; 6817]
+    requires { l < 68 }
+    ensures { AreSources M.MODE l result (carriers M.MODE) }
+{
+    let mut sources = [Source::Label; 6817];
+    for k in 0..M::K {
+        sources[k as usize] = source_at::<M>(l, k);
+    }
+    sources
+}
