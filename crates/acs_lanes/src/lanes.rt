@@ -9,7 +9,7 @@ use crate::settle::settle;
 use acs_plain::{Acs, Sums};
 use conv_code::CostPair;
 use std::simd::cmp::{SimdOrd, SimdPartialEq};
-use std::simd::{u32x4, u32x16};
+use std::simd::{u16x4, u32x4, u32x16};
 
 /// A vector of 16 costs.
 fn read(costs: &[u32]) -> u32x16
@@ -43,12 +43,7 @@ fn halves(costs: &[u32]) -> (u32x16, u32x16)
 fn four_costs(pair: CostPair) -> u32x4
     ensures { result ≡ four pair }
 {
-    let costs = u32x4::from_array([
-        pair.x0 as u32,
-        pair.x1 as u32,
-        pair.y0 as u32,
-        pair.y1 as u32,
-    ]);
+    let costs: u32x4 = u16x4::from_array([pair.x0, pair.x1, pair.y0, pair.y1]).cast();
     costs.swizzle([0, 0, 1, 1]) + costs.swizzle([2, 3, 2, 3])
 }
 
@@ -130,9 +125,6 @@ fn joined(first: u64, last: u64) -> u64
 
 /// What comes of the upper half of the states: the costs of the states from 48 on are written, those of the states from 16
 /// to 31 wait until the lower half is read.
-// Each half is a call of its own: no more vectors are in use then than there are registers, and the words are computed
-// where their vectors are.
-#[inline(never)]
 fn last_half(cost: &mut [u32; 64], waiting: &mut [u32; 16], costs: u32x4) -> (u64, u64)
     requires costs { (pair : Pair) × (costs ≡ four pair) }
     requires fit { (j : ℕ) → j < 64 → slice_index cost.old j + 8190 < 2 ^ 32 }
@@ -147,7 +139,6 @@ fn last_half(cost: &mut [u32; 64], waiting: &mut [u32; 16], costs: u32x4) -> (u6
 }
 
 /// What comes of the lower half of the states: the costs of the states below 16 and from 32 to 47 are written.
-#[inline(never)]
 fn first_half(cost: &mut [u32; 64], costs: u32x4) -> (u64, u64)
     requires costs { (pair : Pair) × (costs ≡ four pair) }
     requires fit { (j : ℕ) → j < 32 → slice_index cost.old j + 8190 < 2 ^ 32 }
@@ -162,6 +153,9 @@ fn first_half(cost: &mut [u32; 64], costs: u32x4) -> (u64, u64)
 }
 
 /// The step over all states, where each may be compared with each: the words of the states below 32 and of the others.
+// It is a call of its own, so that the words are computed where their vectors are, and not behind the branches of the
+// caller.
+#[inline(never)]
 fn step_lanes(cost: &mut [u32; 64], pair: CostPair) -> (u64, u64)
     requires fit { (j : ℕ) → j < 64 → slice_index cost.old j + 8190 < 2 ^ 32 }
     ensures step { IsLaneStep pair cost.old cost.new result.0 result.1 }

@@ -1,5 +1,5 @@
 -- Cost pairs, and the costs of cells, one after another.
-use Rattle.std.proofs.Common.{◌≡◌, ◌≢◌, ℕ, ◌+◌, ◌*◌, ◌/◌, ◌%◌, ◌<◌, ◌≤◌, ◌⊎◌, inl, inr, cond, List, [], ◌∷◌, ◌++◌, append_assoc, length, ap, ◌∙◌, subst, arith}
+use Rattle.std.proofs.Common.{◌≡◌, ◌≢◌, ℕ, ◌+◌, ◌*◌, ◌/◌, ◌%◌, ◌<◌, ◌≤◌, ◌⊎◌, inl, inr, cond, List, [], ◌∷◌, ◌++◌, append_assoc, length, refl, ap, ◌∙◌, subst, arith}
 use Rattle.std.specs.Prelude.{slice_index, slice_index_or, slice_set, ◌==◌}
 use Rattle.std.proofs.lemmas.Bool.{cases_lt}
 use Rattle.std.proofs.lemmas.List.{get_or_append_left, get_or_push, length_push, length-set, get_or-set_same, get_or-set_other}
@@ -60,3 +60,6 @@ write_more first n re im old mid v w l ev = record { long = length-set mid (firs
 
     above : (k : ℕ) → first + (n + 1) ≤ k → pair_at (slice_set mid (first + n) v) k ≡ pair_at old k
     above k m = let ne : k ≢ first + n = omega (arith, m) in other k ne ∙ w.above k (omega (arith, m))
+
+pub written_none : (first : ℕ) (re im old : List (ℕ × ℕ)) → IsWritten first 0 re im old old
+written_none first re im old = record { long = refl; here = λ e l. absurd (omega (arith, l)); below = λ k l. refl; above = λ k l. refl }

@@ -1,5 +1,5 @@
 // The costs of all places of the labels of a symbol.
-ghost use Rattle.std.specs.Prelude.{◌≡◌, ◌+◌, ◌*◌, ◌%◌, ◌<◌, ◌≤◌, ℕ, if◌then◌else◌, length};
+ghost use Rattle.std.specs.Prelude.{◌≡◌, ◌+◌, ◌*◌, ◌%◌, ◌<◌, ◌≤◌, ◌⊎◌, ℕ, List, length};
 ghost use Rattle.mode_set.specs.StreamTable.{carriers, label_bits, payload};
 ghost use Rattle.inner_chain.specs.CostTables.{AreCarriers, AreCosts, HasCellCosts, IsRoom, IsWritten};
 
@@ -8,10 +8,22 @@ use pilots::kinds_repeat;
 use qam_map::Cell;
 use soft_metric::AxisMetric;
 
-fn axis_pair(even: bool, re: (u16, u16), im: (u16, u16)) -> (u16, u16)
-    ensures { result ≡ (if even then re else im) }
+// Writes the costs of one axis number: that of the real axis at an even place and that of the imaginary
+// axis behind it.
+fn write_two(
+    costs: &mut [(u16, u16)],
+    first: usize,
+    axis: usize,
+    re: &[(u16, u16); 3],
+    im: &[(u16, u16); 3],
+)
+    requires axis { axis < 3 }
+    requires room { first + 2 * axis + 2 ≤ length costs.old }
+    ensures { (old : List (ℕ × ℕ)) → IsWritten first (2 * axis) re.now im.now old costs.old → IsWritten first (2 * axis + 2) re.now im.now old costs.new }
 {
-    if even { re } else { im }
+    let place = first + 2 * axis;
+    costs[place] = re[axis];
+    costs[place + 1] = im[axis];
 }
 
 // Writes the costs of a cell, those of the real axis at even places and of the imaginary axis at
@@ -23,14 +35,19 @@ fn write_cell(
     re: &[(u16, u16); 3],
     im: &[(u16, u16); 3],
 )
-    requires count { count ≤ 6 }
+    requires count { (count ≡ 2) ⊎ ((count ≡ 4) ⊎ (count ≡ 6)) }
     requires room { first + count ≤ length costs.old }
     ensures { IsWritten first count re.now im.now costs.old costs.new }
 {
-    for e in 0..count {
-        let axis = (e / 2) as usize;
-        costs[first + e as usize] = axis_pair(e % 2 == 0, re[axis], im[axis]);
+    write_two(costs, first, 0, re, im);
+    if count == 2 {
+        return;
     }
+    write_two(costs, first, 1, re, im);
+    if count == 4 {
+        return;
+    }
+    write_two(costs, first, 2, re, im);
 }
 
 // Writes the costs of a cell of the constellation of a metric.

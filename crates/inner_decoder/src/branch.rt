@@ -132,6 +132,19 @@ impl<A: Acs, V: Survivors<2048>> Branch<A, V> {
         self.used += 1;
     }
 
+    /// Loads the next pairs of the symbol, in order. There is room for them, and the branch has not ended.
+    pub fn load_all(&mut self, pairs: &[CostPair])
+        requires going { self.old.decoder.ended ≡ false }
+        requires room { length self.old.loaded + length pairs.now ≤ self.old.most }
+        ensures loaded { self.new ≡ record self.old { loaded = self.old.loaded ++ pairs.now } }
+        ensures amount { length self.new.loaded ≡ length self.old.loaded + length pairs.now }
+    {
+        let used = self.used as usize;
+        let end = used + pairs.len();
+        self.pairs[used..end].copy_from_slice(pairs);
+        self.used = end as u32;
+    }
+
     /// The number of pairs loaded.
     pub fn loaded(&self) -> u32
         ensures number { result ≡ length self.now.loaded }

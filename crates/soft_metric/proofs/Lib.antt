@@ -1,2 +1,3 @@
+mod Wrapping
 mod Sides
 pub mod Near

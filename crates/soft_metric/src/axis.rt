@@ -55,8 +55,9 @@ fn near_square(magnitude: u32, level: u32) -> u32
     requires level { level ≤ 20000 }
     ensures { result ≡ abs_diff magnitude level ^ 2 }
 {
-    let gap = magnitude.abs_diff(level);
-    gap * gap
+    // the square of the difference, also where it is below zero
+    let gap = magnitude.wrapping_sub(level);
+    gap.wrapping_mul(gap)
 }
 
 fn far_square(magnitude: u32, level: u32) -> u32

@@ -2,7 +2,8 @@
 use Rattle.std.proofs.Common.{◌≡◌, ◌≢◌, ℕ, zero, suc, ◌+◌, ◌-◌, ◌*◌, ◌/◌, ◌%◌, ◌^◌, ◌<◌, ◌≤◌, Bool, true, false, cond, not, ◌&&◌, ◌||◌, List, [], ◌∷◌, ◌++◌, ◌⊎◌, inl, inr, refl, sym, ap, ap₂, ◌∙◌, subst, arith, eqb, length, take, drop, get_or, set, ext_get_or, get_or-take, length-take-le, true≢false, lit<, bit_and, take-append-drop, drop-drop}
 use Rattle.std.specs.Prelude.{IsTrue, slice_index}
 use Rattle.std.proofs.lemmas.Bool.{cases_lt, cases_eq, cases_Bool, and_parts, agree_below_at, or_left, or_right, cond_both}
-use Rattle.std.proofs.lemmas.List.{drop_all, take-take}
+use Rattle.std.proofs.lemmas.List.{drop_all, length-append, take-take}
+use Rattle.std.proofs.Math.Seq.{take-append-add, take-length}
 use Rattle.spec_words.specs.Bits.{is_set}
 use Rattle.code_paths.specs.States.{even_of, odd_of}
 use Rattle.code_paths.specs.States.{before}
@@ -30,6 +31,24 @@ root_push (w ∷ ws) d n = ap (before w) (root_push ws d n)
 pub trace_push : (ws : List ℕ) (d n : ℕ) → trace (ws ++ d ∷ []) n ≡ trace ws (before d n) ++ is_set n 5 ∷ []
 trace_push [] d n = refl
 trace_push (w ∷ ws) d n = ap₂ (λ x xs. is_set x 5 ∷ xs) (root_push ws d n) (trace_push ws d n)
+
+root_append : (ws vs : List ℕ) (n : ℕ) → root (ws ++ vs) n ≡ root ws (root vs n)
+root_append [] vs n = refl
+root_append (w ∷ ws) vs n = ap (before w) (root_append ws vs n)
+
+-- the bits of older words for the state before the newer ones, and the bits of these
+trace_append : (ws vs : List ℕ) (n : ℕ) → trace (ws ++ vs) n ≡ trace ws (root vs n) ++ trace vs n
+trace_append [] vs n = refl
+trace_append (w ∷ ws) vs n = ap₂ (λ x xs. is_set x 5 ∷ xs) (root_append ws vs n) (trace_append ws vs n)
+
+pub two_parts : (older newer items : List ℕ) (n between : ℕ) (first last : List Bool) → older ++ newer ≡ items → length first ≡ length older → between ≡ root newer n
+    → take (length older) first ≡ trace older between → take (length newer) last ≡ trace newer n → take (length items) (first ++ last) ≡ trace items n
+two_parts older newer items n between first last e l b f g =
+    ap (λ z. take z (first ++ last)) (ap length (sym e) ∙ length-append older newer ∙ ap (λ z. z + length newer) (sym l))
+    ∙ take-append-add first last (length newer)
+    ∙ ap₂ (λ x y. x ++ y) (sym (take-length first) ∙ ap (λ z. take z first) l ∙ f ∙ ap (trace older) b) g
+    ∙ sym (trace_append older newer n)
+    ∙ ap (λ z. trace z n) e
 
 pub trace_drop : (ws : List ℕ) (k n : ℕ) → trace (drop k ws) n ≡ drop k (trace ws n)
 trace_drop ws zero n = refl
@@ -336,10 +355,6 @@ found_alike ws states answer h = record {
 
 pub walk_alike : (ws : List ℕ) (states j now answer : ℕ) → Walk ws states j now answer → j ≡ 0 → IsAlike states (trace ws) (length ws) answer
 walk_alike ws states j now answer h z = found_alike ws states answer (record { within = h.within; alike = λ p k. h.alike p (omega (arith, z)) k; differ = h.differ })
-
-root_append : (vs ws : List ℕ) (n : ℕ) → root (vs ++ ws) n ≡ root vs (root ws n)
-root_append [] ws n = refl
-root_append (v ∷ vs) ws n = ap (before v) (root_append vs ws n)
 
 -- the way from a place back to an earlier one
 root_from : (ws : List ℕ) (i j n : ℕ) → i ≤ j → root (drop i ws) n ≡ root (take (j - i) (drop i ws)) (root (drop j ws) n)

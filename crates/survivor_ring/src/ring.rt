@@ -67,8 +67,8 @@ fn word_at(words: &HeapCircularBuffer<u64>, index: usize) -> u64
     }
 }
 
-fn step_back(word: u64, state: u8) -> u8
-    requires { state < 64 }
+fn step_back(word: u64, state: u64) -> u64
+    requires state { state < 64 }
     ensures is { result ≡ before word state }
     ensures small { result < 64 }
 {
@@ -76,20 +76,36 @@ fn step_back(word: u64, state: u8) -> u8
     2 * (state % 32) + if odd { 1 } else { 0 }
 }
 
-/// Writes the bits that words stand for.
-fn trace_back(words: &HeapCircularBuffer<u64>, state: u8, bits: &mut [bool])
+/// Writes the bits that words stand for, and answers the state before the oldest of them.
+fn trace_part(words: &[u64], state: u64, bits: &mut [bool]) -> u64
     requires state { state < 64 }
-    requires room { length words.now.items ≤ length bits.old }
+    requires room { length words.now ≤ length bits.old }
     ensures size { length bits.new ≡ length bits.old }
-    ensures bits { take (length words.now.items) bits.new ≡ trace words.now.items state }
+    ensures bits { take (length words.now) bits.new ≡ trace words.now state }
+    ensures root { result ≡ root words.now state }
+    ensures small { result < 64 }
 {
     let count = words.len();
     let mut now = state;
     for k in 0..count {
         let index = count - 1 - k;
         bits[index] = now >= 32;
-        now = step_back(word_at(words, index), now);
+        now = step_back(words[index], now);
     }
+    now
+}
+
+/// Writes the bits that the words of a ring stand for.
+fn trace_back(words: &HeapCircularBuffer<u64>, state: u64, bits: &mut [bool])
+    requires state { state < 64 }
+    requires room { length words.now.items ≤ length bits.old }
+    ensures size { length bits.new ≡ length bits.old }
+    ensures bits { take (length words.now.items) bits.new ≡ trace words.now.items state }
+{
+    let (older, newer) = words.as_slices();
+    let (first, last) = bits.split_at_mut(older.len());
+    let between = trace_part(newer, state, last);
+    trace_part(older, between, first);
 }
 
 /// Is one state alone in a set?
@@ -194,14 +210,14 @@ impl<const L: usize> Survivors<L> for RingSurvivors<L> {
 
     fn give(&mut self, number: u32, to: &mut WaitBuf) {
         let mut bits = [false; 2049];
-        trace_back(&self.words, lowest(self.states) as u8, &mut bits);
+        trace_back(&self.words, lowest(self.states) as u64, &mut bits);
         append(&bits, number as usize, to);
         drop_words(&mut self.words, number as usize);
     }
 
     fn force(&mut self, end: u8, to: &mut WaitBuf) {
         let mut bits = [false; 2049];
-        trace_back(&self.words, end, &mut bits);
+        trace_back(&self.words, end as u64, &mut bits);
         append(&bits, self.words.len(), to);
         self.words.clear();
         self.states = 1 << end;
