@@ -1,5 +1,5 @@
 -- What first bytes give begins what more give.
-use Rattle.std.proofs.Common.{◌≡◌, ℕ, zero, suc, ◌+◌, ◌-◌, ◌*◌, ◌/◌, ◌<◌, ◌≤◌, Bool, true, false, List, [], ◌++◌, length, map, refl, sym, ap, ap₂, ◌∙◌, subst, subst₂, arith, length-append, append_assoc, append-nil}
+use Rattle.std.proofs.Common.{◌≡◌, ℕ, zero, suc, ◌+◌, ◌-◌, ◌*◌, ◌/◌, ◌<◌, ◌≤◌, Bool, false, List, ◌++◌, length, map, sym, ap, ap₂, ◌∙◌, subst, subst₂, arith, length-append, append_assoc, append-nil}
 use Rattle.std.specs.Prelude.{◌==◌, ◌↔◌, IsTrue, filter, flat_map, All}
 use Rattle.outer_chain.specs.Words.{count}
 use Rattle.std.proofs.lemmas.Bool.{ne_eqb}
@@ -18,13 +18,13 @@ use Rattle.rx_report.specs.declared.counts.Event.{Event}
 use Rattle.reception.specs.Cells.{symbols}
 use Rattle.reception.specs.Costs.{costs}
 use Rattle.reception.specs.Frames.{tps_cells, frame_bits, IsReadable, CountsFrames}
-use Rattle.reception.specs.Streams.{memory, start_of, Reception, Live, Final}
-use Rattle.reception.specs.Lines.{event_at, events_of, events, event_lines}
+use Rattle.reception.specs.Streams.{memory, start_of}
+use Rattle.reception.specs.Lines.{event_at, events_of, events}
 use Rattle.reception.specs.Laws.{AreReports, CostsGrow, CostsAreSteps, NewReportsAreLater, LiveGrows, FinalEndsLive, SameSymbols, SameCosts, TpsCellsStay, BitsOfCells}
 use Rattle.reception.proofs.Numbered.{none_pass, same_parts, more_parts}
 use Rattle.reception.proofs.Reported.{IsBetween}
 use Rattle.reception.proofs.Symbols.{more_count}
-use Rattle.reception_laws.specs.Laws.{SomeLive, Begins, LiveBeginsLive, LiveBeginsFinal, WholeSymbolsGive}
+use Rattle.reception_laws.specs.Laws.{SomeLive, LiveBeginsLive, LiveBeginsFinal, WholeSymbolsGive}
 
 -- ---- events
 
@@ -60,9 +60,9 @@ module _ (later : NewReportsAreLater) (grow : CostsGrow) (steps : CostsAreSteps)
       let p = in_symbol (need s σ) m in
       ap (map (event_at σ))
       (ap (filter p) (grows σ).1 ∙ filter-append p (before σ) (grows σ).0
-          ∙ ap (λ z. filter p (before σ) ++ z)
-          (none_pass p (grows σ).0 (All-weaker (IsBetween (symbols s bytes * need s σ) (symbols s (bytes ++ more) * need s σ)) (λ at. p at ≡ false) (λ at k. is_later (need s σ) (symbols s bytes) (symbols s (bytes ++ more)) m at l k) (grows σ).0 (new_within σ)))
-          ∙ append-nil (filter p (before σ)))
+      ∙ ap (λ z. filter p (before σ) ++ z)
+      (none_pass p (grows σ).0 (All-weaker (IsBetween (symbols s bytes * need s σ) (symbols s (bytes ++ more) * need s σ)) (λ at. p at ≡ false) (λ at k. is_later (need s σ) (symbols s bytes) (symbols s (bytes ++ more)) m at l k) (grows σ).0 (new_within σ)))
+      ∙ append-nil (filter p (before σ)))
 
   abbrev of_symbol : (Stream → List ℕ) → ℕ → List Event
   of_symbol reports m = events_of s reports m Hp ++ events_of s reports m Lp

@@ -1,5 +1,5 @@
 -- It can be decided whether the TPS word of a frame is read, so the frames of bytes are counted.
-use Rattle.std.proofs.Common.{◌≡◌, ℕ, zero, suc, ◌+◌, ◌-◌, ◌/◌, ◌<◌, ◌≤◌, Bool, cond, true, false, List, length, inl, inr, refl, subst, arith}
+use Rattle.std.proofs.Common.{◌≡◌, ℕ, zero, suc, ◌+◌, ◌-◌, ◌/◌, ◌≤◌, Bool, cond, true, false, List, inl, inr, refl, subst, arith}
 use Rattle.std.specs.Prelude.{IsTrue, IsFalse}
 use Rattle.outer_chain.specs.Words.{count}
 use Rattle.mode_set.specs.Kept.{is_flat, is_qpsk}
@@ -12,7 +12,7 @@ use Rattle.tps_word.specs.Tps.{tps_info, tps_word, IsValid}
 use Rattle.tps_word.specs.declared.word.TpsWord.{TpsWord}
 use Rattle.tps_word.proofs.Places.{length-info}
 use Rattle.reception.specs.Cells.{symbols}
-use Rattle.reception.specs.Frames.{tps_cells, frame_bits, IsReadable, CountsWords, CountsFrames}
+use Rattle.reception.specs.Frames.{tps_cells, frame_bits, IsReadable, CountsFrames}
 use Rattle.path_laws.proofs.Deciding.{Decided}
 use Rattle.reception_laws.proofs.Searching.{same_number, at_most, both, if_true, if_false, test, tested}
 use Rattle.reception_laws.proofs.Fields.{find_fields}

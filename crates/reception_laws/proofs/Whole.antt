@@ -1,11 +1,10 @@
 -- Bytes have a reception at each moment.
-use Rattle.std.proofs.Common.{◌≡◌, ℕ, List, refl}
+use Rattle.std.proofs.Common.{refl}
 use Rattle.rs204.specs.Laws.{MessageHasCodeword, CodewordIsOne}
 use Rattle.outer_chain.specs.Bits.{bytes_of}
 use Rattle.mode_set.specs.declared.modes.Start.{Start}
 use Rattle.mode_set.specs.declared.modes.Start.TheVariants.{Zero, Any}
 use Rattle.mode_set.specs.declared.modes.Stream.{Stream}
-use Rattle.mode_set.specs.declared.settings.Settings.{Settings}
 use Rattle.path_laws.specs.Laws.{IsStart, SomeAreGiven, SomeAreEnded, SomeAreReported}
 use Rattle.reception.specs.Costs.{costs}
 use Rattle.reception.specs.Streams.{memory, start_of}
