@@ -137,6 +137,7 @@ module _ (limit : ℕ) (name hp : List ℕ) (lp : Option (List ℕ)) (cells : Li
     settings_read = λ t is.
         let r = read t settings.attached in
         (r.0, r.1, ap (λ (x : Source). x.left) settings_is ∙ r.2);
+    cells_read = λ t is. tt;
     settings_first = λ t is. absurd (true≢false (sym is ∙ ap is_some (early_none limit name hp lp cells start new at fresh s settings status runs t)));
     early = λ is. absurd (elim is [
       | inl e ↦ (not_early limit name hp lp cells start new at fresh s settings status runs).1 e

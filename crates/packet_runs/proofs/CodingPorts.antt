@@ -165,6 +165,7 @@ module _ (k : Coding) (limit : ℕ) (input output : List ℕ) (start new : Meani
     settings_read = λ t is.
         let r = settings.read t (ap (λ (x : Source). x.attached) (sym settings_is) ∙ is) in
         (r.0, r.1, by_name (source_name c ins.Settings) r.0 r.2);
+    cells_read = λ t is. tt;
     settings_first = λ t is. absurd (true≢false (sym is ∙ ap is_some (settings.accepted t)));
     early = λ is. absurd (not_early is);
   }

@@ -1,6 +1,6 @@
 -- The ports after a run of `receive` whose settings were accepted and whose memory was there.
-use Rattle.std.proofs.Common.{◌≡◌, ◌≢◌, ◌⊎◌, inl, inr, true, ℕ, ◌+◌, ◌≤◌, Bool, if◌then◌else◌, List, [], drop, Option, Some, None, Result, Ok, Err, refl, ◌∙◌, sym, ap, subst}
-use Rattle.std.specs.Prelude.{IsTrue, is_some, IfSome}
+use Rattle.std.proofs.Common.{◌≡◌, ◌≢◌, ◌⊎◌, inl, inr, true, ℕ, ◌+◌, ◌*◌, ◌≤◌, Bool, if◌then◌else◌, List, [], drop, Option, Some, None, Result, Ok, Err, refl, ◌∙◌, sym, ap, subst}
+use Rattle.std.specs.Prelude.{IsTrue, is_some, IfSome, IsSomeAnd}
 use Rattle.std.proofs.lemmas.Bool.{true≢false}
 use Rattle.station_core.specs.Meaning.{Meaning, Source, Sink, IsFresh, source_at, sink_at}
 use Rattle.station_core.specs.declared.ports.InPort.{InPort}
@@ -13,6 +13,8 @@ use Rattle.run_clauses.specs.declared.work.Refusal.TheVariants.{Usage, Settings,
 use Rattle.run_clauses.specs.Command.{Command, Receive, source_name, sink_name}
 use Rattle.run_clauses.specs.Runs.{AsksOnly, IsFaultless, IsInput, IsOutput}
 use Rattle.run_clauses.specs.SettingsFile.{most_settings}
+use Rattle.reception.specs.Cells.{symbol_length}
+use Rattle.run_clauses.specs.StatedSettings.{settings_of}
 use Rattle.run_steps.specs.Causes.{HasCause}
 use Rattle.receive_run.specs.Ports.{Ran, RunsReception, Tells, outcome_status}
 use Rattle.receive_run.proofs.Clauses.{SettingsDone, early_none, never_zero, not_early}
@@ -109,6 +111,13 @@ module _ (limit : ℕ) (name cells hp : List ℕ) (lp : Option (List ℕ)) (star
   closed is outs.Bytes output = absurd (true≢false (sym output))
   closed is outs.Report output = absurd (true≢false (sym output))
 
+  -- the cells that were taken
+  cells_read : start.tells ≡ true → new.cells.attached ≡ true → IsSomeAnd (settings_of (start.file name)) (λ x. (k : ℕ) × (k ≤ (x.max_symbols + 1) * symbol_length x) × (new.cells.left ≡ drop k (start.file cells)))
+  cells_read t is =
+      let w = runs.taken t (sym (kept _ (λ m. m.cells.attached) (λ m l n. refl)) ∙ is) in
+      subst (λ (o : Option TheSettings). IsSomeAnd o (λ x. (k : ℕ) × (k ≤ (x.max_symbols + 1) * symbol_length x) × (new.cells.left ≡ drop k (start.file cells)))) (sym (settings.stated t))
+      (w.0, w.1, kept _ (λ m. m.cells.left) (λ m l n. refl) ∙ w.2)
+
   pub asks_of : (start.tells ≡ true → at.attached ≡ true → (k : ℕ) × (k ≤ most_settings + 1) × (at.left ≡ drop k (start.file name))) → AsksOnly (Some c) start new status
   asks_of read = record {
     sources = sources_asked;
@@ -122,6 +131,7 @@ module _ (limit : ℕ) (name cells hp : List ℕ) (lp : Option (List ℕ)) (star
         let r = read t settings.attached in
         (r.0, r.1, ap (λ (x : Source). x.left) settings_is ∙ r.2);
     settings_first = λ t is. absurd (true≢false (sym is ∙ ap is_some (early_none limit name cells hp lp start new at fresh s settings status runs t)));
+    cells_read = λ t is. cells_read t is;
     early = λ is. absurd (elim is [
       | inl e ↦ (not_early limit name cells hp lp start new at fresh s settings status runs).1 e
       | inr e ↦ (not_early limit name cells hp lp start new at fresh s settings status runs).2 e

@@ -18,16 +18,17 @@ use Rattle.run_clauses.specs.declared.work.SettingsRefusal.TheVariants.{Form}
 use Rattle.run_clauses.specs.declared.work.Refusal.TheVariants.{Usage, Settings, ReadFault, WriteFault, NotSync, Memory, Limit}
 use Rattle.run_clauses.specs.Command.{Command, Receive, sink_name}
 use Rattle.run_clauses.specs.Modulation.{fits_form, form_refusal}
-use Rattle.run_clauses.specs.ReceivedCells.{Received, ReceivedIf, ReceivedSoFar, ReceivedUpTo, is_past, lines_if, lines_up_to, packets_at, reception_lines, reception_refusal, within_limit}
-use Rattle.run_clauses.specs.Outcome.{HasEvents, HoldsSoFar, OfOutput, OfLines, OfText, OfWouldHold, OfWouldPrint, early_refusal, refusal_of, text_of}
+use Rattle.run_clauses.specs.ReceivedCells.{Received, ReceivedIf, ReceivedSoFar, is_past, lines_if, packets_at, reception_lines, reception_refusal, within_limit}
+use Rattle.run_clauses.specs.Outcome.{HasEvents, HoldsSoFar, OfOutput, OfLines, OfText, early_refusal, refusal_of, text_of}
 use Rattle.run_clauses.specs.Runs.{HasStatus, IsComplete, IsDone, IsOutput, Stands}
 use Rattle.run_clauses.specs.SettingsFile.{settings_refusal}
 use Rattle.run_clauses.specs.StatedSettings.{settings_of}
 use Rattle.run_clauses.specs.Text.{refusal_status, refusal_text, status_of, text_if_refused}
 use Rattle.run_steps.specs.Causes.{HasCause}
-use Rattle.receive_run.specs.Receiving.{HoldsFronts, IsPast, IsStopped, IsWhole, Refused}
+use Rattle.receive_run.specs.Receiving.{HoldsFronts, IsPast, IsStopped, IsWhole, Refused, lines_up_to}
 use Rattle.receive_run.specs.Ports.{Ran, RunsReception, Tells, outcome_status}
-use Rattle.receive_run.proofs.Fronts.{front_more}
+use Rattle.receive_run.proofs.Fronts.{front_more, front_of}
+use Rattle.receive_run.proofs.Begun.{Comes, ReceptionLaws, begun}
 
 -- what was done at the port of the settings before the work
 pub record SettingsDone (name : List ℕ) (lp : Option (List ℕ)) (s : TheSettings) (start : Meaning) (at : Source) : Type 0 where
@@ -260,43 +261,54 @@ module _ (limit : ℕ) (name cells hp : List ℕ) (lp : Option (List ℕ)) (star
   so_far_by (Err (Limit n)) ran tells is t = absurd (omega arith)
 
   abbrev Front : OutPort → Type 0
-  Front port = (sink_at port new).created ≡ true → OfWouldHold limit start.file c port (λ output. (k : ℕ) × ((sink_at port new).written ≡ take k output))
+  Front port = (sink_at port new).created ≡ true → OfOutput limit start.file c port (λ output. (k : ℕ) × ((sink_at port new).written ≡ take k output))
 
-  front_by : (o : Result (Unit {0}) Refusal) → Ran s cells two old mid o → Tells mid new o → outcome_status o ≡ 6 → start.tells ≡ true → (port : OutPort) → IsOutput c port → Front port
-  front_by (Ok u) ran tells is t = absurd (omega arith)
-  front_by (Err WriteFault) ran tells is t =
-      let p = ran (told t) in only Front
+  -- a front of what begins all is a front of all
+  front_of_all : (few all w : List ℕ) (k : ℕ) → (rest : List ℕ) × (all ≡ few ++ rest) → w ≡ take k few → (j : ℕ) × (w ≡ take j all)
+  front_of_all few all w k more is = let f = front_of few more.0 k in (f.0, is ∙ f.1 ∙ ap (take f.0) (sym more.1))
+
+  -- what first bytes gave begins what the cells give
+  all_of_it : ReceptionLaws → (p : HoldsFronts s two file mid) → Comes s file p.given (lines_up_to s p.up.taken p.up.rest p.given p.up.gives)
+  all_of_it laws p = begun laws s file p.given p.up
+
+  front_by : ReceptionLaws → (o : Result (Unit {0}) Refusal) → Ran s cells two old mid o → Tells mid new o → outcome_status o ≡ 6 → start.tells ≡ true → (port : OutPort) → IsOutput c port → Front port
+  front_by laws (Ok u) ran tells is t = absurd (omega arith)
+  front_by laws (Err WriteFault) ran tells is t =
+      let p = ran (told t) in
+      let r = all_of_it laws p in only Front
       (λ made.
       let f = p.hp (sym (ap (λ (k : Sink). k.created) (hp_same WriteFault tells)) ∙ made) in
-      by_settings (λ x. (r : Reception) × ReceivedUpTo x file r × ((k : ℕ) × (new.hp_out.written ≡ take k (packets_at outs.Hp r)))) t
-      (p.given, p.up, (f.0, ap (λ (k : Sink). k.written) (hp_same WriteFault tells) ∙ f.1)))
+      by_settings (λ x. (r : Reception) × Received x file r × ((k : ℕ) × (new.hp_out.written ≡ take k (packets_at outs.Hp r)))) t
+      (r.all, r.received, front_of_all (p.given.packets Hp) (r.all.packets Hp) new.hp_out.written f.0 (r.packets Hp) (ap (λ (k : Sink). k.written) (hp_same WriteFault tells) ∙ f.1)))
       (λ is made.
       let f = p.lp is (sym (ap (λ (k : Sink). k.created) (lp_same WriteFault tells)) ∙ made) in
-      by_settings (λ x. (r : Reception) × ReceivedUpTo x file r × ((k : ℕ) × (new.lp_out.written ≡ take k (packets_at outs.Lp r)))) t
-      (p.given, p.up, (f.0, ap (λ (k : Sink). k.written) (lp_same WriteFault tells) ∙ f.1)))
-  front_by (Err ReadFault) ran tells is t = absurd (omega arith)
-  front_by (Err Usage) ran tells is t = absurd (omega arith)
-  front_by (Err (Settings reason)) ran tells is t = absurd (omega arith)
-  front_by (Err (NotSync σ p)) ran tells is t = absurd (omega arith)
-  front_by (Err Memory) ran tells is t = absurd (omega arith)
-  front_by (Err (Limit n)) ran tells is t = absurd (omega arith)
+      by_settings (λ x. (r : Reception) × Received x file r × ((k : ℕ) × (new.lp_out.written ≡ take k (packets_at outs.Lp r)))) t
+      (r.all, r.received, front_of_all (p.given.packets Lp) (r.all.packets Lp) new.lp_out.written f.0 (r.packets Lp) (ap (λ (k : Sink). k.written) (lp_same WriteFault tells) ∙ f.1)))
+  front_by laws (Err ReadFault) ran tells is t = absurd (omega arith)
+  front_by laws (Err Usage) ran tells is t = absurd (omega arith)
+  front_by laws (Err (Settings reason)) ran tells is t = absurd (omega arith)
+  front_by laws (Err (NotSync σ p)) ran tells is t = absurd (omega arith)
+  front_by laws (Err Memory) ran tells is t = absurd (omega arith)
+  front_by laws (Err (Limit n)) ran tells is t = absurd (omega arith)
 
   abbrev Lines : Type 0
-  Lines = OfWouldPrint start.file c (λ lines. (j : ℕ) × (k : ℕ) × (new.report.written ≡ take j lines ++ take k (refusal_text WriteFault)))
+  Lines = OfLines start.file c (λ lines. (j : ℕ) × (k : ℕ) × (new.report.written ≡ take j lines ++ take k (refusal_text WriteFault)))
 
-  lines_by : (o : Result (Unit {0}) Refusal) → Ran s cells two old mid o → Tells mid new o → outcome_status o ≡ 6 → start.tells ≡ true → Lines
-  lines_by (Ok u) ran tells is t = absurd (omega arith)
-  lines_by (Err WriteFault) ran tells is t =
+  lines_by : ReceptionLaws → (o : Result (Unit {0}) Refusal) → Ran s cells two old mid o → Tells mid new o → outcome_status o ≡ 6 → start.tells ≡ true → Lines
+  lines_by laws (Ok u) ran tells is t = absurd (omega arith)
+  lines_by laws (Err WriteFault) ran tells is t =
       let p = ran (told t) in
+      let r = all_of_it laws p in
       let front = tells.front (told t) in
-      by_settings (λ x. (r : Reception) × (up : ReceivedUpTo x file r) × ((j : ℕ) × (k : ℕ) × (new.report.written ≡ take j (lines_up_to x up.taken up.rest r up.gives) ++ take k (refusal_text WriteFault)))) t
-      (p.given, p.up, (p.report.0, front.0, front.1 ∙ ap (λ (l : List ℕ). l ++ take front.0 (refusal_text WriteFault)) p.report.1))
-  lines_by (Err ReadFault) ran tells is t = absurd (omega arith)
-  lines_by (Err Usage) ran tells is t = absurd (omega arith)
-  lines_by (Err (Settings reason)) ran tells is t = absurd (omega arith)
-  lines_by (Err (NotSync σ p)) ran tells is t = absurd (omega arith)
-  lines_by (Err Memory) ran tells is t = absurd (omega arith)
-  lines_by (Err (Limit n)) ran tells is t = absurd (omega arith)
+      let f = front_of_all (lines_up_to s p.up.taken p.up.rest p.given p.up.gives) (reception_lines s file r.all) mid.report.written p.report.0 r.lines_are p.report.1 in
+      by_settings (λ x. (r : Reception) × Received x file r × ((j : ℕ) × (k : ℕ) × (new.report.written ≡ take j (reception_lines x file r) ++ take k (refusal_text WriteFault)))) t
+      (r.all, r.received, (f.0, front.0, front.1 ∙ ap (λ (l : List ℕ). l ++ take front.0 (refusal_text WriteFault)) f.1))
+  lines_by laws (Err ReadFault) ran tells is t = absurd (omega arith)
+  lines_by laws (Err Usage) ran tells is t = absurd (omega arith)
+  lines_by laws (Err (Settings reason)) ran tells is t = absurd (omega arith)
+  lines_by laws (Err (NotSync σ p)) ran tells is t = absurd (omega arith)
+  lines_by laws (Err Memory) ran tells is t = absurd (omega arith)
+  lines_by laws (Err (Limit n)) ran tells is t = absurd (omega arith)
 
   -- the report of a run that was refused: these events, and then the text
   record Named (r : Refusal) : Type 0 where
@@ -372,18 +384,18 @@ module _ (limit : ℕ) (name cells hp : List ℕ) (lp : Option (List ℕ)) (star
   texts : start.tells ≡ true → status ≢ 0 → status ≢ 6 → Texts status
   texts t a b = subst Texts (sym runs.status_is) (texts_by runs.outcome runs.cause runs.ran runs.tells (λ e. a (runs.status_is ∙ e)) (λ e. b (runs.status_is ∙ e)) t)
 
-  pub stands_of : Stands limit (Some c) start new status
-  stands_of = record {
+  pub stands_of : ReceptionLaws → Stands limit (Some c) start new status
+  stands_of laws = record {
     none = λ is. absurd (elim is [
       | inl e ↦ not_early.0 e
       | inr d ↦ elim d [ inl e ↦ not_early.1 e | inr e ↦ not_early.2 e ]
     ]);
     refused = λ t is. refused_by runs.outcome runs.cause runs.ran runs.tells (elim is [ inl e ↦ inl (sym runs.status_is ∙ e) | inr e ↦ inr (sym runs.status_is ∙ e) ]) t;
     so_far = λ t is. so_far_by runs.outcome runs.ran runs.tells (sym runs.status_is ∙ is) t;
-    front = λ t is. front_by runs.outcome runs.ran runs.tells (sym runs.status_is ∙ is) t;
+    front = λ t is. front_by laws runs.outcome runs.ran runs.tells (sym runs.status_is ∙ is) t;
     text = λ t a b. (texts t a b).0;
     whole_text = λ t a b. (texts t a b).1;
-    lines = λ t is. lines_by runs.outcome runs.ran runs.tells (sym runs.status_is ∙ is) t;
+    lines = λ t is. lines_by laws runs.outcome runs.ran runs.tells (sym runs.status_is ∙ is) t;
   }
 
   -- ---- 5. nothing is refused and nothing fails

@@ -15,9 +15,8 @@ use Rattle.reception.specs.Lines.{events, event_lines, closing_lines}
 use Rattle.reception.specs.Feeds.{Output, packets_of}
 use Rattle.reception.specs.Laws.{Ends}
 use Rattle.run_clauses.specs.declared.work.Refusal.{Refusal}
-use Rattle.run_clauses.specs.ReceivedCells.{ReceivedUpTo}
 use Rattle.receive_run.specs.Writing.{Appends, ReportOnly, WritesOnly, WritesOut, event_text}
-use Rattle.receive_run.specs.Receiving.{EndsWhole, HoldsFronts, IsReceiving, IsWhole, Refused, Works}
+use Rattle.receive_run.specs.Receiving.{EndsWhole, HoldsFronts, IsReceiving, IsWhole, ReceivedUpTo, Refused, Works}
 use Rattle.receive_run.proofs.Fronts.{front_more, front_whole}
 
 module _ (s : TheSettings) (two : Bool) (bytes : List ℕ) (r : Reception) (standing : List ℕ → Reception → Type 0) (m m' : Meaning)

@@ -5,6 +5,8 @@ pub mod Events
 pub mod Parts
 pub mod Steps
 pub mod Ends
+pub mod FewCells
+pub mod Begun
 pub mod Opening
 pub mod Clauses
 pub mod Asking

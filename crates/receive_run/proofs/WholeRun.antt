@@ -22,6 +22,7 @@ use Rattle.run_steps.specs.SettingsStep.{AsksSettings}
 use Rattle.run_steps.proofs.Early.{ReadsFirst, RefusedEarly, status_early, asks_early, stands_early, complete_early}
 use Rattle.receive_run.specs.Ports.{Accepts, IsReady, RunsReception, RunsOrLacks}
 use Rattle.receive_run.proofs.Clauses.{SettingsDone, done_of, got, status_of_run, stands_of, complete_of, never_zero}
+use Rattle.receive_run.proofs.Begun.{ReceptionLaws}
 use Rattle.receive_run.proofs.Asking.{asks_of}
 use Rattle.receive_run.proofs.Returning.{returned}
 use Rattle.receive_run.specs.Returns.{Returns, ReturnsOwn}
@@ -71,6 +72,7 @@ module _ (limit : ℕ) (name cells hp : List ℕ) (lp : Option (List ℕ)) (star
     pub ready : IsReady mid
     ready = subst IsReady (sym same_mid) (record {
       cells = fresh.cells.asked;
+      cells_unread = fresh.cells.attached;
       hp = fresh.hp_out.asked;
       hp_unmade = fresh.hp_out.created;
       lp = fresh.lp_out.asked;
@@ -112,9 +114,9 @@ module _ (limit : ℕ) (name cells hp : List ℕ) (lp : Option (List ℕ)) (star
         | inr lacks ↦ refused_asks Memory accepts.0.0 status lacks.0 lacks.1
       ]
 
-      pub run_stands : RunsOrLacks s cells hp lp mid new status → Stands limit (Some c) start new status
-      run_stands runs = elim runs [
-        | inl r ↦ stands_of limit name cells hp lp start new mid.settings fresh s settings status (runs_from r)
+      pub run_stands : ReceptionLaws → RunsOrLacks s cells hp lp mid new status → Stands limit (Some c) start new status
+      run_stands laws runs = elim runs [
+        | inl r ↦ stands_of limit name cells hp lp start new mid.settings fresh s settings status (runs_from r) laws
         | inr lacks ↦ refused_stands Memory accepts.0.0 status lacks.0 lacks.1
       ]
 

@@ -1,10 +1,11 @@
 -- The steps of a reception behind its settings, each as a relation of what the station stood for before and
 -- after it. The clauses of the run as a whole follow from them.
-use Rattle.std.specs.Prelude.{◌≡◌, ◌⊎◌, ◌≤◌, ℕ, Bool, true, false, if◌then◌else◌, List, [], Result, Ok, Err, Option, Some, None, is_some}
+use Rattle.std.specs.Prelude.{◌≡◌, ◌⊎◌, ◌≤◌, ◌+◌, ◌*◌, ℕ, Bool, true, false, if◌then◌else◌, List, [], drop, Result, Ok, Err, Option, Some, None, is_some}
 use Rattle.std.specs.Option.{option_or}
 use Rattle.station_core.specs.Meaning.{Meaning, Sink}
 use Rattle.station_core.specs.Causes.{Rose}
 use Rattle.mode_set.specs.declared.settings.Settings.{Settings as TheSettings}
+use Rattle.reception.specs.Cells.{symbol_length}
 use Rattle.run_clauses.specs.declared.work.Refusal.{Refusal}
 use Rattle.run_clauses.specs.declared.work.Refusal.TheVariants.{Settings, ReadFault, WriteFault, Memory}
 use Rattle.run_clauses.specs.Modulation.{fits_form, form_refusal}
@@ -19,6 +20,7 @@ use Rattle.receive_run.specs.Receiving.{Refused, Works}
 -- nothing was asked on Cells, Hp and Lp, Report is open, and nothing was written there
 pub record IsReady (m : Meaning) : Type 0 where
   pub cells : m.cells.asked ≡ None
+  pub cells_unread : m.cells.attached ≡ false
   pub hp : m.hp_out.asked ≡ None
   pub hp_unmade : m.hp_out.created ≡ false
   pub lp : m.lp_out.asked ≡ None
@@ -94,6 +96,10 @@ Ran s cells two old new (Err ReadFault) = IsUnopened old new ⊎ ((new.hp_out.cr
 Ran s cells two old new (Err WriteFault) = new.tells ≡ true → Refused s two (old.file cells) new WriteFault
 Ran s cells two old new (Err refusal) = (new.hp_out.created ≡ true) × (new.tells ≡ true → Refused s two (old.file cells) new refusal)
 
+-- of the cells no more was taken than the limit and one symbol
+abbrev pub TakesCells : TheSettings → List ℕ → Meaning → Meaning → Type 0
+TakesCells s cells old new = old.tells ≡ true → new.cells.attached ≡ true → (k : ℕ) × (k ≤ (s.max_symbols + 1) * symbol_length s) × (new.cells.left ≡ drop k (old.file cells))
+
 -- the status of an outcome
 abbrev pub outcome_status : Result (Unit {0}) Refusal → ℕ
 outcome_status (Ok u) = 0
@@ -112,6 +118,7 @@ pub record RunsReception (s : TheSettings) (cells hp : List ℕ) (lp : Option (L
   pub asks : AsksPorts cells hp lp old mid
   pub cause : HasCause old mid outcome
   pub ran : Ran s cells (is_some lp) old mid outcome
+  pub taken : TakesCells s cells old mid
   pub tells : Tells mid new outcome
 
 -- the run, or want of memory before a port is asked

@@ -1,6 +1,7 @@
 -- The work of a reception, symbol by symbol. `standing bytes r` says that the receiver has had these bytes
 -- of the cells and has given this reception; `two` that there are two streams.
-use Rattle.std.specs.Prelude.{◌≡◌, ℕ, ◌+◌, ◌*◌, ◌^◌, ◌<◌, ◌≤◌, Bool, true, false, List, [], ◌++◌, length, take, Result, Ok, Err}
+use Rattle.std.specs.Prelude.{◌≡◌, ◌⊎◌, ℕ, ◌+◌, ◌*◌, ◌^◌, ◌<◌, ◌≤◌, Bool, true, false, List, [], ◌++◌, length, take, drop, Result, Ok, Err}
+use Rattle.std.proofs.Common.{inl, inr}
 use Rattle.station_core.specs.Meaning.{Meaning}
 use Rattle.mode_set.specs.declared.modes.Stream.TheVariants.{Hp, Lp}
 use Rattle.mode_set.specs.declared.settings.Settings.{Settings}
@@ -10,7 +11,7 @@ use Rattle.reception.specs.Lines.{event_lines, closing_lines}
 use Rattle.reception.specs.Feeds.{Output, Follows}
 use Rattle.run_clauses.specs.declared.work.Refusal.{Refusal}
 use Rattle.run_clauses.specs.declared.work.Refusal.TheVariants.{ReadFault, WriteFault, Limit}
-use Rattle.run_clauses.specs.ReceivedCells.{ReceivedUpTo, lines_up_to, within_limit}
+use Rattle.run_clauses.specs.ReceivedCells.{within_limit}
 
 -- a receiver that may take another piece: it has had fewer than 2^32 symbols
 pub record GoesOn (s : Settings) (standing : List ℕ → Reception → Type 0) : Type 0 where
@@ -37,6 +38,10 @@ KeepsOthers old new = new ≡ record old {
   write_faults = new.write_faults;
 }
 
+-- at most n bytes were taken of the cells
+abbrev pub TakesAtMost : ℕ → Meaning → Meaning → Type 0
+TakesAtMost n old new = old.tells ≡ true → (k : ℕ) × (k ≤ n) × (new.cells.left ≡ drop k old.cells.left)
+
 -- the outputs hold the packets of a reception, and Report these lines
 pub record Holds (two : Bool) (m : Meaning) (r : Reception) (lines : List ℕ) : Type 0 where
   pub hp : m.hp_out.written ≡ r.packets Hp
@@ -49,6 +54,19 @@ pub record IsReceiving (s : Settings) (two : Bool) (standing : List ℕ → Rece
   pub live : Live s bytes r
   pub are : m.tells ≡ true → file ≡ bytes ++ m.cells.left
   pub holds : m.tells ≡ true → Holds two m r (event_lines s bytes r)
+
+-- Some first bytes of the cells give this: as if more might follow or, where they are all, in the end.
+pub record ReceivedUpTo (s : Settings) (bytes : List ℕ) (r : Reception) : Type 0 where
+  pub taken : List ℕ
+  pub rest : List ℕ
+  pub are : bytes ≡ taken ++ rest
+  pub within : symbols s taken ≤ s.max_symbols
+  pub gives : Live s taken r ⊎ ((rest ≡ []) × Final s taken r)
+
+-- the lines of a report up to there
+abbrev pub lines_up_to : (s : Settings) (taken rest : List ℕ) (r : Reception) → (Live s taken r ⊎ ((rest ≡ []) × Final s taken r)) → List ℕ
+lines_up_to s taken rest r (inl live) = event_lines s taken r
+lines_up_to s taken rest r (inr final) = event_lines s taken r ++ closing_lines s taken r
 
 -- a failed write: each output that was made holds a front of what some first bytes of the cells give
 pub record HoldsFronts (s : Settings) (two : Bool) (file : List ℕ) (m : Meaning) : Type 0 where

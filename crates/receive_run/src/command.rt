@@ -109,6 +109,9 @@ pub fn receive<'a, R: Threads + Sync, S: Station<'a>>(
     ensures complete { IsComplete limits.now.packets (Receive settings.now cells.now hp.now (option_copied lp.entry)) (S.meaning station.old) (S.meaning station.new) result }
 {
     own_cells::laws::noise();
+    reception::laws::symbols();
+    reception_laws::laws::existence();
+    reception_laws::laws::beginnings();
     own_cells::laws::own_cells();
     match read_fitting(alloc, settings, lp, station) {
         Ok(accepted) => {

@@ -1,11 +1,11 @@
 // The work: symbol after symbol.
-ghost use Rattle.std.specs.Prelude.{◌≡◌, ◌≤◌, ◌<◌, ◌*◌, ℕ, List, [], true, false, IsTrue, length};
+ghost use Rattle.std.specs.Prelude.{◌≡◌, ◌≤◌, ◌<◌, ◌+◌, ◌*◌, ℕ, List, [], true, false, IsTrue, length};
 ghost use Rattle.reception.specs.Cells.{symbol_length, symbols};
 ghost use Rattle.reception.specs.Streams.{Reception, so_far};
 ghost use Rattle.reception.specs.Laws.{nothing};
 ghost use Rattle.run_steps.specs.Causes.{HasCause};
 ghost use Rattle.receive_run.specs.Writing.{AreOpen};
-ghost use Rattle.receive_run.specs.Receiving.{EndsWhole, GoesOn, Holds, IsReceiving, KeepsOthers, Next, ReceivesAll, Works};
+ghost use Rattle.receive_run.specs.Receiving.{EndsWhole, GoesOn, Holds, IsReceiving, KeepsOthers, Next, ReceivesAll, TakesAtMost, Works};
 
 use crate::cell_receiver::CellReceiver;
 use crate::writing::{write_lines, write_out};
@@ -32,6 +32,7 @@ fn receive_next<'a, X: CellReceiver, S: Station<'a>>(
     ensures settings { X.settings receiver.new ≡ X.settings receiver.old }
     ensures others { KeepsOthers (S.meaning station.old) (S.meaning station.new) }
     ensures cause { HasCause (S.meaning station.old) (S.meaning station.new) result }
+    ensures taken { TakesAtMost (symbol_length (X.settings receiver.old)) (S.meaning station.old) (S.meaning station.new) }
     ensures next { (file bytes : List ℕ) (r : Reception) → length bytes ≡ number * symbol_length (X.settings receiver.old)
         → IsReceiving (X.settings receiver.old) two (X.stands receiver.old so_far) file (S.meaning station.old) bytes r
         → Next (X.settings receiver.old) two (X.stands receiver.new so_far) file number (S.meaning station.new) result }
@@ -67,6 +68,7 @@ fn receive_rest<'a, X: CellReceiver, S: Station<'a>>(
     ensures settings { X.settings receiver.new ≡ X.settings receiver.old }
     ensures others { KeepsOthers (S.meaning station.old) (S.meaning station.new) }
     ensures cause { HasCause (S.meaning station.old) (S.meaning station.new) result }
+    ensures taken { TakesAtMost (symbol_length (X.settings receiver.old)) (S.meaning station.old) (S.meaning station.new) }
     ensures receives { (file bytes : List ℕ) (r : Reception) → length bytes ≡ max_symbols * symbol_length (X.settings receiver.old)
         → IsReceiving (X.settings receiver.old) two (X.stands receiver.old so_far) file (S.meaning station.old) bytes r
         → ReceivesAll (X.settings receiver.old) two (X.stands receiver.new so_far) file (S.meaning station.new) result }
@@ -103,6 +105,7 @@ fn receive_cells<'a, X: CellReceiver, S: Station<'a>>(
     ensures settings { X.settings receiver.new ≡ X.settings receiver.old }
     ensures others { KeepsOthers (S.meaning station.old) (S.meaning station.new) }
     ensures cause { HasCause (S.meaning station.old) (S.meaning station.new) result }
+    ensures taken { TakesAtMost (((X.settings receiver.old).max_symbols + 1) * symbol_length (X.settings receiver.old)) (S.meaning station.old) (S.meaning station.new) }
     ensures receives { ReceivesAll (X.settings receiver.old) two (X.stands receiver.new so_far) (S.meaning station.old).cells.left (S.meaning station.new) result }
 {
     reception::laws::nothing();
@@ -161,6 +164,7 @@ pub(crate) fn receive_file<'a, X: CellReceiver, S: Station<'a>>(
     requires empty { IsTrue (S.meaning station.old).tells → Holds two (S.meaning station.old) nothing [] }
     ensures others { KeepsOthers (S.meaning station.old) (S.meaning station.new) }
     ensures cause { HasCause (S.meaning station.old) (S.meaning station.new) result }
+    ensures taken { TakesAtMost (((X.settings receiver.old).max_symbols + 1) * symbol_length (X.settings receiver.old)) (S.meaning station.old) (S.meaning station.new) }
     ensures works { Works (X.settings receiver.old) two (S.meaning station.old).cells.left (S.meaning station.new) result }
 {
     match receive_cells(max_symbols, two, receiver, symbol, station) {

@@ -5,7 +5,7 @@ ghost use Rattle.reception.specs.Cells.{symbol_length};
 ghost use Rattle.reception.specs.Streams.{so_far};
 ghost use Rattle.reception.specs.Laws.{nothing};
 ghost use Rattle.run_steps.specs.Causes.{HasCause};
-ghost use Rattle.receive_run.specs.Ports.{AsksPorts, IsReady, Ran, RunsReception};
+ghost use Rattle.receive_run.specs.Ports.{AsksPorts, IsReady, Ran, RunsReception, TakesCells};
 
 use crate::cell_receiver::CellReceiver;
 use crate::ports::{close_outputs, create_outputs};
@@ -41,6 +41,7 @@ fn receive_all<'a, X: CellReceiver, S: Station<'a>>(
     ensures asks { AsksPorts names.entry.cells.now names.entry.hp.now (option_copied names.entry.lp) (S.meaning station.old) (S.meaning station.new) }
     ensures cause { HasCause (S.meaning station.old) (S.meaning station.new) result }
     ensures ran { Ran (X.settings receiver.old) names.entry.cells.now (is_some (option_copied names.entry.lp)) (S.meaning station.old) (S.meaning station.new) result }
+    ensures taken { TakesCells (X.settings receiver.old) names.entry.cells.now (S.meaning station.old) (S.meaning station.new) }
 {
     reception::laws::nothing();
     match station.attach(InPort::Cells, names.cells) {

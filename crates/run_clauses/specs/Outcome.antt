@@ -1,5 +1,5 @@
 -- What a command comes to, from its words, the limit of packets and the files alone.
-use Rattle.std.specs.Prelude.{◌≡◌, ℕ, Bool, true, false, List, [], ◌++◌, ◌==◌, ◌≤◌, ◌-◌, ◌/◌, length, Option, None, Some, IfSome, IsSomeAnd, is_some, if◌then◌else◌, nat_lt}
+use Rattle.std.specs.Prelude.{◌≡◌, ℕ, ◌+◌, ◌*◌, ⊤, drop, Bool, true, false, List, [], ◌++◌, ◌==◌, ◌≤◌, ◌-◌, ◌/◌, length, Option, None, Some, IfSome, IsSomeAnd, is_some, if◌then◌else◌, nat_lt}
 use Rattle.std.specs.Option.{option_and_then, option_or}
 use Rattle.station_core.specs.Meaning.{Meaning, sink_at}
 use Rattle.station_core.specs.declared.ports.OutPort.{OutPort}
@@ -16,8 +16,9 @@ use Rattle.run_clauses.specs.SettingsFile.{settings_refusal, rate_hp_of}
 use Rattle.run_clauses.specs.Packets.{whole_packets, accepted, first_packets, dispersed_packets, counts_of}
 use Rattle.run_clauses.specs.StatedSettings.{settings_of}
 use Rattle.run_clauses.specs.Modulation.{HoldsSymbolsSoFar, cells_sent, files_of, form_refusal, inputs_of, modulation_refusal, transmission_counts, transmission_lines}
-use Rattle.run_clauses.specs.ReceivedCells.{Received, ReceivedSoFar, ReceivedUpTo, lines_up_to, packets_at, reception_lines, reception_refusal, within_limit}
+use Rattle.run_clauses.specs.ReceivedCells.{Received, ReceivedSoFar, packets_at, reception_lines, reception_refusal, within_limit}
 use Rattle.run_clauses.specs.Text.{closing_line, refusal_text, text_if_refused}
+use Rattle.reception.specs.Cells.{symbol_length}
 use Rattle.reception.specs.Streams.{Reception}
 use Rattle.reception.specs.Lines.{event_lines}
 
@@ -84,13 +85,6 @@ OfOutput limit file (Modulate settings hp lp cells) port Fact = Fact (output_of 
 OfOutput limit file (Receive settings cells hp lp) port Fact =
     IsSomeAnd (settings_of (file settings)) (λ s. (r : Reception) × Received s (file cells) r × Fact (packets_at port r))
 
--- This is so of what the output would hold whose writing has failed: of a reception, of the packets up to some byte.
-abbrev pub OfWouldHold : ℕ → (List ℕ → List ℕ) → Command → OutPort → (List ℕ → Type 0) → Type 0
-OfWouldHold limit file (Code coding input output) port Fact = Fact (output_of limit file (Code coding input output) port)
-OfWouldHold limit file (Modulate settings hp lp cells) port Fact = Fact (output_of limit file (Modulate settings hp lp cells) port)
-OfWouldHold limit file (Receive settings cells hp lp) port Fact =
-    IsSomeAnd (settings_of (file settings)) (λ s. (r : Reception) × ReceivedUpTo s (file cells) r × Fact (packets_at port r))
-
 -- the whole packets of HP that a coding has taken, `new` being what the station stands for then
 abbrev pub packets_taken : List ℕ → Meaning → ℕ
 packets_taken input new = (length input - length new.hp.left) / 188
@@ -104,6 +98,14 @@ HoldsSoFar limit file new (Modulate settings hp lp cells) port =
     IfSome (settings_of (file settings)) (λ s. HoldsSymbolsSoFar s limit (files_of file hp lp) new (sink_at port new).written)
 HoldsSoFar limit file new (Receive settings cells hp lp) port =
     IsSomeAnd (settings_of (file settings)) (λ s. (r : Reception) × ReceivedSoFar s (file cells) new.cells.left r × ((sink_at port new).written ≡ packets_at port r))
+
+-- Of the cells a reception takes no more bytes than those of the limit's symbols and one symbol more, of
+-- which `left` are left.
+abbrev pub TakesFewCells : (List ℕ → List ℕ) → Command → List ℕ → Type 0
+TakesFewCells file (Code coding input output) left = ⊤
+TakesFewCells file (Modulate settings hp lp cells) left = ⊤
+TakesFewCells file (Receive settings cells hp lp) left =
+    IsSomeAnd (settings_of (file settings)) (λ s. (k : ℕ) × (k ≤ (s.max_symbols + 1) * symbol_length s) × (left ≡ drop k (file cells)))
 
 -- the closing lines of a coding or a modulation
 abbrev pub lines_of : (List ℕ → List ℕ) → Command → List ℕ
@@ -124,13 +126,6 @@ text_of limit None file status = refusal_text Usage
 text_of limit (Some c) file status =
     if status == 5 then refusal_text ReadFault else if status == 6 then refusal_text WriteFault
     else if status == 7 then refusal_text Memory else text_if_refused (refusal_of limit file c)
-
--- This is so of the lines of a run whose writing has failed: of a reception, of those up to some byte.
-abbrev pub OfWouldPrint : (List ℕ → List ℕ) → Command → (List ℕ → Type 0) → Type 0
-OfWouldPrint file (Code coding input output) Fact = Fact (lines_of file (Code coding input output))
-OfWouldPrint file (Modulate settings hp lp cells) Fact = Fact (lines_of file (Modulate settings hp lp cells))
-OfWouldPrint file (Receive settings cells hp lp) Fact =
-    IsSomeAnd (settings_of (file settings)) (λ s. (r : Reception) × (up : ReceivedUpTo s (file cells) r) × Fact (lines_up_to s up.taken up.rest r up.gives))
 
 -- The event lines of a reception that was refused: past the limit those of the symbols within it, after
 -- a failed read those of the bytes taken. A run that was refused before its outputs were made has none.

@@ -1,6 +1,5 @@
 -- What the command `receive` comes to, from its settings and the file of cells alone.
-use Rattle.std.specs.Prelude.{◌≡◌, ℕ, ◌*◌, ◌≤◌, ◌⊎◌, Bool, true, false, nat_lt, if◌then◌else◌, List, [], ◌++◌, take, Option, None, Some}
-use Rattle.std.proofs.Common.{inl, inr}
+use Rattle.std.specs.Prelude.{◌≡◌, ℕ, ◌*◌, ◌≤◌, Bool, true, false, nat_lt, if◌then◌else◌, List, [], ◌++◌, take, Option, None, Some}
 use Rattle.station_core.specs.declared.ports.OutPort.{OutPort}
 use Rattle.station_core.specs.declared.ports.OutPort.TheVariants as outs
 use Rattle.mode_set.specs.declared.modes.Stream.TheVariants.{Hp, Lp}
@@ -54,16 +53,3 @@ pub record ReceivedSoFar (s : Settings) (bytes left : List ℕ) (r : Reception) 
   pub are : bytes ≡ taken ++ left
   pub within : symbols s taken ≤ s.max_symbols
   pub live : Live s taken r
-
--- Some first bytes of the cells give this: as if more might follow or, where they are all, in the end.
-pub record ReceivedUpTo (s : Settings) (bytes : List ℕ) (r : Reception) : Type 0 where
-  pub taken : List ℕ
-  pub rest : List ℕ
-  pub are : bytes ≡ taken ++ rest
-  pub within : symbols s taken ≤ s.max_symbols
-  pub gives : Live s taken r ⊎ ((rest ≡ []) × Final s taken r)
-
--- the lines of a report up to there
-abbrev pub lines_up_to : (s : Settings) (taken rest : List ℕ) (r : Reception) → (Live s taken r ⊎ ((rest ≡ []) × Final s taken r)) → List ℕ
-lines_up_to s taken rest r (inl live) = event_lines s taken r
-lines_up_to s taken rest r (inr final) = event_lines s taken r ++ closing_lines s taken r

@@ -11,7 +11,7 @@ use Rattle.run_clauses.specs.Command.{Command, TakesMemory, source_name, sink_na
 use Rattle.run_clauses.specs.SettingsFile.{most_settings}
 use Rattle.run_clauses.specs.Text.{status_of, refusal_text}
 pub use Rattle.run_clauses.specs.Outcome.{text_of}
-use Rattle.run_clauses.specs.Outcome.{early_refusal, refusal_of, OfOutput, OfWouldHold, HoldsSoFar, OfLines, OfWouldPrint, OfText}
+use Rattle.run_clauses.specs.Outcome.{early_refusal, refusal_of, OfOutput, HoldsSoFar, TakesFewCells, OfLines, OfText}
 
 -- both counts of faults are as before
 pub record IsFaultless (old new : Meaning) : Type 0 where
@@ -69,6 +69,8 @@ pub record AsksOnly (command : Option Command) (old new : Meaning) (status : ℕ
   -- and they are checked, and all memory taken, before another port is asked
   pub settings_first : old.tells ≡ true → IfSome command (λ c. IsTrue (is_some (early_refusal old.file c)) → AsksNoOther old new)
   pub early : status ≡ 3 ⊎ (status ≡ 7) → AsksNoOther old new
+  -- of the cells no more is taken than the limit and one symbol
+  pub cells_read : old.tells ≡ true → new.cells.attached ≡ true → IfSome command (λ c. TakesFewCells old.file c new.cells.left)
 
 -- 4. What stands after a refusal.
 pub record Stands (limit : ℕ) (command : Option Command) (old new : Meaning) (status : ℕ) : Type 0 where
@@ -79,16 +81,16 @@ pub record Stands (limit : ℕ) (command : Option Command) (old new : Meaning) (
   -- a failed read: each output that was created holds what the whole packets taken give
   pub so_far : old.tells ≡ true → status ≡ 5 → IfSome command (λ c. (port : OutPort) → IsOutput c port → (sink_at port new).created ≡ true
       → HoldsSoFar limit old.file new c port)
-  -- a failed write or close: each output that was created is a prefix of what it would hold
+  -- a failed write or close: each output that was created is a prefix of what the command comes to there
   pub front : old.tells ≡ true → status ≡ 6 → IfSome command (λ c. (port : OutPort) → IsOutput c port → (sink_at port new).created ≡ true
-      → OfWouldHold limit old.file c port (λ output. (k : ℕ) × ((sink_at port new).written ≡ take k output)))
+      → OfOutput limit old.file c port (λ output. (k : ℕ) × ((sink_at port new).written ≡ take k output)))
   -- Report is the text, of a reception behind its event lines, or a front of that where a write has failed
   pub text : old.tells ≡ true → status ≢ 0 → status ≢ 6 → OfText limit command old.file new status (λ text. (k : ℕ) × (new.report.written ≡ take k text))
   pub whole_text : old.tells ≡ true → status ≢ 0 → status ≢ 6 → (Rose old.write_faults new.write_faults → ⊥)
       → OfText limit command old.file new status (λ text. new.report.written ≡ text)
-  -- after a failed write or close it is a front of the lines of the run, then a front of the text
+  -- after a failed write or close it is a front of the lines that the command comes to, then a front of the text
   pub lines : old.tells ≡ true → status ≡ 6
-      → IfSome command (λ c. OfWouldPrint old.file c (λ lines. (j k : ℕ) × (new.report.written ≡ take j lines ++ take k (refusal_text WriteFault))))
+      → IfSome command (λ c. OfLines old.file c (λ lines. (j k : ℕ) × (new.report.written ≡ take j lines ++ take k (refusal_text WriteFault))))
 
 -- 5. Where nothing in the files is refused and nothing fails the run is done, or has no memory.
 abbrev pub IsComplete : ℕ → Command → Meaning → Meaning → ℕ → Type 0

@@ -102,6 +102,10 @@ module _ (limit : ℕ) (c : Command) (name : List ℕ) (old mid new : Meaning) (
     no_output outs.Bytes is made = true≢false (sym made ∙ created_as outs.Bytes ∙ fresh.bytes_out.created)
     no_output outs.Report is made = true≢false (sym is ∙ ap is_some first.no_report)
 
+    -- nor are the cells open
+    cells_closed : new.cells.attached ≡ true → ⊥
+    cells_closed is = true≢false (sym is ∙ kept _ (λ m. m.cells.attached) (λ m s n. refl) (λ m l n. refl) ∙ fresh.cells.attached)
+
     sources_asked : (port : InPort) → ((source_at port new).asked ≡ None) ⊎ ((source_at port new).asked ≡ source_name c port)
     sources_asked ins.Settings = elim asks.asked [
       | inl same ↦ inl (ap (λ (s : Source). s.asked) (settings_is ∙ same) ∙ fresh.settings.asked)
@@ -216,6 +220,7 @@ module _ (limit : ℕ) (c : Command) (name : List ℕ) (old mid new : Meaning) (
     closed = λ is. absurd (not_done r reads is);
     reads_kept = λ other. reads_are (refusal_text r) tells ∙ reads_kept r reads other;
     settings_read = read_out (refusal_text r) tells;
+    cells_read = λ t is. absurd (cells_closed (refusal_text r) tells is);
     settings_first = λ t is. no_other (refusal_text r) tells;
     early = λ is. no_other (refusal_text r) tells;
   }

@@ -38,7 +38,16 @@ returns-in-Ok-clause-stands g c =
     let new : Meaning = g.S.Station.meaning c.receive_accepted.new.station in
     let lp : Option (List ℕ) = option_copied c.args.lp in
     run_stands c.args.limits.now.packets c.args.settings.now c.args.cells.now c.args.hp.now lp old mid new c.requires.fresh c.in-Ok.ensures.asks
-    c.in-Ok.accepted c.in-Ok.ensures.accepts c.receive_accepted.result c.receive_accepted.ensures
+    c.in-Ok.accepted c.in-Ok.ensures.accepts c.receive_accepted.result
+    (record {
+      some_live = c.existence.ensures.live;
+      some_final = c.existence.ensures.last;
+      live = c.beginnings.ensures.live;
+      last = c.beginnings.ensures.last;
+      whole = c.beginnings.ensures.whole;
+      unfinished = c.symbols.ensures.tail;
+    })
+    c.receive_accepted.ensures
 
 pub returns-in-Ok-clause-complete : goal.returns-in-Ok-clause-complete
 returns-in-Ok-clause-complete g c =

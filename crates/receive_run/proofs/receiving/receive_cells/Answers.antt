@@ -5,9 +5,10 @@ use Rattle.mode_set.specs.declared.settings.Settings.{Settings}
 use Rattle.reception.specs.Cells.{symbol_length, symbols, tail}
 use Rattle.reception.specs.Streams.{Reception, so_far, at_end}
 use Rattle.reception.specs.Feeds.{Output}
-use Rattle.receive_run.specs.Receiving.{GoesOn, IsReceiving, Next, ReceivesAll, Refused, Takes}
+use Rattle.receive_run.specs.Receiving.{GoesOn, IsReceiving, Next, ReceivesAll, Refused, Takes, TakesAtMost}
 use Rattle.receive_run.proofs.Parts.{little_longer, no_tail, not_longer, whole_or_less}
 use Rattle.receive_run.proofs.Keeping.{keeps_again, still_open}
+use Rattle.receive_run.proofs.FewCells.{few_more}
 use Rattle.receive_run.proofs.receiving.receive_cells.Goals as goal
 
 -- where the settings are the same
@@ -100,3 +101,45 @@ returns-clause-receives g c =
     moved s' s (λ (x : Settings). length is.0 ≡ c.args.max_symbols * symbol_length x) (sym same) (is.3 ∙ ap (λ (k : ℕ). k * symbol_length s) all) in
     let was : IsReceiving s' c.args.two standing m.cells.left m' is.0 is.1 = moved s' s (λ (x : Settings). IsReceiving x c.args.two standing m.cells.left m' is.0 is.1) (sym same) is.2 in
     moved s s' (λ (x : Settings). ReceivesAll x c.args.two standing' m.cells.left m'' c.receive_rest.result) same (c.receive_rest.ensures.receives m.cells.left is.0 is.1 size was)
+
+pub returns-in-Ok-false-clause-taken : goal.returns-in-Ok-false-clause-taken
+returns-in-Ok-false-clause-taken g c =
+    let m : Meaning = g.S.Station.meaning c.args.station.now in
+    let m' : Meaning = g.S.Station.meaning c.loop-number.station in
+    let m'' : Meaning = g.S.Station.meaning c.receive_next.new.station in
+    let inv = c.loop-number.invariant in
+    let s : Settings = g.X.CellReceiver.settings c.args.receiver.now in
+    let s' : Settings = g.X.CellReceiver.settings c.loop-number.receiver in
+    let is = inv.receiving in
+    let most = c.requires.most in
+    let lt : c.loop-number.number < c.args.max_symbols = c.loop-number-test.true in
+    few_more c.loop-number.number (symbol_length s) s.max_symbols is.0 m m' m'' (ap (λ (x : Meaning). x.tells) inv.others) is.2.are is.3 (omega (arith, lt, most))
+    (moved s s' (λ (x : Settings). TakesAtMost (symbol_length x) m' m'') inv.settings c.in-Ok-false.ensures.taken)
+
+pub returns-in-Err-clause-taken : goal.returns-in-Err-clause-taken
+returns-in-Err-clause-taken g c =
+    let m : Meaning = g.S.Station.meaning c.args.station.now in
+    let m' : Meaning = g.S.Station.meaning c.loop-number.station in
+    let m'' : Meaning = g.S.Station.meaning c.receive_next.new.station in
+    let inv = c.loop-number.invariant in
+    let s : Settings = g.X.CellReceiver.settings c.args.receiver.now in
+    let s' : Settings = g.X.CellReceiver.settings c.loop-number.receiver in
+    let is = inv.receiving in
+    let most = c.requires.most in
+    let lt : c.loop-number.number < c.args.max_symbols = c.loop-number-test.true in
+    few_more c.loop-number.number (symbol_length s) s.max_symbols is.0 m m' m'' (ap (λ (x : Meaning). x.tells) inv.others) is.2.are is.3 (omega (arith, lt, most))
+    (moved s s' (λ (x : Settings). TakesAtMost (symbol_length x) m' m'') inv.settings c.in-Err.ensures.taken)
+
+pub returns-clause-taken : goal.returns-clause-taken
+returns-clause-taken g c =
+    let m : Meaning = g.S.Station.meaning c.args.station.now in
+    let m' : Meaning = g.S.Station.meaning c.loop-number.station in
+    let m'' : Meaning = g.S.Station.meaning c.receive_rest.new.station in
+    let inv = c.loop-number.invariant in
+    let s : Settings = g.X.CellReceiver.settings c.args.receiver.now in
+    let s' : Settings = g.X.CellReceiver.settings c.loop-number.receiver in
+    let is = inv.receiving in
+    let most = c.requires.most in
+    let le = c.loop-number.auto.number-end in
+    few_more c.loop-number.number (symbol_length s) s.max_symbols is.0 m m' m'' (ap (λ (x : Meaning). x.tells) inv.others) is.2.are is.3 (omega (arith, le, most))
+    (moved s s' (λ (x : Settings). TakesAtMost (symbol_length x) m' m'') inv.settings c.receive_rest.ensures.taken)

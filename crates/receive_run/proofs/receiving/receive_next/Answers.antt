@@ -9,7 +9,23 @@ use Rattle.receive_run.specs.Receiving.{GoesOn, IsReceiving, Next, ReceivesAll, 
 use Rattle.receive_run.proofs.Parts.{little_longer, no_tail, not_longer, whole_or_less}
 use Rattle.receive_run.proofs.Steps.{goes_on, fails, stopped, next_of}
 use Rattle.receive_run.proofs.Steps as steps
+use Rattle.receive_run.proofs.FewCells.{read_few}
 use Rattle.receive_run.proofs.receiving.receive_next.Goals as goal
+
+pub returns-in-Err-clause-taken : goal.returns-in-Err-clause-taken
+returns-in-Err-clause-taken g c = λ t.
+    let e = c.in-Err.ensures.err in
+    (e.0, omega (arith, e.1, c.requires.size), ap (λ (x : Meaning). x.cells.left) e.3)
+
+pub returns-in-Ok-write_out-clause-taken : goal.returns-in-Ok-write_out-clause-taken
+returns-in-Ok-write_out-clause-taken g c =
+    read_few (symbol_length (g.X.CellReceiver.settings c.args.receiver.now)) c.in-Ok.filled (g.S.Station.meaning c.args.station.now) (g.S.Station.meaning c.fill.new.station) (g.S.Station.meaning c.write_out.new.station)
+    c.in-Ok.ensures.ok (omega (arith, c.in-Ok.ensures.bound, c.fill.auto.bytes, c.requires.size)) (ap (λ (x : Meaning). x.cells.left) c.in-Ok-write_out.ensures.others)
+
+pub returns-in-Err-write_out-clause-taken : goal.returns-in-Err-write_out-clause-taken
+returns-in-Err-write_out-clause-taken g c =
+    read_few (symbol_length (g.X.CellReceiver.settings c.args.receiver.now)) c.in-Ok.filled (g.S.Station.meaning c.args.station.now) (g.S.Station.meaning c.fill.new.station) (g.S.Station.meaning c.write_out.new.station)
+    c.in-Ok.ensures.ok (omega (arith, c.in-Ok.ensures.bound, c.fill.auto.bytes, c.requires.size)) (ap (λ (x : Meaning). x.cells.left) c.in-Err-write_out.ensures.others)
 
 pub returns-in-Err-clause-next : goal.returns-in-Err-clause-next
 returns-in-Err-clause-next g c = λ file bytes r size was t.

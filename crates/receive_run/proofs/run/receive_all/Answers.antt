@@ -1,4 +1,4 @@
-use Rattle.std.proofs.Common.{◌≡◌, ◌∙◌, ℕ, Bool, List, Option, Ok, Err, subst}
+use Rattle.std.proofs.Common.{◌≡◌, ◌∙◌, ℕ, Bool, List, Option, Ok, Err, ap, subst}
 use Rattle.std.specs.Prelude.{is_some}
 use Rattle.std.specs.Option.{option_copied}
 use Rattle.station_core.specs.Meaning.{Meaning}
@@ -6,7 +6,41 @@ use Rattle.mode_set.specs.declared.settings.Settings.{Settings}
 use Rattle.receive_run.specs.Receiving.{Works}
 use Rattle.receive_run.specs.Ports.{Closes}
 use Rattle.receive_run.proofs.Opening.{closed_with, copied_some, ended, refused, unmade}
+use Rattle.receive_run.specs.Receiving.{TakesAtMost}
+use Rattle.receive_run.proofs.FewCells.{taken_in_all, unopened, unread}
 use Rattle.receive_run.proofs.run.receive_all.Goals as goal
+
+pub returns-in-Err-clause-taken : goal.returns-in-Err-clause-taken
+returns-in-Err-clause-taken g c =
+    unopened (g.X.CellReceiver.settings c.args.receiver.now) c.args.names.cells.now (g.S.Station.meaning c.args.station.now) (g.S.Station.meaning c.attach.new.self) c.requires.ready.cells_unread
+    (ap (λ (x : Meaning). x.cells.attached) c.in-Err.ensures.err)
+
+pub returns-in-Err-create_outputs-clause-taken : goal.returns-in-Err-create_outputs-clause-taken
+returns-in-Err-create_outputs-clause-taken g c =
+    unread (g.X.CellReceiver.settings c.args.receiver.now) c.args.names.cells.now (g.S.Station.meaning c.args.station.now) (g.S.Station.meaning c.create_outputs.new.station)
+    (ap (λ (x : Meaning). x.cells.left) c.in-Err-create_outputs.ensures.made.1 ∙ ap (λ (x : Meaning). x.cells.left) c.in-Ok.ensures.ok)
+
+pub returns-in-Ok-receive_file-clause-taken : goal.returns-in-Ok-receive_file-clause-taken
+returns-in-Ok-receive_file-clause-taken g c =
+    let m' : Meaning = g.S.Station.meaning c.create_outputs.new.station in
+    let w : Meaning = g.S.Station.meaning c.receive_file.new.station in
+    let new : Meaning = g.S.Station.meaning c.close_outputs.new.station in
+    let with = closed_with c.is_some-two.result w new c.close_outputs.result c.close_outputs.ensures.closes in
+    taken_in_all (g.X.CellReceiver.settings c.args.receiver.now) c.args.names.cells.now (g.S.Station.meaning c.args.station.now) m' w new
+    (ap (λ (x : Meaning). x.tells) c.in-Ok-create_outputs.ensures.made ∙ ap (λ (x : Meaning). x.tells) c.in-Ok.ensures.ok)
+    (ap (λ (x : Meaning). x.cells.left) c.in-Ok-create_outputs.ensures.made ∙ ap (λ (x : Meaning). x.cells.left) c.in-Ok.ensures.ok)
+    c.in-Ok-receive_file.ensures.taken (ap (λ (x : Meaning). x.cells.left) with.1)
+
+pub returns-in-Err-receive_file-clause-taken : goal.returns-in-Err-receive_file-clause-taken
+returns-in-Err-receive_file-clause-taken g c =
+    let m' : Meaning = g.S.Station.meaning c.create_outputs.new.station in
+    let w : Meaning = g.S.Station.meaning c.receive_file.new.station in
+    let new : Meaning = g.S.Station.meaning c.close_outputs-in-Err-receive_file.new.station in
+    let with = closed_with c.is_some-two.result w new c.close_outputs-in-Err-receive_file.result c.close_outputs-in-Err-receive_file.ensures.closes in
+    taken_in_all (g.X.CellReceiver.settings c.args.receiver.now) c.args.names.cells.now (g.S.Station.meaning c.args.station.now) m' w new
+    (ap (λ (x : Meaning). x.tells) c.in-Ok-create_outputs.ensures.made ∙ ap (λ (x : Meaning). x.tells) c.in-Ok.ensures.ok)
+    (ap (λ (x : Meaning). x.cells.left) c.in-Ok-create_outputs.ensures.made ∙ ap (λ (x : Meaning). x.cells.left) c.in-Ok.ensures.ok)
+    c.in-Err-receive_file.ensures.taken (ap (λ (x : Meaning). x.cells.left) with.1)
 
 pub returns-in-Err-create_outputs-clause-ran : goal.returns-in-Err-create_outputs-clause-ran
 returns-in-Err-create_outputs-clause-ran g c =

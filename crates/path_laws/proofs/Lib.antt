@@ -1,0 +1,4 @@
+pub mod Deciding
+pub mod LeastPaths
+pub mod SharedBits
+pub mod CutStreams
