@@ -1,7 +1,6 @@
 // The command.
 ghost use Rattle.std.specs.Prelude.{◌≡◌, true, Some};
 ghost use Rattle.station_core.specs.Meaning.{IsFresh};
-ghost use Rattle.mode_set.specs.declared.modes.Start.TheVariants.{Zero};
 ghost use Rattle.trial.specs.Outcome.{at_zero};
 ghost use Rattle.run_clauses.specs.Command.{Trial};
 ghost use Rattle.run_clauses.specs.Runs.{IsDone, HasStatus, AsksOnly, Stands, IsComplete};
@@ -34,12 +33,11 @@ fn trial_in<'a, M: Carriers, R: Threads + Sync, S: Station<'a>>(
     station: &mut S,
 ) -> u8
     requires mode { settings.now.mode ≡ M.MODE }
-    requires start { settings.now.start ≡ Zero }
     requires ready { IsReady (S.meaning station.old) }
     ensures { RunsOrLacks settings.now number (S.meaning station.old) (S.meaning station.new) result }
 {
     match TrialWithThreads::<R, M>::new(rt, alloc, settings, number) {
-        Ok(mut trial) => run_trial(settings.max_symbols, &mut trial, station),
+        Ok(trial) => run_trial(settings.max_symbols, trial, station),
         Err(_) => refuse(&Refusal::Memory, station),
     }
 }

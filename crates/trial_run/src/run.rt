@@ -15,15 +15,15 @@ const SYMBOLS: u32 = 272;
 // Runs a trial and writes its closing lines, where its settings allow as many symbols as it has.
 fn run_and_report<'a, X: WholeTrial, S: Station<'a>>(
     max_symbols: u32,
-    trial: &mut X,
+    trial: X,
     station: &mut S,
 ) -> Result<(), Refusal>
     requires threads { X.has_threads }
     requires ready { IsReady (S.meaning station.old) }
-    requires most { (X.settings trial.old).max_symbols ≡ max_symbols }
+    requires most { (X.settings trial).max_symbols ≡ max_symbols }
     ensures others { ReportOnly (S.meaning station.old) (S.meaning station.new) }
     ensures cause { HasCause (S.meaning station.old) (S.meaning station.new) result }
-    ensures ran { Ran (X.settings trial.old) (X.number trial.old) (S.meaning station.old) (S.meaning station.new) result }
+    ensures ran { Ran (X.settings trial) (X.number trial) (S.meaning station.old) (S.meaning station.new) result }
 {
     if max_symbols < SYMBOLS {
         return Err(Refusal::Limit(u64::from(max_symbols)));
@@ -35,13 +35,13 @@ fn run_and_report<'a, X: WholeTrial, S: Station<'a>>(
 /// Runs a trial that has taken its memory, and gives its status.
 pub(crate) fn run_trial<'a, X: WholeTrial, S: Station<'a>>(
     max_symbols: u32,
-    trial: &mut X,
+    trial: X,
     station: &mut S,
 ) -> u8
     requires threads { X.has_threads }
     requires ready { IsReady (S.meaning station.old) }
-    requires most { (X.settings trial.old).max_symbols ≡ max_symbols }
-    ensures runs { RunsTrial (X.settings trial.old) (X.number trial.old) (S.meaning station.old) (S.meaning station.new) result }
+    requires most { (X.settings trial).max_symbols ≡ max_symbols }
+    ensures runs { RunsTrial (X.settings trial) (X.number trial) (S.meaning station.old) (S.meaning station.new) result }
 {
     match run_and_report(max_symbols, trial, station) {
         Ok(()) => 0,

@@ -9,7 +9,7 @@ use trial::TrialCounts;
 /// A trial that was not run, by its settings and its number.
 ///
 /// `has_threads` says that its runtime's threads may be used.
-pub(crate) trait WholeTrial {
+pub(crate) trait WholeTrial: Drop {
     ghost settings: { Self → Settings };
 
     ghost number: { Self → ℕ };
@@ -17,8 +17,8 @@ pub(crate) trait WholeTrial {
     ghost has_threads: { Type 0 };
 
     /// Runs the trial and counts what came back.
-    fn run(&mut self) -> TrialCounts
+    fn run(self) -> TrialCounts
         requires threads { has_threads }
-        ensures counts { (r : Reception) × TrialGives (settings self.old) (number self.old) r
-            × (result ≡ trial_counts (settings self.old) (number self.old) r) };
+        ensures counts { (r : Reception) × TrialGives (settings self) (number self) r
+            × (result ≡ trial_counts (settings self) (number self) r) };
 }
