@@ -184,7 +184,7 @@ module _ (limit : ℕ) (name : List ℕ) (number : ℕ) (start new : Meaning) (a
       let w = ran.writes.written t in
       let f = tells.front (told t) in
       by_settings (λ x. OfTrial x number (λ lines. (j k : ℕ) × (new.report.written ≡ take j lines ++ take k (refusal_text WriteFault)))) t
-      (ran.given, ran.gives, w.0, f.0, f.1 ∙ ap (λ (l : List ℕ). l ++ take f.0 (refusal_text WriteFault)) (w.1 ∙ empty (take w.0 (trial_lines (trial_counts (at_zero s) number ran.given))) t))
+      (ran.given, ran.gives, (w.0, f.0, f.1 ∙ ap (λ (l : List ℕ). l ++ take f.0 (refusal_text WriteFault)) (w.1 ∙ empty (take w.0 (trial_lines (trial_counts (at_zero s) number ran.given))) t)))
   lines_by (Err (NotSync σ p)) ran tells is t = absurd ran
   lines_by (Err Memory) ran tells is t = absurd ran
   lines_by (Err (Limit n)) ran tells is t = absurd (omega arith)
