@@ -52,8 +52,10 @@ fn trials_of_one_stream_and_their_refusals(rt: HostRuntime) -> Result<(), Fail> 
 #[test]
 fn a_trial_of_two_streams_and_a_failed_write(rt: HostRuntime) -> Result<(), Fail> {
     let alloc = rt.alloc();
-    let two = "mode = \"2k\"\nconstellation = \"16qam\"\nhierarchy = \"4\"\nrate_hp = \"1/2\"\nrate_lp = \"3/4\"\nguard = \"1/32\"\n";
-    let lines = "cells 220938195\nhp packets 150 back 241 sum 7669421\nlp packets 146 back 367 sum 13932039\n";
+    let two =
+        "mode = \"2k\"\nconstellation = \"16qam\"\nhierarchy = \"4\"\nrate_hp = \"1/2\"\nrate_lp = \"3/4\"\nguard = \"1/32\"\n";
+    let lines =
+        "cells 220938195\nhp packets 150 back 241 sum 7669421\nlp packets 146 back 367 sum 13932039\n";
     let none = Vec::new(alloc);
     let whole = gives(&rt, alloc, "trial s 7", (two, ""), none, (0, lines))?;
     assert!(rt; whole);

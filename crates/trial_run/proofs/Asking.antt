@@ -1,5 +1,5 @@
 -- The ports after a run of `trial` whose settings were accepted and whose memory was there.
-use Rattle.std.proofs.Common.{◌≡◌, ◌≢◌, ◌⊎◌, inl, inr, true, ℕ, ◌+◌, ◌≤◌, List, [], drop, Option, Some, None, Result, Ok, Err, refl, ◌∙◌, sym, ap}
+use Rattle.std.proofs.Common.{◌≡◌, ◌⊎◌, inl, inr, true, ℕ, ◌+◌, ◌≤◌, List, [], drop, Some, None, Result, Ok, Err, refl, ◌∙◌, sym, ap}
 use Rattle.std.specs.Prelude.{is_some}
 use Rattle.std.proofs.lemmas.Bool.{true≢false}
 use Rattle.station_core.specs.Meaning.{Meaning, Source, IsFresh, source_at, sink_at}
@@ -10,12 +10,11 @@ use Rattle.station_core.specs.declared.ports.OutPort.TheVariants as outs
 use Rattle.mode_set.specs.declared.settings.Settings.{Settings as TheSettings}
 use Rattle.trial.specs.Outcome.{at_zero}
 use Rattle.run_clauses.specs.declared.work.Refusal.{Refusal}
-use Rattle.run_clauses.specs.declared.work.Refusal.TheVariants.{Usage, Settings, ReadFault, WriteFault, NotSync, Memory, Limit}
 use Rattle.run_clauses.specs.Command.{Command, Trial, source_name}
 use Rattle.run_clauses.specs.Runs.{AsksOnly, IsFaultless, IsInput}
 use Rattle.run_clauses.specs.SettingsFile.{most_settings}
 use Rattle.run_steps.specs.Causes.{HasCause}
-use Rattle.trial_run.specs.Steps.{Ran, RunsTrial, Tells, outcome_status}
+use Rattle.trial_run.specs.Steps.{RunsTrial, Tells, outcome_status}
 use Rattle.trial_run.proofs.Clauses.{SettingsDone, early_none, late, never_zero}
 
 module _ (limit : ℕ) (name : List ℕ) (number : ℕ) (start new : Meaning) (at : Source) (fresh : IsFresh start) (s : TheSettings) (settings : SettingsDone name s start at)

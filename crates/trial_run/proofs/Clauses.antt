@@ -1,17 +1,17 @@
 -- The clauses of a run of `trial` whose settings were accepted and whose memory was there: what is written,
 -- the statuses, what stands after a refusal.
-use Rattle.std.proofs.Common.{◌≡◌, ◌≢◌, ◌⊎◌, inl, inr, true, ℕ, ◌+◌, ◌<◌, ◌≤◌, ◌^◌, ◌-◌, min, Bool, List, [], ◌++◌, take, Option, Some, None, Result, Ok, Err, refl, ◌∙◌, sym, ap, subst, arith, if◌then◌else◌, append_assoc}
-use Rattle.std.specs.Prelude.{IsSomeAnd, nat_lt, option_and_then}
+use Rattle.std.proofs.Common.{◌≡◌, ◌≢◌, inl, inr, true, ℕ, ◌+◌, ◌<◌, ◌≤◌, ◌^◌, ◌-◌, min, Bool, List, [], ◌++◌, take, Option, Some, None, Result, Ok, Err, refl, ◌∙◌, sym, ap, subst, arith, if◌then◌else◌}
+use Rattle.std.specs.Prelude.{IsSomeAnd, option_and_then}
 use Rattle.std.specs.Option.{option_or}
 use Rattle.std.proofs.lemmas.Bool.{cases_lt, le-ltb, lt-ltb, true≢false}
-use Rattle.station_core.specs.Meaning.{Meaning, Source, IsFresh, sink_at}
+use Rattle.station_core.specs.Meaning.{Meaning, Source, IsFresh}
 use Rattle.station_core.specs.Causes.{Rose}
 use Rattle.mode_set.specs.declared.settings.Settings.{Settings as TheSettings}
 use Rattle.trial.specs.Outcome.{at_zero, trial_counts}
 use Rattle.run_clauses.specs.declared.work.Refusal.{Refusal}
 use Rattle.run_clauses.specs.declared.work.Refusal.TheVariants.{Usage, Settings, ReadFault, WriteFault, NotSync, Memory, Limit}
 use Rattle.run_clauses.specs.Command.{Command, Trial}
-use Rattle.run_clauses.specs.Outcome.{early_refusal, refusal_of, text_of, OfText}
+use Rattle.run_clauses.specs.Outcome.{early_refusal, refusal_of, text_of}
 use Rattle.run_clauses.specs.Runs.{HasStatus, IsComplete, IsDone, Stands}
 use Rattle.run_clauses.specs.SettingsFile.{settings_refusal}
 use Rattle.run_clauses.specs.StatedSettings.{settings_of}

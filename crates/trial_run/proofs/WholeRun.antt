@@ -1,5 +1,5 @@
 -- The clauses of a whole run of `trial`.
-use Rattle.std.proofs.Common.{◌≡◌, ◌⊎◌, inl, inr, true, ℕ, List, Some, Ok, Err, refl, ◌∙◌, sym, ap, subst}
+use Rattle.std.proofs.Common.{◌≡◌, inl, inr, true, ℕ, List, Some, Ok, Err, refl, ◌∙◌, sym, ap, subst}
 use Rattle.station_core.specs.Meaning.{Meaning, IsFresh}
 use Rattle.mode_set.specs.declared.settings.Settings.{Settings as TheSettings}
 use Rattle.trial.specs.Outcome.{at_zero}

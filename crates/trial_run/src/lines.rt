@@ -26,10 +26,7 @@ fn write_lp<'a, S: Station<'a>>(lp: &Option<StreamReturn>, station: &mut S) -> R
 }
 
 // Writes the lines of the streams.
-fn write_streams<'a, S: Station<'a>>(
-    counts: &TrialCounts,
-    station: &mut S,
-) -> Result<(), Refusal>
+fn write_streams<'a, S: Station<'a>>(counts: &TrialCounts, station: &mut S) -> Result<(), Refusal>
     requires created { (S.meaning station.old).report.created ≡ true }
     requires report_open { (S.meaning station.old).report.closed ≡ false }
     ensures cause { HasCause (S.meaning station.old) (S.meaning station.new) result }

@@ -1,4 +1,4 @@
-use Rattle.std.proofs.Common.{ℕ, List, refl}
+use Rattle.std.proofs.Common.{refl}
 use Rattle.station_core.specs.Meaning.{Meaning}
 use Rattle.trial_run.proofs.WholeRun.{ready, run_done, run_status, run_asks, run_stands, run_complete, refused_done, refused_status, refused_asks, refused_stands, refused_complete}
 use Rattle.trial_run.proofs.command.trial.Goals as goal
