@@ -1,11 +1,13 @@
 // From the words to the form.
 ghost use Rattle.std.specs.Prelude.{◌≡◌, map, string_bytes};
 ghost use Rattle.std.specs.Option.{option_map};
-ghost use Rattle.run_clauses.specs.Command.{command_of};
+ghost use Rattle.run_clauses.specs.Command.{Trial, command_of};
+ghost use Rattle.run_clauses.specs.Number.{number_of};
 ghost use Rattle.dvbt_top.specs.Form.{command};
 ghost use Rattle.dvbt_top.specs.Words.{TwoAfter, ThreeAfter, FourAfter};
 
 use crate::form::Form;
+use crate::number::number_of;
 
 // The two words behind this name, if there are just these three.
 fn two_after<'a>(words: &'a [String], name: &str) -> Option<(&'a str, &'a str)>
@@ -51,6 +53,16 @@ fn four_after<'a>(words: &'a [String], name: &str) -> Option<(&'a str, &'a str, 
     ))
 }
 
+// The form of a trial, if the word of its number is one.
+fn trial_form<'a>(settings: &'a str, number: &str) -> Option<Form<'a>>
+    ensures { option_map command result ≡ option_map (λ n. Trial settings.now n) (number_of number.now) }
+{
+    match number_of(number) {
+        Some(number) => Some(Form::Trial { settings, number }),
+        None => None,
+    }
+}
+
 /// The form of the words, if they are of one. A word is taken as it stands; there are no options.
 pub fn form_of<'a>(words: &'a [String]) -> Option<Form<'a>>
     ensures { option_map command result ≡ command_of (map string_bytes words.now) }
@@ -60,6 +72,9 @@ pub fn form_of<'a>(words: &'a [String]) -> Option<Form<'a>>
     }
     if let Some((input, output)) = two_after(words, "outer") {
         return Some(Form::Outer { input, output });
+    }
+    if let Some((settings, number)) = two_after(words, "trial") {
+        return trial_form(settings, number);
     }
     if let Some((settings, input, output)) = three_after(words, "inner") {
         return Some(Form::Inner {

@@ -1,25 +1,11 @@
 -- What is written to Report at the end of a modulation.
-use Rattle.std.specs.Prelude.{◌≡◌, ℕ, Bool, true, List, ◌++◌, take, Result, Ok, Err}
+use Rattle.std.specs.Prelude.{◌≡◌, Bool, true, Result, Ok, Err}
 use Rattle.station_core.specs.Meaning.{Meaning}
 use Rattle.run_clauses.specs.declared.work.TransmissionCounts.{TransmissionCounts}
 use Rattle.run_clauses.specs.declared.work.Refusal.{Refusal}
 use Rattle.run_clauses.specs.declared.work.Refusal.TheVariants.{WriteFault}
 use Rattle.run_clauses.specs.Modulation.{transmission_lines}
-
--- a text is written whole, or a front of it where a write has failed
-abbrev pub IsFrontOf : {T : Type 0} → List ℕ → List ℕ → List ℕ → Result T Refusal → Type 0
-IsFrontOf text before after (Ok value) = after ≡ before ++ text
-IsFrontOf text before after (Err refusal) = (k : ℕ) × (after ≡ before ++ take k text)
-
--- lines are written to Report
-pub record WritesLines (text : List ℕ) (old new : Meaning) (result : Result (Unit {0}) Refusal) : Type 0 where
-  pub others : new ≡ record old { report = record old.report { written = new.report.written }; write_faults = new.write_faults }
-  pub written : old.tells ≡ true → IsFrontOf text old.report.written new.report.written result
-
--- only writing has failed
-abbrev pub IsWriting : {T : Type 0} → Result T Refusal → Type 0
-IsWriting (Ok value) = Unit {0}
-IsWriting (Err refusal) = refusal ≡ WriteFault
+use Rattle.run_steps.specs.Lines.{IsFrontOf}
 
 -- the closing lines are written to Report, and Cells is closed, also where that has failed
 pub record Finishes (two : Bool) (counts : TransmissionCounts) (old new : Meaning) (result : Result TransmissionCounts Refusal) : Type 0 where

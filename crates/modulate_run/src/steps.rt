@@ -4,13 +4,13 @@ ghost use Rattle.mode_set.specs.declared.modes.Stream.TheVariants.{Lp};
 ghost use Rattle.std.specs.Option.{option_copied};
 ghost use Rattle.run_clauses.specs.Modulation.{packets_line, super_frames_line, transmission_lines};
 ghost use Rattle.run_steps.specs.Causes.{HasCause};
-ghost use Rattle.modulate_run.specs.Reporting.{Finishes, IsFinish, IsWriting, WritesLines};
+ghost use Rattle.run_steps.specs.Lines.{IsWriting, WritesLines};
+ghost use Rattle.modulate_run.specs.Reporting.{Finishes, IsFinish};
 ghost use Rattle.modulate_run.specs.Steps.{AsksPorts, ClosesRefused, OpensAll, OpensLp};
 
 use mode_set::Stream;
-use run_clauses::{
-    Counts, Line, Refusal, TransmissionCounts, packets_line_of, super_frames_line_of,
-};
+use run_clauses::{Counts, Refusal, TransmissionCounts, packets_line_of, super_frames_line_of};
+use run_steps::write_line;
 use station_core::{InPort, OutPort, Station};
 
 // Opens the file of LP to be read, if there is one.
@@ -50,20 +50,6 @@ pub(crate) fn open<'a, S: Station<'a>>(
         Err(refusal) => return Err(refusal),
     }
     match station.create(OutPort::Cells, cells) {
-        Ok(()) => Ok(()),
-        Err(_) => Err(Refusal::WriteFault),
-    }
-}
-
-// Writes a line to Report.
-fn write_line<'a, S: Station<'a>>(line: &Line, station: &mut S) -> Result<(), Refusal>
-    requires created { (S.meaning station.old).report.created ≡ true }
-    requires report_open { (S.meaning station.old).report.closed ≡ false }
-    ensures cause { HasCause (S.meaning station.old) (S.meaning station.new) result }
-    ensures kind { IsWriting result }
-    ensures writes { WritesLines line.now.bytes (S.meaning station.old) (S.meaning station.new) result }
-{
-    match station.write(OutPort::Report, line.as_str().as_bytes()) {
         Ok(()) => Ok(()),
         Err(_) => Err(Refusal::WriteFault),
     }

@@ -8,7 +8,7 @@ use Rattle.mode_set.specs.declared.settings.Settings.{Settings}
 use Rattle.transmission.specs.Transmission.{Inputs}
 use Rattle.transmission.specs.SuperFrames.{tx}
 use Rattle.own_cells.specs.Returned.{HavePackets, IsReturned, IsWithin}
-use Rattle.run_clauses.specs.Command.{Command, Code, Modulate, Receive}
+use Rattle.run_clauses.specs.Command.{Command, Code, Modulate, Receive, Trial}
 use Rattle.run_clauses.specs.StatedSettings.{settings_of}
 
 -- what the outputs of the streams hold
@@ -27,5 +27,6 @@ abbrev pub ReturnsOwn : Option Command → Meaning → Meaning → ℕ → Type 
 ReturnsOwn None old new status = ⊤
 ReturnsOwn (Some (Code coding input output)) old new status = ⊤
 ReturnsOwn (Some (Modulate settings hp lp cells)) old new status = ⊤
+ReturnsOwn (Some (Trial settings number)) old new status = ⊤
 ReturnsOwn (Some (Receive settings cells hp lp)) old new status =
     status ≡ 0 → old.tells ≡ true → IsSomeAnd (settings_of (old.file settings)) (λ s. Returns s (old.file cells) new)

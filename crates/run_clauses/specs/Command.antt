@@ -6,6 +6,7 @@ use Rattle.station_core.specs.declared.ports.InPort.{InPort}
 use Rattle.station_core.specs.declared.ports.InPort.TheVariants as ins
 use Rattle.station_core.specs.declared.ports.OutPort.{OutPort}
 use Rattle.station_core.specs.declared.ports.OutPort.TheVariants as outs
+use Rattle.run_clauses.specs.Number.{number_of}
 
 -- what is made of the packets of a transport file
 pub data Coding : Type 0 where
@@ -24,6 +25,8 @@ pub data Command : Type 0 where
   Modulate : List ℕ → List ℕ → Option (List ℕ) → List ℕ → Command
   -- receive SETTINGS CELLS HP, receive SETTINGS CELLS HP LP
   Receive : List ℕ → List ℕ → List ℕ → Option (List ℕ) → Command
+  -- trial SETTINGS NUMBER
+  Trial : List ℕ → ℕ → Command
 
 -- the coding that is named by one word
 abbrev pub coding_of : List ℕ → Option Coding
@@ -31,7 +34,8 @@ coding_of name = if bytes_eq name (codes "disperse") then Some Disperse else if 
 
 -- the command that the words spell, if they are of a form
 abbrev pub command_of : List (List ℕ) → Option Command
-command_of (name ∷ input ∷ output ∷ []) = option_map (λ coding. Code coding input output) (coding_of name)
+command_of (name ∷ first ∷ second ∷ []) = if bytes_eq name (codes "trial") then option_map (λ number. Trial first number) (number_of second)
+    else option_map (λ coding. Code coding first second) (coding_of name)
 command_of (name ∷ settings ∷ input ∷ output ∷ []) = if bytes_eq name (codes "inner") then Some (Code (Inner settings) input output)
     else if bytes_eq name (codes "modulate") then Some (Modulate settings input None output)
     else if bytes_eq name (codes "receive") then Some (Receive settings input output None) else None
@@ -46,6 +50,7 @@ TakesMemory (Code Outer input output) = ⊤
 TakesMemory (Code (Inner settings) input output) = ⊤
 TakesMemory (Modulate settings hp lp cells) = ⊤
 TakesMemory (Receive settings cells hp lp) = ⊤
+TakesMemory (Trial settings number) = ⊤
 
 -- the name of the file that a command reads at a port, if it reads there
 abbrev pub source_name : Command → InPort → Option (List ℕ)
@@ -63,6 +68,10 @@ source_name (Receive settings cells hp lp) ins.Settings = Some settings
 source_name (Receive settings cells hp lp) ins.Hp = None
 source_name (Receive settings cells hp lp) ins.Lp = None
 source_name (Receive settings cells hp lp) ins.Cells = Some cells
+source_name (Trial settings number) ins.Settings = Some settings
+source_name (Trial settings number) ins.Hp = None
+source_name (Trial settings number) ins.Lp = None
+source_name (Trial settings number) ins.Cells = None
 
 -- the name of the file that a command writes at a port, if it writes there
 abbrev pub sink_name : Command → OutPort → Option (List ℕ)
@@ -81,3 +90,4 @@ sink_name (Receive settings cells hp lp) outs.Hp = Some hp
 sink_name (Receive settings cells hp lp) outs.Lp = lp
 sink_name (Receive settings cells hp lp) outs.Bytes = None
 sink_name (Receive settings cells hp lp) outs.Report = None
+sink_name (Trial settings number) port = None

@@ -1,4 +1,5 @@
 pub mod Command
+pub mod Number
 pub mod Packets
 pub mod SettingsFile
 pub mod StatedSettings
@@ -6,5 +7,6 @@ pub mod InnerBytes
 pub mod Text
 pub mod Modulation
 pub mod ReceivedCells
+pub mod TrialReport
 pub mod Outcome
 pub mod Runs

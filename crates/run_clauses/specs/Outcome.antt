@@ -10,13 +10,14 @@ use Rattle.run_clauses.specs.declared.work.Refusal.TheVariants.{Usage, ReadFault
 use Rattle.mode_set.specs.declared.modes.Rate.{Rate}
 use Rattle.mode_set.specs.declared.settings.Settings.{Settings}
 use Rattle.outer_chain.specs.Sent.{sent_bytes}
-use Rattle.run_clauses.specs.Command.{Command, Coding, Disperse, Outer, Inner, Code, Modulate, Receive}
+use Rattle.run_clauses.specs.Command.{Command, Coding, Disperse, Outer, Inner, Code, Modulate, Receive, Trial}
 use Rattle.run_clauses.specs.InnerBytes.{inner_bytes, filled_inner_bytes}
 use Rattle.run_clauses.specs.SettingsFile.{settings_refusal, rate_hp_of}
 use Rattle.run_clauses.specs.Packets.{whole_packets, accepted, first_packets, dispersed_packets, counts_of}
 use Rattle.run_clauses.specs.StatedSettings.{settings_of}
 use Rattle.run_clauses.specs.Modulation.{HoldsSymbolsSoFar, cells_sent, files_of, form_refusal, inputs_of, modulation_refusal, transmission_counts, transmission_lines}
 use Rattle.run_clauses.specs.ReceivedCells.{Received, ReceivedSoFar, packets_at, reception_lines, reception_refusal, within_limit}
+use Rattle.run_clauses.specs.TrialReport.{OfTrial, trial_refusal}
 use Rattle.run_clauses.specs.Text.{closing_line, refusal_text, text_if_refused}
 use Rattle.reception.specs.Cells.{symbol_length}
 use Rattle.reception.specs.Streams.{Reception}
@@ -56,12 +57,14 @@ early_refusal file (Code Outer input output) = None
 early_refusal file (Code (Inner settings) input output) = settings_refusal (file settings)
 early_refusal file (Modulate settings hp lp cells) = option_or (settings_refusal (file settings)) (form_refusal (settings_of (file settings)) lp)
 early_refusal file (Receive settings cells hp lp) = option_or (settings_refusal (file settings)) (form_refusal (settings_of (file settings)) lp)
+early_refusal file (Trial settings number) = settings_refusal (file settings)
 
 -- the refusal of the work itself
 abbrev pub work_refusal : ℕ → (List ℕ → List ℕ) → Command → Option Refusal
 work_refusal limit file (Code coding input output) = packet_refusal limit (file input)
 work_refusal limit file (Modulate settings hp lp cells) = option_and_then (λ s. modulation_refusal s limit (inputs_of (files_of file hp lp))) (settings_of (file settings))
 work_refusal limit file (Receive settings cells hp lp) = option_and_then (λ s. reception_refusal s (file cells)) (settings_of (file settings))
+work_refusal limit file (Trial settings number) = option_and_then trial_refusal (settings_of (file settings))
 
 -- the refusal that a run comes to where nothing fails, if it is refused: that of the settings before that of the work
 abbrev pub refusal_of : ℕ → (List ℕ → List ℕ) → Command → Option Refusal
@@ -84,6 +87,7 @@ OfOutput limit file (Code coding input output) port Fact = Fact (output_of limit
 OfOutput limit file (Modulate settings hp lp cells) port Fact = Fact (output_of limit file (Modulate settings hp lp cells) port)
 OfOutput limit file (Receive settings cells hp lp) port Fact =
     IsSomeAnd (settings_of (file settings)) (λ s. (r : Reception) × Received s (file cells) r × Fact (packets_at port r))
+OfOutput limit file (Trial settings number) port Fact = Fact []
 
 -- the whole packets of HP that a coding has taken, `new` being what the station stands for then
 abbrev pub packets_taken : List ℕ → Meaning → ℕ
@@ -98,6 +102,7 @@ HoldsSoFar limit file new (Modulate settings hp lp cells) port =
     IfSome (settings_of (file settings)) (λ s. HoldsSymbolsSoFar s limit (files_of file hp lp) new (sink_at port new).written)
 HoldsSoFar limit file new (Receive settings cells hp lp) port =
     IsSomeAnd (settings_of (file settings)) (λ s. (r : Reception) × ReceivedSoFar s (file cells) new.cells.left r × ((sink_at port new).written ≡ packets_at port r))
+HoldsSoFar limit file new (Trial settings number) port = (sink_at port new).written ≡ []
 
 -- Of the cells a reception takes no more bytes than those of the limit's symbols and one symbol more, of
 -- which `left` are left.
@@ -106,19 +111,23 @@ TakesFewCells file (Code coding input output) left = ⊤
 TakesFewCells file (Modulate settings hp lp cells) left = ⊤
 TakesFewCells file (Receive settings cells hp lp) left =
     IsSomeAnd (settings_of (file settings)) (λ s. (k : ℕ) × (k ≤ (s.max_symbols + 1) * symbol_length s) × (left ≡ drop k (file cells)))
+TakesFewCells file (Trial settings number) left = ⊤
 
 -- the closing lines of a coding or a modulation
 abbrev pub lines_of : (List ℕ → List ℕ) → Command → List ℕ
 lines_of file (Code coding input output) = closing_line (counts_of (file input))
 lines_of file (Modulate settings hp lp cells) = for_settings (settings_of (file settings)) (λ s. transmission_lines (is_some lp) (transmission_counts s (files_of file hp lp)))
 lines_of file (Receive settings cells hp lp) = []
+lines_of file (Trial settings number) = []
 
--- This is so of the lines that the command comes to: of a reception, of its event lines and closing lines.
+-- This is so of the lines that the command comes to: of a reception, of its event lines and closing lines; of a
+-- trial, of its closing lines.
 abbrev pub OfLines : (List ℕ → List ℕ) → Command → (List ℕ → Type 0) → Type 0
 OfLines file (Code coding input output) Fact = Fact (lines_of file (Code coding input output))
 OfLines file (Modulate settings hp lp cells) Fact = Fact (lines_of file (Modulate settings hp lp cells))
 OfLines file (Receive settings cells hp lp) Fact =
     IsSomeAnd (settings_of (file settings)) (λ s. (r : Reception) × Received s (file cells) r × Fact (reception_lines s (file cells) r))
+OfLines file (Trial settings number) Fact = IsSomeAnd (settings_of (file settings)) (λ s. OfTrial s number Fact)
 
 -- the text of a run that was refused: a fault of the outside, want of memory, or else what the files come to
 abbrev pub text_of : ℕ → Option Command → (List ℕ → List ℕ) → ℕ → List ℕ
@@ -144,3 +153,4 @@ OfText limit (Some (Modulate settings hp lp cells)) file new status Fact = Fact 
 OfText limit (Some (Receive settings cells hp lp)) file new status Fact =
     (events : List ℕ) × HasEvents new.hp_out.created (status == 5) file new settings cells events
     × Fact (events ++ text_of limit (Some (Receive settings cells hp lp)) file status)
+OfText limit (Some (Trial settings number)) file new status Fact = Fact (text_of limit (Some (Trial settings number)) file status)

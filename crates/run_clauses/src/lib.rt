@@ -9,5 +9,8 @@
 mod text;
 mod work;
 
-pub use text::{Line, closing_line_of, packets_line_of, super_frames_line_of, text_of};
+pub use text::{
+    Line, cells_line_of, closing_line_of, packets_line_of, return_line_of, super_frames_line_of,
+    text_of,
+};
 pub use work::{Counts, Limits, Refusal, SettingsRefusal, TransmissionCounts};

@@ -4,11 +4,13 @@ ghost use Rattle.mode_set.specs.Keys.{key_text};
 ghost use Rattle.arrayvec.specs.ArrayString.{array_string_len};
 ghost use Rattle.run_clauses.specs.Text.{refusal_text, settings_text, closing_line, stream_text};
 ghost use Rattle.run_clauses.specs.Modulation.{packets_line, super_frames_line};
+ghost use Rattle.run_clauses.specs.TrialReport.{cells_line, return_line};
 
 use crate::{Counts, Refusal, SettingsRefusal};
 use arrayvec::ArrayString;
 use itoa::Buffer;
 use mode_set::{Key, Stream};
+use trial::{StreamReturn, TrialCounts};
 
 /// A line of the report.
 pub type Line = ArrayString<256>;
@@ -121,6 +123,33 @@ pub fn super_frames_line_of(super_frames: u64) -> Line
     let mut line = Line::new();
     line.push_str("superframes ");
     push_number(&mut line, super_frames);
+    line.push_str("\n");
+    line
+}
+
+/// The closing line of the cells that a trial has fed.
+pub fn cells_line_of(counts: &TrialCounts) -> Line
+    ensures { result.bytes ≡ cells_line counts.now }
+{
+    let mut line = Line::new();
+    line.push_str("cells ");
+    push_number(&mut line, u64::from(counts.cells));
+    line.push_str("\n");
+    line
+}
+
+/// The closing line of what came back of a stream in a trial.
+pub fn return_line_of(stream: Stream, counts: &StreamReturn) -> Line
+    ensures { result.bytes ≡ return_line stream counts.now }
+{
+    let mut line = Line::new();
+    line.push_str(name_of(stream));
+    line.push_str(" packets ");
+    push_number(&mut line, u64::from(counts.packets));
+    line.push_str(" back ");
+    push_number(&mut line, counts.back);
+    line.push_str(" sum ");
+    push_number(&mut line, u64::from(counts.sum));
     line.push_str("\n");
     line
 }

@@ -13,7 +13,7 @@ use Rattle.station_core.specs.declared.ports.OutPort.TheVariants as outs
 use Rattle.run_clauses.specs.declared.work.Refusal.{Refusal}
 use Rattle.run_clauses.specs.declared.work.SettingsRefusal.{SettingsRefusal}
 use Rattle.run_clauses.specs.declared.work.Refusal.TheVariants.{Usage, Settings, ReadFault, WriteFault, NotSync, Memory, Limit}
-use Rattle.run_clauses.specs.Command.{Command, Code, Modulate, Receive, TakesMemory, source_name, sink_name}
+use Rattle.run_clauses.specs.Command.{Command, Code, Modulate, Receive, Trial, TakesMemory, source_name, sink_name}
 use Rattle.run_clauses.specs.SettingsFile.{settings_refusal}
 use Rattle.run_clauses.specs.Text.{refusal_text, refusal_status, status_of, text_if_refused}
 use Rattle.run_clauses.specs.Outcome.{early_refusal, work_refusal, refusal_of, text_of, OfText, HasEvents}
@@ -51,6 +51,7 @@ pub of_text : (limit : ℕ) (file : List ℕ → List ℕ) (new : Meaning) (c : 
     → (status : ℕ) (Fact : List ℕ → Type 0) → Fact (text_of limit (Some c) file status) → OfText limit (Some c) file new status Fact
 of_text limit file new (Code coding input output) unmade status Fact is = is
 of_text limit file new (Modulate settings hp lp cells) unmade status Fact is = is
+of_text limit file new (Trial settings number) unmade status Fact is = is
 of_text limit file new (Receive settings cells hp lp) unmade status Fact is = ([], none new.hp_out.created unmade, is)
   where
     none : (made : Bool) → made ≡ false → HasEvents made (status == 5) file new settings cells []

@@ -2,3 +2,4 @@ pub mod Pieces
 pub mod Station_laws
 pub mod SettingsAnswer
 pub mod Early
+pub mod ReportLines

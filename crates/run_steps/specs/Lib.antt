@@ -1,4 +1,5 @@
 pub mod Causes
+pub mod Lines
 pub mod Reading
 pub mod Report
 pub mod SettingsStep

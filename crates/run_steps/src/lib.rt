@@ -1,11 +1,13 @@
 //! Steps over a station that the commands share: reading into a buffer ([`fill`]), the settings
-//! ([`read_settings`]), and the end of a refused run ([`refuse`]).
+//! ([`read_settings`]), a line of the report ([`write_line`]), and the end of a refused run ([`refuse`]).
 #![tactic(auto)]
 
+mod lines;
 mod read;
 mod refusing;
 mod settings_step;
 
+pub use lines::write_line;
 pub use read::fill;
 pub use refusing::refuse;
 pub use settings_step::read_settings;

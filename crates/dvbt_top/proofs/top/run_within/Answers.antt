@@ -35,3 +35,10 @@ returns-in-Some-Receive-clause-returns g c =
     let new : Meaning = g.S.Station.meaning c.receive.new.station in
     subst (λ (x : Option Command). ReturnsOwn x old new c.receive.result)
     (ap (λ (f : Form). Some (command f)) (sym c.in-Some-Receive.field-0-is) ∙ c.in-Some-Receive.ensures) c.receive.ensures.returns
+
+pub returns-in-Some-Trial-clause-complete : goal.returns-in-Some-Trial-clause-complete
+returns-in-Some-Trial-clause-complete g c =
+    let old : Meaning = g.S.Station.meaning c.args.station.now in
+    let new : Meaning = g.S.Station.meaning c.trial.new.station in
+    subst (λ (x : Option Command). IfSome x (λ ordered. IsComplete c.args.limits.packets ordered old new c.trial.result))
+    (ap (λ (f : Form). Some (command f)) (sym c.in-Some-Trial.field-0-is) ∙ c.in-Some-Trial.ensures) c.trial.ensures.complete

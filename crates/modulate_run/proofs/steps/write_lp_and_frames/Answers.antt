@@ -2,8 +2,8 @@ use Rattle.std.proofs.Common.{List, ℕ, if◌then◌else◌, [], Result, subst}
 use Rattle.station_core.specs.Meaning.{Meaning}
 use Rattle.mode_set.specs.declared.modes.Stream.TheVariants.{Lp}
 use Rattle.run_clauses.specs.Modulation.{packets_line, super_frames_line}
-use Rattle.modulate_run.specs.Reporting.{WritesLines}
-use Rattle.modulate_run.proofs.Lines.{writes_then, writes_stopped}
+use Rattle.run_steps.specs.Lines.{WritesLines}
+use Rattle.run_steps.proofs.ReportLines.{writes_then, writes_stopped}
 use Rattle.modulate_run.proofs.steps.write_lp_and_frames.Goals as goal
 
 pub returns-in-Ok-clause-writes : goal.returns-in-Ok-clause-writes

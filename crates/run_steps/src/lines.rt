@@ -1,0 +1,21 @@
+// A line of the report.
+ghost use Rattle.std.specs.Prelude.{◌≡◌, true, false};
+ghost use Rattle.run_steps.specs.Causes.{HasCause};
+ghost use Rattle.run_steps.specs.Lines.{IsWriting, WritesLines};
+
+use run_clauses::{Line, Refusal};
+use station_core::{OutPort, Station};
+
+/// Writes a line to Report, by one write. The only refusal is that it has failed.
+pub fn write_line<'a, S: Station<'a>>(line: &Line, station: &mut S) -> Result<(), Refusal>
+    requires created { (S.meaning station.old).report.created ≡ true }
+    requires report_open { (S.meaning station.old).report.closed ≡ false }
+    ensures cause { HasCause (S.meaning station.old) (S.meaning station.new) result }
+    ensures kind { IsWriting result }
+    ensures writes { WritesLines line.now.bytes (S.meaning station.old) (S.meaning station.new) result }
+{
+    match station.write(OutPort::Report, line.as_str().as_bytes()) {
+        Ok(()) => Ok(()),
+        Err(_) => Err(Refusal::WriteFault),
+    }
+}

@@ -1,0 +1,4 @@
+pub mod Running
+pub mod Clauses
+pub mod Asking
+pub mod WholeRun

@@ -1,0 +1,88 @@
+// The command.
+ghost use Rattle.std.specs.Prelude.{◌≡◌, true, Some};
+ghost use Rattle.station_core.specs.Meaning.{IsFresh};
+ghost use Rattle.trial.specs.Outcome.{at_zero};
+ghost use Rattle.run_clauses.specs.Command.{Trial};
+ghost use Rattle.run_clauses.specs.Runs.{IsDone, HasStatus, AsksOnly, Stands, IsComplete};
+ghost use Rattle.trial_run.specs.Steps.{IsReady, RunsOrLacks};
+
+use crate::run::run_trial;
+use crate::trials::TrialWithThreads;
+use mode_set::{Carriers, Mode, Mode2k, Mode8k, Settings, Start};
+use run_clauses::{Limits, Refusal};
+use run_steps::{read_settings, refuse};
+use station_core::Station;
+use std::alloc::Global;
+use std::thread::Threads;
+
+// The settings of a trial: its receiver starts at zero, whatever they say.
+fn from_zero(settings: &Settings) -> Settings
+    ensures { result ≡ at_zero settings.now }
+{
+    let mut zero = *settings;
+    zero.start = Start::Zero;
+    zero
+}
+
+// Takes the memory of a mode's trial, and runs it.
+fn trial_in<'a, M: Carriers, R: Threads + Sync, S: Station<'a>>(
+    rt: &R,
+    alloc: Global,
+    settings: &Settings,
+    number: u32,
+    station: &mut S,
+) -> u8
+    requires mode { settings.now.mode ≡ M.MODE }
+    requires ready { IsReady (S.meaning station.old) }
+    ensures { RunsOrLacks settings.now number (S.meaning station.old) (S.meaning station.new) result }
+{
+    match TrialWithThreads::<R, M>::new(rt, alloc, settings, number) {
+        Ok(trial) => run_trial(settings.max_symbols, trial, station),
+        Err(_) => refuse(&Refusal::Memory, station),
+    }
+}
+
+// The same in the mode that is set, from zero.
+fn trial_accepted<'a, R: Threads + Sync, S: Station<'a>>(
+    rt: &R,
+    alloc: Global,
+    settings: &Settings,
+    number: u32,
+    station: &mut S,
+) -> u8
+    requires ready { IsReady (S.meaning station.old) }
+    ensures { RunsOrLacks (at_zero settings.now) number (S.meaning station.old) (S.meaning station.new) result }
+{
+    let zero = from_zero(settings);
+    match zero.mode {
+        Mode::M2k => trial_in::<Mode2k, R, S>(rt, alloc, &zero, number, station),
+        Mode::M8k => trial_in::<Mode8k, R, S>(rt, alloc, &zero, number, station),
+    }
+}
+
+/// Runs `trial SETTINGS NUMBER` and gives its status.
+///
+/// The settings are read and checked, and then all memory is taken. Settings that allow fewer than 272
+/// symbols, which is one super-frame, are refused. No port but Settings is asked. The limits of packets do
+/// not bound a trial.
+pub fn trial<'a, R: Threads + Sync, S: Station<'a>>(
+    rt: &R,
+    alloc: Global,
+    settings: &'a str,
+    number: u32,
+    limits: &Limits,
+    station: &mut S,
+) -> u8
+    requires fresh { IsFresh (S.meaning station.old) }
+    ensures done { result ≡ 0 → (S.meaning station.old).tells ≡ true
+        → IsDone limits.now.packets (Trial settings.now number) (S.meaning station.old) (S.meaning station.new) }
+    ensures status { HasStatus limits.now.packets (Some (Trial settings.now number)) (S.meaning station.old) (S.meaning station.new) result }
+    ensures asks { AsksOnly (Some (Trial settings.now number)) (S.meaning station.old) (S.meaning station.new) result }
+    ensures stands { Stands limits.now.packets (Some (Trial settings.now number)) (S.meaning station.old) (S.meaning station.new) result }
+    ensures complete { IsComplete limits.now.packets (Trial settings.now number) (S.meaning station.old) (S.meaning station.new) result }
+{
+    match read_settings(alloc, settings, station) {
+        Ok(accepted) => trial_accepted(rt, alloc, &accepted, number, station),
+        Err(refusal) => refuse(&refusal, station),
+    }
+}

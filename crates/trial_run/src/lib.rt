@@ -1,0 +1,14 @@
+//! The command [`trial`]: packets are drawn from a number, modulated, disturbed and received, and what
+//! comes back is counted.
+//!
+//! The settings are read, and then all memory is taken. The command asks no other port: it writes closing
+//! lines to Report alone. The call carries the five clauses of a run.
+#![tactic(auto)]
+
+mod command;
+mod lines;
+mod run;
+mod trials;
+mod whole_trial;
+
+pub use command::trial;
