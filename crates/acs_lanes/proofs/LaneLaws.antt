@@ -341,3 +341,14 @@ lanes_joined pair old first last after before waiting new wa wb wc wd low high f
   where
     at : (xs : List ℕ) (m n : ℕ) → m ≡ n → slice_index xs m ≡ slice_index xs n
     at xs m n e = ap (slice_index xs) e
+
+-- where all states are alive and small nothing is to be settled, and all are alive after a step
+pub ready_settled : (sums : Sums) → IsReady sums → IsSettled sums sums 0
+ready_settled sums r = record {
+  lives = λ n l t. omega arith;
+  small = λ n l t. r.small n l;
+  dead = λ n l f. absurd (true≢false (sym (r.lives n l) ∙ f));
+}
+
+pub all_stay : (sums : Sums) → IsReady sums → (n : ℕ) → n < 64 → is_set sums.alive n ≡ (alive sums (even_of n) || alive sums (odd_of n))
+all_stay sums r n l = r.lives n l ∙ sym (ap (λ b. b || alive sums (odd_of n)) (r.lives (even_of n) (omega arith)))

@@ -3,9 +3,10 @@ ghost use Rattle.std.specs.Prelude.{◌≡◌, ◌≤◌, ◌<◌, ◌+◌, ◌*
 ghost use Rattle.std.specs.Bool.{nat_lt};
 ghost use Rattle.spec_words.specs.Bits.{is_set};
 ghost use Rattle.code_paths.specs.declared.costs.CostPair.{CostPair as Pair};
+ghost use Rattle.acs_plain.specs.Steps.{Close, IsStep, SomeAlive};
 ghost use Rattle.acs_lanes.specs.Lanes.{AreLess, AreStepCosts, AreTaken, IsHalfStep, IsLaneStep, four};
 
-use crate::settle::settle;
+use crate::settle::{is_ready, settle};
 use acs_plain::{Acs, Sums};
 use conv_code::CostPair;
 use std::simd::cmp::{SimdOrd, SimdPartialEq};
@@ -168,15 +169,30 @@ fn step_lanes(cost: &mut [u32; 64], pair: CostPair) -> (u64, u64)
     (joined(low, last_low), joined(high, last_high))
 }
 
+/// The step from sums that are large, or of which some are not alive.
+// Most steps need it not, and what is rare stays out of their way.
+#[inline(never)]
+fn step_settled(sums: &mut Sums, pair: CostPair) -> u64
+    requires some { SomeAlive sums.old }
+    requires close { Close 131072 sums.old }
+    ensures step { IsStep sums.old pair sums.new result }
+{
+    let _low = settle(sums);
+    let (low, high) = step_lanes(&mut sums.cost, pair);
+    sums.alive = sums.followers();
+    low | high << 32
+}
+
 /// The step over vectors of 16 lanes.
 #[derive(Debug, Drop)]
 pub struct LaneAcs;
 
 impl Acs for LaneAcs {
     fn step(sums: &mut Sums, pair: CostPair) -> u64 {
-        let _low = settle(sums);
+        if !is_ready(sums) {
+            return step_settled(sums, pair);
+        }
         let (low, high) = step_lanes(&mut sums.cost, pair);
-        sums.alive = sums.followers();
         low | high << 32
     }
 }

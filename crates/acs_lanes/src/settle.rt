@@ -6,7 +6,7 @@ ghost use Rattle.acs_lanes.specs.Lanes.{IsReady, IsSettled, far};
 use acs_plain::Sums;
 
 /// Are all states alive, and the sums far from leaving 32 bits?
-fn is_ready(sums: &Sums) -> bool
+pub(crate) fn is_ready(sums: &Sums) -> bool
     requires close { Close 131072 sums.now }
     ensures ready { IsTrue result → IsReady sums.now }
 {
@@ -48,9 +48,6 @@ pub(crate) fn settle(sums: &mut Sums) -> u32
     ensures settled { IsSettled sums.old sums.new result }
     ensures alive { sums.new.alive ≡ sums.old.alive }
 {
-    if is_ready(sums) {
-        return 0;
-    }
     let low = sums.least();
     sums.cost = all_relative(sums, low);
     low

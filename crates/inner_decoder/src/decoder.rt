@@ -204,7 +204,7 @@ mod tests {
             StartState::Zero,
             3,
         )?;
-        branch.load(tied());
+        branch.load_all(&[tied()]);
         branch.load(tied());
         assert_eq!(rt; branch.loaded(), 2);
         branch.run_symbol();

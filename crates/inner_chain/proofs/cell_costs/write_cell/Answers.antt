@@ -1,4 +1,4 @@
-use Rattle.std.proofs.Common.{◌≡◌, sym, subst, arith}
+use Rattle.std.proofs.Common.{◌≡◌, subst, arith}
 use Rattle.inner_chain.specs.CostTables.{IsWritten}
 use Rattle.inner_chain.proofs.CostReading.{written_none}
 use Rattle.inner_chain.proofs.cell_costs.write_cell.Goals as goal
