@@ -2,3 +2,4 @@ mod Voting
 mod Pending
 mod Stepping
 mod Feeding
+mod Symbols

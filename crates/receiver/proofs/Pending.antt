@@ -188,33 +188,6 @@ pub record CollectsTo (before : BranchState) (outer : Receiver) (room k : ℕ) (
   pub same : capacity ≡ room
   pub collected : (bytes given : List ℕ) (tally : Tally) → Finished outer bytes given tally (word_count bytes) → Collected before.wait bytes given tally (word_count bytes) k new after.wait slots
 
--- the first slots are decoded
-pub record DecodesTo (i : ℕ) (old new : List WordSlot) : Type 0 where
-  pub long : length new ≡ length old
-  pub below : (k : ℕ) (d : WordSlot) → k < i → Decoded (get_or old k d).word (get_or new k d).word (get_or new k d).outcome
-  pub above : (k : ℕ) (d : WordSlot) → i ≤ k → get_or new k d ≡ get_or old k d
-
-pub decodes_none : (slots : List WordSlot) → DecodesTo 0 slots slots
-decodes_none slots = record { long = refl; below = λ k d l. absurd (omega (arith, l)); above = λ k d l. refl }
-
-pub decodes_more : (i : ℕ) (old new : List WordSlot) (was now : WordSlot) → i < length old → was ≡ get_or new i was → Decoded was.word now.word now.outcome → DecodesTo i old new → DecodesTo (i + 1) old (set new i now)
-decodes_more i old new was now l is d h = record {
-  long = length-set new i now ∙ h.long;
-  below = λ k e m. go k e m (cases_lt k i);
-  above = λ k e m. get_or-set_other new i k now e (λ q. absurd (omega (arith, m, q))) ∙ h.above k e (omega (arith, m));
-}
-  where
-    go : (k : ℕ) (e : WordSlot) → k < i + 1 → (k < i) ⊎ (i ≤ k) → Decoded (get_or old k e).word (get_or (set new i now) k e).word (get_or (set new i now) k e).outcome
-    go k e m (inl s) = subst (λ (z : WordSlot). Decoded (get_or old k e).word z.word z.outcome) (sym (get_or-set_other new i k now e (λ q. absurd (omega (arith, s, q))))) (h.below k e s)
-    go k e m (inr s) =
-        let here : i ≡ k = omega (arith, m, s) in
-        let first : was ≡ get_or old i e = is ∙ get_or_default new i was e (omega (arith, l, h.long)) ∙ h.above i e (omega arith) in
-        subst (λ j. Decoded (get_or old j e).word (get_or (set new i now) j e).word (get_or (set new i now) j e).outcome) here
-        (subst (λ (z : WordSlot). Decoded (get_or old i e).word z.word z.outcome) (sym (get_or-set_same new i now e (omega (arith, l, h.long)))) (subst (λ (z : WordSlot). Decoded z.word now.word now.outcome) first d))
-
-pub decodes_all : (i : ℕ) (old new : List WordSlot) → length old ≤ i → DecodesTo i old new → DecodesAll old new
-decodes_all i old new l h = record { long = h.long; each = λ k d m. h.below k d (omega (arith, l, m)) }
-
 -- the first slots are finished
 pub record WritesTo (i : ℕ) (slots : List WordSlot) (old new : Receiver) (before after : StreamCounts) (to more : List ℕ) (len more_len room capacity : ℕ) : Type 0 where
   pub same : capacity ≡ room

@@ -16,6 +16,14 @@ pub record IsReady (x : StreamRx) : Type 0 where
   pub slots : 24 ≤ vec_capacity x.slots
   pub started : Started x.outer
 
+-- a stream whose decoder has run a symbol: no pair is loaded, and all words but those of the bits that wait are finished
+pub record MayGive (x : StreamRx) : Type 0 where
+  pub going : x.branch.decoder.ended ≡ false
+  pub loaded : x.branch.loaded ≡ []
+  pub none : x.slots.items ≡ []
+  pub slots : 24 ≤ vec_capacity x.slots
+  pub started : Started x.outer
+
 -- a stream after so many symbols of so many steps each, before it has ended
 pub record IsKeptStream (x : StreamRx) (steps taken : ℕ) : Type 0 where
   pub ready : IsReady x

@@ -26,6 +26,7 @@ use rx_report::{Counts, StreamCounts};
 use std::alloc::{AllocError, Global};
 use std::marker::Model;
 use std::thread::Threads;
+use word_workers::{Gate, OpenGate};
 
 // The start of the decoders.
 fn start_state(start: Start) -> StartState
@@ -116,7 +117,27 @@ impl<M: Carriers> Receiver<M> {
     /// how many. `out` has then exactly what became defined by them.
     ///
     /// Fewer than 2^32 symbols were received so far, and the receiver has not ended.
-    pub fn feed<R: Threads + Sync>(&mut self, _rt: &R, piece: &[u8], out: &mut RxOut) -> usize
+    pub fn feed<R: Threads + Sync>(&mut self, rt: &R, piece: &[u8], out: &mut RxOut) -> usize
+        requires going { self.old.ended ≡ false }
+        requires few { self.old.taken < 2 ^ 32 }
+        ensures settings { self.new.settings ≡ self.old.settings }
+        ensures going { self.new.ended ≡ false }
+        ensures count { result ≡ min (length piece.now) (4 * M.K - length self.old.rest) }
+        ensures taken { self.new.taken ≤ self.old.taken + 1 }
+        ensures fed { (bytes : List ℕ) (r : Reception) → StandsFor so_far self.old bytes r → Feeds (StandsFor so_far self.new) self.old.settings bytes piece.now r result out.new }
+    {
+        self.feed_gated(rt, &OpenGate, piece, out)
+    }
+
+    /// Does what `feed` does, for every gate: the workers that decode the outer words of a symbol, and the
+    /// inner decoders of two streams, enter it.
+    pub fn feed_gated<R: Threads + Sync, G: Gate>(
+        &mut self,
+        rt: &R,
+        gate: &G,
+        piece: &[u8],
+        out: &mut RxOut,
+    ) -> usize
         requires going { self.old.ended ≡ false }
         requires few { self.old.taken < 2 ^ 32 }
         ensures settings { self.new.settings ≡ self.old.settings }
@@ -136,6 +157,8 @@ impl<M: Carriers> Receiver<M> {
             return count;
         }
         self.streams.take(
+            rt,
+            gate,
             &self.settings,
             self.taken,
             self.input.cells(),
@@ -151,7 +174,7 @@ impl<M: Carriers> Receiver<M> {
     /// Ends the reception: `out` has then the rest of the packets.
     ///
     /// The receiver has not ended.
-    pub fn finish<R: Threads + Sync>(&mut self, _rt: &R, out: &mut RxOut)
+    pub fn finish<R: Threads + Sync>(&mut self, rt: &R, out: &mut RxOut)
         requires going { self.old.ended ≡ false }
         ensures settings { self.new.settings ≡ self.old.settings }
         ensures ended { self.new.ended ≡ true }
@@ -161,8 +184,9 @@ impl<M: Carriers> Receiver<M> {
         outer_chain::laws::bits();
         outer_chain::laws::receiving();
         out.clear();
-        self.streams.hp.finish(&mut out.hp);
-        self.streams.lp.finish(&mut out.lp);
+        let workers = self.settings.workers;
+        self.streams.hp.finish(rt, workers, &mut out.hp);
+        self.streams.lp.finish(rt, workers, &mut out.lp);
         self.ended = true;
     }
 

@@ -3,14 +3,16 @@ ghost use Rattle.std.specs.Prelude.{◌≡◌, ◌+◌, ◌<◌, ◌≤◌, ◌^
 ghost use Rattle.std.specs.declared.option.Option.{Option};
 ghost use Rattle.code_paths.specs.declared.costs.CostPair.{CostPair as Pair};
 ghost use Rattle.inner_decoder.specs.Events.{ats};
+ghost use Rattle.inner_decoder.specs.Running.{BranchState};
 ghost use Rattle.inner_decoder.specs.Starts.{start_of};
+ghost use Rattle.word_workers.specs.Symbols.{MayRun, HasRun};
 ghost use Rattle.outer_chain.specs.Words.{Tally, word_count};
 ghost use Rattle.outer_chain.specs.Running.{Finished, no_words};
 ghost use Rattle.reception.specs.Streams.{so_far, at_end};
 ghost use Rattle.reception.specs.Lines.{event_at, stream_counts};
 ghost use Rattle.receiver.specs.Words.{Started, Gives, AreFew};
 ghost use Rattle.receiver.specs.Standing.{StreamStands, StreamGave};
-ghost use Rattle.receiver.specs.Ready.{IsReady, seen};
+ghost use Rattle.receiver.specs.Ready.{IsReady, MayGive, seen};
 
 use crate::words::{StreamBranch, WORDS, collect, decode, finish_words};
 use conv_code::CostPair;
@@ -19,6 +21,8 @@ use mode_set::Stream;
 use outer_chain::{OuterRx, WordSlot};
 use rx_report::{Event, StreamCounts};
 use std::alloc::{AllocError, Global};
+use std::thread::Threads;
+use word_workers::{Gate, OpenGate, both};
 
 /// The decoder of one stream, and what becomes of the bits that it gives: bytes, words, packets and counts.
 #[derive(Drop)]
@@ -45,7 +49,7 @@ fn no_counts() -> StreamCounts
 }
 
 /// Loads the pairs of a symbol.
-fn load(branch: &mut StreamBranch, pairs: &[CostPair])
+pub(crate) fn load(branch: &mut StreamBranch, pairs: &[CostPair])
     requires going { branch.old.decoder.ended ≡ false }
     requires none { branch.old.loaded ≡ [] }
     requires room { length pairs.now ≤ branch.old.most }
@@ -53,6 +57,27 @@ fn load(branch: &mut StreamBranch, pairs: &[CostPair])
 {
     for pair in pairs {
         branch.load(*pair);
+    }
+}
+
+/// Runs a symbol of both decoders, side by side where there are two streams.
+pub(crate) fn run_branches<R: Threads + Sync, G: Gate>(
+    rt: &R,
+    gate: &G,
+    two: bool,
+    hp: &mut StreamBranch,
+    lp: &mut StreamBranch,
+)
+    requires hp { MayRun hp.old }
+    requires lp { MayRun lp.old }
+    ensures hp { HasRun hp.old hp.new }
+    ensures lp { HasRun lp.old lp.new }
+{
+    if two {
+        both(rt, gate, hp, lp);
+    } else {
+        hp.run_symbol();
+        lp.run_symbol();
     }
 }
 
@@ -92,7 +117,9 @@ impl StreamRx {
 
     /// Takes the whole bytes of the bits that wait, decodes the words that end with them, and appends
     /// their packets.
-    fn give(&mut self, to: &mut Vec<u8>)
+    fn give<R: Threads + Sync, G: Gate>(&mut self, rt: &R, gate: &G, workers: u8, to: &mut Vec<u8>)
+        requires some_worker { 1 ≤ workers }
+        requires few_workers { workers ≤ 16 }
         requires started { Started self.old.outer }
         requires none { self.old.slots.items ≡ [] }
         requires slots { 24 ≤ vec_capacity self.old.slots }
@@ -109,7 +136,7 @@ impl StreamRx {
             → Gives self.old.branch.wait self.new.branch.wait self.new.outer bytes given tally to.old.items to.new.items self.old.counts self.new.counts }
     {
         collect(&mut self.branch, &mut self.outer, &mut self.slots);
-        decode(&mut self.slots);
+        decode(rt, gate, workers, &mut self.slots);
         finish_words(&mut self.outer, &self.slots, &mut self.counts, to);
         self.slots.clear();
     }
@@ -129,41 +156,42 @@ impl StreamRx {
         self.counts.unmerged += reports.len() as u64;
     }
 
-    /// Takes the cost pairs of a symbol: decodes them, appends the packets of the words that are then
-    /// complete, and appends the reports.
-    pub(crate) fn take(
+    /// Gives on what the decoder gave in a symbol: decodes the words that are then complete and appends
+    /// their packets, and appends the reports.
+    pub(crate) fn give_on<R: Threads + Sync, G: Gate>(
         &mut self,
+        rt: &R,
+        gate: &G,
+        workers: u8,
         stream: Stream,
-        pairs: &[CostPair],
         to: &mut Vec<u8>,
         events: &mut Vec<Event>,
     )
-        requires ready { IsReady self.old }
-        requires steps { self.old.branch.decoder.steps < 2 ^ 61 }
-        requires most { self.old.branch.most ≤ 31752 }
+        requires some_worker { 1 ≤ workers }
+        requires few_workers { workers ≤ 16 }
+        requires may { MayGive self.old }
         requires counts { AreFew self.old.counts (2 ^ 60) }
-        requires pairs { length pairs.now ≤ self.old.branch.most }
         requires room { vec_len to.old + 4512 ≤ vec_capacity to.old }
         requires event_room { vec_len events.old + 16 ≤ vec_capacity events.old }
         ensures ready { IsReady self.new }
-        ensures steps { self.new.branch.decoder.steps ≡ self.old.branch.decoder.steps + length pairs.now }
-        ensures most { self.new.branch.most ≡ self.old.branch.most }
+        ensures rest { self.new.branch ≡ record self.old.branch { wait = self.new.branch.wait } }
         ensures counts { (n : ℕ) → AreFew self.old.counts n → AreFew self.new.counts (n + 40) }
         ensures capacity { vec_capacity to.new ≡ vec_capacity to.old }
         ensures event_len { vec_len events.new ≤ vec_len events.old + 16 }
         ensures event_capacity { vec_capacity events.new ≡ vec_capacity events.old }
         ensures events { events.new.items ≡ events.old.items ++ map (event_at stream) (ats self.new.branch.events) }
-        ensures fed { (a : Option (List Bool)) (c : List Pair) (given : List ℕ) (tally : Tally) (reports : List ℕ) → StreamStands so_far (seen self.old) a c given tally reports
-            → StreamGave so_far (seen self.new) a (c ++ pairs.now) given (reports ++ ats self.new.branch.events) to.old.items to.new.items }
+        ensures fed { (before : BranchState) (pairs : List Pair) → HasRun (record before { loaded = pairs }) self.old.branch
+            → (a : Option (List Bool)) (c : List Pair) (given : List ℕ) (tally : Tally) (reports : List ℕ) → StreamStands so_far (record { branch = before; outer = self.old.outer; counts = self.old.counts }) a c given tally reports
+            → StreamGave so_far (seen self.new) a (c ++ pairs) given (reports ++ ats self.new.branch.events) to.old.items to.new.items }
     {
-        load(&mut self.branch, pairs);
-        self.branch.run_symbol();
-        self.give(to);
+        self.give(rt, gate, workers, to);
         self.report(stream, events);
     }
 
     /// Decodes what is left, and appends the packets of the words that are then complete.
-    pub(crate) fn finish(&mut self, to: &mut Vec<u8>)
+    pub(crate) fn finish<R: Threads + Sync>(&mut self, rt: &R, workers: u8, to: &mut Vec<u8>)
+        requires some_worker { 1 ≤ workers }
+        requires few_workers { workers ≤ 16 }
         requires ready { IsReady self.old }
         requires counts { AreFew self.old.counts (2 ^ 60) }
         requires room { vec_len to.old + 4512 ≤ vec_capacity to.old }
@@ -176,6 +204,6 @@ impl StreamRx {
             → StreamGave at_end (seen self.new) a c given reports to.old.items to.new.items }
     {
         self.branch.finish();
-        self.give(to);
+        self.give(rt, &OpenGate, workers, to);
     }
 }

@@ -1,5 +1,5 @@
 // From the cells of a symbol to packets.
-ghost use Rattle.std.specs.Prelude.{◌≡◌, ◌+◌, ◌*◌, ◌%◌, ◌<◌, ◌≤◌, ◌^◌, ◌++◌, [], ℕ, List, Bool, IsTrue, map, length, vec_len, vec_capacity, IfOk};
+ghost use Rattle.std.specs.Prelude.{◌≡◌, ◌+◌, ◌*◌, ◌%◌, ◌<◌, ◌≤◌, ◌^◌, ◌++◌, [], ℕ, List, Bool, IsTrue, false, map, length, vec_len, vec_capacity, IfOk};
 ghost use Rattle.std.specs.declared.option.Option.{Option};
 ghost use Rattle.spec_words.specs.Words.{numbers};
 ghost use Rattle.code_paths.specs.declared.costs.CostPair.{CostPair as Pair};
@@ -18,13 +18,16 @@ ghost use Rattle.receiver.specs.Standing.{StreamStands, StreamGave};
 ghost use Rattle.receiver.specs.Ready.{IsKeptStream, seen};
 
 use crate::frames::FrameReader;
-use crate::stream::StreamRx;
+use crate::stream::{StreamRx, load, run_branches};
+use crate::words::StreamBranch;
 use conv_code::CostPair;
 use inner_chain::InnerRx;
 use inner_chain::laws::pairs_are_listed;
 use mode_set::{Carriers, Settings, Stream};
 use qam_map::Cell;
 use rx_report::Event;
+use std::thread::Threads;
+use word_workers::Gate;
 
 /// Puts the cost pairs of a stream in a symbol in the place of what was there.
 fn put_pairs<M: Carriers>(
@@ -52,6 +55,33 @@ fn put_pairs<M: Carriers>(
     }
 }
 
+/// Loads the cost pairs of a stream in a symbol.
+fn load_pairs<M: Carriers>(
+    settings: &Settings,
+    inner: &mut InnerRx<M>,
+    cells: &[Cell],
+    l: u8,
+    stream: Stream,
+    pairs: &mut Vec<CostPair>,
+    branch: &mut StreamBranch,
+)
+    requires inner { inner.old ≡ settings.now }
+    requires cells { length cells.now ≡ carriers settings.now.mode }
+    requires symbol { l < 68 }
+    requires spare { need settings.now stream ≤ vec_capacity pairs.old }
+    requires going { branch.old.decoder.ended ≡ false }
+    requires none { branch.old.loaded ≡ [] }
+    requires room { branch.old.most ≡ need settings.now stream }
+    ensures few { need settings.now stream ≤ 31752 }
+    ensures inner { inner.new ≡ settings.now }
+    ensures capacity { vec_capacity pairs.new ≡ vec_capacity pairs.old }
+    ensures loaded { branch.new ≡ record branch.old { loaded = map (pair_of settings.now cells.now l stream) (numbers (need settings.now stream)) } }
+    ensures long { length branch.new.loaded ≡ need settings.now stream }
+{
+    put_pairs(settings, inner, cells, l, stream, pairs);
+    load(branch, pairs);
+}
+
 /// What is received of the streams, symbol by symbol.
 #[derive(Drop)]
 pub(crate) struct SymbolRx<M: Carriers> {
@@ -66,8 +96,10 @@ pub(crate) struct SymbolRx<M: Carriers> {
 impl<M: Carriers> SymbolRx<M> {
     /// Takes the cells of symbol `taken`, and appends the packets of the words that are then complete and
     /// the reports.
-    pub(crate) fn take(
+    pub(crate) fn take<R: Threads + Sync, G: Gate>(
         &mut self,
+        rt: &R,
+        gate: &G,
         settings: &Settings,
         taken: u64,
         cells: &[Cell],
@@ -105,23 +137,29 @@ impl<M: Carriers> SymbolRx<M> {
     {
         let l = (taken % 68) as u8;
         self.frames.take(settings.mode, cells);
-        put_pairs(
+        load_pairs(
             settings,
             &mut self.inner,
             cells,
             l,
             Stream::Hp,
             &mut self.pairs,
+            &mut self.hp.branch,
         );
-        self.hp.take(Stream::Hp, &self.pairs, hp, events);
-        put_pairs(
+        load_pairs(
             settings,
             &mut self.inner,
             cells,
             l,
             Stream::Lp,
             &mut self.pairs,
+            &mut self.lp.branch,
         );
-        self.lp.take(Stream::Lp, &self.pairs, lp, events);
+        let two = !settings.hierarchy.is_flat();
+        run_branches(rt, gate, two, &mut self.hp.branch, &mut self.lp.branch);
+        self.hp
+            .give_on(rt, gate, settings.workers, Stream::Hp, hp, events);
+        self.lp
+            .give_on(rt, gate, settings.workers, Stream::Lp, lp, events);
     }
 }

@@ -11,8 +11,10 @@ use outer_chain::laws::receiving;
 use outer_chain::{OuterRx, WordSlot};
 use rs204::Outcome;
 use rx_report::StreamCounts;
+use std::thread::Threads;
 use survivor_ring::RingSurvivors;
 use ts_packet::Packet;
+use word_workers::{Gate, decode_all};
 
 /// The decoder of one stream.
 pub(crate) type StreamBranch = Branch<LaneAcs, RingSurvivors<2048>>;
@@ -68,14 +70,20 @@ pub(crate) fn collect(branch: &mut StreamBranch, outer: &mut OuterRx, slots: &mu
     }
 }
 
-/// Decodes each word.
-pub(crate) fn decode(slots: &mut Vec<WordSlot>)
+/// Decodes each word, by so many workers.
+pub(crate) fn decode<R: Threads + Sync, G: Gate>(
+    rt: &R,
+    gate: &G,
+    workers: u8,
+    slots: &mut Vec<WordSlot>,
+)
+    requires some_worker { 1 ≤ workers }
+    requires few_workers { workers ≤ 16 }
+    requires few { vec_len slots.old ≤ 24 }
     ensures capacity { vec_capacity slots.new ≡ vec_capacity slots.old }
     ensures decoded { DecodesAll slots.old.items slots.new.items }
 {
-    for slot in slots.iter_mut() {
-        slot.decode();
-    }
+    decode_all(rt, workers, gate, slots.as_mut_slice());
 }
 
 /// One where the outcome is that of a clean, a corrected or a bad word.

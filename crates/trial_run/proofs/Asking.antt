@@ -83,6 +83,7 @@ module _ (limit : ℕ) (name : List ℕ) (number : ℕ) (start new : Meaning) (a
         let r = read t settings.attached in
         (r.0, r.1, ap (λ (x : Source). x.left) settings_is ∙ r.2);
     settings_first = λ t is. absurd (true≢false (sym is ∙ ap is_some (early_none limit name number start new at fresh s settings status runs t)));
+    cells_read = λ t is. tt;
     early = λ is. absurd (elim is [
       | inl e ↦ (late limit name number start new at fresh s settings status runs).1 e
       | inr e ↦ (late limit name number start new at fresh s settings status runs).4 e

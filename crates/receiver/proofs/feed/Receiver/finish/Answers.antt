@@ -18,12 +18,12 @@ use Rattle.receiver.proofs.Feeding.{finishes}
 use Rattle.receiver.proofs.feed.Receiver.finish.Goals as goal
 
 pub finish-requires-clause-counts : goal.finish-requires-clause-counts
-finish-requires-clause-counts g c =
+finish-requires-clause-counts g c κs within =
     let e = ap (λ (z : ReceiverState). z.ended) c.self.view_is ∙ c.requires.going in
     few_more _ (40 * c.self.inside.taken) (2 ^ 60) (omega (arith, c.self.invariant.few_taken)) (c.self.invariant.hp_kept e).counts
 
 pub finish-requires-2-clause-counts : goal.finish-requires-2-clause-counts
-finish-requires-2-clause-counts g c =
+finish-requires-2-clause-counts g c κs within =
     let e = ap (λ (z : ReceiverState). z.ended) c.self.view_is ∙ c.requires.going in
     few_more _ (40 * c.self.inside.taken) (2 ^ 60) (omega (arith, c.self.invariant.few_taken)) (c.self.invariant.lp_kept e).counts
 

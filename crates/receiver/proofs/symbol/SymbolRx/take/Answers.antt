@@ -1,43 +1,33 @@
-use Rattle.std.proofs.Common.{ℕ, ◌≡◌, ◌+◌, ◌*◌, ◌%◌, List, ◌++◌, length, map, ap, ◌∙◌, subst, arith}
-use Rattle.spec_words.specs.Words.{numbers}
-use Rattle.code_paths.specs.declared.costs.CostPair.{CostPair}
+use Rattle.std.proofs.Common.{subst}
 use Rattle.mode_set.specs.StreamTable.{need}
 use Rattle.mode_set.specs.declared.modes.Stream.TheVariants.{Hp, Lp}
-use Rattle.inner_chain.specs.PairLists.{pair_of}
-use Rattle.inner_decoder.specs.Events.{ats}
-use Rattle.reception.specs.Streams.{so_far}
-use Rattle.receiver.specs.Ready.{seen}
-use Rattle.receiver.specs.Standing.{StreamGave}
-use Rattle.receiver.proofs.Pending.{few_more}
-use Rattle.receiver.proofs.Stepping.{few_steps}
+use Rattle.inner_decoder.specs.Running.{BranchState}
+use Rattle.word_workers.specs.Symbols.{HasRun}
+use Rattle.receiver.proofs.Symbols.{may_run, may_give, keeps}
 use Rattle.receiver.proofs.symbol.SymbolRx.take.Goals as goal
 
-pub take-requires-2-clause-steps : goal.take-requires-2-clause-steps
-take-requires-2-clause-steps g c = omega (arith, c.requires.hp_kept.steps_are, few_steps c.args.taken (need c.args.settings.now Hp) c.requires.few c.put_pairs.ensures.few)
+pub run_branches-requires-clause-hp : goal.run_branches-requires-clause-hp
+run_branches-requires-clause-hp g c κs within = may_run c.args.self.now.hp c.load_pairs.new.branch _ (need c.args.settings.now Hp) c.args.taken c.requires.hp_kept c.requires.few c.load_pairs.ensures.few c.load_pairs.ensures.loaded
 
-pub take-requires-3-clause-steps : goal.take-requires-3-clause-steps
-take-requires-3-clause-steps g c = omega (arith, c.requires.lp_kept.steps_are, few_steps c.args.taken (need c.args.settings.now Lp) c.requires.few c.put_pairs-2.ensures.few)
+pub run_branches-requires-clause-lp : goal.run_branches-requires-clause-lp
+run_branches-requires-clause-lp g c κs within = may_run c.args.self.now.lp c.load_pairs-2.new.branch _ (need c.args.settings.now Lp) c.args.taken c.requires.lp_kept c.requires.few c.load_pairs-2.ensures.few c.load_pairs-2.ensures.loaded
+
+pub give_on-requires-clause-may : goal.give_on-requires-clause-may
+give_on-requires-clause-may g c κs within = may_give c.args.self.now.hp c.load_pairs.new.branch c.run_branches.new.hp c.requires.hp_kept.ready c.run_branches.ensures.hp
+
+pub give_on-requires-2-clause-may : goal.give_on-requires-2-clause-may
+give_on-requires-2-clause-may g c κs within = may_give c.args.self.now.lp c.load_pairs-2.new.branch c.run_branches.new.lp c.requires.lp_kept.ready c.run_branches.ensures.lp
 
 pub returns-clause-hp_kept : goal.returns-clause-hp_kept
-returns-clause-hp_kept g c = record {
-  ready = c.take-2.ensures.ready;
-  most = c.take-2.ensures.most ∙ c.requires.hp_kept.most;
-  steps_are = omega (arith, c.take-2.ensures.steps, c.requires.hp_kept.steps_are, ap length c.deref.ensures.value, c.put_pairs.ensures.long, c.put_pairs.new.to.ok);
-  counts = few_more _ (40 * c.args.taken + 40) (40 * (c.args.taken + 1)) (omega arith) (c.take-2.ensures.counts (40 * c.args.taken) c.requires.hp_kept.counts);
-}
+returns-clause-hp_kept g c = keeps c.args.self.now.hp c.give_on.new.self c.load_pairs.new.branch c.run_branches.new.hp _ (need c.args.settings.now Hp) c.args.taken
+    c.requires.hp_kept c.load_pairs.ensures.loaded c.load_pairs.ensures.long c.run_branches.ensures.hp c.give_on.ensures.rest c.give_on.ensures.ready c.give_on.ensures.counts
 
 pub returns-clause-lp_kept : goal.returns-clause-lp_kept
-returns-clause-lp_kept g c = record {
-  ready = c.take-3.ensures.ready;
-  most = c.take-3.ensures.most ∙ c.requires.lp_kept.most;
-  steps_are = omega (arith, c.take-3.ensures.steps, c.requires.lp_kept.steps_are, ap length c.deref-2.ensures.value, c.put_pairs-2.ensures.long, c.put_pairs-2.new.to.ok);
-  counts = few_more _ (40 * c.args.taken + 40) (40 * (c.args.taken + 1)) (omega arith) (c.take-3.ensures.counts (40 * c.args.taken) c.requires.lp_kept.counts);
-}
+returns-clause-lp_kept g c = keeps c.args.self.now.lp c.give_on-2.new.self c.load_pairs-2.new.branch c.run_branches.new.lp _ (need c.args.settings.now Lp) c.args.taken
+    c.requires.lp_kept c.load_pairs-2.ensures.loaded c.load_pairs-2.ensures.long c.run_branches.ensures.lp c.give_on-2.ensures.rest c.give_on-2.ensures.ready c.give_on-2.ensures.counts
 
 pub returns-clause-hp_gave : goal.returns-clause-hp_gave
-returns-clause-hp_gave g c = λ a s d t r h.
-    subst (λ (z : List CostPair). StreamGave so_far (seen c.take-2.new.self) a (s ++ z) d (r ++ ats c.take-2.new.self.branch.events) c.args.hp.now.items c.take-2.new.to.items) (c.deref.ensures.value ∙ c.put_pairs.ensures.pairs) (c.take-2.ensures.fed a s d t r h)
+returns-clause-hp_gave g c = c.give_on.ensures.fed c.args.self.now.hp.branch _ (subst (λ (z : BranchState). HasRun z c.run_branches.new.hp) c.load_pairs.ensures.loaded c.run_branches.ensures.hp)
 
 pub returns-clause-lp_gave : goal.returns-clause-lp_gave
-returns-clause-lp_gave g c = λ a s d t r h.
-    subst (λ (z : List CostPair). StreamGave so_far (seen c.take-3.new.self) a (s ++ z) d (r ++ ats c.take-3.new.self.branch.events) c.args.lp.now.items c.take-3.new.to.items) (c.deref-2.ensures.value ∙ c.put_pairs-2.ensures.pairs) (c.take-3.ensures.fed a s d t r h)
+returns-clause-lp_gave g c = c.give_on-2.ensures.fed c.args.self.now.lp.branch _ (subst (λ (z : BranchState). HasRun z c.run_branches.new.lp) c.load_pairs-2.ensures.loaded c.run_branches.ensures.lp)

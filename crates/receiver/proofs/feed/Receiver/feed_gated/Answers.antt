@@ -14,7 +14,7 @@ use Rattle.receiver.specs.Ready.{seen}
 use Rattle.receiver.specs.Seen.{ReceiverState}
 use Rattle.receiver.specs.Standing.{StreamGave, StandsFor}
 use Rattle.receiver.proofs.Feeding.{feeds_within, feeds_whole, still_unfinished, taken_is, within_is, ends_is}
-use Rattle.receiver.proofs.feed.Receiver.feed.Goals as goal
+use Rattle.receiver.proofs.feed.Receiver.feed_gated.Goals as goal
 
 pub invariant_of-self : goal.invariant_of-self
 invariant_of-self g c = record {

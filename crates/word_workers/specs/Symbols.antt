@@ -1,0 +1,23 @@
+-- What `run_symbol` asks of a decoder, and what it makes of it.
+use Rattle.std.specs.Prelude.{◌≡◌, ℕ, ◌+◌, ◌^◌, ◌<◌, ◌≤◌, Bool, false, List, [], length, Option}
+use Rattle.code_paths.specs.declared.costs.CostPair.{CostPair}
+use Rattle.inner_decoder.specs.Events.{ats}
+use Rattle.inner_decoder.specs.Running.{BranchState, RanSymbol}
+use Rattle.inner_decoder.specs.Tracking.{Stands}
+
+-- the decoder has not ended, its symbols have at most 31,752 steps, fewer than eight bits wait and fewer than 2^61 steps were made
+pub record MayRun (branch : BranchState) : Type 0 where
+  pub going : branch.decoder.ended ≡ false
+  pub most : branch.most ≤ 31752
+  pub wait : length branch.wait < 8
+  pub steps : branch.decoder.steps < 2 ^ 61
+
+-- the decoder has made a step for each pair that was loaded, none of them is loaded any more, and all that is shared was given: of
+-- what it stands for all bits given are then exactly those of the definition, and the events are the new reports
+pub record HasRun (old new : BranchState) : Type 0 where
+  pub going : new.decoder.ended ≡ false
+  pub most : new.most ≡ old.most
+  pub loaded : new.loaded ≡ []
+  pub steps : new.decoder.steps ≡ old.decoder.steps + length old.loaded
+  pub amount : length new.wait + new.decoder.waiting ≡ length old.wait + old.decoder.waiting + length old.loaded
+  pub ran : (a : Option (List Bool)) (c : List CostPair) (g : List Bool) → Stands 2048 old.decoder a c g → RanSymbol 2048 new.decoder a c g old.loaded old.wait new.wait (ats new.events)

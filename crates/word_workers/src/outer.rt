@@ -1,0 +1,49 @@
+// Outer words in chunks.
+ghost use Rattle.std.specs.Prelude.{◌+◌, ◌<◌, ◌≤◌, ℕ, length, slice_index_or};
+ghost use Rattle.rs204.specs.Decoded.{Decoded};
+
+use crate::gate::{Gate, Job};
+use outer_chain::WordSlot;
+use std::thread::{Threads, for_each_chunk_mut};
+
+/// Decodes a word behind the gate.
+fn decode_one<G: Gate>(gate: &G, number: u32, slot: &mut WordSlot)
+    ensures { Decoded slot.old.word slot.new.word slot.new.outcome }
+{
+    gate.enter(Job::Outer, number);
+    slot.decode();
+}
+
+/// Decodes the words of a chunk in order, of which the first has number `start`.
+fn decode_chunk<G: Gate>(gate: &G, start: usize, chunk: &mut [WordSlot])
+    requires few { start + length chunk.old ≤ 24 }
+    ensures each { (i : ℕ) (d : WordSlot) → i < length chunk.old → Decoded (slice_index_or chunk.old i d).word (slice_index_or chunk.new i d).word (slice_index_or chunk.new i d).outcome }
+{
+    for k in 0..chunk.len() {
+        decode_one(gate, (start + k) as u32, &mut chunk[k]);
+    }
+}
+
+/// Decodes each word, by at most so many workers, and each slot is afterwards what [`WordSlot::decode`]
+/// makes of it, for every number of workers and every gate.
+///
+/// There are 1 to 16 workers and at most 24 slots. They are cut into chunks of `ceil(len / workers)`
+/// slots, in order, for each of which a thread is started where there are two or more, but for one that
+/// the caller decodes itself, as it does with all for which no thread can be made. Before it decodes a
+/// slot a worker enters the gate with [`Job::Outer`] and the number of the slot.
+pub fn decode_all<R: Threads + Sync, G: Gate>(rt: &R, workers: u8, gate: &G, slots: &mut [WordSlot])
+    requires some_worker { 1 ≤ workers }
+    requires few_workers { workers ≤ 16 }
+    requires few_slots { length slots.old ≤ 24 }
+    ensures each { (i : ℕ) (d : WordSlot) → i < length slots.old → Decoded (slice_index_or slots.old i d).word (slice_index_or slots.new i d).word (slice_index_or slots.new i d).outcome }
+{
+    if slots.is_empty() {
+        return;
+    }
+    let size = slots.len().div_ceil(workers as usize);
+    let work = |start: usize, chunk: &mut [WordSlot]|
+        requires { start + length chunk.now ≤ 24 }
+        ensures { (i : ℕ) (d : WordSlot) → i < length chunk.entry.now → Decoded (slice_index_or chunk.entry.now i d).word (slice_index_or chunk.exit.now i d).word (slice_index_or chunk.exit.now i d).outcome }
+    { decode_chunk(gate, start, chunk) };
+    for_each_chunk_mut(rt, slots, size, &work);
+}
