@@ -55,9 +55,7 @@ pub(crate) fn load(branch: &mut StreamBranch, pairs: &[CostPair])
     requires room { length pairs.now ≤ branch.old.most }
     ensures { branch.new ≡ record branch.old { loaded = pairs.now } }
 {
-    for pair in pairs {
-        branch.load(*pair);
-    }
+    branch.load_all(pairs);
 }
 
 /// Runs a symbol of both decoders, side by side where there are two streams.
