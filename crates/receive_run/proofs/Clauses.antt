@@ -417,3 +417,10 @@ module _ (limit : ℕ) (name cells hp : List ℕ) (lp : Option (List ℕ)) (star
 
   pub got : status ≡ 0 → start.tells ≡ true → Got
   got is t = got_by runs.outcome runs.ran runs.tells (sym runs.status_is ∙ is) t
+
+  whole_by : (o : Result (Unit {0}) Refusal) → Ran s cells two old mid o → Tells mid new o → outcome_status o ≡ 0 → start.tells ≡ true → IsWhole s two file new
+  whole_by (Ok u) ran tells is t = subst (λ (m : Meaning). IsWhole s two file m) (sym tells) (ran.1 (told t)).2
+  whole_by (Err r) ran tells is t = absurd (never_zero r is)
+
+  pub whole : status ≡ 0 → start.tells ≡ true → IsWhole s two file new
+  whole is t = whole_by runs.outcome runs.ran runs.tells (sym runs.status_is ∙ is) t

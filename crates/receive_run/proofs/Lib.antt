@@ -11,5 +11,6 @@ pub mod Opening
 pub mod Clauses
 pub mod Asking
 pub mod Returning
+pub mod Ignoring
 pub mod WholeRun
 pub mod Taking

@@ -21,11 +21,15 @@ use Rattle.run_steps.specs.Report.{WritesText}
 use Rattle.run_steps.specs.SettingsStep.{AsksSettings}
 use Rattle.run_steps.proofs.Early.{ReadsFirst, RefusedEarly, status_early, asks_early, stands_early, complete_early}
 use Rattle.receive_run.specs.Ports.{Accepts, IsReady, RunsReception, RunsOrLacks}
-use Rattle.receive_run.proofs.Clauses.{SettingsDone, done_of, got, status_of_run, stands_of, complete_of, never_zero}
+use Rattle.receive_run.proofs.Clauses.{SettingsDone, done_of, got, whole, status_of_run, stands_of, complete_of, never_zero}
 use Rattle.receive_run.proofs.Begun.{ReceptionLaws}
 use Rattle.receive_run.proofs.Asking.{asks_of}
 use Rattle.receive_run.proofs.Returning.{returned}
+use Rattle.receive_run.proofs.Ignoring.{ignored}
+use Rattle.receive_run.specs.Receiving.{IsWhole}
 use Rattle.receive_run.specs.Returns.{Returns, ReturnsOwn}
+use Rattle.receive_run.specs.Workers.{IgnoresWorkers}
+use Rattle.worker_laws.specs.Alike.{DifferInWorkers, SameFinal, SameLines}
 use Rattle.own_cells.specs.Laws.{NoiseLaw, CleanLaw}
 
 module _ (limit : ℕ) (name cells hp : List ℕ) (lp : Option (List ℕ)) (start mid new : Meaning) (fresh : IsFresh start) (asks : AsksSettings name start mid) where
@@ -60,6 +64,9 @@ module _ (limit : ℕ) (name cells hp : List ℕ) (lp : Option (List ℕ)) (star
 
     pub refused_returns : ReturnsOwn (Some c) start new status
     refused_returns zero t = absurd (never_zero r (sym is ∙ zero))
+
+    pub refused_alike : IgnoresWorkers (Some c) start new status
+    refused_alike zero t = absurd (never_zero r (sym is ∙ zero))
 
     pub refused_complete : IsComplete limit c start new status
     refused_complete = subst (λ (n : ℕ). IsComplete limit c start new n) (sym is) (complete_early limit c name start mid new first fresh asks r (early r accepts) text)
@@ -125,6 +132,15 @@ module _ (limit : ℕ) (name cells hp : List ℕ) (lp : Option (List ℕ)) (star
         | inl r ↦
             let g = got limit name cells hp lp start new mid.settings fresh s settings status (runs_from r) zero t in
             subst (λ (o : Option TheSettings). IsSomeAnd o (λ x. Returns x (start.file cells) new)) (sym (settings.stated t)) (returned noise clean s lp (start.file cells) new g.0 accepts.1 g.1 g.2 g.3)
+        | inr lacks ↦ absurd (never_zero Memory (sym lacks.0 ∙ zero))
+      ]
+
+      pub run_alike : SameFinal → SameLines → RunsOrLacks s cells hp lp mid new status → IgnoresWorkers (Some c) start new status
+      run_alike final lines runs zero t = elim runs [
+        | inl r ↦
+            let w = whole limit name cells hp lp start new mid.settings fresh s settings status (runs_from r) zero t in
+            subst (λ (o : Option TheSettings). IsSomeAnd o (λ x. (u : TheSettings) → DifferInWorkers x u → IsWhole u (is_some lp) (start.file cells) new)) (sym (settings.stated t))
+            (λ u. ignored final lines s u (is_some lp) (start.file cells) new w)
         | inr lacks ↦ absurd (never_zero Memory (sym lacks.0 ∙ zero))
       ]
 

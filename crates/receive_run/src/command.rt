@@ -1,22 +1,31 @@
 // The command.
-ghost use Rattle.std.specs.Prelude.{◌≡◌, ◌≤◌, true, Some};
+ghost use Rattle.std.specs.Prelude.{◌≡◌, ◌≤◌, ◌<◌, ◌^◌, true, false, [], Some, length};
+ghost use Rattle.reception.specs.Cells.{symbol_length};
+ghost use Rattle.reception.specs.Streams.{so_far};
+ghost use Rattle.reception.specs.Laws.{nothing};
+ghost use Rattle.receiver.specs.Standing.{StandsFor};
 ghost use Rattle.std.specs.Option.{option_copied};
 ghost use Rattle.station_core.specs.Meaning.{IsFresh, IsUnasked};
 ghost use Rattle.run_clauses.specs.Command.{Receive};
 ghost use Rattle.run_clauses.specs.Modulation.{fits_form};
 ghost use Rattle.run_clauses.specs.Runs.{IsDone, HasStatus, AsksOnly, Stands, IsComplete};
 ghost use Rattle.run_steps.specs.SettingsStep.{AsksSettings};
-ghost use Rattle.receive_run.specs.Ports.{Accepts, IsReady, RunsOrLacks};
+ghost use Rattle.std.specs.Thread.{IsSync};
+ghost use Rattle.receive_run.specs.Feeder.{IsFed, IsFeeder};
+ghost use Rattle.receive_run.specs.Ports.{Accepts, IsReady, RunsReception, RunsOrLacks};
 ghost use Rattle.receive_run.specs.Returns.{ReturnsOwn};
+ghost use Rattle.receive_run.specs.Workers.{IgnoresWorkers};
 
-use crate::receivers::ReceiverWithOutput;
+use crate::receivers::{ModeReceiver, ReceiverWithOutput};
 use crate::run::{Names, run_reception};
 use mode_set::{Carriers, Mode, Mode2k, Mode8k, Settings};
+use receiver::{Receiver, RxOut};
 use run_clauses::{Limits, Refusal, SettingsRefusal};
 use run_steps::{read_settings, refuse};
 use station_core::Station;
 use std::alloc::Global;
 use std::thread::Threads;
+use word_workers::Gate;
 
 // Reads the settings, which fit the form: there is a file of LP exactly with a hierarchy.
 fn read_fitting<'a, S: Station<'a>>(
@@ -41,9 +50,43 @@ fn read_fitting<'a, S: Station<'a>>(
     }
 }
 
-// Takes the memory of a mode's receiver and of one symbol, and runs the reception.
-fn receive_in<'a, M: Carriers, R: Threads + Sync, S: Station<'a>>(
+// Runs the reception by a receiver that has had no byte and is fed so. `symbol` has the size of a symbol.
+fn receive_by<
+    'a,
+    R: Threads + Sync,
+    F: Fn(&mut T, &[u8], &mut RxOut) -> usize,
+    T: ModeReceiver + Drop,
+    S: Station<'a>,
+>(
     rt: &R,
+    feeder: &F,
+    receiver: T,
+    out: RxOut,
+    max_symbols: u32,
+    symbol: &mut [u8],
+    names: Names<'a>,
+    station: &mut S,
+) -> u8
+    requires feeder { IsFeeder T.state F.Fn feeder.now }
+    requires start { StandsFor so_far (T.state receiver) [] nothing }
+    requires most { (T.state receiver).settings.max_symbols ≡ max_symbols }
+    requires size { length symbol.old ≡ symbol_length (T.state receiver).settings }
+    requires ready { IsReady (S.meaning station.old) }
+    ensures { RunsReception (T.state receiver).settings names.entry.cells.now names.entry.hp.now (option_copied names.entry.lp) (S.meaning station.old) (S.meaning station.new) result }
+{
+    let mut receiver = ReceiverWithOutput {
+        rt,
+        feeder,
+        receiver,
+        out,
+    };
+    run_reception(max_symbols, names, &mut receiver, symbol, station)
+}
+
+// Takes the memory of a mode's receiver and of one symbol, and runs the reception through this gate.
+fn receive_in<'a, M: Carriers, R: Threads + Sync, G: Gate, S: Station<'a>>(
+    rt: &R,
+    gate: &G,
     alloc: Global,
     settings: &Settings,
     names: Names<'a>,
@@ -53,24 +96,35 @@ fn receive_in<'a, M: Carriers, R: Threads + Sync, S: Station<'a>>(
     requires ready { IsReady (S.meaning station.old) }
     ensures { RunsOrLacks settings.now names.entry.cells.now names.entry.hp.now (option_copied names.entry.lp) (S.meaning station.old) (S.meaning station.new) result }
 {
-    let Ok(mut receiver) = ReceiverWithOutput::<R, M>::new(rt, alloc, settings) else {
+    let Ok(receiver) = Receiver::<M>::new(alloc, settings) else {
+        return refuse(&Refusal::Memory, station);
+    };
+    let Ok(out) = RxOut::new(alloc) else {
         return refuse(&Refusal::Memory, station);
     };
     let Ok(mut symbol) = vec![in alloc; 0u8; 4 * M::K as usize] else {
         return refuse(&Refusal::Memory, station);
     };
-    run_reception(
+    let feeder = |receiver: &mut Receiver<M>, piece: &[u8], out: &mut RxOut| -> usize
+        requires { IsSync R.row × (receiver.now.ended ≡ false) × (receiver.now.taken < 2 ^ 32) }
+        ensures { IsFed receiver.entry.now piece.entry.now receiver.exit.now out.exit.now result }
+    { receiver.feed_gated(rt, gate, piece, out) };
+    receive_by(
+        rt,
+        &feeder,
+        receiver,
+        out,
         settings.max_symbols,
-        names,
-        &mut receiver,
         &mut symbol,
+        names,
         station,
     )
 }
 
 // The same in the mode that is set.
-fn receive_accepted<'a, R: Threads + Sync, S: Station<'a>>(
+fn receive_accepted<'a, R: Threads + Sync, G: Gate, S: Station<'a>>(
     rt: &R,
+    gate: &G,
     alloc: Global,
     settings: &Settings,
     names: Names<'a>,
@@ -80,18 +134,20 @@ fn receive_accepted<'a, R: Threads + Sync, S: Station<'a>>(
     ensures { RunsOrLacks settings.now names.entry.cells.now names.entry.hp.now (option_copied names.entry.lp) (S.meaning station.old) (S.meaning station.new) result }
 {
     match settings.mode {
-        Mode::M2k => receive_in::<Mode2k, R, S>(rt, alloc, settings, names, station),
-        Mode::M8k => receive_in::<Mode8k, R, S>(rt, alloc, settings, names, station),
+        Mode::M2k => receive_in::<Mode2k, R, G, S>(rt, gate, alloc, settings, names, station),
+        Mode::M8k => receive_in::<Mode8k, R, G, S>(rt, gate, alloc, settings, names, station),
     }
 }
 
 /// Runs `receive SETTINGS CELLS HP` or, with a file of LP, `receive SETTINGS CELLS HP LP`, and gives its
 /// status.
 ///
-/// The settings are read and checked, and then all memory is taken, before another port is asked.
-pub fn receive<'a, R: Threads + Sync, S: Station<'a>>(
+/// The settings are read and checked, and then all memory is taken, before another port is asked. The
+/// workers of the receiver enter the gate, of which no clause speaks: they hold for every one.
+pub fn receive<'a, R: Threads + Sync, G: Gate, S: Station<'a>>(
     rt: &R,
     alloc: Global,
+    gate: &G,
     settings: &'a str,
     cells: &'a str,
     hp: &'a str,
@@ -106,8 +162,10 @@ pub fn receive<'a, R: Threads + Sync, S: Station<'a>>(
     ensures asks { AsksOnly (Some (Receive settings.now cells.now hp.now (option_copied lp.entry))) (S.meaning station.old) (S.meaning station.new) result }
     ensures stands { Stands limits.now.packets (Some (Receive settings.now cells.now hp.now (option_copied lp.entry))) (S.meaning station.old) (S.meaning station.new) result }
     ensures returns { ReturnsOwn (Some (Receive settings.now cells.now hp.now (option_copied lp.entry))) (S.meaning station.old) (S.meaning station.new) result }
+    ensures alike { IgnoresWorkers (Some (Receive settings.now cells.now hp.now (option_copied lp.entry))) (S.meaning station.old) (S.meaning station.new) result }
     ensures complete { IsComplete limits.now.packets (Receive settings.now cells.now hp.now (option_copied lp.entry)) (S.meaning station.old) (S.meaning station.new) result }
 {
+    worker_laws::laws::workers();
     own_cells::laws::noise();
     reception::laws::symbols();
     reception_laws::laws::existence();
@@ -116,7 +174,7 @@ pub fn receive<'a, R: Threads + Sync, S: Station<'a>>(
     match read_fitting(alloc, settings, lp, station) {
         Ok(accepted) => {
             let names = Names { cells, hp, lp };
-            receive_accepted(rt, alloc, &accepted, names, station)
+            receive_accepted(rt, gate, alloc, &accepted, names, station)
         }
         Err(refusal) => refuse(&refusal, station),
     }

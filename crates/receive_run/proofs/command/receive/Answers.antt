@@ -1,7 +1,7 @@
 use Rattle.std.proofs.Common.{List, ℕ, Option, refl}
 use Rattle.std.specs.Option.{option_copied}
 use Rattle.station_core.specs.Meaning.{Meaning}
-use Rattle.receive_run.proofs.WholeRun.{ready, run_done, run_status, run_asks, run_stands, run_returns, run_complete, refused_done, refused_status, refused_asks, refused_stands, refused_returns, refused_complete}
+use Rattle.receive_run.proofs.WholeRun.{ready, run_done, run_status, run_asks, run_stands, run_returns, run_alike, run_complete, refused_done, refused_status, refused_asks, refused_stands, refused_returns, refused_alike, refused_complete}
 use Rattle.receive_run.proofs.command.receive.Goals as goal
 
 pub returns-in-Ok-clause-done : goal.returns-in-Ok-clause-done
@@ -112,6 +112,24 @@ returns-in-Ok-clause-returns g c =
     run_returns c.args.limits.now.packets c.args.settings.now c.args.cells.now c.args.hp.now lp old mid new c.requires.fresh c.in-Ok.ensures.asks
     c.in-Ok.accepted c.in-Ok.ensures.accepts c.receive_accepted.result c.noise.ensures.packets c.own_cells.ensures.packets c.receive_accepted.ensures
 
+pub returns-in-Ok-clause-alike : goal.returns-in-Ok-clause-alike
+returns-in-Ok-clause-alike g c =
+    let old : Meaning = g.S.Station.meaning c.args.station.now in
+    let mid : Meaning = g.S.Station.meaning c.read_fitting.new.station in
+    let new : Meaning = g.S.Station.meaning c.receive_accepted.new.station in
+    let lp : Option (List ℕ) = option_copied c.args.lp in
+    run_alike c.args.limits.now.packets c.args.settings.now c.args.cells.now c.args.hp.now lp old mid new c.requires.fresh c.in-Ok.ensures.asks
+    c.in-Ok.accepted c.in-Ok.ensures.accepts c.receive_accepted.result c.workers.ensures.last c.workers.ensures.lines c.receive_accepted.ensures
+
+pub returns-in-Err-clause-alike : goal.returns-in-Err-clause-alike
+returns-in-Err-clause-alike g c =
+    let old : Meaning = g.S.Station.meaning c.args.station.now in
+    let mid : Meaning = g.S.Station.meaning c.read_fitting.new.station in
+    let new : Meaning = g.S.Station.meaning c.refuse.new.station in
+    let lp : Option (List ℕ) = option_copied c.args.lp in
+    refused_alike c.args.limits.now.packets c.args.settings.now c.args.cells.now c.args.hp.now lp old mid new c.requires.fresh c.in-Err.ensures.asks
+    c.in-Err.refusal c.in-Err.ensures.accepts c.refuse.result c.refuse.ensures.status c.refuse.ensures.text
+
 pub returns-in-Err-clause-returns : goal.returns-in-Err-clause-returns
 returns-in-Err-clause-returns g c =
     let old : Meaning = g.S.Station.meaning c.args.station.now in
@@ -121,14 +139,18 @@ returns-in-Err-clause-returns g c =
     refused_returns c.args.limits.now.packets c.args.settings.now c.args.cells.now c.args.hp.now lp old mid new c.requires.fresh c.in-Err.ensures.asks
     c.in-Err.refusal c.in-Err.ensures.accepts c.refuse.result c.refuse.ensures.status c.refuse.ensures.text
 
-pub receive_accepted-requires-sync-R : goal.receive_accepted-requires-sync-R
-receive_accepted-requires-sync-R g c κs within =
+pub receive_accepted-requires : goal.receive_accepted-requires
+receive_accepted-requires g c =
     let old : Meaning = g.S.Station.meaning c.args.station.now in
     let mid : Meaning = g.S.Station.meaning c.read_fitting.new.station in
-    let lp : Option (List ℕ) = option_copied c.args.lp in (
-      c.type_bounds.sync-R,
+    let lp : Option (List ℕ) = option_copied c.args.lp in
+    λ k. (
+      record { shared = c.type_bounds.sync-R.shared },
       (
-        (refl, tt),
-        ready c.args.limits.now.packets c.args.settings.now c.args.cells.now c.args.hp.now lp old mid mid c.requires.fresh c.in-Ok.ensures.asks c.in-Ok.accepted c.in-Ok.ensures.accepts,
+        record { shared = c.type_bounds.sync-G.shared },
+        (
+          (refl, tt),
+          ready c.args.limits.now.packets c.args.settings.now c.args.cells.now c.args.hp.now lp old mid mid c.requires.fresh c.in-Ok.ensures.asks c.in-Ok.accepted c.in-Ok.ensures.accepts,
+        ),
       ),
     )

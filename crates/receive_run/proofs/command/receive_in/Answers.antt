@@ -1,21 +1,29 @@
-use Rattle.std.proofs.Common.{◌≡◌, ◌∙◌, ◌*◌, ℕ, refl, ap, sym, subst, length, arith, List}
+use Rattle.std.proofs.Common.{◌≡◌, ◌∙◌, refl, ap, sym, arith}
 use Rattle.mode_set.specs.StreamTable.{carriers}
 use Rattle.mode_set.specs.declared.settings.Settings.{Settings}
 use Rattle.receive_run.proofs.command.receive_in.Goals as goal
 
-pub run_reception-requires : goal.run_reception-requires
-run_reception-requires g c κs =
-    let e = c.in-Ok.ensures in
-    let s : Settings = c.in-Ok.receiver.receiver.settings in
-    let many : carriers s.mode ≡ g.M.Carriers.K = ap (λ (x : Settings). carriers x.mode) e.settings ∙ ap carriers c.requires.mode ∙ sym g.M.Carriers.k_of in (
-      (refl, tt),
+pub receive_by-requires-sync-R : goal.receive_by-requires-sync-R
+receive_by-requires-sync-R g c κs within =
+    let s : Settings = c.in-Ok.receiver.settings in
+    let many : carriers s.mode ≡ g.M.Carriers.K = ap (λ (x : Settings). carriers x.mode) c.in-Ok.ensures.settings ∙ ap carriers c.requires.mode ∙ sym g.M.Carriers.k_of in (
+      record { shared = c.type_bounds.sync-R.shared },
       (
-        record { shared = c.type_bounds.sync-R.shared },
+        (refl, tt),
         (
-          c.requires.ready,
+          record {
+            may = λ x piece out going few. (
+              (record { shared = c.type_bounds.sync-R.shared }, going, few),
+              (record { shared = c.type_bounds.sync-R.shared }, record { shared = c.type_bounds.sync-G.shared }),
+            );
+            feeds = λ x y piece out made n h. h;
+          },
           (
-            ap (λ (x : Settings). x.max_symbols) e.settings,
-            (omega (arith, c.deref_mut.ensures.len, c.in-Ok-vec.ensures.len, c.K.ensures, many), e.stands),
+            c.in-Ok.ensures.stands,
+            (
+              ap (λ (x : Settings). x.max_symbols) c.in-Ok.ensures.settings,
+              (omega (arith, c.deref_mut.ensures.len, c.in-Ok-vec.ensures.len, c.K.ensures, many), c.requires.ready),
+            ),
           ),
         ),
       ),

@@ -4,9 +4,10 @@ use Rattle.station_core.specs.Meaning.{Meaning}
 use Rattle.run_clauses.specs.Command.{Command}
 use Rattle.run_clauses.specs.Runs.{IsComplete}
 use Rattle.receive_run.specs.Returns.{ReturnsOwn}
+use Rattle.receive_run.specs.Workers.{IgnoresWorkers}
 use Rattle.dvbt_top.specs.declared.form.Form.{Form}
 use Rattle.dvbt_top.specs.Form.{command}
-use Rattle.dvbt_top.proofs.top.run_within.Goals as goal
+use Rattle.dvbt_top.proofs.top.run_gated.Goals as goal
 
 pub returns-in-Some-Inner-clause-complete : goal.returns-in-Some-Inner-clause-complete
 returns-in-Some-Inner-clause-complete g c =
@@ -42,3 +43,10 @@ returns-in-Some-Trial-clause-complete g c =
     let new : Meaning = g.S.Station.meaning c.trial.new.station in
     subst (λ (x : Option Command). IfSome x (λ ordered. IsComplete c.args.limits.packets ordered old new c.trial.result))
     (ap (λ (f : Form). Some (command f)) (sym c.in-Some-Trial.field-0-is) ∙ c.in-Some-Trial.ensures) c.trial.ensures.complete
+
+pub returns-in-Some-Receive-clause-alike : goal.returns-in-Some-Receive-clause-alike
+returns-in-Some-Receive-clause-alike g c =
+    let old : Meaning = g.S.Station.meaning c.args.station.now in
+    let new : Meaning = g.S.Station.meaning c.receive.new.station in
+    subst (λ (x : Option Command). IgnoresWorkers x old new c.receive.result)
+    (ap (λ (f : Form). Some (command f)) (sym c.in-Some-Receive.field-0-is) ∙ c.in-Some-Receive.ensures) c.receive.ensures.alike
