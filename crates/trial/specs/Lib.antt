@@ -1,3 +1,4 @@
 pub mod Drawn
 pub mod Fed
 pub mod Outcome
+pub mod Laws

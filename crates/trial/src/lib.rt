@@ -5,5 +5,6 @@
 #![tactic(auto)]
 
 mod counts;
+pub mod laws;
 
 pub use counts::{StreamReturn, TrialCounts};

@@ -1,6 +1,17 @@
-//! A stand-in until the work of a trial is proved: it can't be made.
+//! A trial of the whole way: packets drawn from a number are sent, their cells disturbed and received
+//! again, and what comes back is counted.
+//!
+//! [`Trial`] goes symbol by symbol and never holds the whole transmission. What it counts is that of the
+//! definitions in the crate `trial`.
 #![tactic(auto)]
 
-mod trial;
+mod disturbing;
+mod draws;
+mod feeding;
+mod sums;
+#[cfg(test)]
+mod tests;
+mod whole;
+mod work;
 
-pub use trial::Trial;
+pub use whole::Trial;

@@ -1,0 +1,113 @@
+// What is drawn from a number.
+ghost use Rattle.std.specs.Prelude.{◌≡◌, ◌≤◌, nat_abs};
+ghost use Rattle.load_gen.specs.Draws.{generator, after, word, count_of, shift_of, piece_of, packet_of, burst_length, burst_mask};
+
+use rand_core::utils::{NextWord, fill_bytes_via_u32};
+use rand_pcg::Lcg64Xsh32;
+use std::marker::Model;
+use ts_packet::{PACKET_LEN, Packet, SYNC};
+
+/// The generator's stream.
+const STREAM: u64 = 1;
+
+/// A run of bytes to be changed.
+#[derive(Clone, Copy, Debug, Drop, PartialEq, Eq)]
+pub struct Burst {
+    /// How many bytes, from 1 to 96.
+    pub len: u8,
+    /// What is xored to each, from 1 to 255.
+    pub mask: u8,
+}
+
+/// Draws from a number, by the successive words of a PCG generator (XSH RR 64/32). Contracts see it
+/// as the generator, its state and its increment.
+#[derive(Drop)]
+pub struct Load {
+    words: Lcg64Xsh32,
+}
+
+impl Model for Load {
+    ghost use Rattle.rand_pcg.specs.Lcg.{Lcg};
+
+    ghost Value = { Lcg };
+
+    ghost view = { λ l. l.words };
+}
+
+impl Load {
+    /// The load of this number: no word is drawn yet.
+    pub fn start(number: u32) -> Load
+        ensures start { result ≡ generator number }
+    {
+        Load {
+            words: Lcg64Xsh32::new(u64::from(number), STREAM),
+        }
+    }
+
+    /// A count of packets, from 100 to 199. Draws one word.
+    pub fn count(&mut self) -> u32
+        ensures value { result ≡ count_of self.old }
+        ensures next { self.new ≡ after 1 self.old }
+    {
+        100 + self.draw() % 100
+    }
+
+    /// A shift of a cell's part, from `-delta` to `delta`. Draws one word.
+    pub fn shift(&mut self, delta: u16) -> i16
+        requires { delta ≤ 5792 }
+        ensures value { result ≡ shift_of delta self.old }
+        ensures within { nat_abs result ≤ delta }
+        ensures next { self.new ≡ after 1 self.old }
+    {
+        let above = self.draw() % (2 * u32::from(delta) + 1);
+        above as i16 - delta as i16
+    }
+
+    /// The length of the next piece of `rest` bytes: from 1 to 4096, `rest` at most, and 0 where `rest`
+    /// is. Draws one word.
+    pub fn piece(&mut self, rest: u32) -> u32
+        ensures value { result ≡ piece_of rest self.old }
+        ensures most { result ≤ rest }
+        ensures least { 1 ≤ rest → 1 ≤ result }
+        ensures next { self.new ≡ after 1 self.old }
+    {
+        rest.min(1 + self.draw() % 4096)
+    }
+
+    /// A packet without `transport_error_indicator`: behind the sync byte the bytes of 47 words, each
+    /// word's least significant byte first and the last byte of the last word left out. Draws 47 words.
+    pub fn packet(&mut self) -> Packet
+        ensures value { result ≡ packet_of self.old }
+        ensures next { self.new ≡ after 47 self.old }
+    {
+        let mut bytes = [SYNC; PACKET_LEN];
+        fill_bytes_via_u32(&mut self.words, &mut bytes[1..]);
+        bytes[1] &= 0x7F;
+        match Packet::read(&bytes) {
+            Ok(packet) => packet,
+            Err(_) => unreachable!(),
+        }
+    }
+
+    /// A burst: its length, and then its mask. Draws two words.
+    pub fn burst(&mut self) -> Burst
+        ensures len { result.len ≡ burst_length self.old }
+        ensures mask { result.mask ≡ burst_mask self.old }
+        ensures next { self.new ≡ after 2 self.old }
+    {
+        let first = self.draw();
+        let second = self.draw();
+        Burst {
+            len: (1 + first % 96) as u8,
+            mask: (1 + second % 255) as u8,
+        }
+    }
+
+    // The next word.
+    fn draw(&mut self) -> u32
+        ensures value { result ≡ word self.old }
+        ensures next { self.new ≡ after 1 self.old }
+    {
+        self.words.next_word()
+    }
+}

@@ -1,0 +1,30 @@
+// The laws of a trial, as contracts of functions that do nothing.
+ghost use Rattle.trial.specs.Laws.{OneSuperFrame, AllAreDrawn, DrawnInOrder, NullsBehind, CellsAreSmall, CellsAreRead, FedSymbolsAreLong, PacketsAreCounted};
+
+/// The packets drawn: as many as their counts, in the order of the symbols that want them, and null
+/// packets behind them. One super-frame carries them.
+pub fn packets()
+    ensures one { OneSuperFrame }
+    ensures all { AllAreDrawn }
+    ensures order { DrawnInOrder }
+    ensures nulls { NullsBehind }
+{
+    transmission::laws::packets();
+    transmission::laws::super_frames();
+}
+
+/// The cells of a symbol have room for a shift, and are read from its bytes.
+pub fn cells()
+    ensures small { CellsAreSmall }
+    ensures read { CellsAreRead }
+    ensures long { FedSymbolsAreLong }
+{
+    transmission::laws::symbols();
+}
+
+/// What comes back is one packet for each word that has a phase.
+pub fn packets_back()
+    ensures { PacketsAreCounted }
+{
+    outer_chain::laws::growth();
+}

@@ -1,0 +1,4 @@
+pub mod PacketSteps
+pub mod CellSteps
+pub mod PieceSteps
+pub mod SymbolSteps

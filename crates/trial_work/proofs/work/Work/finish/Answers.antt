@@ -1,0 +1,21 @@
+use Rattle.std.proofs.Common.{◌∙◌, ap, ℕ, List}
+use Rattle.mode_set.specs.declared.settings.Settings.{Settings}
+use Rattle.reception.specs.Streams.{at_end}
+use Rattle.receiver.specs.Seen.{ReceiverState}
+use Rattle.trial_work.specs.declared.draws.Draws.{Draws}
+use Rattle.trial_work.specs.State.{first_fed}
+use Rattle.trial_work.proofs.SymbolSteps.{ended}
+use Rattle.trial_work.proofs.work.Work.finish.Goals as goal
+
+pub returns : goal.returns
+returns g c =
+    let s : Settings = c.args.settings.now in
+    let w = c.args.self.now in
+    let d : Draws = w.draws in
+    let x : ReceiverState = c.finish.new.self.receiver in
+    let b = c.requires.last in
+    let h = c.finish.ensures.ended (first_fed s d.number 272) b.given in
+    record {
+      counts = ended c.packets.ensures.one c.packets_back.ensures s d x c.finish.new.self.hp c.finish.new.self.lp w.cells c.counts-counts.result c.stream_return.result c.lp_return.result b.hp_packets b.lp_packets
+          (c.finish.ensures.settings ∙ b.receives) b.cells_are h (c.counts-counts.ensures at_end (first_fed s d.number 272) h.given h.stands) c.stream_return.ensures c.lp_return.ensures;
+    }

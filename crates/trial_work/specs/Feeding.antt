@@ -1,0 +1,22 @@
+-- A receiver that is fed, and the sums of what it gave.
+use Rattle.std.specs.Prelude.{◌≡◌, ℕ, List}
+use Rattle.mode_set.specs.declared.modes.Stream.TheVariants.{Hp, Lp}
+use Rattle.reception.specs.Streams.{Reception, Final, so_far, at_end}
+use Rattle.receiver.specs.Seen.{ReceiverState}
+use Rattle.receiver.specs.Standing.{StandsFor}
+use Rattle.trial.specs.Fed.{byte_sum}
+
+-- it has had these bytes, and the bytes of the packets that it gave have these sums
+pub record HasGiven (x : ReceiverState) (bytes : List ℕ) (hp lp : ℕ) : Type 0 where
+  pub given : Reception
+  pub stands : StandsFor so_far x bytes given
+  pub hp_sum : hp ≡ byte_sum (given.packets Hp)
+  pub lp_sum : lp ≡ byte_sum (given.packets Lp)
+
+-- it has ended behind these bytes
+pub record HasEnded (x : ReceiverState) (bytes : List ℕ) (hp lp : ℕ) : Type 0 where
+  pub given : Reception
+  pub stands : StandsFor at_end x bytes given
+  pub final : Final x.settings bytes given
+  pub hp_sum : hp ≡ byte_sum (given.packets Hp)
+  pub lp_sum : lp ≡ byte_sum (given.packets Lp)

@@ -1,0 +1,71 @@
+// Trials beside those of the independent reference, a plain Rust program.
+ghost use Rattle.std.specs.Prelude.{◌≡◌};
+
+use crate::Trial;
+use mode_set::{Carriers, Mode, Mode2k, Mode8k, Settings};
+use std::alloc::{AllocError, Global};
+use std::process::Abort;
+use std::rt::HostRuntime;
+use std::thread::Threads;
+use trial::{StreamReturn, TrialCounts};
+
+fn counts_of<M: Carriers, R: Threads + Sync>(
+    rt: &R,
+    alloc: Global,
+    settings: &Settings,
+    number: u32,
+) -> Result<TrialCounts, AllocError>
+    requires { settings.now.mode ≡ M.MODE }
+{
+    let trial = Trial::<M>::new(alloc, settings, number)?;
+    Ok(trial.run(rt))
+}
+
+fn check<R: Abort + Threads + Sync>(
+    rt: &R,
+    alloc: Global,
+    document: &[u8],
+    number: u32,
+    expected: TrialCounts,
+) {
+    let settings = Settings::read(alloc, document).expect(rt, "the settings");
+    let found = match settings.mode {
+        Mode::M2k => counts_of::<Mode2k, R>(rt, alloc, &settings, number),
+        Mode::M8k => counts_of::<Mode8k, R>(rt, alloc, &settings, number),
+    };
+    assert!(rt; found.expect(rt, "memory") == expected);
+}
+
+fn returned(packets: u32, back: u64, sum: u32) -> StreamReturn {
+    StreamReturn { packets, back, sum }
+}
+
+#[test]
+fn number_seven_of_one_stream(rt: HostRuntime) {
+    check(
+        &rt,
+        rt.alloc(),
+        b"mode = \"2k\"\nconstellation = \"qpsk\"\nrate_hp = \"1/2\"\nguard = \"1/32\"\n",
+        7,
+        TrialCounts {
+            cells: 220836107,
+            hp: returned(150, 241, 7652286),
+            lp: None,
+        },
+    );
+}
+
+#[test]
+fn number_seven_of_two_streams(rt: HostRuntime) {
+    check(
+        &rt,
+        rt.alloc(),
+        b"mode = \"2k\"\nconstellation = \"16qam\"\nhierarchy = \"2\"\nrate_hp = \"1/2\"\nrate_lp = \"3/4\"\nguard = \"1/32\"\n",
+        7,
+        TrialCounts {
+            cells: 221007851,
+            hp: returned(150, 241, 7669624),
+            lp: Some(returned(146, 367, 13932039)),
+        },
+    );
+}
