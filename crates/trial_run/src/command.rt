@@ -7,13 +7,14 @@ ghost use Rattle.run_clauses.specs.Runs.{IsDone, HasStatus, AsksOnly, Stands, Is
 ghost use Rattle.trial_run.specs.Steps.{IsReady, RunsOrLacks};
 
 use crate::run::run_trial;
-use crate::trials::TrialWithThreads;
 use mode_set::{Carriers, Mode, Mode2k, Mode8k, Settings, Start};
 use run_clauses::{Limits, Refusal};
 use run_steps::{read_settings, refuse};
 use station_core::Station;
 use std::alloc::Global;
 use std::thread::Threads;
+use trial_work::Trial as Work;
+use word_workers::Gate;
 
 // The settings of a trial: its receiver starts at zero, whatever they say.
 fn from_zero(settings: &Settings) -> Settings
@@ -25,9 +26,10 @@ fn from_zero(settings: &Settings) -> Settings
 }
 
 // Takes the memory of a mode's trial, and runs it.
-fn trial_in<'a, M: Carriers, R: Threads + Sync, S: Station<'a>>(
+fn trial_in<'a, M: Carriers, R: Threads + Sync, G: Gate, S: Station<'a>>(
     rt: &R,
     alloc: Global,
+    gate: &G,
     settings: &Settings,
     number: u32,
     station: &mut S,
@@ -36,16 +38,17 @@ fn trial_in<'a, M: Carriers, R: Threads + Sync, S: Station<'a>>(
     requires ready { IsReady (S.meaning station.old) }
     ensures { RunsOrLacks settings.now number (S.meaning station.old) (S.meaning station.new) result }
 {
-    match TrialWithThreads::<R, M>::new(rt, alloc, settings, number) {
-        Ok(trial) => run_trial(settings.max_symbols, trial, station),
+    match Work::<M>::new(alloc, settings, number) {
+        Ok(trial) => run_trial(rt, gate, settings.max_symbols, trial, station),
         Err(_) => refuse(&Refusal::Memory, station),
     }
 }
 
 // The same in the mode that is set, from zero.
-fn trial_accepted<'a, R: Threads + Sync, S: Station<'a>>(
+fn trial_accepted<'a, R: Threads + Sync, G: Gate, S: Station<'a>>(
     rt: &R,
     alloc: Global,
+    gate: &G,
     settings: &Settings,
     number: u32,
     station: &mut S,
@@ -55,8 +58,8 @@ fn trial_accepted<'a, R: Threads + Sync, S: Station<'a>>(
 {
     let zero = from_zero(settings);
     match zero.mode {
-        Mode::M2k => trial_in::<Mode2k, R, S>(rt, alloc, &zero, number, station),
-        Mode::M8k => trial_in::<Mode8k, R, S>(rt, alloc, &zero, number, station),
+        Mode::M2k => trial_in::<Mode2k, R, G, S>(rt, alloc, gate, &zero, number, station),
+        Mode::M8k => trial_in::<Mode8k, R, G, S>(rt, alloc, gate, &zero, number, station),
     }
 }
 
@@ -64,10 +67,11 @@ fn trial_accepted<'a, R: Threads + Sync, S: Station<'a>>(
 ///
 /// The settings are read and checked, and then all memory is taken. Settings that allow fewer than 272
 /// symbols, which is one super-frame, are refused. No port but Settings is asked. The limits of packets do
-/// not bound a trial.
-pub fn trial<'a, R: Threads + Sync, S: Station<'a>>(
+/// not bound a trial. The workers of its receiver enter the gate.
+pub fn trial<'a, R: Threads + Sync, G: Gate, S: Station<'a>>(
     rt: &R,
     alloc: Global,
+    gate: &G,
     settings: &'a str,
     number: u32,
     limits: &Limits,
@@ -82,7 +86,7 @@ pub fn trial<'a, R: Threads + Sync, S: Station<'a>>(
     ensures complete { IsComplete limits.now.packets (Trial settings.now number) (S.meaning station.old) (S.meaning station.new) result }
 {
     match read_settings(alloc, settings, station) {
-        Ok(accepted) => trial_accepted(rt, alloc, &accepted, number, station),
+        Ok(accepted) => trial_accepted(rt, alloc, gate, &accepted, number, station),
         Err(refusal) => refuse(&refusal, station),
     }
 }

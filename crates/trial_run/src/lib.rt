@@ -8,7 +8,5 @@
 mod command;
 mod lines;
 mod run;
-mod trials;
-mod whole_trial;
 
 pub use command::trial;

@@ -12,6 +12,7 @@ use mode_set::{Carriers, Settings};
 use receiver::{Receiver, RxOut};
 use std::alloc::{AllocError, Global};
 use std::thread::Threads;
+use word_workers::Gate;
 
 /// A receiver, what its last call gave, and the sums of the bytes of all packets that it gave.
 #[derive(Drop)]
@@ -48,7 +49,7 @@ impl<M: Carriers> SummedReceiver<M> {
     }
 
     // Feeds a piece that goes no further than the symbol.
-    fn feed<R: Threads + Sync>(&mut self, rt: &R, piece: &[u8])
+    fn feed<R: Threads + Sync, G: Gate>(&mut self, rt: &R, gate: &G, piece: &[u8])
         requires going { self.old.receiver.ended ≡ false }
         requires few { self.old.receiver.taken < 2 ^ 32 }
         ensures settings { self.new.receiver.settings ≡ self.old.receiver.settings }
@@ -57,12 +58,18 @@ impl<M: Carriers> SummedReceiver<M> {
         ensures given { (bytes : List ℕ) → tail self.old.receiver.settings bytes + length piece.now ≤ symbol_length self.old.receiver.settings
             → HasGiven self.old.receiver bytes self.old.hp self.old.lp → HasGiven self.new.receiver (bytes ++ piece.now) self.new.hp self.new.lp }
     {
-        self.receiver.feed(rt, piece, &mut self.out);
+        self.receiver.feed_gated(rt, gate, piece, &mut self.out);
         self.add();
     }
 
     /// Feeds a symbol in pieces whose lengths are drawn.
-    pub fn feed_symbol<R: Threads + Sync>(&mut self, rt: &R, symbol: &[u8], load: &mut Load)
+    pub fn feed_symbol<R: Threads + Sync, G: Gate>(
+        &mut self,
+        rt: &R,
+        gate: &G,
+        symbol: &[u8],
+        load: &mut Load,
+    )
         requires going { self.old.receiver.ended ≡ false }
         requires long { length symbol.now ≤ 27268 }
         requires few { self.old.receiver.taken < 2 ^ 31 }
@@ -75,7 +82,7 @@ impl<M: Carriers> SummedReceiver<M> {
         let mut fed = 0;
         while fed < symbol.len() {
             let piece = load.piece((symbol.len() - fed) as u32);
-            self.feed(rt, &symbol[fed..fed + piece as usize]);
+            self.feed(rt, gate, &symbol[fed..fed + piece as usize]);
             fed += piece as usize;
         }
     }

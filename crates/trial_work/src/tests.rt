@@ -8,6 +8,7 @@ use std::process::Abort;
 use std::rt::HostRuntime;
 use std::thread::Threads;
 use trial::{StreamReturn, TrialCounts};
+use word_workers::OpenGate;
 
 fn counts_of<M: Carriers, R: Threads + Sync>(
     rt: &R,
@@ -18,7 +19,7 @@ fn counts_of<M: Carriers, R: Threads + Sync>(
     requires { settings.now.mode ≡ M.MODE }
 {
     let trial = Trial::<M>::new(alloc, settings, number)?;
-    Ok(trial.run(rt))
+    Ok(trial.run(rt, &OpenGate))
 }
 
 fn check<R: Abort + Threads + Sync>(

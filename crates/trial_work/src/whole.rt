@@ -9,6 +9,7 @@ use std::alloc::{AllocError, Global};
 use std::marker::Model;
 use std::thread::Threads;
 use trial::TrialCounts;
+use word_workers::Gate;
 
 /// A trial of settings and a number: packets are drawn from the number and modulated, the cells are
 /// disturbed and received in pieces, and what comes back is counted. One super-frame carries all packets.
@@ -45,13 +46,13 @@ impl<M: Carriers> Trial<M> {
         })
     }
 
-    /// Runs the trial and answers what was counted.
-    pub fn run<R: Threads + Sync>(self, rt: &R) -> TrialCounts
+    /// Runs the trial and answers what was counted. The workers of its receiver enter the gate.
+    pub fn run<R: Threads + Sync, G: Gate>(self, rt: &R, gate: &G) -> TrialCounts
         ensures counts { (r : Reception) × TrialGives self.settings self.number r × (result ≡ trial_counts self.settings self.number r) }
     {
         let settings = self.settings;
         let mut work = self.work;
-        work.all_symbols(rt, &settings);
+        work.all_symbols(rt, gate, &settings);
         work.finish(rt, &settings)
     }
 }

@@ -18,6 +18,7 @@ use std::alloc::{AllocError, Global};
 use std::thread::Threads;
 use trial::laws::{cells, packets, packets_back};
 use trial::{StreamReturn, TrialCounts};
+use word_workers::Gate;
 
 /// The symbols of a super-frame, in which a trial is over.
 const SYMBOLS: u16 = 272;
@@ -76,7 +77,13 @@ impl<M: Carriers> Work<M> {
     }
 
     // Draws, sends, disturbs and feeds the next symbol.
-    fn next_symbol<R: Threads + Sync>(&mut self, rt: &R, settings: &Settings, symbol: u16)
+    fn next_symbol<R: Threads + Sync, G: Gate>(
+        &mut self,
+        rt: &R,
+        gate: &G,
+        settings: &Settings,
+        symbol: u16,
+    )
         requires mode { settings.now.mode ≡ M.MODE }
         requires within { symbol < 272 }
         requires sent { 4 * M.K ≤ vec_capacity self.old.sent }
@@ -94,11 +101,17 @@ impl<M: Carriers> Work<M> {
         self.tx.symbol(&mut self.sent);
         disturb::<M>(settings, symbol, &self.sent, &mut self.draws, &mut self.fed);
         self.cells = sum_onto(self.cells, &self.fed);
-        self.rx.feed_symbol(rt, &self.fed, &mut self.draws.load);
+        self.rx
+            .feed_symbol(rt, gate, &self.fed, &mut self.draws.load);
     }
 
     /// All symbols of the transmission.
-    pub fn all_symbols<R: Threads + Sync>(&mut self, rt: &R, settings: &Settings)
+    pub fn all_symbols<R: Threads + Sync, G: Gate>(
+        &mut self,
+        rt: &R,
+        gate: &G,
+        settings: &Settings,
+    )
         requires mode { settings.now.mode ≡ M.MODE }
         requires sent { 4 * M.K ≤ vec_capacity self.old.sent }
         requires fed { 4 * M.K ≤ vec_capacity self.old.fed }
@@ -107,7 +120,7 @@ impl<M: Carriers> Work<M> {
         ensures last { IsBefore settings.now 272 self.new.draws self.new.tx self.new.rx.receiver self.new.rx.hp self.new.rx.lp self.new.cells }
     {
         for symbol in 0..SYMBOLS {
-            self.next_symbol(rt, settings, symbol);
+            self.next_symbol(rt, gate, settings, symbol);
         }
     }
 

@@ -9,8 +9,8 @@ pub returns-clause-ran : goal.returns-clause-ran
 returns-clause-ran g c =
     let old : Meaning = g.S.Station.meaning c.args.station.now in
     let new : Meaning = g.S.Station.meaning c.write_lines.new.station in
-    let s : Settings = g.X.WholeTrial.settings c.args.trial in
-    let n : ℕ = g.X.WholeTrial.number c.args.trial in
+    let s : Settings = c.args.trial.settings in
+    let n : ℕ = c.args.trial.number in
     let most : s.max_symbols ≡ c.args.max_symbols = c.requires.most in
     let enough : trial_symbols ≤ c.args.max_symbols = c.if-max_symbols-lt-SYMBOLS.false in
     let e = c.run-counts.ensures.counts in
