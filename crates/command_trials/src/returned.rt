@@ -119,7 +119,8 @@ fn two_streams_and_noise(rt: HostRuntime) -> Result<(), Fail> {
 fn start_in_the_second_super_frame(rt: HostRuntime) -> Result<(), Fail> {
     let alloc = rt.alloc();
     let cells = sent(&rt, alloc, "modulate s a cells", BASE, (300, 0), 3_710_080)?;
-    assert_eq!(rt; (cells.len(), checksum(&cells)), (3_710_080, 2_448_572_138));
+    assert_eq!(rt; checksum(&cells), 2_448_572_138);
+    assert_eq!(rt; cells.len(), 3_710_080);
     let settings = text_bytes(alloc, BASE, "start = \"any\"\n")?;
     let second = Vec::from_slice(alloc, &cells[272 * SYMBOL..])?;
     let inputs = (second, Vec::new(alloc));

@@ -1,5 +1,5 @@
 // The symbols of null packets.
-ghost use Rattle.std.specs.Prelude.{◌≡◌, ◌≤◌, vec_capacity};
+ghost use Rattle.std.specs.Prelude.{◌≡◌};
 
 use mode_set::{Guard, Hierarchy, Mode, Mode2k, Rate, Settings, Shape, Start};
 use modulator::{Modulator, Want};
@@ -29,19 +29,21 @@ pub(crate) fn settings(start: Start) -> Settings
     }
 }
 
-// The next symbol in the place of what stands in `to`. It wants two packets at most.
-fn next_symbol(rt: &impl Abort, tx: &mut Modulator<Mode2k>, to: &mut Vec<u8>)
-    requires { 6820 ≤ vec_capacity to.old }
-    ensures { 6820 ≤ vec_capacity to.new }
-{
+// The bytes of the next symbol. It wants two packets at most.
+fn next_symbol(
+    rt: &impl Abort,
+    alloc: Global,
+    tx: &mut Modulator<Mode2k>,
+) -> Result<Vec<u8>, AllocError> {
     for _ in 0..2u8 {
         if tx.wants() == Want::Hp {
             tx.put(&Packet::null());
         }
     }
-    to.clear();
+    let mut to = Vec::with_capacity(alloc, SYMBOL)?;
     assert!(rt; tx.wants() == Want::Symbol && tx.made() < 4294967296);
-    tx.symbol(to);
+    tx.symbol(&mut to);
+    Ok(to)
 }
 
 /// The bytes of the first symbols that carry null packets.
@@ -51,10 +53,9 @@ pub(crate) fn null_symbols(
     count: u16,
 ) -> Result<Vec<u8>, AllocError> {
     let mut tx = Modulator::<Mode2k>::new(alloc, &settings(Start::Zero))?;
-    let mut symbol = Vec::with_capacity(alloc, SYMBOL)?;
     let mut bytes = Vec::new(alloc);
     for _ in 0..count {
-        next_symbol(rt, &mut tx, &mut symbol);
+        let symbol = next_symbol(rt, alloc, &mut tx)?;
         bytes.extend_from_slice(&symbol)?;
     }
     Ok(bytes)
