@@ -1,5 +1,4 @@
-//! The receiver over the symbols of the modulator: receptions with known counts, pieces of any size, turned TPS
-//! bits, paths that do not merge.
+//! The receiver over the symbols of the modulator: pieces of any size, and paths that do not merge.
 //!
 //! The crate has tests alone.
 #![tactic(auto)]
