@@ -1,0 +1,101 @@
+// The files that the runs begin with.
+use std::alloc::{AllocError, Global};
+use std::process::Abort;
+use ts_packet::Packet;
+
+/// QPSK at 1/2 in the 2K mode.
+pub(crate) const BASE: &str =
+    "mode = \"2k\"\nconstellation = \"qpsk\"\nrate_hp = \"1/2\"\nguard = \"1/32\"\n";
+
+/// Two streams, of 1/2 and 3/4, in 16-QAM in the 2K mode.
+pub(crate) const LAYERED: &str =
+    "mode = \"2k\"\nconstellation = \"16qam\"\nhierarchy = \"4\"\nrate_hp = \"1/2\"\nrate_lp = \"3/4\"\nguard = \"1/32\"\n";
+
+/// The bytes of a symbol of the 2K mode.
+pub(crate) const SYMBOL: usize = 6820;
+
+/// A transport file.
+#[derive(Clone, Copy)]
+pub(crate) enum File {
+    /// So many null packets, and so many bytes of one more.
+    Nulls(usize, usize),
+    /// So many null packets, and a packet that begins with 00.
+    Unsynced(usize),
+    /// So many packets whose payloads count on, and so many null packets.
+    Counted(u32, usize),
+}
+
+impl File {
+    /// The file's bytes.
+    pub(crate) fn bytes(self, alloc: Global) -> Result<Vec<u8>, AllocError> {
+        let mut bytes = Vec::new(alloc);
+        match self {
+            File::Nulls(count, tail) => {
+                add_nulls(count, &mut bytes)?;
+                for byte in Packet::null().bytes().iter().take(tail) {
+                    bytes.push(*byte)?;
+                }
+            }
+            File::Unsynced(count) => {
+                add_nulls(count, &mut bytes)?;
+                bytes.extend_from_slice([0u8; 188].as_slice())?;
+            }
+            File::Counted(count, nulls) => {
+                for number in 0..count {
+                    add_counted(number, &mut bytes)?;
+                }
+                add_nulls(nulls, &mut bytes)?;
+            }
+        }
+        Ok(bytes)
+    }
+}
+
+fn add_nulls(count: usize, to: &mut Vec<u8>) -> Result<(), AllocError> {
+    for _ in 0..count {
+        to.extend_from_slice(Packet::null().bytes().as_slice())?;
+    }
+    Ok(())
+}
+
+// A packet whose payload counts on, as those of `examples/sample.ts`.
+fn add_counted(number: u32, to: &mut Vec<u8>) -> Result<(), AllocError> {
+    let unit_start = if number == 0 { 0x41 } else { 0x01 };
+    let counter = 0x10 | (number % 16) as u8;
+    to.extend_from_slice([0x47, unit_start, 0x00, counter].as_slice())?;
+    for place in 0..184u32 {
+        to.push((number.wrapping_mul(7).wrapping_add(place) % 256) as u8)?;
+    }
+    Ok(())
+}
+
+/// The bytes of a text, and of one more.
+pub(crate) fn text_bytes(alloc: Global, text: &str, more: &str) -> Result<Vec<u8>, AllocError> {
+    let mut bytes = Vec::new(alloc);
+    bytes.extend_from_slice(text.as_bytes())?;
+    bytes.extend_from_slice(more.as_bytes())?;
+    Ok(bytes)
+}
+
+/// The bytes as the digits of a number of base 31, modulo 2^32.
+pub(crate) fn checksum(bytes: &[u8]) -> u32 {
+    let mut sum = 0u32;
+    for byte in bytes {
+        sum = sum.wrapping_mul(31).wrapping_add(u32::from(*byte));
+    }
+    sum
+}
+
+/// The number at a place of cells.
+pub(crate) fn number_at(rt: &impl Abort, cells: &[u8], at: usize) -> i16 {
+    assert!(rt; at < 4_000_000 && at + 1 < cells.len());
+    i16::from_be_bytes([cells[at], cells[at + 1]])
+}
+
+/// Puts a number at a place of cells.
+pub(crate) fn put_number(rt: &impl Abort, cells: &mut [u8], at: usize, number: i16) {
+    assert!(rt; at < 4_000_000 && at + 1 < cells.len());
+    let bytes = number.to_be_bytes();
+    cells[at] = bytes[0];
+    cells[at + 1] = bytes[1];
+}

@@ -1,0 +1,17 @@
+//! The commands `modulate` and `receive` over a station in memory: whole runs with known outcomes, among
+//! them the null super-frame both ways, refusals, faults and limits with what stands after them, both
+//! streams of a hierarchy, noise, turned TPS bits, and a transmission that is entered late.
+//!
+//! The crate has tests alone.
+#![tactic(auto)]
+
+#[cfg(test)]
+mod files;
+#[cfg(test)]
+mod modulated;
+#[cfg(test)]
+mod received;
+#[cfg(test)]
+mod returned;
+#[cfg(test)]
+mod runs;

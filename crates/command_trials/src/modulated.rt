@@ -1,0 +1,206 @@
+// The command `modulate`. The expected reports and sums are those of an independent program.
+use crate::files::{BASE, File, LAYERED, checksum, text_bytes};
+use crate::runs::{Conditions, ample, run_files};
+use station_core::{Failing, InPort, OutPort};
+use std::alloc::{AllocError, Global};
+use std::process::Abort;
+use std::test::Fail;
+use std::thread::Threads;
+
+/// No packet.
+const NONE: File = File::Nulls(0, 0);
+
+/// The bytes of a super-frame of the 2K mode, and the room at each output.
+const SUPER_FRAME: usize = 1_855_040;
+
+const NULLS: &str = "hp packets 0 tail 0\nsuperframes 1\n";
+
+const ONE: &str = "modulate s a cells";
+
+const TWO: &str = "modulate s a b cells";
+
+// What is to be found: the status, the report, how many bytes of cells stand, and their sum.
+type Found<'a> = (u8, &'a str, usize, u32);
+
+// Modulates two transport files, at most 100 packets of each, and compares what stands.
+fn expect<R: Abort + Threads + Sync>(
+    rt: &R,
+    alloc: Global,
+    text: &str,
+    settings: (&str, &str),
+    inputs: (File, File),
+    failing: Option<Failing>,
+    found: Found<'_>,
+) -> Result<(), AllocError> {
+    let settings = text_bytes(alloc, settings.0, settings.1)?;
+    let files = (inputs.0.bytes(alloc)?, inputs.1.bytes(alloc)?);
+    let conditions = Conditions {
+        failing,
+        ..ample(1_855_040)
+    };
+    let ran = run_files(rt, alloc, text, settings, files, 100, conditions)?;
+    let is_told = ran.status == found.0 && ran.report.as_slice() == found.1.as_bytes();
+    assert!(rt; is_told, "{text}: status or report beside {}", found.1);
+    let stands = ran.cells.len() == found.2 && checksum(&ran.cells) == found.3;
+    assert!(rt; stands, "{text}: cells beside {}", found.1);
+    Ok(())
+}
+
+// The super-frame that carries null packets: how it begins, its first scattered pilot past carrier 0, and a TPS
+// carrier in the first and in the fourth symbol.
+#[test]
+fn null_super_frame(rt: HostRuntime) -> Result<(), Fail> {
+    let alloc = rt.alloc();
+    let settings = text_bytes(alloc, BASE, "")?;
+    let none = (Vec::new(alloc), Vec::new(alloc));
+    let ran = run_files(&rt, alloc, ONE, settings, none, 1, ample(1_855_040))?;
+    assert_eq!(rt; ran.status, 0);
+    assert!(rt; ran.report.as_slice() == NULLS.as_bytes());
+    assert_eq!(rt; ran.cells.len(), SUPER_FRAME);
+    let begins = [0xAAu8, 0xAB, 0x00, 0x00, 0xD2, 0xBF, 0x2D, 0x41];
+    assert_eq!(rt; &ran.cells[..8], begins.as_slice());
+    let places = [
+        (48, [0x55u8, 0x55, 0x00, 0x00]),
+        (136, [0x40, 0x00, 0x00, 0x00]),
+        (20_596, [0xC0, 0x00, 0x00, 0x00]),
+    ];
+    for (at, cell) in places {
+        assert!(rt; at < 30_000 && ran.cells.len() == SUPER_FRAME);
+        assert!(rt; &ran.cells[at..at + 4] == cell.as_slice(), "at {at}");
+    }
+    Ok(())
+}
+
+// One stream, two streams, and a part packet behind the last whole one.
+#[test]
+fn whole_runs(rt: HostRuntime) -> Result<(), Fail> {
+    let alloc = rt.alloc();
+    let counted = File::Counted(100, 0);
+    let one = "hp packets 100 tail 0\nsuperframes 1\n";
+    let two = "hp packets 100 tail 0\nlp packets 20 tail 5\nsuperframes 1\n";
+    let part = "hp packets 5 tail 7\nsuperframes 1\n";
+    let cases = [
+        (ONE, BASE, (NONE, NONE), (NULLS, 2_315_031_475)),
+        (ONE, BASE, (counted, NONE), (one, 2_597_193_741)),
+        (
+            TWO,
+            LAYERED,
+            (counted, File::Nulls(20, 5)),
+            (two, 1_415_711_803),
+        ),
+        (ONE, BASE, (File::Nulls(5, 7), NONE), (part, 2_315_031_475)),
+    ];
+    for (text, settings, inputs, (report, sum)) in cases {
+        let found = (0, report, SUPER_FRAME, sum);
+        expect(&rt, alloc, text, (settings, ""), inputs, None, found)?;
+    }
+    Ok(())
+}
+
+// A packet without its sync byte, which HP is asked for before LP, and the limits.
+#[test]
+fn refused_packets_and_limits(rt: HostRuntime) -> Result<(), Fail> {
+    let alloc = rt.alloc();
+    let limited = "max_symbols = 271\n";
+    let bad = File::Unsynced(0);
+    let cases = [
+        (
+            "",
+            (File::Unsynced(3), NONE),
+            (4, "hp packet 3\n", 20_460, 547_083_398),
+        ),
+        (
+            limited,
+            (NONE, NONE),
+            (8, "limit 271\n", 1_848_220, 3_973_823_262),
+        ),
+        (
+            "",
+            (File::Nulls(101, 0), NONE),
+            (8, "limit 100\n", 729_740, 2_726_717_741),
+        ),
+    ];
+    for (lines, inputs, found) in cases {
+        expect(&rt, alloc, ONE, (BASE, lines), inputs, None, found)?;
+    }
+    let cases = [
+        (
+            (NONE, File::Unsynced(2)),
+            (4, "lp packet 2\n", 6_820, 3_248_578_444),
+        ),
+        ((bad, bad), (4, "hp packet 0\n", 0, 0)),
+    ];
+    for (inputs, found) in cases {
+        expect(&rt, alloc, TWO, (LAYERED, ""), inputs, None, found)?;
+    }
+    Ok(())
+}
+
+// Words of no form, settings that do not fit the form, and a file that is not there: no cells are made.
+#[test]
+fn refused_words_and_settings(rt: HostRuntime) -> Result<(), Fail> {
+    let alloc = rt.alloc();
+    let cases = [
+        (ONE, LAYERED, (3, "settings form\n")),
+        (TWO, BASE, (3, "settings form\n")),
+        ("modulate s gone cells", BASE, (5, "read fault\n")),
+        ("modulate s a", BASE, (2, "usage\n")),
+        ("modulate s a b cells more", LAYERED, (2, "usage\n")),
+    ];
+    for (text, settings, (status, report)) in cases {
+        let found = (status, report, 0, 0);
+        expect(&rt, alloc, text, (settings, ""), (NONE, NONE), None, found)?;
+    }
+    Ok(())
+}
+
+// One call of the station fails, and this stands.
+#[test]
+fn faults_of_the_station(rt: HostRuntime) -> Result<(), Fail> {
+    let alloc = rt.alloc();
+    let closing = "hp packets 0 tail 0\nsuperframes 1\nwrite fault\n";
+    let half = "hp packets 0 tail 0\nsuperfrwrite fault\n";
+    let read = "read fault\n";
+    let write = "write fault\n";
+    let cases = [
+        (Failing::Read(InPort::Settings, 1), 2, (5, read, 0, 0)),
+        (Failing::Attach(InPort::Hp, 1), 2, (5, read, 0, 0)),
+        (
+            Failing::Read(InPort::Hp, 3),
+            2,
+            (5, read, 13_640, 3_683_694_701),
+        ),
+        (Failing::Create(OutPort::Cells, 1), 2, (6, write, 0, 0)),
+        (
+            Failing::Write(OutPort::Cells, 1),
+            2,
+            (6, write, 3_410, 4_288_021_981),
+        ),
+        (
+            Failing::Write(OutPort::Report, 2),
+            0,
+            (6, half, SUPER_FRAME, 2_315_031_475),
+        ),
+        (
+            Failing::Close(OutPort::Cells, 1),
+            0,
+            (6, closing, SUPER_FRAME, 2_315_031_475),
+        ),
+    ];
+    for (call, packets, found) in cases {
+        let inputs = (File::Nulls(packets, 0), NONE);
+        expect(&rt, alloc, ONE, (BASE, ""), inputs, Some(call), found)?;
+    }
+    let cases = [
+        (Failing::Read(InPort::Lp, 1), (5, read, 0, 0)),
+        (
+            Failing::Read(InPort::Lp, 3),
+            (5, read, 6_820, 3_248_578_444),
+        ),
+    ];
+    for (call, found) in cases {
+        let inputs = (File::Nulls(3, 0), File::Nulls(3, 0));
+        expect(&rt, alloc, TWO, (LAYERED, ""), inputs, Some(call), found)?;
+    }
+    Ok(())
+}

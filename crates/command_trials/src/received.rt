@@ -1,0 +1,211 @@
+// The command `receive` of one stream. The expected reports and lengths are those of an independent program.
+use crate::files::{BASE, File, LAYERED, SYMBOL, checksum, number_at, put_number, text_bytes};
+use crate::runs::{Conditions, ample, run_files};
+use mode_set::Mode;
+use pilots::tps_carriers;
+use station_core::{Failing, InPort, OutPort};
+use std::alloc::{AllocError, Global};
+use std::process::Abort;
+use std::test::Fail;
+use std::thread::Threads;
+
+/// The bytes of a super-frame of the 2K mode.
+const SUPER_FRAME: usize = 1_855_040;
+
+const ONE: &str = "receive s a hp";
+
+const WHOLE: &str =
+    "symbols 272 tail 0\ntps read 4 bad 0\nhp words 241 clean 241 corrected 0 bad 0 unphased 0 unmerged 0\n";
+
+const ONE_BAD: &str =
+    "symbols 272 tail 0\ntps read 3 bad 1\nhp words 241 clean 241 corrected 0 bad 0 unphased 0 unmerged 0\n";
+
+// What is to be found: the status, the report, and how many bytes of null packets stand at HP.
+type Found<'a> = (u8, &'a str, usize);
+
+// Receives these cells, and compares what stands.
+fn expect<R: Abort + Threads + Sync>(
+    rt: &R,
+    alloc: Global,
+    text: &str,
+    settings: (&str, &str),
+    cells: &[u8],
+    conditions: Conditions,
+    found: Found<'_>,
+) -> Result<(), AllocError> {
+    let settings = text_bytes(alloc, settings.0, settings.1)?;
+    let files = (Vec::from_slice(alloc, cells)?, Vec::new(alloc));
+    let ran = run_files(rt, alloc, text, settings, files, 1, conditions)?;
+    let is_told = ran.status == found.0 && ran.report.as_slice() == found.1.as_bytes();
+    assert!(rt; is_told, "{text}: status or report beside {}", found.1);
+    let nulls = File::Nulls(found.2 / 188, found.2 % 188).bytes(alloc)?;
+    let stands = ran.hp == nulls && ran.lp.is_empty();
+    assert!(rt; stands, "{text}: packets beside {}", found.1);
+    Ok(())
+}
+
+// The cells of the super-frame that carries null packets.
+fn null_cells<R: Abort + Threads + Sync>(rt: &R, alloc: Global) -> Result<Vec<u8>, AllocError> {
+    let settings = text_bytes(alloc, BASE, "")?;
+    let none = (Vec::new(alloc), Vec::new(alloc));
+    let ran = run_files(
+        rt,
+        alloc,
+        "modulate s a cells",
+        settings,
+        none,
+        1,
+        ample(1_855_040),
+    )?;
+    assert!(rt; ran.status == 0 && checksum(&ran.cells) == 2_315_031_475);
+    Ok(ran.cells)
+}
+
+fn failing(call: Failing) -> Conditions {
+    Conditions {
+        failing: Some(call),
+        ..ample(50_000)
+    }
+}
+
+// The null super-frame: whole, a byte at each read, within the limit of symbols and past it; a symbol and a
+// byte of it, and no byte.
+#[test]
+fn null_super_frame(rt: HostRuntime) -> Result<(), Fail> {
+    let alloc = rt.alloc();
+    let cells = null_cells(&rt, alloc)?;
+    assert_eq!(rt; cells.len(), SUPER_FRAME);
+    let mut more = Vec::from_slice(alloc, &cells)?;
+    more.extend_from_slice(&cells[..SYMBOL])?;
+    let part =
+        "symbols 1 tail 1\ntps read 0 bad 0\nhp words 0 clean 0 corrected 0 bad 0 unphased 0 unmerged 0\n";
+    let empty =
+        "symbols 0 tail 0\ntps read 0 bad 0\nhp words 0 clean 0 corrected 0 bad 0 unphased 0 unmerged 0\n";
+    let wide = ample(50_000);
+    let narrow = Conditions { most: 1, ..wide };
+    let limit = "max_symbols = 272\n";
+    let cases = [
+        ("", &cells[..], wide, (0, WHOLE, 45_308)),
+        ("", &cells[..], narrow, (0, WHOLE, 45_308)),
+        (limit, &cells[..], wide, (0, WHOLE, 45_308)),
+        (limit, &more[..], wide, (8, "limit 272\n", 45_120)),
+        ("", &cells[..SYMBOL + 1], wide, (0, part, 0)),
+        ("", &cells[..SYMBOL + 1], narrow, (0, part, 0)),
+        ("", &cells[..0], wide, (0, empty, 0)),
+    ];
+    for (lines, bytes, conditions, found) in cases {
+        expect(&rt, alloc, ONE, (BASE, lines), bytes, conditions, found)?;
+    }
+    Ok(())
+}
+
+// One call of the station fails, and this stands of the null super-frame.
+#[test]
+fn faults_of_the_station(rt: HostRuntime) -> Result<(), Fail> {
+    let alloc = rt.alloc();
+    let cells = null_cells(&rt, alloc)?;
+    let read = "read fault\n";
+    let write = "write fault\n";
+    let faults = [
+        (Failing::Attach(InPort::Cells, 1), (5, read, 0)),
+        (Failing::Read(InPort::Cells, 31), (5, read, 3_008)),
+        (Failing::Create(OutPort::Hp, 1), (6, write, 0)),
+        (Failing::Write(OutPort::Hp, 1), (6, write, 94)),
+        (Failing::Write(OutPort::Hp, 2), (6, write, 282)),
+        (
+            Failing::Write(OutPort::Report, 1),
+            (6, "symbols 2write fault\n", 45_308),
+        ),
+    ];
+    for (call, found) in faults {
+        expect(&rt, alloc, ONE, (BASE, ""), &cells, failing(call), found)?;
+    }
+    Ok(())
+}
+
+// Words of no form, a file that is not there, and settings that do not fit the form: no packet is written.
+#[test]
+fn refused_words_and_settings(rt: HostRuntime) -> Result<(), Fail> {
+    let alloc = rt.alloc();
+    let cases = [
+        ("receive s a", BASE, (2, "usage\n", 0)),
+        ("receive s a hp lp more", LAYERED, (2, "usage\n", 0)),
+        ("Receive s a hp", BASE, (2, "usage\n", 0)),
+        ("receive s gone hp", BASE, (5, "read fault\n", 0)),
+        (ONE, LAYERED, (3, "settings form\n", 0)),
+        ("receive s a hp lp", BASE, (3, "settings form\n", 0)),
+    ];
+    for (text, settings, found) in cases {
+        expect(&rt, alloc, text, (settings, ""), &[], ample(50_000), found)?;
+    }
+    Ok(())
+}
+
+// Turns the sign of the TPS cells of a symbol.
+fn negate_tps(rt: &impl Abort, bytes: &mut [u8], symbol: usize) {
+    assert!(rt; symbol < 272);
+    for carrier in tps_carriers(Mode::M2k) {
+        let at = SYMBOL * symbol + 4 * *carrier as usize;
+        for place in [at, at + 2] {
+            let number = number_at(rt, bytes, place).wrapping_neg();
+            put_number(rt, bytes, place, number);
+        }
+    }
+}
+
+// The TPS cells of symbols 5 to 59 of the first frame turn two bits of its word, which are corrected; those
+// of symbols 60 to 63 and 67 turn three.
+#[test]
+fn turned_tps_bits(rt: HostRuntime) -> Result<(), Fail> {
+    let alloc = rt.alloc();
+    let mut cells = null_cells(&rt, alloc)?;
+    for symbol in 5..60usize {
+        negate_tps(&rt, &mut cells, symbol);
+    }
+    expect(
+        &rt,
+        alloc,
+        ONE,
+        (BASE, ""),
+        &cells,
+        ample(50_000),
+        (0, WHOLE, 45_308),
+    )?;
+    let mut cells = null_cells(&rt, alloc)?;
+    for symbol in [60usize, 61, 62, 63, 67] {
+        negate_tps(&rt, &mut cells, symbol);
+    }
+    expect(
+        &rt,
+        alloc,
+        ONE,
+        (BASE, ""),
+        &cells,
+        ample(50_000),
+        (0, ONE_BAD, 45_308),
+    )?;
+    Ok(())
+}
+
+// Two symbols all of whose cells are (0, 11585): no survivors agree within 2048 steps.
+#[test]
+fn unmerged_at_2049(rt: HostRuntime) -> Result<(), Fail> {
+    let alloc = rt.alloc();
+    let mut cells = Vec::new(alloc);
+    for _ in 0..3410u32 {
+        cells.extend_from_slice([0x00u8, 0x00, 0x2D, 0x41].as_slice())?;
+    }
+    let report =
+        "hp unmerged at 2049\nsymbols 2 tail 0\ntps read 0 bad 0\nhp words 0 clean 0 corrected 0 bad 0 unphased 0 unmerged 1\n";
+    let settings = (BASE, "start = \"any\"\n");
+    expect(
+        &rt,
+        alloc,
+        ONE,
+        settings,
+        &cells,
+        ample(50_000),
+        (0, report, 0),
+    )?;
+    Ok(())
+}
