@@ -7,7 +7,7 @@
 # usage: bench/workers.sh [NOISE] [PROGRAM WORDS..]
 set -eu
 top=$(cd "$(dirname "$0")/.." && pwd)
-noise=${1:-2300}
+noise=${1:-1200}
 [ $# -gt 0 ] && shift
 folder=$(mktemp -d /dev/shm/dvbt-bench.XXXXXX)
 trap 'rm -rf "$folder"' EXIT
