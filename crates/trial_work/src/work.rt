@@ -106,12 +106,7 @@ impl<M: Carriers> Work<M> {
     }
 
     /// All symbols of the transmission.
-    pub fn all_symbols<R: Threads + Sync, G: Gate>(
-        &mut self,
-        rt: &R,
-        gate: &G,
-        settings: &Settings,
-    )
+    pub fn all_symbols<R: Threads + Sync, G: Gate>(&mut self, rt: &R, gate: &G, settings: &Settings)
         requires mode { settings.now.mode ≡ M.MODE }
         requires sent { 4 * M.K ≤ vec_capacity self.old.sent }
         requires fed { 4 * M.K ≤ vec_capacity self.old.fed }
