@@ -83,10 +83,14 @@ returns-in-Err-clause-complete g c =
     refused_complete c.args.limits.now.packets c.args.settings.now c.args.number old mid new c.requires.fresh c.in-Err.ensures.asks
     c.in-Err.refusal c.in-Err.ensures.reads c.refuse.result c.refuse.ensures.status c.refuse.ensures.text
 
-pub trial_accepted-requires-sync-R : goal.trial_accepted-requires-sync-R
-trial_accepted-requires-sync-R g c κs within =
+pub trial_accepted-requires : goal.trial_accepted-requires
+trial_accepted-requires g c =
     let old : Meaning = g.S.Station.meaning c.args.station.now in
-    let mid : Meaning = g.S.Station.meaning c.read_settings.new.station in (
-      c.type_bounds.sync-R,
-      ((refl, tt), ready c.args.limits.now.packets c.args.settings.now c.args.number old mid mid c.requires.fresh c.in-Ok.ensures.asks c.in-Ok.accepted c.in-Ok.ensures.reads),
+    let mid : Meaning = g.S.Station.meaning c.read_settings.new.station in
+    λ k. (
+      record { shared = c.type_bounds.sync-R.shared },
+      (
+        record { shared = c.type_bounds.sync-G.shared },
+        ((refl, tt), ready c.args.limits.now.packets c.args.settings.now c.args.number old mid mid c.requires.fresh c.in-Ok.ensures.asks c.in-Ok.accepted c.in-Ok.ensures.reads),
+      ),
     )
