@@ -61,6 +61,14 @@ fn null_cells<R: Abort + Threads + Sync>(rt: &R, alloc: Global) -> Result<Vec<u8
     Ok(ran.cells)
 }
 
+// The cells, and their first symbol once more.
+fn one_symbol_more(rt: &impl Abort, alloc: Global, cells: &[u8]) -> Result<Vec<u8>, AllocError> {
+    assert!(rt; SYMBOL <= cells.len());
+    let mut more = Vec::from_slice(alloc, cells)?;
+    more.extend_from_slice(&cells[..SYMBOL])?;
+    Ok(more)
+}
+
 fn failing(call: Failing) -> Conditions {
     Conditions {
         failing: Some(call),
@@ -75,8 +83,7 @@ fn null_super_frame(rt: HostRuntime) -> Result<(), Fail> {
     let alloc = rt.alloc();
     let cells = null_cells(&rt, alloc)?;
     assert_eq!(rt; cells.len(), SUPER_FRAME);
-    let mut more = Vec::from_slice(alloc, &cells)?;
-    more.extend_from_slice(&cells[..SYMBOL])?;
+    let more = one_symbol_more(&rt, alloc, &cells)?;
     let part =
         "symbols 1 tail 1\ntps read 0 bad 0\nhp words 0 clean 0 corrected 0 bad 0 unphased 0 unmerged 0\n";
     let empty =
