@@ -76,18 +76,19 @@ fn failing(call: Failing) -> Conditions {
     }
 }
 
-// The null super-frame: whole, a byte at each read, within the limit of symbols and past it; a symbol and a
-// byte of it, and no byte.
+// The first bytes of the cells.
+fn front<'c>(rt: &impl Abort, cells: &'c [u8], count: usize) -> &'c [u8] {
+    assert!(rt; count <= cells.len());
+    &cells[..count]
+}
+
+// The null super-frame: whole, a byte at each read, within the limit of symbols and past it.
 #[test]
 fn null_super_frame(rt: HostRuntime) -> Result<(), Fail> {
     let alloc = rt.alloc();
     let cells = null_cells(&rt, alloc)?;
     assert_eq!(rt; cells.len(), SUPER_FRAME);
     let more = one_symbol_more(&rt, alloc, &cells)?;
-    let part =
-        "symbols 1 tail 1\ntps read 0 bad 0\nhp words 0 clean 0 corrected 0 bad 0 unphased 0 unmerged 0\n";
-    let empty =
-        "symbols 0 tail 0\ntps read 0 bad 0\nhp words 0 clean 0 corrected 0 bad 0 unphased 0 unmerged 0\n";
     let wide = ample(50_000);
     let narrow = Conditions { most: 1, ..wide };
     let limit = "max_symbols = 272\n";
@@ -96,12 +97,32 @@ fn null_super_frame(rt: HostRuntime) -> Result<(), Fail> {
         ("", &cells[..], narrow, (0, WHOLE, 45_308)),
         (limit, &cells[..], wide, (0, WHOLE, 45_308)),
         (limit, &more[..], wide, (8, "limit 272\n", 45_120)),
-        ("", &cells[..SYMBOL + 1], wide, (0, part, 0)),
-        ("", &cells[..SYMBOL + 1], narrow, (0, part, 0)),
-        ("", &cells[..0], wide, (0, empty, 0)),
     ];
     for (lines, bytes, conditions, found) in cases {
         expect(&rt, alloc, ONE, (BASE, lines), bytes, conditions, found)?;
+    }
+    Ok(())
+}
+
+// A symbol and a byte of it, and no byte.
+#[test]
+fn parts_of_the_null_super_frame(rt: HostRuntime) -> Result<(), Fail> {
+    let alloc = rt.alloc();
+    let cells = null_cells(&rt, alloc)?;
+    let part =
+        "symbols 1 tail 1\ntps read 0 bad 0\nhp words 0 clean 0 corrected 0 bad 0 unphased 0 unmerged 0\n";
+    let empty =
+        "symbols 0 tail 0\ntps read 0 bad 0\nhp words 0 clean 0 corrected 0 bad 0 unphased 0 unmerged 0\n";
+    let wide = ample(50_000);
+    let narrow = Conditions { most: 1, ..wide };
+    let symbol_and_byte = front(&rt, &cells, SYMBOL + 1);
+    let cases = [
+        (symbol_and_byte, wide, (0, part, 0)),
+        (symbol_and_byte, narrow, (0, part, 0)),
+        (front(&rt, &cells, 0), wide, (0, empty, 0)),
+    ];
+    for (bytes, conditions, found) in cases {
+        expect(&rt, alloc, ONE, (BASE, ""), bytes, conditions, found)?;
     }
     Ok(())
 }
