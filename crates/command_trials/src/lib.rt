@@ -1,10 +1,13 @@
 //! The commands `modulate` and `receive` over a station in memory: whole runs with known outcomes, among
 //! them the null super-frame both ways, refusals, faults and limits with what stands after them, both
-//! streams of a hierarchy, noise, turned TPS bits, and a transmission that is entered late.
+//! streams of a hierarchy, noise, turned TPS bits, a transmission that is entered late, and a trial beside
+//! `receive` of its cells.
 //!
 //! The crate has tests alone.
 #![tactic(auto)]
 
+#[cfg(test)]
+mod drawn;
 #[cfg(test)]
 mod files;
 #[cfg(test)]

@@ -1,15 +1,13 @@
 -- What the parts of a run leave together, from the opening of the ports to their closing.
-use Rattle.std.proofs.Common.{Bor, ◌≡◌, ◌⊎◌, inl, inr, ℕ, ◌*◌, ◌≤◌, Bool, true, false, if◌then◌else◌, List, [], ◌++◌, length, take, drop, Option, Some, None, Result, Ok, Err, refl, ap, sym, subst, ◌∙◌, arith}
+use Rattle.std.proofs.Common.{◌≡◌, ℕ, Bool, true, false, if◌then◌else◌, List, [], ◌++◌, length, take, Option, Some, None, Result, Ok, Err, refl, ap, sym, subst, ◌∙◌, arith}
 use Rattle.std.specs.Prelude.{is_some, IfSome, IsTrue, not}
-use Rattle.std.proofs.lemmas.Bool.{true≢false}
 use Rattle.std.proofs.lemmas.List.{append-nil, take_all}
 use Rattle.std.specs.Bool.{beq}
-use Rattle.std.specs.Option.{option_copied}
 use Rattle.station_core.specs.Meaning.{Meaning, Source, Sink}
 use Rattle.mode_set.specs.Kept.{is_flat}
 use Rattle.mode_set.specs.StreamTable.{has_stream}
 use Rattle.mode_set.specs.declared.modes.Stream.{Stream}
-use Rattle.mode_set.specs.declared.modes.Stream.TheVariants.{Hp, Lp}
+use Rattle.mode_set.specs.declared.modes.Stream.TheVariants.{Lp}
 use Rattle.mode_set.specs.declared.settings.Settings.{Settings as TheSettings}
 use Rattle.transmission.specs.Transmission.{Inputs, first_symbols}
 use Rattle.transmission.specs.AgendaLaws.{IsAt, WorkBegins}
@@ -17,13 +15,12 @@ use Rattle.transmission.specs.Laws.{NoSymbol}
 use Rattle.run_clauses.specs.declared.work.TransmissionCounts.{TransmissionCounts}
 use Rattle.run_clauses.specs.declared.work.Refusal.{Refusal}
 use Rattle.run_clauses.specs.declared.work.Refusal.TheVariants.{Usage, Settings, ReadFault, WriteFault, NotSync, Memory, Limit}
-use Rattle.run_clauses.specs.Modulation.{files_of, fits_form, inputs_of, left_of, lp_file, lp_left, HoldsSymbolsSoFar, transmission_counts, transmission_lines}
-use Rattle.modulate_run.specs.declared.inputs.PacketInputs.{PacketInputs}
+use Rattle.run_clauses.specs.Modulation.{files_of, fits_form, inputs_of, lp_file, lp_left, HoldsSymbolsSoFar, transmission_lines}
 use Rattle.modulate_run.specs.Inputs.{Reads}
 use Rattle.modulate_run.specs.Seen.{Seen}
-use Rattle.modulate_run.specs.Work.{BothRead, Ends, IsAtWork, IsWritten, KeepsOthers, Modulates}
+use Rattle.modulate_run.specs.Work.{Ends, IsWritten, KeepsOthers, Modulates}
 use Rattle.modulate_run.specs.Reporting.{Finishes, IsFinish}
-use Rattle.modulate_run.specs.Steps.{ClosesRefused, IsFinished, IsNew, OpensAll, Ran, first_inputs, lp_source}
+use Rattle.modulate_run.specs.Steps.{ClosesRefused, IsNew, OpensAll, Ran, first_inputs, lp_source}
 
 -- ---- before the first symbol
 -- the file of LP is there to be read from its beginning, or there is none
@@ -161,8 +158,3 @@ lp_exists s (Some name) fits none = go (is_flat s.hierarchy) fits
     go : (b : Bool) → beq true (not b) ≡ true → not b ≡ true
     go true e = e
     go false e = refl
-
--- whether there is LP
-pub copied_some : {A : Type 0} (o : Option (Bor A)) → is_some o ≡ is_some (option_copied o)
-copied_some None = refl
-copied_some (Some name) = refl

@@ -2,20 +2,14 @@
 -- and after it. The clauses of the run as a whole follow from them.
 use Rattle.std.specs.Prelude.{◌≡◌, ◌⊎◌, ◌≤◌, ℕ, Bool, true, false, if◌then◌else◌, List, [], ◌++◌, take, Result, Ok, Err, Option, Some, None, is_some, IfSome}
 use Rattle.station_core.specs.Meaning.{Meaning, Source}
-use Rattle.mode_set.specs.declared.modes.Stream.{Stream}
 use Rattle.mode_set.specs.declared.settings.Settings.{Settings as TheSettings}
 use Rattle.run_clauses.specs.declared.work.TransmissionCounts.{TransmissionCounts}
 use Rattle.run_clauses.specs.declared.work.Refusal.{Refusal}
-use Rattle.run_clauses.specs.declared.work.Refusal.TheVariants.{Settings, ReadFault, WriteFault, Memory}
-use Rattle.run_clauses.specs.Modulation.{files_of, fits_form, form_refusal, transmission_counts, transmission_lines}
+use Rattle.run_clauses.specs.declared.work.Refusal.TheVariants.{ReadFault, WriteFault, Memory}
+use Rattle.run_clauses.specs.Modulation.{files_of, transmission_counts, transmission_lines}
 use Rattle.run_clauses.specs.Text.{refusal_text, refusal_status}
 use Rattle.run_steps.specs.Causes.{HasCause}
-use Rattle.run_clauses.specs.SettingsFile.{settings_refusal}
-use Rattle.run_clauses.specs.StatedSettings.{settings_of}
 use Rattle.run_steps.specs.Report.{WritesText}
-use Rattle.run_steps.specs.SettingsStep.{ReadsSettings}
-use Rattle.station_core.specs.Causes.{Rose}
-use Rattle.std.specs.Option.{option_or}
 use Rattle.modulate_run.specs.declared.inputs.PacketInputs.{PacketInputs}
 use Rattle.modulate_run.specs.Seen.{Seen}
 use Rattle.modulate_run.specs.Work.{Ends, Modulates}
@@ -124,13 +118,3 @@ pub record RunsModulation (s : TheSettings) (limit : ℕ) (hp : List ℕ) (lp : 
 abbrev pub RunsOrLacks : TheSettings → ℕ → List ℕ → Option (List ℕ) → List ℕ → Meaning → Meaning → ℕ → Type 0
 RunsOrLacks s limit hp lp cells old new status =
     RunsModulation s limit hp lp cells old new status ⊎ ((status ≡ 7) × WritesText (refusal_text Memory) old new)
-
--- settings that fit the form, or why there are none
-abbrev pub Accepts : List ℕ → Option (List ℕ) → Meaning → Meaning → Result TheSettings Refusal → Type 0
-Accepts name lp old new (Ok s) = ReadsSettings name old new (Ok s) × (fits_form s lp ≡ true)
-Accepts name lp old new (Err ReadFault) = Rose old.read_faults new.read_faults
-Accepts name lp old new (Err Memory) = new.read_faults ≡ old.read_faults
-Accepts name lp old new (Err (Settings reason)) =
-    (new.read_faults ≡ old.read_faults)
-    × (old.tells ≡ true → option_or (settings_refusal (old.file name)) (form_refusal (settings_of (old.file name)) lp) ≡ Some (Settings reason))
-Accepts name lp old new (Err refusal) = ⊥

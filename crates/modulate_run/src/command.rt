@@ -1,43 +1,19 @@
 // The command.
 ghost use Rattle.std.specs.Prelude.{◌≡◌, ◌≤◌, true, Some};
 ghost use Rattle.std.specs.Option.{option_copied};
-ghost use Rattle.station_core.specs.Meaning.{IsFresh, IsUnasked};
+ghost use Rattle.station_core.specs.Meaning.{IsFresh};
 ghost use Rattle.run_clauses.specs.Command.{Modulate};
 ghost use Rattle.run_clauses.specs.Modulation.{fits_form};
 ghost use Rattle.run_clauses.specs.Runs.{IsDone, HasStatus, AsksOnly, Stands, IsComplete};
-ghost use Rattle.run_steps.specs.SettingsStep.{AsksSettings};
-ghost use Rattle.modulate_run.specs.Steps.{Accepts, IsReady, RunsOrLacks};
+ghost use Rattle.modulate_run.specs.Steps.{IsReady, RunsOrLacks};
 
 use crate::run::{Names, run_modulation};
 use mode_set::{Carriers, Mode, Mode2k, Mode8k, Settings};
 use modulator::Modulator;
-use run_clauses::{Limits, Refusal, SettingsRefusal};
-use run_steps::{read_settings, refuse};
+use run_clauses::{Limits, Refusal};
+use run_steps::{read_fitting, refuse};
 use station_core::Station;
 use std::alloc::Global;
-
-// Reads the settings, which fit the form: there is a file of LP exactly with a hierarchy.
-fn read_fitting<'a, S: Station<'a>>(
-    alloc: Global,
-    name: &'a str,
-    lp: Option<&'a str>,
-    station: &mut S,
-) -> Result<Settings, Refusal>
-    requires unasked { IsUnasked (S.meaning station.old).settings }
-    ensures asks { AsksSettings name.now (S.meaning station.old) (S.meaning station.new) }
-    ensures accepts { Accepts name.now (option_copied lp.entry) (S.meaning station.old) (S.meaning station.new) result }
-{
-    match read_settings(alloc, name, station) {
-        Ok(settings) => {
-            if lp.is_some() == settings.hierarchy.is_flat() {
-                Err(Refusal::Settings(SettingsRefusal::Form))
-            } else {
-                Ok(settings)
-            }
-        }
-        Err(refusal) => Err(refusal),
-    }
-}
 
 // Takes the memory of a mode's modulator and of one symbol, and runs the modulation.
 fn modulate_in<'a, M: Carriers, S: Station<'a>>(

@@ -1,10 +1,8 @@
 -- The ports of a reception, from their opening to their closing.
-use Rattle.std.proofs.Common.{◌≡◌, ◌⊎◌, inl, inr, ℕ, ◌≤◌, Bool, true, false, List, [], ◌++◌, length, take, Option, Some, None, Result, Ok, Err, refl, ◌∙◌, sym, ap, subst, arith}
+use Rattle.std.proofs.Common.{◌≡◌, inl, inr, ℕ, ◌≤◌, Bool, true, false, List, [], ◌++◌, Option, Some, None, Result, Ok, Err, refl, ◌∙◌, sym, ap, subst, arith}
 use Rattle.std.specs.Prelude.{is_some}
-use Rattle.std.specs.Option.{option_copied}
 use Rattle.std.proofs.lemmas.Bool.{true≢false}
 use Rattle.std.proofs.lemmas.List.{append-nil}
-use denote.Ref.{Bor}
 use Rattle.station_core.specs.Meaning.{Meaning, Sink}
 use Rattle.mode_set.specs.declared.modes.Stream.TheVariants.{Hp, Lp}
 use Rattle.mode_set.specs.declared.settings.Settings.{Settings as TheSettings}
@@ -20,10 +18,6 @@ use Rattle.receive_run.specs.Ports.{AsksPorts, Closes, IsFinished, IsReady, Make
 use Rattle.receive_run.proofs.Fronts.{front_whole}
 use Rattle.receive_run.proofs.Parts.{some_bytes}
 use Rattle.std.proofs.Math.Nat.{div-eq_of_lt}
-
-pub copied_some : {A : Type 0} (o : Option (Bor A)) → is_some o ≡ is_some (option_copied o)
-copied_some None = refl
-copied_some (Some name) = refl
 
 -- ---- what the outputs hold, and what is left, is the same
 pub record SameOutputs (m m' : Meaning) : Type 0 where

@@ -1,7 +1,6 @@
 -- A run of `receive` that is done returns the packets of own cells, and of cells near them.
-use Rattle.std.proofs.Common.{◌≡◌, ℕ, Bool, true, false, not, List, Option, refl, ◌∙◌, sym, subst}
+use Rattle.std.proofs.Common.{◌≡◌, ℕ, true, not, List, Option, ◌∙◌, subst}
 use Rattle.std.specs.Prelude.{IsTrue, is_some}
-use Rattle.std.specs.Bool.{beq}
 use Rattle.mode_set.specs.Kept.{is_flat}
 use Rattle.mode_set.specs.StreamTable.{has_stream}
 use Rattle.mode_set.specs.declared.modes.Stream.{Stream}
@@ -11,13 +10,8 @@ use Rattle.station_core.specs.Meaning.{Meaning}
 use Rattle.reception.specs.Streams.{Reception, Final}
 use Rattle.own_cells.specs.Laws.{NoiseLaw, CleanLaw}
 use Rattle.run_clauses.specs.Modulation.{fits_form}
+use Rattle.run_steps.proofs.Fitting.{same_when}
 use Rattle.receive_run.specs.Returns.{Returns, written_of}
-
-same_when : (a b : Bool) → beq a b ≡ true → a ≡ b
-same_when true true e = refl
-same_when true false e = sym e
-same_when false true e = e
-same_when false false e = refl
 
 pub returned : NoiseLaw → CleanLaw → (s : Settings) (lp : Option (List ℕ)) (bytes : List ℕ) (m : Meaning) (r : Reception) → fits_form s lp ≡ true → Final s bytes r
     → m.hp_out.written ≡ r.packets Hp → (is_some lp ≡ true → m.lp_out.written ≡ r.packets Lp) → Returns s bytes m

@@ -1,26 +1,19 @@
 -- The clauses of a whole run of `receive`.
-use Rattle.std.proofs.Common.{◌≡◌, ◌⊎◌, inl, inr, Bool, true, false, not, if◌then◌else◌, ℕ, List, Option, None, Some, Ok, Err, refl, ◌∙◌, sym, ap, subst, arith}
+use Rattle.std.proofs.Common.{◌≡◌, inl, inr, true, ℕ, List, Option, Some, Ok, Err, refl, ◌∙◌, sym, ap, subst, arith}
 use Rattle.std.specs.Prelude.{is_some, IsSomeAnd}
-use Rattle.std.specs.Bool.{beq}
-use Rattle.std.specs.Option.{option_or}
-use Rattle.mode_set.specs.Kept.{is_flat}
-use Rattle.mode_set.specs.Document.{IsStatedBy}
-use Rattle.station_core.specs.Meaning.{Meaning, Source, IsFresh}
+use Rattle.station_core.specs.Meaning.{Meaning, IsFresh}
 use Rattle.mode_set.specs.declared.settings.Settings.{Settings as TheSettings}
 use Rattle.run_clauses.specs.declared.work.Refusal.{Refusal}
 use Rattle.run_clauses.specs.declared.work.Refusal.TheVariants.{Usage, Settings, ReadFault, WriteFault, NotSync, Memory, Limit}
 use Rattle.run_clauses.specs.Command.{Command, Receive}
 use Rattle.run_clauses.specs.Runs.{AsksOnly, HasStatus, IsComplete, IsDone, Stands}
 use Rattle.run_clauses.specs.Text.{refusal_status, refusal_text}
-use Rattle.run_clauses.specs.Modulation.{form_refusal}
-use Rattle.run_clauses.specs.SettingsFile.{settings_refusal}
-use Rattle.run_clauses.specs.StatedSettings.{settings_of}
-use Rattle.run_clauses.specs.declared.work.SettingsRefusal.TheVariants.{Form}
 use Rattle.run_clauses.proofs.Stated.{stated}
 use Rattle.run_steps.specs.Report.{WritesText}
 use Rattle.run_steps.specs.SettingsStep.{AsksSettings}
 use Rattle.run_steps.proofs.Early.{ReadsFirst, RefusedEarly, status_early, asks_early, stands_early, complete_early}
-use Rattle.receive_run.specs.Ports.{Accepts, IsReady, RunsReception, RunsOrLacks}
+use Rattle.run_steps.specs.FittingStep.{Accepts}
+use Rattle.receive_run.specs.Ports.{IsReady, RunsReception, RunsOrLacks}
 use Rattle.receive_run.proofs.Clauses.{SettingsDone, done_of, got, whole, status_of_run, stands_of, complete_of, never_zero}
 use Rattle.receive_run.proofs.Begun.{ReceptionLaws}
 use Rattle.receive_run.proofs.Asking.{asks_of}
@@ -149,23 +142,3 @@ module _ (limit : ℕ) (name cells hp : List ℕ) (lp : Option (List ℕ)) (star
         | inl r ↦ complete_of limit name cells hp lp start new mid.settings fresh s settings status (runs_from r)
         | inr lacks ↦ refused_complete Memory accepts.0.0 status lacks.0 lacks.1
       ]
-
--- ---- settings that do not fit the form
-differs : (a b : Bool) → a ≡ b → beq a (not b) ≡ false
-differs true true e = refl
-differs true false e = e
-differs false true e = sym e
-differs false false e = refl
-
-pub misfit : (bytes : List ℕ) (lp : Option (List ℕ)) (s : TheSettings) → settings_refusal bytes ≡ None → IsStatedBy s bytes → is_some lp ≡ is_flat s.hierarchy
-    → option_or (settings_refusal bytes) (form_refusal (settings_of bytes) lp) ≡ Some (Settings Form)
-misfit bytes lp s accepted is same =
-    ap (λ (o : Option Refusal). option_or o (form_refusal (settings_of bytes) lp)) accepted
-    ∙ ap (λ (o : Option TheSettings). form_refusal o lp) (stated s bytes is)
-    ∙ ap (λ (b : Bool). if b then None else Some (Settings Form)) (differs (is_some lp) (is_flat s.hierarchy) same)
-
-pub same_when : (a b : Bool) → beq a b ≡ true → a ≡ b
-same_when true true e = refl
-same_when true false e = sym e
-same_when false true e = e
-same_when false false e = refl

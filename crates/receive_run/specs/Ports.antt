@@ -1,20 +1,14 @@
 -- The steps of a reception behind its settings, each as a relation of what the station stood for before and
 -- after it. The clauses of the run as a whole follow from them.
 use Rattle.std.specs.Prelude.{◌≡◌, ◌⊎◌, ◌≤◌, ◌+◌, ◌*◌, ℕ, Bool, true, false, if◌then◌else◌, List, [], drop, Result, Ok, Err, Option, Some, None, is_some}
-use Rattle.std.specs.Option.{option_or}
 use Rattle.station_core.specs.Meaning.{Meaning, Sink}
-use Rattle.station_core.specs.Causes.{Rose}
 use Rattle.mode_set.specs.declared.settings.Settings.{Settings as TheSettings}
 use Rattle.reception.specs.Cells.{symbol_length}
 use Rattle.run_clauses.specs.declared.work.Refusal.{Refusal}
-use Rattle.run_clauses.specs.declared.work.Refusal.TheVariants.{Settings, ReadFault, WriteFault, Memory}
-use Rattle.run_clauses.specs.Modulation.{fits_form, form_refusal}
-use Rattle.run_clauses.specs.SettingsFile.{settings_refusal}
-use Rattle.run_clauses.specs.StatedSettings.{settings_of}
+use Rattle.run_clauses.specs.declared.work.Refusal.TheVariants.{ReadFault, WriteFault, Memory}
 use Rattle.run_clauses.specs.Text.{refusal_text, refusal_status}
 use Rattle.run_steps.specs.Causes.{HasCause}
 use Rattle.run_steps.specs.Report.{WritesText}
-use Rattle.run_steps.specs.SettingsStep.{ReadsSettings}
 use Rattle.receive_run.specs.Receiving.{Refused, Works}
 
 -- nothing was asked on Cells, Hp and Lp, Report is open, and nothing was written there
@@ -124,13 +118,3 @@ pub record RunsReception (s : TheSettings) (cells hp : List ℕ) (lp : Option (L
 -- the run, or want of memory before a port is asked
 abbrev pub RunsOrLacks : TheSettings → List ℕ → List ℕ → Option (List ℕ) → Meaning → Meaning → ℕ → Type 0
 RunsOrLacks s cells hp lp old new status = RunsReception s cells hp lp old new status ⊎ ((status ≡ 7) × WritesText (refusal_text Memory) old new)
-
--- settings that fit the form, or why there are none
-abbrev pub Accepts : List ℕ → Option (List ℕ) → Meaning → Meaning → Result TheSettings Refusal → Type 0
-Accepts name lp old new (Ok s) = ReadsSettings name old new (Ok s) × (fits_form s lp ≡ true)
-Accepts name lp old new (Err ReadFault) = Rose old.read_faults new.read_faults
-Accepts name lp old new (Err Memory) = new.read_faults ≡ old.read_faults
-Accepts name lp old new (Err (Settings reason)) =
-    (new.read_faults ≡ old.read_faults)
-    × (old.tells ≡ true → option_or (settings_refusal (old.file name)) (form_refusal (settings_of (old.file name)) lp) ≡ Some (Settings reason))
-Accepts name lp old new (Err refusal) = ⊥

@@ -5,14 +5,13 @@ ghost use Rattle.reception.specs.Streams.{so_far};
 ghost use Rattle.reception.specs.Laws.{nothing};
 ghost use Rattle.receiver.specs.Standing.{StandsFor};
 ghost use Rattle.std.specs.Option.{option_copied};
-ghost use Rattle.station_core.specs.Meaning.{IsFresh, IsUnasked};
+ghost use Rattle.station_core.specs.Meaning.{IsFresh};
 ghost use Rattle.run_clauses.specs.Command.{Receive};
 ghost use Rattle.run_clauses.specs.Modulation.{fits_form};
 ghost use Rattle.run_clauses.specs.Runs.{IsDone, HasStatus, AsksOnly, Stands, IsComplete};
-ghost use Rattle.run_steps.specs.SettingsStep.{AsksSettings};
 ghost use Rattle.std.specs.Thread.{IsSync};
 ghost use Rattle.receive_run.specs.Feeder.{IsFed, IsFeeder};
-ghost use Rattle.receive_run.specs.Ports.{Accepts, IsReady, RunsReception, RunsOrLacks};
+ghost use Rattle.receive_run.specs.Ports.{IsReady, RunsReception, RunsOrLacks};
 ghost use Rattle.receive_run.specs.Returns.{ReturnsOwn};
 ghost use Rattle.receive_run.specs.Workers.{IgnoresWorkers};
 
@@ -20,35 +19,12 @@ use crate::receivers::{ModeReceiver, ReceiverWithOutput};
 use crate::run::{Names, run_reception};
 use mode_set::{Carriers, Mode, Mode2k, Mode8k, Settings};
 use receiver::{Receiver, RxOut};
-use run_clauses::{Limits, Refusal, SettingsRefusal};
-use run_steps::{read_settings, refuse};
+use run_clauses::{Limits, Refusal};
+use run_steps::{read_fitting, refuse};
 use station_core::Station;
 use std::alloc::Global;
 use std::thread::Threads;
 use word_workers::Gate;
-
-// Reads the settings, which fit the form: there is a file of LP exactly with a hierarchy.
-fn read_fitting<'a, S: Station<'a>>(
-    alloc: Global,
-    name: &'a str,
-    lp: Option<&'a str>,
-    station: &mut S,
-) -> Result<Settings, Refusal>
-    requires unasked { IsUnasked (S.meaning station.old).settings }
-    ensures asks { AsksSettings name.now (S.meaning station.old) (S.meaning station.new) }
-    ensures accepts { Accepts name.now (option_copied lp.entry) (S.meaning station.old) (S.meaning station.new) result }
-{
-    match read_settings(alloc, name, station) {
-        Ok(settings) => {
-            if lp.is_some() == settings.hierarchy.is_flat() {
-                Err(Refusal::Settings(SettingsRefusal::Form))
-            } else {
-                Ok(settings)
-            }
-        }
-        Err(refusal) => Err(refusal),
-    }
-}
 
 // Runs the reception by a receiver that has had no byte and is fed so. `symbol` has the size of a symbol.
 fn receive_by<

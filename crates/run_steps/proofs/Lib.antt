@@ -3,3 +3,4 @@ pub mod Station_laws
 pub mod SettingsAnswer
 pub mod Early
 pub mod ReportLines
+pub mod Fitting

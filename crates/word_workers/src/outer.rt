@@ -1,5 +1,6 @@
 // Outer words in chunks.
-ghost use Rattle.std.specs.Prelude.{◌+◌, ◌<◌, ◌≤◌, ℕ, length, slice_index_or};
+ghost use Rattle.std.specs.Int.{div_ceil};
+ghost use Rattle.std.specs.Prelude.{◌≡◌, ◌+◌, ◌<◌, ◌≤◌, ℕ, length, slice_index_or};
 ghost use Rattle.rs204.specs.Decoded.{Decoded};
 
 use crate::gate::{Gate, Job};
@@ -24,6 +25,16 @@ fn decode_chunk<G: Gate>(gate: &G, start: usize, chunk: &mut [WordSlot])
     }
 }
 
+/// How many slots a chunk has, but for the last one, which may have fewer.
+fn chunk_len(slots: usize, workers: u8) -> usize
+    requires some { 1 ≤ slots }
+    requires some_worker { 1 ≤ workers }
+    ensures len { result ≡ div_ceil slots workers }
+    ensures some { 1 ≤ result }
+{
+    slots.div_ceil(workers as usize)
+}
+
 /// Decodes each word, by at most so many workers, and each slot is afterwards what [`WordSlot::decode`]
 /// makes of it, for every number of workers and every gate.
 ///
@@ -40,7 +51,7 @@ pub fn decode_all<R: Threads + Sync, G: Gate>(rt: &R, workers: u8, gate: &G, slo
     if slots.is_empty() {
         return;
     }
-    let size = slots.len().div_ceil(workers as usize);
+    let size = chunk_len(slots.len(), workers);
     let work = |start: usize, chunk: &mut [WordSlot]|
         requires { start + length chunk.now ≤ 24 }
         ensures { (i : ℕ) (d : WordSlot) → i < length chunk.entry.now → Decoded (slice_index_or chunk.entry.now i d).word (slice_index_or chunk.exit.now i d).word (slice_index_or chunk.exit.now i d).outcome }

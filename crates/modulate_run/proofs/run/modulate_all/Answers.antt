@@ -9,7 +9,8 @@ use Rattle.modulate_run.specs.Seen.{Seen}
 use Rattle.modulate_run.specs.Work.{IsWritten}
 use Rattle.modulate_run.specs.Reporting.{Finishes}
 use Rattle.modulate_run.specs.Steps.{first_inputs}
-use Rattle.modulate_run.proofs.Endings.{copied_some, starts, refused_with, finished}
+use Rattle.run_steps.proofs.Fitting.{copied_some}
+use Rattle.modulate_run.proofs.Endings.{starts, refused_with, finished}
 use Rattle.modulate_run.proofs.run.modulate_all.Goals as goal
 
 pub returns-in-Ok-send_all-clause-ran : goal.returns-in-Ok-send_all-clause-ran

@@ -3,9 +3,8 @@ use Rattle.std.specs.Prelude.{is_some}
 use Rattle.std.specs.Option.{option_copied}
 use Rattle.mode_set.specs.Kept.{is_flat}
 use Rattle.station_core.specs.Meaning.{Meaning}
-use Rattle.modulate_run.proofs.Endings.{copied_some}
-use Rattle.modulate_run.proofs.WholeRun.{misfit, same_when}
-use Rattle.modulate_run.proofs.command.read_fitting.Goals as goal
+use Rattle.run_steps.proofs.Fitting.{copied_some, misfit, same_when}
+use Rattle.run_steps.proofs.fitting_step.read_fitting.Goals as goal
 
 pub returns-then-is_some-is_flat-clause-accepts : goal.returns-then-is_some-is_flat-clause-accepts
 returns-then-is_some-is_flat-clause-accepts g c =

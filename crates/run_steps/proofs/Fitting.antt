@@ -1,0 +1,40 @@
+-- Settings that do not fit the form of their command.
+use Rattle.std.proofs.Common.{◌≡◌, Bool, true, false, not, if◌then◌else◌, ℕ, List, Option, None, Some, refl, ◌∙◌, sym, ap}
+use Rattle.std.specs.Prelude.{is_some}
+use Rattle.std.specs.Bool.{beq}
+use Rattle.std.specs.Option.{option_copied, option_or}
+use denote.Ref.{Bor}
+use Rattle.mode_set.specs.Kept.{is_flat}
+use Rattle.mode_set.specs.Document.{IsStatedBy}
+use Rattle.mode_set.specs.declared.settings.Settings.{Settings as TheSettings}
+use Rattle.run_clauses.specs.declared.work.Refusal.{Refusal}
+use Rattle.run_clauses.specs.declared.work.Refusal.TheVariants.{Settings}
+use Rattle.run_clauses.specs.declared.work.SettingsRefusal.TheVariants.{Form}
+use Rattle.run_clauses.specs.Modulation.{form_refusal}
+use Rattle.run_clauses.specs.SettingsFile.{settings_refusal}
+use Rattle.run_clauses.specs.StatedSettings.{settings_of}
+use Rattle.run_clauses.proofs.Stated.{stated}
+
+-- whether there is LP
+pub copied_some : {A : Type 0} (o : Option (Bor A)) → is_some o ≡ is_some (option_copied o)
+copied_some None = refl
+copied_some (Some name) = refl
+
+differs : (a b : Bool) → a ≡ b → beq a (not b) ≡ false
+differs true true e = refl
+differs true false e = e
+differs false true e = sym e
+differs false false e = refl
+
+pub misfit : (bytes : List ℕ) (lp : Option (List ℕ)) (s : TheSettings) → settings_refusal bytes ≡ None → IsStatedBy s bytes → is_some lp ≡ is_flat s.hierarchy
+    → option_or (settings_refusal bytes) (form_refusal (settings_of bytes) lp) ≡ Some (Settings Form)
+misfit bytes lp s accepted is same =
+    ap (λ (o : Option Refusal). option_or o (form_refusal (settings_of bytes) lp)) accepted
+    ∙ ap (λ (o : Option TheSettings). form_refusal o lp) (stated s bytes is)
+    ∙ ap (λ (b : Bool). if b then None else Some (Settings Form)) (differs (is_some lp) (is_flat s.hierarchy) same)
+
+pub same_when : (a b : Bool) → beq a b ≡ true → a ≡ b
+same_when true true e = refl
+same_when true false e = sym e
+same_when false true e = e
+same_when false false e = refl
