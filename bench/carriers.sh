@@ -6,17 +6,8 @@
 set -eu
 top=$(cd "$(dirname "$0")/.." && pwd)
 to=${1:-$(mktemp -d)}
-mkdir -p "$to"
-crates="spec_words mode_set qam_map pilots tps_bch tps_word frame_build"
-for crate in $crates; do
-  mkdir -p "$to/crates/$crate"
-  for part in src specs proofs; do
-    rm -rf "$to/crates/$crate/$part"
-    [ -d "$top/crates/$crate/$part" ] && cp -r "$top/crates/$crate/$part" "$to/crates/$crate/"
-  done
-  grep "^$crate:" "$top/crates.txt"
-done > "$to/crates.txt"
-cp "$top/HANDLES" "$to/"
+. "$top/bench/scratch.sh"
+copy_crates "$top" "$to" spec_words mode_set qam_map pilots tps_bch tps_word frame_build
 program() { # name, dependencies; the program on standard input
   mkdir -p "$to/crates/$1/src"
   cat > "$to/crates/$1/src/main.rt"

@@ -7,8 +7,9 @@ top=$(cd "$(dirname "$0")/.." && pwd)
 folder=$(mktemp -d /dev/shm/dvbt-bench.XXXXXX)
 trap 'rm -rf "$folder"' EXIT
 "$top/bin/dvbt" >/dev/null 2>&1 || true
-python3 - "$top/crates/dvbt/out/dvbt" "$folder" "${1:-3}" <<'PY'
-import os, random, resource, subprocess, sys, time
+PYTHONPATH="$top/bench" python3 - "$top/crates/dvbt/out/dvbt" "$folder" "${1:-3}" <<'PY'
+import os, random, sys
+from timing import best
 dvbt, folder, rounds = sys.argv[1], sys.argv[2], int(sys.argv[3])
 source, target, settings = folder + "/in.ts", folder + "/out", folder + "/settings.toml"
 random.seed(1)
@@ -17,25 +18,12 @@ with open(source, "wb") as f:
     for _ in range(1064):
         f.write(block)
 size = os.path.getsize(source)
-def best(words):
-    found = None
-    for _ in range(rounds):
-        if os.path.exists(target):
-            os.remove(target)
-        before = resource.getrusage(resource.RUSAGE_CHILDREN)
-        start = time.perf_counter()
-        subprocess.run(words, check=True, stdout=subprocess.DEVNULL)
-        wall = time.perf_counter() - start
-        after = resource.getrusage(resource.RUSAGE_CHILDREN)
-        cpu = after.ru_utime + after.ru_stime - before.ru_utime - before.ru_stime
-        if found is None or cpu < found[1]:
-            found = (wall, cpu)
-    return found
-def show(name, wall, cpu):
+def show(name, words):
+    wall, cpu, _ = best(words, target, rounds)
     print(f"{name:10} {wall:.3f} s, {cpu:.3f} processor s, {size * 8 / cpu / 1e6:.0f} Mbit a processor second")
-show("outer", *best([dvbt, "outer", source, target]))
+show("outer", [dvbt, "outer", source, target])
 for rate in ("1/2", "2/3", "3/4", "5/6", "7/8"):
     with open(settings, "w") as f:
         f.write(f'mode = "2k"\nconstellation = "qpsk"\nrate_hp = "{rate}"\nguard = "1/32"\n')
-    show("inner " + rate, *best([dvbt, "inner", settings, source, target]))
+    show("inner " + rate, [dvbt, "inner", settings, source, target])
 PY

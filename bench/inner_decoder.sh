@@ -8,16 +8,9 @@ set -eu
 top=$(cd "$(dirname "$0")/.." && pwd)
 to=${1:-$(mktemp -d)}
 [ $# -gt 0 ] && shift
+. "$top/bench/scratch.sh"
+copy_crates "$top" "$to" spec_words code_paths conv_code bit_pack acs_plain acs_lanes survivor_ring inner_decoder
 mkdir -p "$to/crates/bench_inner"
-for crate in spec_words code_paths conv_code bit_pack acs_plain acs_lanes survivor_ring inner_decoder; do
-  mkdir -p "$to/crates/$crate"
-  for part in src specs proofs; do
-    rm -rf "$to/crates/$crate/$part"
-    [ -d "$top/crates/$crate/$part" ] && cp -r "$top/crates/$crate/$part" "$to/crates/$crate/"
-  done
-done
-cp "$top/HANDLES" "$to/"
-grep -E '^(spec_words|code_paths|conv_code|bit_pack|acs_plain|acs_lanes|survivor_ring|inner_decoder):' "$top/crates.txt" > "$to/crates.txt"
 echo 'bench_inner: acs_plain acs_lanes survivor_ring conv_code code_paths bit_pack inner_decoder spec_words anyhow' >> "$to/crates.txt"
 cd "$to/crates/bench_inner"
 mkdir -p src proofs/load proofs/drain proofs/run

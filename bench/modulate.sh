@@ -16,35 +16,22 @@ if [ $# -eq 0 ]; then
   "$top/bin/dvbt" >/dev/null || true
   set -- "$top/crates/dvbt/out/dvbt"
 fi
-python3 - "$folder" "$top/examples/settings/64qam.toml" "$packets" "$reference" "$@" <<'PY'
-import filecmp, os, random, resource, shutil, subprocess, sys, time
+PYTHONPATH="$top/bench" python3 - "$folder" "$top/examples/settings/64qam.toml" "$packets" "$reference" "$@" <<'PY'
+import filecmp, os, random, shutil, subprocess, sys
+from timing import best
 folder, settings, packets, reference, *program = sys.argv[1:]
 random.seed(1)
 with open(folder + "/in.ts", "wb") as f:
     for _ in range(int(packets)):
         f.write(b"\x47" + random.randbytes(187))
-def best(words, target, rounds):
-    found = None
-    for _ in range(rounds):
-        if os.path.exists(target):
-            os.remove(target)
-        before = resource.getrusage(resource.RUSAGE_CHILDREN)
-        start = time.perf_counter()
-        done = subprocess.run([*words, "modulate", settings, folder + "/in.ts", target], stdout=subprocess.PIPE, text=True)
-        wall = time.perf_counter() - start
-        after = resource.getrusage(resource.RUSAGE_CHILDREN)
-        if done.returncode != 0:
-            sys.exit(f"{words[0]} ends with {done.returncode}: {done.stdout.strip()}")
-        cpu = after.ru_utime + after.ru_stime - before.ru_utime - before.ru_stime
-        if found is None or cpu < found[1]:
-            found = (wall, cpu)
-    return (*found, done.stdout)
-ours = best(program, folder + "/ours", 5)
+def modulate(program, target, rounds):
+    return best([*program, "modulate", settings, folder + "/in.ts", target], target, rounds)
+ours = modulate(program, folder + "/ours", 5)
 rows = [("dvbt modulate", ours)]
 # the tool builds the reference first where it must
 if shutil.which(reference):
     subprocess.run([reference], stdout=subprocess.DEVNULL, stderr=subprocess.DEVNULL)
-    rows.append(("reference", best([reference, "v1"], folder + "/theirs", 1)))
+    rows.append(("reference", modulate([reference, "v1"], folder + "/theirs", 1)))
 else:
     print(f"no reference at {reference}")
 print(", ".join(ours[2].splitlines()), f"| {os.path.getsize(folder + '/ours')} bytes of cells")

@@ -15,8 +15,9 @@ if [ $# -eq 0 ]; then
   "$top/bin/dvbt" >/dev/null || true
   set -- "$top/crates/dvbt/out/dvbt"
 fi
-python3 - "$folder" "$noise" "$@" <<'PY'
-import array, os, random, resource, subprocess, sys, time
+PYTHONPATH="$top/bench" python3 - "$folder" "$noise" "$@" <<'PY'
+import array, os, random, sys
+from timing import measure
 folder, noise, *program = sys.argv[1:]
 random.seed(1)
 settings = 'mode = "8k"\nconstellation = "64qam"\nhierarchy = "2"\nrate_hp = "1/2"\nrate_lp = "3/4"\nguard = "1/32"\n'
@@ -24,14 +25,7 @@ def write(name, data):
     with open(os.path.join(folder, name), "wb") as f:
         f.write(data)
 def run(*words):
-    before = resource.getrusage(resource.RUSAGE_CHILDREN)
-    start = time.perf_counter()
-    done = subprocess.run([*program, *words], cwd=folder, stdout=subprocess.PIPE, text=True)
-    wall = time.perf_counter() - start
-    after = resource.getrusage(resource.RUSAGE_CHILDREN)
-    if done.returncode != 0:
-        sys.exit(f"{' '.join(words)} ends with {done.returncode}: {done.stdout.strip()}")
-    return wall, after.ru_utime + after.ru_stime - before.ru_utime - before.ru_stime, done.stdout
+    return measure([*program, *words], cwd=folder)
 for name, count in [("hp.ts", 2 * 1008 - 11), ("lp.ts", 2 * 3024 - 11)]:
     write(name, b"".join(b"\x47" + random.randbytes(187) for _ in range(count)))
 write("sent.toml", settings.encode())

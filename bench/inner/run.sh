@@ -6,17 +6,10 @@ set -e
 here="$(cd "$(dirname "$0")" && pwd)"
 top="$(cd "$here/../.." && pwd)"
 scratch="${SCRATCH:-/tmp/bench-inner}"
+. "$top/bench/scratch.sh"
+copy_crates "$top" "$scratch" spec_words mode_set bit_pack code_paths conv_code puncture bit_interleave symbol_interleave \
+  qam_map soft_metric pilots inner_chain
 mkdir -p "$scratch/crates/bench_inner/src"
-cp "$top/HANDLES" "$scratch/"
-: > "$scratch/crates.txt"
-for name in spec_words mode_set bit_pack code_paths conv_code puncture bit_interleave symbol_interleave qam_map soft_metric pilots inner_chain; do
-  mkdir -p "$scratch/crates/$name"
-  rm -rf "$scratch/crates/$name/src" "$scratch/crates/$name/specs" "$scratch/crates/$name/proofs"
-  for part in src specs proofs; do
-    [ -d "$top/crates/$name/$part" ] && cp -r "$top/crates/$name/$part" "$scratch/crates/$name/"
-  done
-  grep "^$name:" "$top/crates.txt" >> "$scratch/crates.txt"
-done
 echo "bench_inner: anyhow mode_set bit_pack conv_code qam_map inner_chain" >> "$scratch/crates.txt"
 cp "$here/chain.txt" "$scratch/crates/bench_inner/src/main.rt"
 cd "$scratch/crates/bench_inner"

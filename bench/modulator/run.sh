@@ -6,19 +6,12 @@ set -eu
 here="$(cd "$(dirname "$0")" && pwd)"
 top="$(cd "$here/../.." && pwd)"
 to=${1:-$(mktemp -d)}
-crates="spec_words ts_packet dispersal gf256 rs204 forney outer_chain mode_set bit_pack code_paths conv_code puncture bit_interleave
-  symbol_interleave qam_map soft_metric pilots tps_bch tps_word frame_build inner_chain transmission modulator"
+. "$top/bench/scratch.sh"
+copy_crates "$top" "$to" spec_words ts_packet dispersal gf256 rs204 forney outer_chain mode_set bit_pack code_paths \
+  conv_code puncture bit_interleave symbol_interleave qam_map soft_metric pilots tps_bch tps_word frame_build inner_chain \
+  transmission modulator
 mkdir -p "$to/crates/bench_modulator/src" "$to/crates/bench_modulator/proofs/transmit"
-for crate in $crates; do
-  mkdir -p "$to/crates/$crate"
-  for part in src specs proofs; do
-    rm -rf "$to/crates/$crate/$part"
-    [ -d "$top/crates/$crate/$part" ] && cp -r "$top/crates/$crate/$part" "$to/crates/$crate/"
-  done
-  grep "^$crate:" "$top/crates.txt"
-done > "$to/crates.txt"
 echo "bench_modulator: anyhow mode_set ts_packet modulator" >> "$to/crates.txt"
-cp "$top/HANDLES" "$to/"
 cp "$here/modulator.txt" "$to/crates/bench_modulator/src/main.rt"
 : > "$to/crates/bench_modulator/proofs/Lib.antt"
 cat > "$to/crates/bench_modulator/proofs/transmit/Invariants.antt" <<'END'
