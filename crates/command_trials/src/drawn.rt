@@ -95,8 +95,10 @@ fn disturb(rt: &impl Abort, cells: &mut [u8], symbol: usize, load: &mut Load) {
 // Draws the lengths of the pieces in which a symbol is fed.
 fn draw_pieces(load: &mut Load) {
     let mut rest = SYMBOL as u32;
-    while rest > 0 {
-        rest -= load.piece(rest);
+    for _ in 0..SYMBOL {
+        if rest > 0 {
+            rest -= load.piece(rest);
+        }
     }
 }
 

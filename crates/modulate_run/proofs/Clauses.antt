@@ -1,7 +1,7 @@
 -- The clauses of a run of `modulate` whose settings were accepted and whose memory was there: what is
 -- written, the statuses, what stands after a refusal.
 use Rattle.std.proofs.Common.{◌≡◌, ◌≢◌, ◌⊎◌, inl, inr, true, ℕ, ◌+◌, ◌<◌, ◌≤◌, ◌^◌, ◌-◌, min, Bool, List, [], ◌++◌, take, Option, Some, None, Result, Ok, Err, refl, ◌∙◌, sym, ap, subst, arith, if◌then◌else◌}
-use Rattle.std.specs.Prelude.{◌==◌, IsTrue, is_some, IfSome, option_and_then}
+use Rattle.std.specs.Prelude.{IsTrue, is_some, IfSome, option_and_then}
 use Rattle.std.specs.Option.{option_or}
 use Rattle.std.proofs.lemmas.Bool.{cases_lt, true≢false}
 use Rattle.station_core.specs.Meaning.{Meaning, Source, Sink, IsFresh, sink_at}
@@ -17,12 +17,11 @@ use Rattle.run_clauses.specs.declared.work.Refusal.TheVariants.{Usage, Settings,
 use Rattle.run_clauses.specs.Command.{Command, Modulate, sink_name}
 use Rattle.run_clauses.specs.Modulation.{HoldsSymbolsSoFar, cells_sent, files_of, fits_form, form_refusal, inputs_of, modulation_refusal, transmission_counts, transmission_lines}
 use Rattle.run_clauses.specs.Outcome.{HoldsSoFar, early_refusal, for_settings, lines_of, output_of, refusal_of}
-use Rattle.run_clauses.specs.Runs.{HasStatus, IsComplete, IsDone, IsOutput, Stands, text_of}
-use Rattle.run_clauses.specs.SettingsFile.{most_settings, settings_refusal}
+use Rattle.run_clauses.specs.Runs.{HasStatus, IsComplete, IsDone, Stands, text_of}
+use Rattle.run_clauses.specs.SettingsFile.{settings_refusal}
 use Rattle.run_clauses.specs.StatedSettings.{settings_of}
 use Rattle.run_clauses.specs.Text.{refusal_status, refusal_text, status_of, text_if_refused}
 use Rattle.run_steps.specs.Causes.{HasCause}
-use Rattle.modulate_run.specs.Work.{Ends}
 use Rattle.modulate_run.specs.Steps.{Ran, RunsModulation, Tells, outcome_status}
 
 -- what was done at the port of the settings before the work

@@ -1,5 +1,5 @@
 -- How the meaning of a station goes on from step to step of a modulation.
-use Rattle.std.proofs.Common.{◌≡◌, ◌∙◌, ap}
+use Rattle.std.proofs.Common.{◌∙◌, ap}
 use Rattle.station_core.specs.Meaning.{Meaning}
 use Rattle.modulate_run.specs.Work.{KeepsOthers}
 

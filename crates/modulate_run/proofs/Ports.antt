@@ -1,5 +1,5 @@
 -- The ports after a run of `modulate` whose settings were accepted and whose memory was there.
-use Rattle.std.proofs.Common.{◌≡◌, ◌≢◌, ◌⊎◌, inl, inr, true, ℕ, ◌+◌, ◌≤◌, Bool, if◌then◌else◌, List, [], drop, Option, Some, None, Result, Ok, Err, refl, ◌∙◌, sym, ap, subst}
+use Rattle.std.proofs.Common.{◌≡◌, ◌≢◌, ◌⊎◌, inl, inr, true, ℕ, ◌+◌, ◌≤◌, Bool, if◌then◌else◌, List, [], drop, Option, Some, None, Result, Ok, Err, refl, ◌∙◌, sym, ap}
 use Rattle.std.specs.Prelude.{IsTrue, is_some, IfSome}
 use Rattle.std.proofs.lemmas.Bool.{true≢false}
 use Rattle.station_core.specs.Meaning.{Meaning, Source, Sink, IsFresh, source_at, sink_at}

@@ -1,11 +1,11 @@
 -- How a packet of a file is refused.
-use Rattle.std.proofs.Common.{◌≡◌, ℕ, ◌+◌, ◌<◌, ◌≤◌, Bool, true, false, List, length, Some, None, refl, ap, sym, ◌∙◌, arith}
+use Rattle.std.proofs.Common.{◌≡◌, ℕ, ◌<◌, ◌≤◌, true, false, List, length, Some, None, refl, arith}
 use Rattle.std.specs.Prelude.{slice_index, ◌==◌}
 use Rattle.std.proofs.lemmas.Bool.{le-leb, lt-leb}
 use Rattle.mode_set.specs.declared.modes.Stream.{Stream}
 use Rattle.outer_chain.specs.Sent.{packet_at}
 use Rattle.transmission.specs.Agenda.{packet_refusal, Limit, NotSync}
-use Rattle.run_clauses.specs.Packets.{file_packet, first_packets, packets_of, whole_packets}
+use Rattle.run_clauses.specs.Packets.{file_packet, packets_of, whole_packets}
 use Rattle.run_clauses.specs.Modulation.{inputs_of}
 use Rattle.run_clauses.proofs.FilePackets.{count_is, packet_is}
 use Rattle.std.proofs.lemmas.List.{get_or_past}

@@ -1,5 +1,5 @@
 -- A symbol more is written, or the work ends before it is.
-use Rattle.std.proofs.Common.{◌≡◌, ℕ, ◌+◌, ◌<◌, ◌≤◌, List, ◌++◌, take, Option, Some, None, Result, Ok, Err, refl, ap, sym, subst, ◌∙◌, arith}
+use Rattle.std.proofs.Common.{◌≡◌, ℕ, ◌+◌, ◌<◌, ◌≤◌, List, ◌++◌, take, Option, Some, None, Result, Ok, Err, ap, sym, subst, ◌∙◌, arith}
 use Rattle.station_core.specs.Meaning.{Meaning}
 use Rattle.mode_set.specs.declared.modes.Stream.{Stream}
 use Rattle.mode_set.specs.declared.settings.Settings.{Settings as TheSettings}
@@ -14,7 +14,7 @@ use Rattle.run_clauses.specs.declared.work.Refusal.TheVariants.{Usage, Settings,
 use Rattle.run_clauses.specs.Modulation.{HoldsSymbolsSoFar, cells_sent, inputs_of, sent_by}
 use Rattle.modulate_run.specs.declared.inputs.PacketInputs.{PacketInputs}
 use Rattle.modulate_run.specs.Seen.{Seen, wanted}
-use Rattle.modulate_run.specs.Work.{BothRead, Ends, IsAtWork, IsDue, IsWritten, KeepsOutputs, Sends, Stops, WritesCells, WritesSymbol}
+use Rattle.modulate_run.specs.Work.{BothRead, Ends, IsAtWork, IsDue, KeepsOutputs, Sends, Stops, WritesCells, WritesSymbol}
 
 -- the symbols before one, and a part of it, are a front of the cells that are sent
 pub front_cells : PartOfSymbols → (s : TheSettings) (limit : ℕ) (inputs : Inputs) (m k : ℕ) → m < symbols_of s inputs → m < symbols_sent s limit inputs

@@ -1,5 +1,5 @@
 -- What the bytes that were read for the next packet are.
-use Rattle.std.proofs.Common.{◌≡◌, ◌≢◌, ℕ, ◌+◌, ◌-◌, ◌*◌, ◌/◌, ◌<◌, ◌≤◌, Bool, true, false, List, [], length, take, drop, Option, Some, None, Result, Ok, Err, refl, ap, sym, subst, ◌∙◌, arith, length-drop}
+use Rattle.std.proofs.Common.{◌≡◌, ◌≢◌, ℕ, ◌+◌, ◌*◌, ◌<◌, ◌≤◌, true, false, List, length, take, drop, Option, Some, None, Ok, Err, ap, sym, subst, ◌∙◌, arith, length-drop}
 use Rattle.std.specs.Prelude.{slice_index, ◌==◌, is_some}
 use Rattle.std.specs.Option.{option_map}
 use Rattle.std.proofs.lemmas.Bool.{eq-eqb, ne_eqb, false≢true}
@@ -7,10 +7,9 @@ use Rattle.std.proofs.lemmas.List.{drop_all, drop-drop, take_all}
 use Rattle.mode_set.specs.declared.modes.Stream.{Stream}
 use Rattle.outer_chain.specs.Sent.{packet_at}
 use Rattle.ts_packet.specs.Packet.{null_packet}
-use Rattle.transmission.specs.Agenda as agenda
 use Rattle.run_clauses.specs.declared.work.Refusal.TheVariants.{NotSync, Limit, ReadFault}
-use Rattle.run_clauses.specs.Packets.{packets_of, whole_packets, tail_of, file_packet}
-use Rattle.run_clauses.specs.Modulation.{inputs_of, refused_by}
+use Rattle.run_clauses.specs.Packets.{packets_of, whole_packets, file_packet}
+use Rattle.run_clauses.specs.Modulation.{refused_by}
 use Rattle.run_steps.specs.Reading.{ReadsFront}
 use Rattle.modulate_run.specs.declared.input.PacketInput.{PacketInput}
 use Rattle.modulate_run.specs.Inputs.{HasLeft, Reads, Gives}

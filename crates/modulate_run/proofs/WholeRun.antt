@@ -1,5 +1,5 @@
 -- The clauses of a whole run of `modulate`.
-use Rattle.std.proofs.Common.{◌≡◌, inl, inr, true, ℕ, List, Option, Some, Ok, Err, refl, ◌∙◌, sym, ap, subst, arith}
+use Rattle.std.proofs.Common.{◌≡◌, inl, inr, true, ℕ, List, Option, Some, Ok, Err, refl, ◌∙◌, sym, ap, subst}
 use Rattle.station_core.specs.Meaning.{Meaning, IsFresh}
 use Rattle.mode_set.specs.declared.settings.Settings.{Settings as TheSettings}
 use Rattle.run_clauses.specs.declared.work.Refusal.{Refusal}

@@ -1,5 +1,5 @@
 -- The work from its first symbol to its end.
-use Rattle.std.proofs.Common.{◌≡◌, ◌≢◌, ◌⊎◌, inl, inr, ℕ, ◌+◌, ◌*◌, ◌<◌, ◌≤◌, List, [], length, drop, Option, Some, None, Ok, refl, ap, sym, subst, ◌∙◌, arith}
+use Rattle.std.proofs.Common.{◌≡◌, inl, inr, ℕ, ◌+◌, ◌*◌, ◌<◌, ◌≤◌, List, [], length, Option, Some, None, Ok, refl, ap, sym, subst, ◌∙◌, arith}
 use Rattle.std.specs.Prelude.{IsTrue}
 use Rattle.std.specs.Option.{option_map}
 use Rattle.std.proofs.lemmas.Bool.{cases_lt}
@@ -9,20 +9,17 @@ use Rattle.mode_set.specs.declared.modes.Stream.{Stream}
 use Rattle.mode_set.specs.declared.modes.Stream.TheVariants.{Hp, Lp}
 use Rattle.mode_set.specs.declared.settings.Settings.{Settings as TheSettings}
 use Rattle.transmission.specs.Transmission.{Inputs, by_stream, first_symbols}
-use Rattle.transmission.specs.SuperFrames.{AreSuperFrames, packets_for, super_frames, symbols_of}
+use Rattle.transmission.specs.SuperFrames.{packets_for, super_frames, symbols_of}
 use Rattle.transmission.specs.Agenda as agenda
 use Rattle.transmission.specs.AgendaLaws.{EndsUnrefused, StopsAtLimit}
 use Rattle.transmission.specs.Laws.{PacketsOfSuperFrames, TheFormulaIsLeast}
-use Rattle.run_clauses.specs.declared.work.Counts.{Counts}
 use Rattle.run_clauses.specs.declared.work.TransmissionCounts.{TransmissionCounts}
-use Rattle.run_clauses.specs.declared.work.Refusal.{Refusal}
 use Rattle.run_clauses.specs.declared.work.Refusal.TheVariants.{Limit}
-use Rattle.run_clauses.specs.Packets.{counts_of, packets_of, tail_of, whole_packets}
-use Rattle.run_clauses.specs.Modulation.{cells_sent, inputs_of, left_of, modulation_refusal, refused_by, sent_by, transmission_counts}
+use Rattle.run_clauses.specs.Packets.{packets_of, tail_of, whole_packets}
+use Rattle.run_clauses.specs.Modulation.{inputs_of, left_of, refused_by, sent_by, transmission_counts}
 use Rattle.run_clauses.proofs.FilePackets.{count_is}
-use Rattle.modulate_run.specs.declared.input.PacketInput.{PacketInput}
 use Rattle.modulate_run.specs.declared.inputs.PacketInputs.{PacketInputs}
-use Rattle.modulate_run.specs.Inputs.{HasLeft, Reads}
+use Rattle.modulate_run.specs.Inputs.{HasLeft}
 use Rattle.modulate_run.specs.Seen.{Seen}
 use Rattle.modulate_run.specs.Work.{CountsAt, Ends, IsDue, IsWritten, Modulates}
 use Rattle.modulate_run.proofs.Stopping.{cells_at}

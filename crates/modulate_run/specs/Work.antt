@@ -1,5 +1,5 @@
 -- The work of a modulation, symbol by symbol.
-use Rattle.std.specs.Prelude.{◌≡◌, ◌≢◌, ◌⊎◌, ℕ, ◌+◌, ◌-◌, ◌*◌, ◌/◌, ◌<◌, ◌≤◌, List, [], ◌++◌, length, take, true, Option, Some, None, is_some, Result, Ok, Err, ⊤}
+use Rattle.std.specs.Prelude.{◌≡◌, ◌≢◌, ◌⊎◌, ℕ, ◌-◌, ◌*◌, ◌/◌, ◌<◌, ◌≤◌, List, [], ◌++◌, length, take, true, Option, Some, None, is_some, Result, Ok, Err}
 use Rattle.std.specs.Option.{option_map}
 use Rattle.station_core.specs.Meaning.{Meaning}
 use Rattle.mode_set.specs.declared.modes.Stream.{Stream}
@@ -8,7 +8,7 @@ use Rattle.mode_set.specs.declared.settings.Settings.{Settings}
 use Rattle.transmission.specs.Transmission.{Inputs, by_stream, first_symbols}
 use Rattle.transmission.specs.SuperFrames.{super_frames, symbols_of}
 use Rattle.outer_chain.specs.Sent.{packet_at}
-use Rattle.transmission.specs.Agenda.{packet_refusal, symbols_sent}
+use Rattle.transmission.specs.Agenda.{packet_refusal}
 use Rattle.transmission.specs.AgendaLaws.{IsAt}
 use Rattle.run_clauses.specs.declared.work.TransmissionCounts.{TransmissionCounts}
 use Rattle.run_clauses.specs.declared.work.Refusal.{Refusal}

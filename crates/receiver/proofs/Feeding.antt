@@ -1,5 +1,5 @@
 -- What a receiver stands for when it is fed, and at its end.
-use Rattle.std.proofs.Common.{◌≡◌, ℕ, suc, ◌+◌, ◌-◌, ◌*◌, ◌/◌, ◌%◌, ◌<◌, ◌≤◌, Bool, true, false, inl, inr, List, [], ◌∷◌, ◌++◌, length, take, get_or, map, refl, sym, ap, ap₂, ◌∙◌, subst, arith, append-nil, length-append, length-take-le, ◌⊎◌}
+use Rattle.std.proofs.Common.{◌≡◌, ℕ, ◌+◌, ◌-◌, ◌*◌, ◌/◌, ◌%◌, ◌<◌, ◌≤◌, Bool, true, false, inl, inr, List, [], ◌++◌, length, take, map, refl, sym, ap, ap₂, ◌∙◌, subst, arith, append-nil, length-append, length-take-le, ◌⊎◌}
 use Rattle.std.specs.Prelude.{Option, ◌↔◌, IsTrue, min}
 use Rattle.spec_words.specs.Words.{numbers}
 use Rattle.code_paths.specs.declared.costs.CostPair.{CostPair}
@@ -22,13 +22,12 @@ use Rattle.inner_chain.specs.PairLists.{pair_of}
 use Rattle.outer_chain.specs.Bits.{ByteOfBits}
 use Rattle.outer_chain.specs.Running.{AllFinished, no_words}
 use Rattle.outer_chain.specs.Words.{Tally}
-use Rattle.rx_report.specs.declared.counts.Event.{Event}
 use Rattle.reception.specs.Cells.{symbols, tail, symbol_length, bytes_of_symbol, symbol_cells}
 use Rattle.reception.specs.Costs.{symbol_costs, costs}
 use Rattle.reception.specs.Frames.{tps_cells, frame_bits, IsReadable, CountsWords}
 use Rattle.reception.specs.Streams.{memory, start_of, Moment, so_far, at_end, Reception, Receives}
 use Rattle.reception.specs.Lines.{event_at, events}
-use Rattle.reception.specs.Feeds.{Output, packets_of, Follows, taken, Feeds, Finishes}
+use Rattle.reception.specs.Feeds.{Output, packets_of, taken, Feeds, Finishes}
 use Rattle.reception.specs.Laws.{IsWithin, EndsSymbol, unfinished, SameSymbols, OneSymbolMore, TailIsUnfinished, MoreUnfinished, EndedSymbol, TpsCellsStay, BitsOfCells, SameCosts, NextCosts, NextEvents, NoCosts, NothingLive, nothing}
 use Rattle.receiver.specs.Framing.{FrameStands}
 use Rattle.receiver.specs.Seen.{StreamState, ReceiverState, stream_of}

@@ -1,9 +1,8 @@
 -- Words that wait to be finished, and their packets.
-use Rattle.std.proofs.Common.{◌≡◌, ◌≢◌, ℕ, suc, ◌+◌, ◌-◌, ◌*◌, ◌/◌, ◌%◌, ◌<◌, ◌≤◌, Bool, true, false, not, cond, inl, inr, ◌⊎◌, List, [], ◌∷◌, ◌++◌, length, take, set, get_or, refl, sym, ap, ap₂, ◌∙◌, subst, arith, length-append, append_assoc, append-nil}
-use Rattle.std.specs.Prelude.{Option, Some, None, is_some, All}
+use Rattle.std.proofs.Common.{◌≡◌, ℕ, ◌+◌, ◌-◌, ◌*◌, ◌<◌, ◌≤◌, Bool, not, cond, inl, inr, ◌⊎◌, List, [], ◌∷◌, ◌++◌, length, get_or, refl, sym, ap, ap₂, ◌∙◌, subst, arith, length-append, append_assoc, append-nil}
+use Rattle.std.specs.Prelude.{Option, Some, None, is_some}
 use Rattle.std.proofs.lemmas.Bool.{cases_lt}
-use Rattle.std.proofs.lemmas.List.{get_or_append_left, get_or-set_same, get_or-set_other, get_or_default}
-use Rattle.std.proofs.Math.ListN.{length-set}
+use Rattle.std.proofs.lemmas.List.{get_or_append_left}
 use Rattle.std.proofs.Math.Seq.{get_or-append_seam}
 use Rattle.std.proofs.lemmas.List.Elements.{All-nil, All-push}
 use Rattle.spec_words.specs.Bits.{spelled}
@@ -19,7 +18,7 @@ use Rattle.outer_chain.specs.Running.{Finished, TookByte, FinishedWord, WordStay
 use Rattle.outer_chain.specs.Words.{Tally, word_at, word_count, phase_of, given_packet, has}
 use Rattle.rx_report.specs.declared.counts.StreamCounts.{StreamCounts}
 use Rattle.reception.specs.Lines.{stream_counts}
-use Rattle.receiver.specs.Words.{AreWords, AreDecoded, DecodesAll, Started, Took, Passed, Collected, counted, Wrote, Gives, AreFew}
+use Rattle.receiver.specs.Words.{AreWords, AreDecoded, DecodesAll, Took, Passed, Collected, counted, Wrote, Gives, AreFew}
 
 -- ---- a byte more
 

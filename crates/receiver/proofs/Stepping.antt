@@ -1,12 +1,12 @@
 -- What a stream stands for, from symbol to symbol.
-use Rattle.std.proofs.Common.{◌≡◌, ℕ, suc, ◌+◌, ◌-◌, ◌*◌, ◌/◌, ◌%◌, ◌^◌, ◌<◌, ◌≤◌, Bool, true, false, List, [], ◌∷◌, ◌++◌, length, take, get_or, map, refl, sym, ap, ap₂, ◌∙◌, subst, subst₂, arith, length-append, append_assoc, append-nil}
+use Rattle.std.proofs.Common.{◌≡◌, ℕ, suc, ◌+◌, ◌*◌, ◌^◌, ◌<◌, ◌≤◌, Bool, true, false, List, [], ◌∷◌, ◌++◌, length, take, get_or, map, refl, sym, ap, ◌∙◌, subst, arith, length-append, append_assoc}
 use Rattle.std.specs.Prelude.{Option, All}
 use Rattle.std.proofs.lemmas.List.Elements.{All-nil, All-append, All-head, All-tail}
 use Rattle.std.proofs.lemmas.Nat.{mul-lt}
 use Rattle.spec_words.specs.Bits.{spelled}
 use Rattle.bit_pack.specs.Queue.{bits_of_bytes}
 use Rattle.code_paths.specs.declared.costs.CostPair.{CostPair}
-use Rattle.code_paths.specs.Streams.{Reports, Given, Ended}
+use Rattle.code_paths.specs.Streams.{Reports, Given}
 use Rattle.spec_words.specs.Words.{numbers}
 use Rattle.std.proofs.lemmas.List.{take_more, map-append}
 use Rattle.mode_set.specs.declared.modes.Start.TheVariants as modes
@@ -29,7 +29,7 @@ use Rattle.rx_report.specs.declared.counts.StreamCounts.{StreamCounts}
 use Rattle.reception.specs.Streams.{memory, Moment, so_far, at_end}
 use Rattle.reception.specs.Lines.{stream_counts, event_at}
 use Rattle.receiver.specs.Seen.{StreamState}
-use Rattle.receiver.specs.Words.{Gives, Started}
+use Rattle.receiver.specs.Words.{Gives}
 use Rattle.receiver.specs.Standing.{StreamStands, StreamGave}
 
 bits_append : (a b : List ℕ) → bits_of_bytes (a ++ b) ≡ bits_of_bytes a ++ bits_of_bytes b

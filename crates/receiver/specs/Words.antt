@@ -1,5 +1,5 @@
 -- How the bits of a stream become words, and the words packets.
-use Rattle.std.specs.Prelude.{◌≡◌, ℕ, ◌+◌, ◌-◌, ◌<◌, ◌≤◌, Bool, not, cond, List, [], ◌∷◌, ◌++◌, All, length, slice_index_or}
+use Rattle.std.specs.Prelude.{◌≡◌, ℕ, ◌+◌, ◌<◌, ◌≤◌, Bool, not, cond, List, [], ◌∷◌, ◌++◌, All, length, slice_index_or}
 use Rattle.bit_pack.specs.Queue.{bits_of_bytes}
 use Rattle.spec_words.specs.Bits.{spelled}
 use Rattle.rs204.specs.Decoded.{Decoded}

@@ -1,23 +1,20 @@
 -- The events of one symbol more.
-use Rattle.std.proofs.Common.{◌≡◌, ◌≢◌, ℕ, zero, suc, ◌+◌, ◌-◌, ◌*◌, ◌/◌, ◌<◌, ◌≤◌, Bool, true, false, List, [], ◌∷◌, ◌++◌, length, map, refl, sym, ap, ap₂, ◌∙◌, subst, arith, length-append, append-nil}
+use Rattle.std.proofs.Common.{◌≡◌, ℕ, zero, suc, ◌+◌, ◌-◌, ◌*◌, ◌/◌, ◌<◌, Bool, true, false, List, ◌++◌, length, map, sym, ap, ap₂, ◌∙◌, subst, arith, length-append, append-nil}
 use Rattle.std.specs.Prelude.{◌==◌, filter, flat_map, All}
 use Rattle.std.proofs.lemmas.Bool.{ne_eqb, eq-eqb}
 use Rattle.std.proofs.lemmas.List.Elements.{All-weaker, filter-append}
 use Rattle.std.proofs.lemmas.Nat.{div-mul-add, div_below}
 use Rattle.spec_words.specs.Words.{numbers}
-use Rattle.code_paths.specs.declared.costs.CostPair.{CostPair}
 use Rattle.code_paths.specs.Laws.{ReportsOnce}
 use Rattle.code_paths.specs.Streams.{Reports}
 use Rattle.mode_set.specs.StreamTable.{need}
 use Rattle.mode_set.specs.declared.modes.Stream.{Stream}
 use Rattle.mode_set.specs.declared.modes.Stream.TheVariants.{Hp, Lp}
-use Rattle.mode_set.specs.declared.settings.Settings.{Settings}
-use Rattle.rx_report.specs.declared.counts.Event.{Event}
 use Rattle.reception.specs.Cells.{symbols}
 use Rattle.reception.specs.Costs.{symbol_costs, costs}
 use Rattle.reception.specs.Streams.{memory, start_of}
 use Rattle.reception.specs.Lines.{event_at, events_of, events}
-use Rattle.reception.specs.Laws.{EndsSymbol, AreReports, NextEvents, NoEvents}
+use Rattle.reception.specs.Laws.{NextEvents, NoEvents}
 use Rattle.reception.proofs.Numbered.{parts_end, no_parts, same_parts, none_pass, all_pass}
 use Rattle.reception.proofs.CostLists.{costs_are_steps, next_costs}
 use Rattle.reception.proofs.Symbols.{one_symbol_more}

@@ -1,21 +1,19 @@
 -- What no bytes give.
-use Rattle.std.proofs.Common.{◌≡◌, ℕ, ◌+◌, ◌-◌, ◌/◌, ◌<◌, ◌≤◌, Bool, false, List, [], ◌∷◌, ◌++◌, length, take, drop, inl, refl, sym, ◌∙◌, ap, subst, arith, length-append}
-use Rattle.std.specs.Prelude.{Option, Some, None, replicate}
+use Rattle.std.proofs.Common.{◌≡◌, ℕ, ◌/◌, Bool, false, List, [], length, drop, inl, refl, sym, ap, subst, arith, length-append}
+use Rattle.std.specs.Prelude.{Option, None, replicate}
 use Rattle.std.proofs.lemmas.List.{length-take}
 use Rattle.code_paths.specs.declared.costs.CostPair.{CostPair}
-use Rattle.code_paths.specs.Paths.{LeastTo, Least}
-use Rattle.code_paths.specs.Streams.{IsPrefix, IsQuiet, Shared, Given, Ended, Reports}
+use Rattle.code_paths.specs.Paths.{LeastTo}
+use Rattle.code_paths.specs.Streams.{IsPrefix, IsQuiet, Shared, Given, Reports}
 use Rattle.mode_set.specs.declared.modes.Start.{Start}
 use Rattle.mode_set.specs.declared.modes.Start.TheVariants.{Zero, Any}
-use Rattle.mode_set.specs.declared.modes.Stream.{Stream}
 use Rattle.mode_set.specs.declared.settings.Settings.{Settings}
 use Rattle.outer_chain.specs.Bits.{bytes_of}
 use Rattle.outer_chain.specs.Words.{Packets, Tallies, packets_to, count}
 use Rattle.reception.specs.Cells.{symbols}
-use Rattle.reception.specs.Costs.{costs}
 use Rattle.reception.specs.Frames.{CountsFrames}
-use Rattle.reception.specs.Streams.{memory, start_of, Live, Final}
-use Rattle.reception.specs.Laws.{nothing, no_words, NothingGiven, NothingLive}
+use Rattle.reception.specs.Streams.{memory, start_of}
+use Rattle.reception.specs.Laws.{no_words, NothingGiven, NothingLive}
 use Rattle.reception.proofs.Symbols.{no_count}
 use Rattle.reception.proofs.CostLists.{no_costs}
 

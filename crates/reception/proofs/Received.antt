@@ -1,11 +1,9 @@
 -- Bytes have one reception at a moment, and longer bytes only add to it.
-use Rattle.std.proofs.Common.{◌≡◌, ℕ, zero, suc, ◌+◌, ◌-◌, ◌*◌, ◌/◌, ◌<◌, ◌≤◌, Bool, true, false, cond, List, [], ◌∷◌, ◌++◌, length, take, drop, map, refl, sym, ap, ap₂, ◌∙◌, subst, arith, length-append, take-append-drop}
-use Rattle.std.specs.Prelude.{◌↔◌, IsTrue, Option}
-use Rattle.std.proofs.lemmas.Bool.{true≢false}
+use Rattle.std.proofs.Common.{◌≡◌, ℕ, zero, suc, ◌+◌, ◌-◌, ◌*◌, ◌/◌, ◌<◌, ◌≤◌, Bool, true, false, cond, List, [], ◌∷◌, ◌++◌, length, take, drop, refl, sym, ap, ap₂, ◌∙◌, subst, arith, length-append, take-append-drop}
+use Rattle.std.specs.Prelude.{IsTrue}
 use Rattle.std.proofs.lemmas.List.Concat.{flat_map_single}
 use Rattle.spec_words.specs.Words.{numbers}
-use Rattle.code_paths.specs.declared.costs.CostPair.{CostPair}
-use Rattle.code_paths.specs.Streams.{IsPrefix, Given, Ended, Reports}
+use Rattle.code_paths.specs.Streams.{IsPrefix, Given, Reports}
 use Rattle.code_paths.specs.Laws.{GivenOnce, EndedOnce, ReportsOnce, GivenGrows, ReportsGrow, GivenBeginsEnded}
 use Rattle.mode_set.specs.StreamTable.{carriers}
 use Rattle.mode_set.specs.declared.modes.Stream.{Stream}
@@ -13,13 +11,12 @@ use Rattle.mode_set.specs.declared.settings.Settings.{Settings}
 use Rattle.outer_chain.specs.Bits.{bytes_of, MoreBits}
 use Rattle.outer_chain.specs.Words.{Packets, Tallies, count}
 use Rattle.outer_chain.specs.Laws.{OnePackets, OneTally, MorePackets}
-use Rattle.qam_map.specs.declared.cell.Cell.{Cell}
 use Rattle.tps_word.specs.Vote.{vote}
 use Rattle.reception.specs.Cells.{symbols}
 use Rattle.reception.specs.Costs.{costs}
 use Rattle.reception.specs.Frames.{tps_cells, frame_bit, frame_bits, IsReadable, CountsWords, CountsFrames}
-use Rattle.reception.specs.Streams.{memory, start_of, Reception, Live, Final}
-use Rattle.reception.specs.Laws.{AreSame, OneLive, OneFinal, Grows, LiveGrows, Ends, FinalEndsLive, BitsOfCells}
+use Rattle.reception.specs.Streams.{memory, start_of}
+use Rattle.reception.specs.Laws.{OneLive, OneFinal, LiveGrows, FinalEndsLive, BitsOfCells}
 use Rattle.reception.proofs.Numbered.{same_parts}
 use Rattle.reception.proofs.Symbols.{more_count, tps_cells_stay}
 use Rattle.reception.proofs.CostLists.{costs_grow}

@@ -1,5 +1,5 @@
 -- The reports of the first costs of a stream.
-use Rattle.std.proofs.Common.{◌≡◌, ℕ, ◌+◌, ◌-◌, ◌<◌, ◌≤◌, Bool, true, false, cond, inl, inr, ◌⊎◌, List, [], ◌∷◌, ◌++◌, length, take, drop, get_or, refl, sym, ap, ap₂, ◌∙◌, subst, arith, length-append, length-take-le}
+use Rattle.std.proofs.Common.{◌≡◌, ℕ, ◌+◌, ◌-◌, ◌<◌, ◌≤◌, Bool, true, false, cond, inl, inr, ◌⊎◌, List, [], ◌∷◌, ◌++◌, length, take, get_or, refl, sym, ap, ap₂, ◌∙◌, subst, arith, length-append, length-take-le}
 use Rattle.std.specs.Prelude.{nat_le, filter, All}
 use Rattle.std.specs.declared.option.Option.{Option}
 use Rattle.std.specs.declared.option.Option.TheVariants.{Some}
@@ -8,7 +8,7 @@ use Rattle.std.proofs.lemmas.List.{take-take, take-append-le, get_or-append-add}
 use Rattle.std.proofs.Math.Seq.{take-append_seam, take-append-add}
 use Rattle.std.proofs.lemmas.List.Elements.{All-nil, All-cons, All-weaker, filter-append}
 use Rattle.code_paths.specs.declared.costs.CostPair.{CostPair}
-use Rattle.code_paths.specs.Streams.{IsOverdue, IsQuiet, Part, end_of, IsPart, IsCut, ends_of, Reports}
+use Rattle.code_paths.specs.Streams.{IsOverdue, IsQuiet, Part, end_of, IsCut, ends_of, Reports}
 use Rattle.code_paths.specs.Laws.{ReportsOnce}
 use Rattle.reception.specs.Laws.{ReportsAreSteps, NewReportsAreLater}
 use Rattle.reception.proofs.Numbered.{none_pass, all_pass, none_kept, nothing_more}

@@ -1,5 +1,5 @@
 -- The symbols of longer bytes.
-use Rattle.std.proofs.Common.{◌≡◌, ℕ, ◌+◌, ◌-◌, ◌*◌, ◌/◌, ◌%◌, ◌<◌, ◌≤◌, List, [], ◌++◌, length, take, drop, map, refl, sym, ap, ap₂, ◌∙◌, arith, length-append, length-drop}
+use Rattle.std.proofs.Common.{◌≡◌, ℕ, ◌+◌, ◌-◌, ◌*◌, ◌/◌, ◌%◌, ◌<◌, ◌≤◌, List, ◌++◌, length, take, drop, map, refl, ap, ◌∙◌, arith, length-append, length-drop}
 use Rattle.std.proofs.lemmas.List.{take-append-le, drop-append-le, take_all, drop_all}
 use Rattle.mode_set.specs.StreamTable.{carriers}
 use Rattle.mode_set.specs.declared.modes.Mode.{Mode}
@@ -9,7 +9,7 @@ use Rattle.pilots.specs.Carriers.{tps_carriers}
 use Rattle.qam_map.specs.declared.cell.Cell.{Cell}
 use Rattle.frame_build.specs.Symbol.{cells_from}
 use Rattle.inner_chain.specs.CostPairs.{cell_of}
-use Rattle.reception.specs.Cells.{symbol_length, symbols, tail, bytes_of_symbol, symbol_cells}
+use Rattle.reception.specs.Cells.{symbol_length, symbols, bytes_of_symbol, symbol_cells}
 use Rattle.reception.specs.Frames.{tps_cells}
 use Rattle.reception.specs.Laws.{SameSymbols, OneSymbolMore, TailIsUnfinished, MoreUnfinished, EndedSymbol, CellsStay, TpsCellsStay, unfinished}
 

@@ -1,25 +1,19 @@
 -- Cells, costs, votes and lines of known receptions, computed.
-use Rattle.std.proofs.Common.{◌≡◌, ℕ, Bool, List, [], ◌∷◌, ◌++◌, ◌&&◌, map, refl}
-use Rattle.std.specs.Prelude.{pos, neg_ℤ, codes, replicate, nat_le}
+use Rattle.std.proofs.Common.{◌≡◌, ℕ, Bool, List, [], ◌∷◌, ◌&&◌, map, refl}
+use Rattle.std.specs.Prelude.{pos, codes, replicate, nat_le}
 use Rattle.std.specs.Fmt.{digits}
 use Rattle.std.specs.List.{concat}
 use Rattle.spec_words.specs.Bits.{xor}
 use Rattle.spec_words.specs.Words.{numbers}
 use Rattle.mode_set.specs.declared.modes.Stream.{Stream}
 use Rattle.mode_set.specs.declared.modes.Stream.TheVariants.{Hp, Lp}
-use Rattle.mode_set.specs.declared.modes.Rate.TheVariants.{R1of2, R3of4}
-use Rattle.mode_set.specs.declared.settings.Settings.{Settings}
-use Rattle.symbol_interleave.specs.Carried.{h}
-use Rattle.pilots.specs.Carriers.{payload_carriers, is_payload, is_continual, is_scattered, is_tps, tps_carriers}
+use Rattle.mode_set.specs.declared.modes.Rate.TheVariants.{R1of2}
 use Rattle.pilots.specs.Reference.{reference, eleven_from}
 use Rattle.qam_map.specs.declared.cell.Cell.{Cell}
-use Rattle.soft_metric.specs.Costs.{cost}
 use Rattle.tps_bch.specs.Bch.{bit_distance, tps_parity}
 use Rattle.tps_word.specs.Tps.{tps_word, tps_info, sync_word, length_bits, shape_bits, hierarchy_bits, rate_bits, guard_bits, mode_bits, signalled}
 use Rattle.tps_word.specs.Vote.{vote}
 use Rattle.frame_build.specs.Symbol.{cell_from, tps_sign, real}
-use Rattle.inner_chain.specs.CostPairs.{costs_on}
-use Rattle.inner_chain.specs.PairLists.{pair_of}
 use Rattle.reception.specs.Cells.{symbols, tail, bytes_of_symbol}
 use Rattle.reception.specs.Frames.{frame_bits}
 use Rattle.reception.specs.Streams.{Reception}

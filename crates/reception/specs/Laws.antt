@@ -16,7 +16,6 @@ use Rattle.qam_map.specs.declared.cell.Cell.{Cell}
 use Rattle.reception.specs.Frames.{tps_cells, frame_bits}
 use Rattle.reception.specs.Streams.{memory, start_of, Reception, Live, Final}
 use Rattle.reception.specs.Lines.{event_at, events}
-use Rattle.reception.specs.Feeds.{Output, packets_of, Follows}
 
 -- bytes that do not end the unfinished symbol
 abbrev pub IsWithin : Settings → List ℕ → List ℕ → Type 0

@@ -1,5 +1,5 @@
 -- The counts of a reception, and the lines of its report.
-use Rattle.std.specs.Prelude.{ℕ, ◌-◌, ◌/◌, ◌==◌, if◌then◌else◌, List, [], ◌++◌, Option, None, Some, map, filter, flat_map, length}
+use Rattle.std.specs.Prelude.{ℕ, ◌-◌, ◌/◌, ◌==◌, if◌then◌else◌, List, ◌++◌, None, Some, map, filter, flat_map, length}
 use Rattle.std.specs.List.{concat}
 use Rattle.spec_words.specs.Words.{numbers}
 use Rattle.mode_set.specs.Kept.{is_flat}

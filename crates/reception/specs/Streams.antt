@@ -1,5 +1,5 @@
 -- What a receiver gives for the bytes of cells: as far as it is decided, and at the end.
-use Rattle.std.specs.Prelude.{ℕ, Bool, false, List, [], Option, Some, None, replicate}
+use Rattle.std.specs.Prelude.{ℕ, Bool, false, List, Option, Some, None, replicate}
 use Rattle.code_paths.specs.declared.costs.CostPair.{CostPair}
 use Rattle.code_paths.specs.Streams.{Given, Ended, Reports}
 use Rattle.outer_chain.specs.Bits.{bytes_of}

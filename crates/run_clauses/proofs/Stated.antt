@@ -1,6 +1,6 @@
 -- The settings that a file states are one.
-use Rattle.std.proofs.Common.{◌≡◌, ℕ, ◌≤◌, Bool, true, false, not, ◌&&◌, ◌||◌, List, Option, Some, None, refl, ap, sym, ◌∙◌}
-use Rattle.std.specs.Prelude.{nat_le, is_some, IsSomeAnd, option_and_then, Ok}
+use Rattle.std.proofs.Common.{◌≡◌, ℕ, ◌≤◌, Bool, true, false, not, ◌||◌, List, Option, Some, None, refl, ap, sym}
+use Rattle.std.specs.Prelude.{is_some, IsSomeAnd, option_and_then}
 use Rattle.std.specs.Bool.{beq}
 use Rattle.std.proofs.lemmas.Bool.{and_from, le-leb, true≢false}
 use Rattle.mode_set.specs.Kept.{IsKept, is_flat, is_qpsk}

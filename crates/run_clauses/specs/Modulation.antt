@@ -1,5 +1,5 @@
 -- What the command `modulate` comes to, from its settings, the limit of packets and the files alone.
-use Rattle.std.specs.Prelude.{◌≡◌, ℕ, ◌-◌, ◌/◌, ◌<◌, ◌≤◌, Bool, true, false, not, if◌then◌else◌, List, [], ◌++◌, length, codes, decimal, Option, Some, None, is_some}
+use Rattle.std.specs.Prelude.{◌≡◌, ℕ, ◌-◌, ◌/◌, ◌<◌, ◌≤◌, Bool, true, not, if◌then◌else◌, List, [], ◌++◌, length, codes, decimal, Option, Some, None, is_some}
 use Rattle.std.specs.Bool.{beq}
 use Rattle.std.specs.Option.{option_map}
 use Rattle.station_core.specs.Meaning.{Meaning}

@@ -1,6 +1,6 @@
 -- What a run promises, whatever its command: the clauses of the top call. A run begins at a station
 -- that stands for `old`, ends at `new`, and answers the status. No command: the words are of no form.
-use Rattle.std.specs.Prelude.{◌≡◌, ◌≢◌, ◌≤◌, ◌+◌, ◌⊎◌, ◌↔◌, ◌++◌, ℕ, true, IsTrue, is_some, List, [], take, drop, Option, None, Some, IfSome, option_and_then, if◌then◌else◌, ◌==◌}
+use Rattle.std.specs.Prelude.{◌≡◌, ◌≢◌, ◌≤◌, ◌+◌, ◌⊎◌, ◌↔◌, ◌++◌, ℕ, true, IsTrue, is_some, List, [], take, drop, Option, None, IfSome, option_and_then}
 use Rattle.station_core.specs.Meaning.{Meaning, source_at, sink_at}
 use Rattle.station_core.specs.Causes.{Rose}
 use Rattle.station_core.specs.declared.ports.InPort.{InPort}

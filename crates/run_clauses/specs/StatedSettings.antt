@@ -1,5 +1,5 @@
 -- The settings that a file states.
-use Rattle.std.specs.Prelude.{◌≡◌, ℕ, Bool, true, false, not, ◌&&◌, ◌||◌, nat_le, List, Option, Some, None, is_some, option_and_then, Result, Ok, Err, refl}
+use Rattle.std.specs.Prelude.{◌≡◌, ℕ, Bool, true, false, not, ◌&&◌, ◌||◌, nat_le, List, Option, Some, None, is_some, option_and_then, Result, Ok, refl}
 use Rattle.std.specs.Bool.{beq}
 use Rattle.std.proofs.Common.{sym}
 use Rattle.std.proofs.lemmas.Bool.{and_parts, leb-true, true≢false}

@@ -1,22 +1,20 @@
 -- The packets of a symbol are drawn and put one after another.
-use Rattle.std.proofs.Common.{◌≡◌, ◌⊎◌, inl, inr, ℕ, zero, suc, ◌+◌, ◌-◌, ◌*◌, ◌≤◌, ◌<◌, List, refl, sym, ap, ap₂, ◌∙◌, subst, arith, Bool, true, false, cond, Option, Some, None}
+use Rattle.std.proofs.Common.{◌≡◌, ◌⊎◌, inl, inr, ℕ, ◌+◌, ◌-◌, ◌*◌, ◌≤◌, ◌<◌, List, refl, sym, ap, ap₂, ◌∙◌, subst, arith, Bool, true, false, cond, Option, Some, None}
 use Rattle.std.specs.Prelude.{min, nat_lt, ◌==◌, IfSome}
 use Rattle.std.proofs.lemmas.Bool.{cases_lt, ltb-true, ltb-false, ne_eqb, eq-eqb}
-use Rattle.mode_set.specs.Kept.{is_flat}
 use Rattle.mode_set.specs.declared.modes.Stream.{Stream}
 use Rattle.mode_set.specs.declared.modes.Stream.TheVariants.{Hp, Lp}
 use Rattle.mode_set.specs.declared.settings.Settings.{Settings}
 use Rattle.ts_packet.specs.Packet.{null_packet}
 use Rattle.rand_pcg.specs.Lcg.{Lcg, state_after}
-use Rattle.load_gen.specs.Draws.{after, generator, count_of, packet_of, packet_words}
+use Rattle.load_gen.specs.Draws.{after, packet_of, packet_words}
 use Rattle.load_gen.specs.Laws.{DrawsAdd}
 use Rattle.outer_chain.specs.Sent.{packet_at}
 use Rattle.transmission.specs.Transmission.{by_stream}
 use Rattle.transmission.specs.SuperFrames.{packets_for}
 use Rattle.transmission.specs.Agenda.{next_stream}
-use Rattle.transmission.specs.Laws.{NoPackets, PacketsGrow}
 use Rattle.modulator.specs.State.{Transmitter, HasPut, HasOneMore, IsNext, wanted}
-use Rattle.trial.specs.Drawn.{hp_count, lp_count, count_words, drawn, drawn_count, drawn_before, drawn_for, packets_from, lp_from, shifts_from, before}
+use Rattle.trial.specs.Drawn.{hp_count, lp_count, drawn, drawn_count, drawn_before, packets_from, shifts_from, before}
 use Rattle.trial.specs.Laws.{DrawnInOrder, NullsBehind}
 use Rattle.trial_work.specs.declared.draws.Draws.{Draws}
 use Rattle.trial_work.specs.Putting.{IsPutting, next_of, behind_next, drawn_since}

@@ -1,5 +1,5 @@
 -- A symbol is fed in pieces, and what comes back is summed.
-use Rattle.std.proofs.Common.{◌≡◌, ℕ, zero, suc, ◌+◌, ◌-◌, ◌*◌, ◌/◌, ◌%◌, ◌^◌, ◌≤◌, ◌<◌, ◌⊎◌, inl, inr, List, [], ◌∷◌, ◌++◌, length, take, drop, length-append, length-drop, length-take-le, refl, sym, ap, ap₂, ◌∙◌, subst, arith, Bool, true, false, append-nil, append_assoc}
+use Rattle.std.proofs.Common.{◌≡◌, ℕ, zero, suc, ◌+◌, ◌-◌, ◌*◌, ◌%◌, ◌^◌, ◌≤◌, ◌<◌, ◌⊎◌, inl, inr, List, [], ◌++◌, length, take, drop, length-append, length-drop, length-take-le, refl, sym, ap, ◌∙◌, subst, arith, append_assoc}
 use Rattle.std.specs.Prelude.{min, sum, map, nat_le}
 use Rattle.std.proofs.lemmas.Bool.{cases_lt, le-leb, lt-leb}
 use Rattle.std.proofs.lemmas.List.{map_push, take_all}
@@ -16,7 +16,7 @@ use Rattle.rand_pcg.specs.Lcg.{Lcg}
 use Rattle.load_gen.specs.Draws.{after, length_of, piece_of}
 use Rattle.load_gen.specs.Laws.{DrawsAdd}
 use Rattle.reception.specs.Cells.{symbol_length, tail}
-use Rattle.reception.specs.Streams.{Reception, Final, so_far, at_end}
+use Rattle.reception.specs.Streams.{Final, so_far, at_end}
 use Rattle.reception.specs.Feeds.{Output, Feeds, Finishes}
 use Rattle.reception.specs.Laws.{nothing}
 use Rattle.receiver.specs.Seen.{ReceiverState}

@@ -21,7 +21,7 @@ use Rattle.modulator.specs.State.{Transmitter, HasPut}
 use Rattle.rx_report.specs.declared.counts.Counts.{Counts}
 use Rattle.rx_report.specs.declared.counts.StreamCounts.{StreamCounts}
 use Rattle.reception.specs.Cells.{symbol_length, symbols, tail}
-use Rattle.reception.specs.Streams.{Reception, Final, at_end}
+use Rattle.reception.specs.Streams.{Reception, Final}
 use Rattle.reception.specs.Lines.{counts_of, counts_of_stream}
 use Rattle.receiver.specs.Seen.{ReceiverState}
 use Rattle.trial.specs.declared.counts.StreamReturn.{StreamReturn}

@@ -5,10 +5,10 @@ use Rattle.mode_set.specs.declared.modes.Stream.TheVariants.{Hp, Lp}
 use Rattle.mode_set.specs.declared.settings.Settings.{Settings}
 use Rattle.ts_packet.specs.Packet.{null_packet}
 use Rattle.rand_pcg.specs.Lcg.{Lcg}
-use Rattle.load_gen.specs.Draws.{after, generator, packet_of, packet_words}
+use Rattle.load_gen.specs.Draws.{after, packet_of, packet_words}
 use Rattle.transmission.specs.SuperFrames.{packets_for}
 use Rattle.modulator.specs.State.{Transmitter, HasPut}
-use Rattle.trial.specs.Drawn.{hp_count, lp_count, count_words, drawn, drawn_count, drawn_before, before}
+use Rattle.trial.specs.Drawn.{hp_count, lp_count, drawn, drawn_count, drawn_before, before}
 use Rattle.trial_work.specs.declared.draws.Draws.{Draws}
 
 -- the counts of the packets were drawn, and nothing else

@@ -1,7 +1,7 @@
 use Rattle.std.proofs.Common.{List, ℕ, Option}
 use Rattle.std.specs.Option.{option_copied}
 use Rattle.station_core.specs.Meaning.{Meaning}
-use Rattle.modulate_run.proofs.WholeRun.{ready, run_done, run_status, run_asks, run_stands, run_complete, refused_done, refused_status, refused_asks, refused_stands, refused_complete}
+use Rattle.modulate_run.proofs.WholeRun.{run_done, run_status, run_asks, run_stands, run_complete, refused_done, refused_status, refused_asks, refused_stands, refused_complete}
 use Rattle.modulate_run.proofs.command.modulate.Goals as goal
 
 pub returns-in-Ok-clause-done : goal.returns-in-Ok-clause-done

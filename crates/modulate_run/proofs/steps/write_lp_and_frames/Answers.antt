@@ -1,4 +1,4 @@
-use Rattle.std.proofs.Common.{List, ℕ, if◌then◌else◌, [], Result, subst}
+use Rattle.std.proofs.Common.{List, ℕ, if◌then◌else◌, [], subst}
 use Rattle.station_core.specs.Meaning.{Meaning}
 use Rattle.mode_set.specs.declared.modes.Stream.TheVariants.{Lp}
 use Rattle.run_clauses.specs.Modulation.{packets_line, super_frames_line}

@@ -1,12 +1,10 @@
-use Rattle.std.proofs.Common.{◌≡◌, ◌<◌, ◌+◌, ◌∙◌, ℕ, List, Some, None, Ok, refl, ap, sym, subst, arith}
+use Rattle.std.proofs.Common.{◌≡◌, ◌+◌, ◌∙◌, ℕ, Some, None, Ok, refl, ap, sym, subst, arith}
 use Rattle.station_core.specs.Meaning.{Meaning}
 use Rattle.mode_set.specs.declared.settings.Settings.{Settings}
-use Rattle.mode_set.specs.declared.modes.Stream.{Stream}
-use Rattle.transmission.specs.SuperFrames.{symbols_of}
 use Rattle.run_clauses.specs.declared.work.Refusal.TheVariants.{Limit}
 use Rattle.run_clauses.specs.Modulation.{inputs_of}
 use Rattle.modulate_run.specs.Seen.{Seen}
-use Rattle.modulate_run.specs.Work.{CountsAt, Ends, IsDue, Modulates}
+use Rattle.modulate_run.specs.Work.{CountsAt, Ends, Modulates}
 use Rattle.modulate_run.proofs.Keeping.{keeps_again}
 use Rattle.modulate_run.proofs.WholeWork.{begins, ends_done, ends_at_limit, due_at, due_more, more_again}
 use Rattle.modulate_run.proofs.symbols.send_all.Goals as goal

@@ -1,4 +1,4 @@
-use Rattle.std.proofs.Common.{ℕ, ◌/◌, ◌<◌, ◌≡◌, length, refl, ap, ◌∙◌, subst, arith}
+use Rattle.std.proofs.Common.{◌/◌, ◌<◌, ◌≡◌, length, refl, ap, ◌∙◌, subst, arith}
 use Rattle.inner_decoder.specs.Running.{BranchState}
 use Rattle.outer_chain.specs.Words.{word_count}
 use Rattle.receiver.specs.Words.{Collected}

@@ -1,5 +1,5 @@
 use Rattle.std.proofs.Common.{◌≡◌, ◌+◌, ◌*◌, ◌∙◌, ◌++◌, ℕ, List, length, refl, sym, ap, subst, arith}
-use Rattle.std.specs.Prelude.{◌%◌, vec_len}
+use Rattle.std.specs.Prelude.{◌%◌}
 use Rattle.mode_set.specs.StreamTable.{carriers, payload}
 use Rattle.mode_set.specs.declared.modes.Mode.{Mode}
 use Rattle.mode_set.specs.declared.settings.Settings.{Settings}

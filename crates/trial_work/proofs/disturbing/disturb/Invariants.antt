@@ -1,9 +1,8 @@
 -- The cells of the carriers so far were disturbed.
-use Rattle.std.proofs.Common.{◌≡◌, ℕ, ◌+◌, ◌*◌, List}
+use Rattle.std.proofs.Common.{◌≡◌, ◌*◌}
 use Rattle.std.specs.Prelude.{vec_len, vec_capacity, ◌%◌}
 use Rattle.load_gen.specs.Draws.{after}
 use Rattle.trial.specs.Drawn.{before, shifts_from}
-use Rattle.trial_work.specs.declared.draws.Draws.{Draws}
 use Rattle.trial_work.specs.Disturbing.{fed_carriers, payload_below}
 use Rattle.trial_work.proofs.disturbing.disturb.Given as goal
 

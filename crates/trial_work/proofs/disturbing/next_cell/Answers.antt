@@ -1,11 +1,10 @@
-use Rattle.std.proofs.Common.{◌≡◌, ◌<◌, ◌+◌, ◌∙◌, ℕ, List, refl, sym, ap, subst, arith, length}
+use Rattle.std.proofs.Common.{◌≡◌, ◌<◌, ◌∙◌, ℕ, List, sym, ap, subst, arith, length}
 use Rattle.std.specs.Prelude.{◌%◌, ◌==◌}
 use Rattle.mode_set.specs.StreamTable.{carriers}
 use Rattle.mode_set.specs.declared.modes.Mode.{Mode}
 use Rattle.mode_set.specs.declared.settings.Settings.{Settings}
 use Rattle.pilots.specs.declared.carrier_kind.CarrierKind.{CarrierKind}
 use Rattle.pilots.specs.Carriers.{kind}
-use Rattle.qam_map.specs.declared.cell.Cell.{Cell}
 use Rattle.qam_map.specs.Points.{tolerance}
 use Rattle.frame_build.specs.Symbol.{cell_from}
 use Rattle.rand_pcg.specs.Lcg.{Lcg}

@@ -1,4 +1,3 @@
-use Rattle.std.proofs.Common.{List, ℕ}
 use Rattle.station_core.specs.Meaning.{Meaning}
 use Rattle.run_clauses.specs.Modulation.{inputs_of}
 use Rattle.modulate_run.specs.Seen.{Seen}

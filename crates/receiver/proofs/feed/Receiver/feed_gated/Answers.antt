@@ -1,4 +1,4 @@
-use Rattle.std.proofs.Common.{◌≡◌, ℕ, ◌+◌, ◌*◌, ◌^◌, ◌%◌, ◌<◌, Bool, true, false, List, [], ◌++◌, length, take, map, refl, sym, ap, ◌∙◌, subst, arith}
+use Rattle.std.proofs.Common.{◌≡◌, ℕ, ◌+◌, ◌*◌, ◌%◌, List, ◌++◌, length, map, refl, sym, ap, ◌∙◌, subst}
 use Rattle.std.proofs.lemmas.Bool.{true≢false}
 use Rattle.spec_words.specs.Words.{numbers}
 use Rattle.mode_set.specs.StreamTable.{carriers, need}
@@ -8,8 +8,8 @@ use Rattle.inner_chain.specs.PairLists.{pair_of}
 use Rattle.inner_decoder.specs.Events.{ats}
 use Rattle.rx_report.specs.declared.counts.Event.{Event}
 use Rattle.reception.specs.Lines.{event_at}
-use Rattle.reception.specs.Feeds.{Output, Feeds, Finishes}
-use Rattle.reception.specs.Streams.{so_far, at_end, Reception}
+use Rattle.reception.specs.Feeds.{Output, Feeds}
+use Rattle.reception.specs.Streams.{so_far}
 use Rattle.receiver.specs.Ready.{seen}
 use Rattle.receiver.specs.Seen.{ReceiverState}
 use Rattle.receiver.specs.Standing.{StreamGave, StandsFor}

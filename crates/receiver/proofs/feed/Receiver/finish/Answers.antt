@@ -1,15 +1,6 @@
-use Rattle.std.proofs.Common.{◌≡◌, ℕ, ◌+◌, ◌*◌, ◌^◌, ◌%◌, ◌<◌, Bool, true, false, List, [], ◌++◌, length, take, map, refl, sym, ap, ◌∙◌, subst, arith}
-use Rattle.std.proofs.lemmas.Bool.{true≢false}
-use Rattle.spec_words.specs.Words.{numbers}
-use Rattle.mode_set.specs.StreamTable.{carriers, need}
-use Rattle.mode_set.specs.declared.modes.Stream.TheVariants.{Hp, Lp}
-use Rattle.frame_build.specs.Symbol.{cells_from}
-use Rattle.inner_chain.specs.PairLists.{pair_of}
-use Rattle.inner_decoder.specs.Events.{ats}
-use Rattle.rx_report.specs.declared.counts.Event.{Event}
-use Rattle.reception.specs.Lines.{event_at}
-use Rattle.reception.specs.Feeds.{Output, Feeds, Finishes}
-use Rattle.reception.specs.Streams.{so_far, at_end, Reception}
+use Rattle.std.proofs.Common.{ℕ, ◌*◌, ◌^◌, true, List, refl, ap, ◌∙◌, subst, arith}
+use Rattle.reception.specs.Feeds.{Output, Finishes}
+use Rattle.reception.specs.Streams.{so_far, at_end}
 use Rattle.receiver.specs.Ready.{seen}
 use Rattle.receiver.specs.Seen.{ReceiverState}
 use Rattle.receiver.specs.Standing.{StreamGave, StandsFor}

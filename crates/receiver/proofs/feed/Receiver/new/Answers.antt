@@ -1,4 +1,4 @@
-use Rattle.std.proofs.Common.{[], ◌*◌, length, refl, ap, ◌∙◌, arith}
+use Rattle.std.proofs.Common.{◌*◌, length, refl, ap, ◌∙◌, arith}
 use Rattle.receiver.proofs.Pending.{few_more}
 use Rattle.receiver.proofs.Feeding.{new_stands, some_carriers}
 use Rattle.receiver.proofs.feed.Receiver.new.Goals as goal

@@ -1,5 +1,4 @@
 use Rattle.std.proofs.Common.{ℕ, ◌≡◌, List, length, take, map, refl, sym, ◌∙◌, ap, subst}
-use Rattle.pilots.specs.Carriers.{tps_carriers}
 use Rattle.tps_word.specs.Vote.{vote}
 use Rattle.inner_chain.specs.CostPairs.{cell_of}
 use Rattle.receiver.proofs.Voting.{noted}

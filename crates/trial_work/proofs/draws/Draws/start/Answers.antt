@@ -1,4 +1,4 @@
-use Rattle.std.proofs.Common.{◌≡◌, ◌∙◌, ap, refl, cond, ℕ}
+use Rattle.std.proofs.Common.{◌≡◌, ◌∙◌, ap, refl, cond}
 use Rattle.mode_set.specs.Kept.{is_flat}
 use Rattle.mode_set.specs.declared.settings.Settings.{Settings}
 use Rattle.rand_pcg.specs.Lcg.{Lcg}

@@ -1,9 +1,8 @@
-use Rattle.std.proofs.Common.{◌≡◌, ◌≤◌, ◌<◌, ◌+◌, ◌-◌, ◌∙◌, ◌++◌, ℕ, List, length, take, drop, refl, sym, ap, subst, arith, append-nil, append_assoc}
+use Rattle.std.proofs.Common.{◌≤◌, ◌+◌, ◌-◌, ◌∙◌, ◌++◌, ℕ, List, length, take, drop, refl, sym, subst, arith, append-nil}
 use Rattle.std.proofs.lemmas.List.{take_all}
 use Rattle.mode_set.specs.declared.settings.Settings.{Settings}
 use Rattle.rand_pcg.specs.Lcg.{Lcg}
 use Rattle.reception.specs.Cells.{symbol_length, tail}
-use Rattle.receiver.specs.Seen.{ReceiverState}
 use Rattle.trial_work.specs.Feeding.{HasGiven}
 use Rattle.trial_work.proofs.PieceSteps.{IsFeeding, none_fed, piece_fed, all_fed, piece_fits, piece_behind}
 use Rattle.trial_work.proofs.feeding.SummedReceiver.feed_symbol.Goals as goal

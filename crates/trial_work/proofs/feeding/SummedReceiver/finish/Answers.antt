@@ -1,4 +1,4 @@
-use Rattle.std.proofs.Common.{ℕ, List, sym, subst}
+use Rattle.std.proofs.Common.{sym, subst}
 use Rattle.receiver.specs.Seen.{ReceiverState}
 use Rattle.trial_work.specs.Feeding.{HasEnded}
 use Rattle.trial_work.proofs.PieceSteps.{all_given}

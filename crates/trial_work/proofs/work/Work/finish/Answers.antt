@@ -1,4 +1,4 @@
-use Rattle.std.proofs.Common.{◌∙◌, ap, ℕ, List}
+use Rattle.std.proofs.Common.{◌∙◌}
 use Rattle.mode_set.specs.declared.settings.Settings.{Settings}
 use Rattle.reception.specs.Streams.{at_end}
 use Rattle.receiver.specs.Seen.{ReceiverState}

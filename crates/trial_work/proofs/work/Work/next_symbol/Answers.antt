@@ -1,4 +1,4 @@
-use Rattle.std.proofs.Common.{◌≡◌, ◌<◌, ◌+◌, ◌-◌, ◌*◌, ◌∙◌, ℕ, List, ◌++◌, length, refl, sym, ap, ap₂, subst, arith}
+use Rattle.std.proofs.Common.{◌≡◌, ◌+◌, ◌-◌, ◌∙◌, ℕ, List, ◌++◌, length, sym, ap, ap₂, subst, arith}
 use Rattle.std.specs.Prelude.{sum, ◌%◌, ◌^◌}
 use Rattle.mode_set.specs.StreamTable.{carriers}
 use Rattle.mode_set.specs.declared.settings.Settings.{Settings}
@@ -8,7 +8,7 @@ use Rattle.transmission.specs.Transmission.{Inputs, tx_symbol}
 use Rattle.modulator.specs.State.{Transmitter, HasPut}
 use Rattle.reception.specs.Cells.{symbol_length, tail}
 use Rattle.receiver.specs.Seen.{ReceiverState}
-use Rattle.trial.specs.Drawn.{hp_count, lp_count, drawn, pieces, pieces_from, shifts_from, before}
+use Rattle.trial.specs.Drawn.{hp_count, lp_count, drawn, pieces, pieces_from, before}
 use Rattle.trial.specs.Fed.{fed_symbol}
 use Rattle.trial_work.specs.declared.draws.Draws.{Draws}
 use Rattle.trial_work.specs.Putting.{IsPutting}
