@@ -1,6 +1,6 @@
 -- The ports after a run of `receive` whose settings were accepted and whose memory was there.
-use Rattle.std.proofs.Common.{◌≡◌, ◌≢◌, ◌⊎◌, inl, inr, true, ℕ, ◌+◌, ◌*◌, ◌≤◌, Bool, if◌then◌else◌, List, [], drop, Option, Some, None, Result, Ok, Err, refl, ◌∙◌, sym, ap, subst}
-use Rattle.std.specs.Prelude.{IsTrue, is_some, IfSome, IsSomeAnd}
+use Rattle.std.proofs.Common.{◌≡◌, ◌≢◌, ◌⊎◌, inl, inr, true, ℕ, ◌+◌, ◌*◌, ◌≤◌, List, [], drop, Option, Some, None, Result, Ok, Err, refl, ◌∙◌, sym, ap, subst}
+use Rattle.std.specs.Prelude.{is_some, IsSomeAnd}
 use Rattle.std.proofs.lemmas.Bool.{true≢false}
 use Rattle.station_core.specs.Meaning.{Meaning, Source, Sink, IsFresh, source_at, sink_at}
 use Rattle.station_core.specs.declared.ports.InPort.{InPort}

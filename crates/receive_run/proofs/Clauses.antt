@@ -25,7 +25,7 @@ use Rattle.run_clauses.specs.SettingsFile.{settings_refusal}
 use Rattle.run_clauses.specs.StatedSettings.{settings_of}
 use Rattle.run_clauses.specs.Text.{refusal_status, refusal_text, status_of, text_if_refused}
 use Rattle.run_steps.specs.Causes.{HasCause}
-use Rattle.receive_run.specs.Receiving.{HoldsFronts, IsPast, IsStopped, IsWhole, Refused, lines_up_to}
+use Rattle.receive_run.specs.Receiving.{HoldsFronts, IsStopped, IsWhole, lines_up_to}
 use Rattle.receive_run.specs.Ports.{Ran, RunsReception, Tells, outcome_status}
 use Rattle.receive_run.proofs.Fronts.{front_more, front_of}
 use Rattle.receive_run.proofs.Begun.{Comes, ReceptionLaws, begun}

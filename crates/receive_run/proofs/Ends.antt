@@ -1,14 +1,12 @@
 -- The end of a reception: the rest of the packets, and the closing lines.
-use Rattle.std.proofs.Common.{◌≡◌, ℕ, ◌+◌, ◌*◌, ◌<◌, ◌≤◌, Bool, true, false, List, [], ◌++◌, inl, inr, length, take, drop, refl, ◌∙◌, sym, ap, subst, arith, Result, Ok, Err}
+use Rattle.std.proofs.Common.{◌≡◌, ℕ, ◌≤◌, Bool, true, List, [], ◌++◌, inr, take, refl, ◌∙◌, sym, ap, subst, arith, Result, Ok, Err}
 use Rattle.std.specs.Prelude.{flat_map}
-use Rattle.std.specs.List.{concat}
 use Rattle.std.proofs.lemmas.List.{append-nil, take_all}
 use Rattle.station_core.specs.Meaning.{Meaning}
 use Rattle.mode_set.specs.declared.modes.Stream.{Stream}
 use Rattle.mode_set.specs.declared.modes.Stream.TheVariants.{Hp, Lp}
 use Rattle.mode_set.specs.declared.settings.Settings.{Settings as TheSettings}
 use Rattle.rx_report.specs.Text.{event_line}
-use Rattle.rx_report.specs.declared.counts.Event.{Event}
 use Rattle.reception.specs.Cells.{symbols}
 use Rattle.reception.specs.Streams.{Reception, Final}
 use Rattle.reception.specs.Lines.{events, event_lines, closing_lines}

@@ -1,6 +1,6 @@
 -- The lines of events, put together to one text.
-use Rattle.std.proofs.Common.{◌≡◌, ℕ, ◌+◌, ◌<◌, ◌≤◌, true, List, [], ◌∷◌, ◌++◌, inl, inr, length, get_or, take, drop, refl, ◌∙◌, sym, ap, arith, append_assoc, Result, Ok, Err}
-use Rattle.std.specs.Prelude.{◌⊎◌, flat_map}
+use Rattle.std.proofs.Common.{◌≡◌, ℕ, ◌+◌, ◌<◌, ◌≤◌, true, List, [], ◌∷◌, ◌++◌, inl, inr, length, get_or, take, drop, ◌∙◌, sym, ap, append_assoc, Result, Ok, Err}
+use Rattle.std.specs.Prelude.{◌⊎◌}
 use Rattle.std.proofs.lemmas.List.{append-nil, take_all, take_more, take-append-drop}
 use Rattle.std.proofs.lemmas.List.Concat.{flat_map-append}
 use Rattle.std.proofs.Math.Seq.{take-append-add}
@@ -9,8 +9,7 @@ use Rattle.station_core.specs.declared.ports.OutPort.TheVariants as outs
 use Rattle.rx_report.specs.Text.{event_line}
 use Rattle.rx_report.specs.declared.counts.Event.{Event}
 use Rattle.run_clauses.specs.declared.work.Refusal.{Refusal}
-use Rattle.run_clauses.specs.declared.work.Refusal.TheVariants.{WriteFault}
-use Rattle.receive_run.specs.Writing.{Appends, Pushes, WritesAt, event_text}
+use Rattle.receive_run.specs.Writing.{Appends, WritesAt, event_text}
 use Rattle.receive_run.proofs.Fronts.{front_of}
 use Rattle.receive_run.proofs.Keeping.{report_appends}
 

@@ -1,5 +1,5 @@
 -- Fronts of lists, and the lines of a report one after another.
-use Rattle.std.proofs.Common.{◌≡◌, ℕ, zero, suc, ◌+◌, ◌≤◌, List, [], ◌∷◌, ◌++◌, length, take, Some, refl, ◌∙◌, sym, ap, arith, append_assoc}
+use Rattle.std.proofs.Common.{◌≡◌, ℕ, zero, suc, ◌+◌, List, [], ◌∷◌, ◌++◌, length, take, Some, refl, ◌∙◌, sym, ap, arith, append_assoc}
 use Rattle.std.specs.Prelude.{min, Option, None, slice_get}
 use Rattle.std.specs.List.{concat}
 use Rattle.std.proofs.lemmas.List.{append-nil, take_all}

@@ -1,9 +1,8 @@
 -- How the meaning of a station goes on from call to call of a reception.
-use Rattle.std.proofs.Common.{◌≡◌, true, false, Bool, ℕ, List, [], ◌++◌, if◌then◌else◌, take, refl, ◌∙◌, sym, ap, subst, append_assoc, Result, Ok, Err}
+use Rattle.std.proofs.Common.{◌≡◌, true, false, Bool, ℕ, List, ◌++◌, if◌then◌else◌, take, refl, ◌∙◌, sym, ap, subst, append_assoc, Result, Ok, Err}
 use Rattle.station_core.specs.Meaning.{Meaning}
 use Rattle.station_core.specs.declared.ports.OutPort.TheVariants as outs
 use Rattle.run_clauses.specs.declared.work.Refusal.{Refusal}
-use Rattle.run_clauses.specs.declared.work.Refusal.TheVariants.{WriteFault}
 use Rattle.receive_run.specs.Writing.{Appends, AreOpen, IsPrinting, ReportOnly, WritesAt, WritesLp, WritesOnly}
 use Rattle.receive_run.specs.Receiving.{KeepsOthers}
 

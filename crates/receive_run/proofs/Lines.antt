@@ -1,12 +1,12 @@
 -- What the receiver gave is written, port after port.
-use Rattle.std.proofs.Common.{◌≡◌, true, false, Bool, ℕ, List, [], ◌++◌, take, refl, ◌∙◌, sym, ap, Result, Ok, Err}
+use Rattle.std.proofs.Common.{◌≡◌, true, false, Bool, ℕ, List, ◌++◌, take, ◌∙◌, sym, ap, Result, Ok, Err}
 use Rattle.std.proofs.lemmas.Bool.{true≢false}
 use Rattle.station_core.specs.Meaning.{Meaning}
 use Rattle.station_core.specs.declared.ports.OutPort.TheVariants as outs
 use Rattle.reception.specs.Feeds.{Output}
 use Rattle.run_clauses.specs.declared.work.Refusal.{Refusal}
 use Rattle.run_clauses.specs.declared.work.Refusal.TheVariants.{WriteFault}
-use Rattle.receive_run.specs.Writing.{Appends, ReportOnly, WritesAt, WritesLp, WritesOnly, WritesOut, event_text}
+use Rattle.receive_run.specs.Writing.{Appends, ReportOnly, WritesAt, WritesLp, WritesOut, event_text}
 use Rattle.receive_run.proofs.Fronts.{all_of, none_of}
 use Rattle.receive_run.proofs.Keeping.{hp_appends, lp_appends, hp_only, lp_only}
 

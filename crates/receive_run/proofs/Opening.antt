@@ -14,7 +14,7 @@ use Rattle.run_clauses.specs.declared.work.Refusal.{Refusal}
 use Rattle.run_clauses.specs.declared.work.Refusal.TheVariants.{Usage, Settings, ReadFault, WriteFault, NotSync, Memory, Limit}
 use Rattle.receive_run.specs.Writing.{AreOpen}
 use Rattle.receive_run.specs.Receiving.{Holds, HoldsFronts, IsWhole, KeepsOthers, Refused, Works}
-use Rattle.receive_run.specs.Ports.{AsksPorts, Closes, IsFinished, IsReady, Makes, Ran, lp_closed, lp_made, made}
+use Rattle.receive_run.specs.Ports.{AsksPorts, Closes, IsFinished, IsReady, Makes, Ran, lp_closed, lp_made}
 use Rattle.receive_run.proofs.Fronts.{front_whole}
 use Rattle.receive_run.proofs.Parts.{some_bytes}
 use Rattle.std.proofs.Math.Nat.{div-eq_of_lt}

@@ -1,5 +1,5 @@
 -- Whole symbols, and bytes that end none.
-use Rattle.std.proofs.Common.{◌≡◌, ℕ, zero, suc, ◌+◌, ◌*◌, ◌-◌, ◌/◌, ◌%◌, ◌<◌, ◌≤◌, Bool, true, List, [], ◌++◌, inl, inr, length, take, refl, ◌∙◌, sym, ap, subst, arith, length-append}
+use Rattle.std.proofs.Common.{◌≡◌, ℕ, ◌+◌, ◌*◌, ◌/◌, ◌%◌, ◌<◌, ◌≤◌, Bool, true, List, ◌++◌, inl, inr, length, ◌∙◌, sym, ap, subst, arith, length-append}
 use Rattle.std.specs.Prelude.{IsTrue, ◌↔◌, ◌==◌, false}
 use Rattle.std.proofs.lemmas.Bool.{cases_lt, eq-eqb, eqb-true, true≢false}
 use Rattle.std.proofs.Math.Nat.{mul-div_cancel, mul-mod_left, div-lt_iff_lt-mul, add-mul}
@@ -9,10 +9,8 @@ use Rattle.mode_set.specs.StreamTable.{carriers}
 use Rattle.mode_set.specs.declared.modes.Mode.{Mode}
 use Rattle.mode_set.specs.declared.modes.Mode.TheVariants.{M2k, M8k}
 use Rattle.mode_set.specs.declared.settings.Settings.{Settings}
-use Rattle.qam_map.specs.declared.cell.Cell.{Cell}
 use Rattle.outer_chain.specs.Words.{count}
 use Rattle.reception.specs.Cells.{symbol_length, symbols, tail}
-use Rattle.reception.specs.Costs.{costs}
 use Rattle.reception.specs.Frames.{tps_cells, frame_bits, IsReadable, CountsFrames}
 use Rattle.reception.specs.Streams.{memory, start_of, Reception, Live}
 use Rattle.reception.specs.Laws.{IsWithin, SameSymbols, SameCosts, TpsCellsStay, BitsOfCells}

@@ -1,7 +1,7 @@
 -- A symbol more of the cells, or the rest of them.
-use Rattle.std.proofs.Common.{◌≡◌, ℕ, ◌+◌, ◌*◌, ◌-◌, ◌<◌, ◌≤◌, Bool, true, false, List, [], ◌++◌, inl, length, take, drop, refl, ◌∙◌, sym, ap, subst, arith, length-append, append_assoc, Result, Ok, Err}
-use Rattle.std.specs.Prelude.{IsTrue, flat_map}
-use Rattle.std.proofs.lemmas.List.{append-nil, take-append-drop, drop_all, length-take-le}
+use Rattle.std.proofs.Common.{◌≡◌, ℕ, ◌+◌, ◌*◌, ◌<◌, ◌≤◌, Bool, true, false, List, [], ◌++◌, inl, length, take, drop, refl, ◌∙◌, sym, ap, subst, arith, length-append, append_assoc, Result, Ok, Err}
+use Rattle.std.specs.Prelude.{flat_map}
+use Rattle.std.proofs.lemmas.List.{take-append-drop, drop_all, length-take-le}
 use Rattle.std.proofs.lemmas.List.Concat.{flat_map-append}
 use Rattle.station_core.specs.Meaning.{Meaning}
 use Rattle.mode_set.specs.declared.modes.Stream.TheVariants.{Hp, Lp}
@@ -14,11 +14,10 @@ use Rattle.reception.specs.Lines.{events, event_lines}
 use Rattle.reception.specs.Feeds.{Output}
 use Rattle.reception.specs.Laws.{SameSymbols, SameCosts, TpsCellsStay, BitsOfCells}
 use Rattle.run_clauses.specs.declared.work.Refusal.{Refusal}
-use Rattle.run_clauses.specs.declared.work.Refusal.TheVariants.{WriteFault}
 use Rattle.run_clauses.specs.ReceivedCells.{within_limit}
 use Rattle.std.proofs.Math.Seq.{take-append_seam}
 use Rattle.receive_run.specs.Writing.{IsPartlyWritten, WritesOnly, WritesOut, event_text}
-use Rattle.receive_run.specs.Receiving.{Holds, HoldsFronts, IsPast, IsReceiving, IsStopped, Next, ReceivesAll, Refused, Takes}
+use Rattle.receive_run.specs.Receiving.{HoldsFronts, IsPast, IsReceiving, IsStopped, Next, ReceivesAll, Refused, Takes}
 use Rattle.receive_run.proofs.Fronts.{front_more}
 use Rattle.receive_run.proofs.Parts.{at_least, longer, no_tail, not_longer, one_more, symbols_are, part_live}
 

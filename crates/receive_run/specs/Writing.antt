@@ -1,5 +1,5 @@
 -- What is written behind what the outputs of a reception hold.
-use Rattle.std.specs.Prelude.{◌≡◌, ◌⊎◌, ℕ, Bool, true, false, List, [], ◌++◌, take, flat_map, Result, Ok, Err}
+use Rattle.std.specs.Prelude.{◌≡◌, ◌⊎◌, ℕ, Bool, true, false, List, ◌++◌, take, flat_map, Result, Ok, Err}
 use Rattle.station_core.specs.Meaning.{Meaning, sink_at, with_sink, written_sink, with_write_faults}
 use Rattle.station_core.specs.declared.ports.OutPort.{OutPort}
 use Rattle.station_core.specs.declared.ports.OutPort.TheVariants as outs

@@ -1,12 +1,8 @@
-use Rattle.std.proofs.Common.{◌≡◌, ◌≢◌, ◌+◌, ◌*◌, ◌<◌, ◌≤◌, true, false, ℕ, List, [], ◌++◌, length, take, length-take-le, refl, sym, ◌∙◌, ap, subst, rules, arith, Ok, Err}
-use Rattle.std.specs.Prelude.{◌==◌}
+use Rattle.std.proofs.Common.{◌≡◌, ◌∙◌, ap, subst}
 use Rattle.station_core.specs.Meaning.{Meaning}
 use Rattle.mode_set.specs.declared.settings.Settings.{Settings}
-use Rattle.reception.specs.Cells.{symbol_length, symbols, tail}
-use Rattle.reception.specs.Streams.{Reception, so_far, at_end}
+use Rattle.reception.specs.Streams.{so_far, at_end}
 use Rattle.reception.specs.Feeds.{Output}
-use Rattle.receive_run.specs.Receiving.{GoesOn, IsReceiving, Next, ReceivesAll, Refused, Takes}
-use Rattle.receive_run.proofs.Parts.{little_longer, no_tail, not_longer, whole_or_less}
 use Rattle.std.specs.List.{concat}
 use Rattle.rx_report.specs.Text.{closing_lines}
 use Rattle.rx_report.specs.declared.counts.Counts.{Counts}

@@ -1,12 +1,9 @@
-use Rattle.std.proofs.Common.{◌≡◌, ◌≢◌, Bool, ◌+◌, ◌*◌, ◌<◌, ◌≤◌, true, false, ℕ, List, [], ◌++◌, length, take, length-take-le, refl, sym, ◌∙◌, ap, subst, rules, arith, Ok, Err}
-use Rattle.std.specs.Prelude.{◌==◌}
+use Rattle.std.proofs.Common.{◌≡◌, Bool, ◌*◌, ◌<◌, true, false, ℕ, length, sym, ◌∙◌, ap, subst, arith, Ok}
 use Rattle.station_core.specs.Meaning.{Meaning}
 use Rattle.mode_set.specs.declared.settings.Settings.{Settings}
-use Rattle.reception.specs.Cells.{symbol_length, symbols, tail}
-use Rattle.reception.specs.Streams.{Reception, so_far, at_end}
-use Rattle.reception.specs.Feeds.{Output}
-use Rattle.receive_run.specs.Receiving.{GoesOn, IsReceiving, Next, ReceivesAll, Refused, Takes, TakesAtMost}
-use Rattle.receive_run.proofs.Parts.{little_longer, no_tail, not_longer, whole_or_less}
+use Rattle.reception.specs.Cells.{symbol_length}
+use Rattle.reception.specs.Streams.{so_far}
+use Rattle.receive_run.specs.Receiving.{IsReceiving, Next, ReceivesAll, Refused, TakesAtMost}
 use Rattle.receive_run.proofs.Keeping.{keeps_again, still_open}
 use Rattle.receive_run.proofs.FewCells.{few_more}
 use Rattle.receive_run.proofs.receiving.receive_cells.Goals as goal

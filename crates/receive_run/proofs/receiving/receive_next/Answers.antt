@@ -1,12 +1,11 @@
-use Rattle.std.proofs.Common.{◌≡◌, ◌≢◌, ◌+◌, ◌*◌, ◌<◌, ◌≤◌, true, false, ℕ, List, [], ◌++◌, length, take, length-take-le, refl, sym, ◌∙◌, ap, subst, rules, arith, Ok, Err}
+use Rattle.std.proofs.Common.{◌≡◌, ◌+◌, ◌<◌, ◌≤◌, ℕ, List, ◌++◌, length, take, length-take-le, ◌∙◌, ap, arith}
 use Rattle.std.specs.Prelude.{◌==◌}
 use Rattle.station_core.specs.Meaning.{Meaning}
 use Rattle.mode_set.specs.declared.settings.Settings.{Settings}
 use Rattle.reception.specs.Cells.{symbol_length, symbols, tail}
-use Rattle.reception.specs.Streams.{Reception, so_far, at_end}
+use Rattle.reception.specs.Streams.{so_far}
 use Rattle.reception.specs.Feeds.{Output}
-use Rattle.receive_run.specs.Receiving.{GoesOn, IsReceiving, Next, ReceivesAll, Refused, Takes}
-use Rattle.receive_run.proofs.Parts.{little_longer, no_tail, not_longer, whole_or_less}
+use Rattle.receive_run.proofs.Parts.{little_longer, no_tail, whole_or_less}
 use Rattle.receive_run.proofs.Steps.{goes_on, fails, stopped, next_of}
 use Rattle.receive_run.proofs.Steps as steps
 use Rattle.receive_run.proofs.FewCells.{read_few}

@@ -7,7 +7,6 @@ use Rattle.receive_run.specs.Receiving.{Works}
 use Rattle.receive_run.specs.Ports.{Closes}
 use Rattle.run_steps.proofs.Fitting.{copied_some}
 use Rattle.receive_run.proofs.Opening.{closed_with, ended, refused, unmade}
-use Rattle.receive_run.specs.Receiving.{TakesAtMost}
 use Rattle.receive_run.proofs.FewCells.{taken_in_all, unopened, unread}
 use Rattle.receive_run.proofs.run.receive_all.Goals as goal
 

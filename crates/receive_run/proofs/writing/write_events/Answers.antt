@@ -1,8 +1,8 @@
-use Rattle.std.proofs.Common.{◌≡◌, ◌+◌, true, ℕ, List, [], take, drop, refl, sym, ◌∙◌, ap, subst, rules, arith}
+use Rattle.std.proofs.Common.{◌+◌, ℕ, List, [], take, drop, refl, sym, ◌∙◌, ap, subst}
 use Rattle.std.proofs.lemmas.List.{append-nil}
 use Rattle.station_core.specs.Meaning.{Meaning}
 use Rattle.station_core.specs.declared.ports.OutPort.TheVariants as outs
-use Rattle.receive_run.specs.Writing.{IsPrinting, WritesAt, event_text}
+use Rattle.receive_run.specs.Writing.{WritesAt, event_text}
 use Rattle.receive_run.proofs.Events.{event_more, waits_more, waits_front, events_split, events_written}
 use Rattle.receive_run.proofs.Keeping.{report_again}
 use Rattle.receive_run.proofs.writing.write_events.Goals as goal

@@ -1,4 +1,4 @@
-use Rattle.std.proofs.Common.{◌≡◌, true, ℕ, List, take}
+use Rattle.std.proofs.Common.{◌≡◌, true, take}
 use Rattle.receive_run.specs.Writing.{IsPrinting, ReportOnly, event_text}
 use Rattle.receive_run.proofs.Events.{Waits}
 use Rattle.receive_run.proofs.writing.write_events.Given as goal

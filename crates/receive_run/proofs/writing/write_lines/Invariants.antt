@@ -1,4 +1,4 @@
-use Rattle.std.proofs.Common.{◌≡◌, ◌++◌, true, ℕ, List, take}
+use Rattle.std.proofs.Common.{◌≡◌, ◌++◌, true, take}
 use Rattle.std.specs.List.{concat}
 use Rattle.rx_report.specs.Text.{closing_lines}
 use Rattle.receive_run.specs.Writing.{IsPrinting, ReportOnly}
