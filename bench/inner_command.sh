@@ -4,10 +4,9 @@
 # usage: bench/inner_command.sh [ROUNDS]
 set -eu
 top=$(cd "$(dirname "$0")/.." && pwd)
-folder=$(mktemp -d /dev/shm/dvbt-bench.XXXXXX)
-trap 'rm -rf "$folder"' EXIT
-"$top/bin/dvbt" >/dev/null 2>&1 || true
-PYTHONPATH="$top/bench" python3 - "$top/crates/dvbt/out/dvbt" "$folder" "${1:-3}" <<'PY'
+. "$top/bench/program.sh"
+begin "$top"
+PYTHONPATH="$top/bench" python3 - "${program[@]}" "$folder" "${1:-3}" <<'PY'
 import os, random, sys
 from timing import best
 dvbt, folder, rounds = sys.argv[1], sys.argv[2], int(sys.argv[3])

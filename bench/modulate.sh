@@ -10,13 +10,9 @@ top=$(cd "$(dirname "$0")/.." && pwd)
 packets=${1:-100000}
 [ $# -gt 0 ] && shift
 reference=${REFERENCE:-$top/../shared/tools/oracle}
-folder=$(mktemp -d /dev/shm/dvbt-bench.XXXXXX)
-trap 'rm -rf "$folder"' EXIT
-if [ $# -eq 0 ]; then
-  "$top/bin/dvbt" >/dev/null || true
-  set -- "$top/crates/dvbt/out/dvbt"
-fi
-PYTHONPATH="$top/bench" python3 - "$folder" "$top/examples/settings/64qam.toml" "$packets" "$reference" "$@" <<'PY'
+. "$top/bench/program.sh"
+begin "$top" "$@"
+PYTHONPATH="$top/bench" python3 - "$folder" "$top/examples/settings/64qam.toml" "$packets" "$reference" "${program[@]}" <<'PY'
 import filecmp, os, random, shutil, subprocess, sys
 from timing import best
 folder, settings, packets, reference, *program = sys.argv[1:]

@@ -14,13 +14,9 @@ noise=${1:-1500}
 frames=${1:-20}
 [ $# -gt 0 ] && shift
 reference=${REFERENCE:-$top/../shared/tools/oracle}
-folder=$(mktemp -d /dev/shm/dvbt-bench.XXXXXX)
-trap 'rm -rf "$folder"' EXIT
-if [ $# -eq 0 ]; then
-  "$top/bin/dvbt" >/dev/null || true
-  set -- "$top/crates/dvbt/out/dvbt"
-fi
-PYTHONPATH="$top/bench" python3 - "$folder" "$top/examples/settings/64qam.toml" "$noise" "$frames" "$reference" "$@" <<'PY'
+. "$top/bench/program.sh"
+begin "$top" "$@"
+PYTHONPATH="$top/bench" python3 - "$folder" "$top/examples/settings/64qam.toml" "$noise" "$frames" "$reference" "${program[@]}" <<'PY'
 import array, itertools, operator, random, shutil, subprocess, sys
 from timing import best, measure
 folder, settings, noise, frames, reference, *program = sys.argv[1:]

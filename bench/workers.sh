@@ -9,13 +9,9 @@ set -eu
 top=$(cd "$(dirname "$0")/.." && pwd)
 noise=${1:-1200}
 [ $# -gt 0 ] && shift
-folder=$(mktemp -d /dev/shm/dvbt-bench.XXXXXX)
-trap 'rm -rf "$folder"' EXIT
-if [ $# -eq 0 ]; then
-  "$top/bin/dvbt" >/dev/null || true
-  set -- "$top/crates/dvbt/out/dvbt"
-fi
-PYTHONPATH="$top/bench" python3 - "$folder" "$noise" "$@" <<'PY'
+. "$top/bench/program.sh"
+begin "$top" "$@"
+PYTHONPATH="$top/bench" python3 - "$folder" "$noise" "${program[@]}" <<'PY'
 import array, os, random, sys
 from timing import measure
 folder, noise, *program = sys.argv[1:]
