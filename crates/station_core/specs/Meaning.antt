@@ -37,6 +37,8 @@ pub record Meaning : Type 0 where
   pub report : Sink
   pub read_faults : ℕ
   pub write_faults : ℕ
+  -- those of the write faults at which a write to Report has failed
+  pub report_faults : ℕ
 
 abbrev pub source_at : InPort → Meaning → Source
 source_at ins.Settings m = m.settings
@@ -70,6 +72,14 @@ with_read_faults n m = record m { read_faults = n }
 
 abbrev pub with_write_faults : ℕ → Meaning → Meaning
 with_write_faults n m = record m { write_faults = n }
+
+-- a write to the port has failed: the counts of all write faults, and of those at Report
+abbrev pub with_failed_write : OutPort → ℕ → ℕ → Meaning → Meaning
+with_failed_write outs.Cells writes reports m = record m { write_faults = writes }
+with_failed_write outs.Hp writes reports m = record m { write_faults = writes }
+with_failed_write outs.Lp writes reports m = record m { write_faults = writes }
+with_failed_write outs.Bytes writes reports m = record m { write_faults = writes }
+with_failed_write outs.Report writes reports m = record m { write_faults = writes; report_faults = reports }
 
 -- a name was asked for at a port
 abbrev pub asked_source : List ℕ → Source → Source
@@ -119,6 +129,7 @@ fresh tells file = record {
   report = record no_sink { created = true };
   read_faults = 0;
   write_faults = 0;
+  report_faults = 0;
 }
 
 -- a port at which nothing was asked, and which is not open

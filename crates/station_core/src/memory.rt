@@ -164,7 +164,7 @@ fn count_call(calls: &mut [u64], port: usize) -> u64
 impl<'a> Station<'a> for MemoryStation<'a> {
     ghost use Rattle.std.specs.Prelude.{◌≡◌, ◌≢◌, ◌≤◌, ◌<◌, ◌↔◌, ◌⊎◌, ◌+◌, ◌/◌, ◌++◌, ℕ, min, take, length, IsErr, IsTrue, OnOk, OnErr, IfOk, Contains, true, false, None, []};
     ghost use Rattle.station_core.specs.Causes.{Rose, greatest_count};
-    ghost use Rattle.station_core.specs.Meaning.{source_at, sink_at, with_source, with_sink, with_read_faults, with_write_faults, asked_source, attached_source, read_source, asked_sink, created_sink, written_sink, closed_sink};
+    ghost use Rattle.station_core.specs.Meaning.{source_at, sink_at, with_source, with_sink, with_read_faults, with_write_faults, with_failed_write, asked_source, attached_source, read_source, asked_sink, created_sink, written_sink, closed_sink};
     ghost use Rattle.station_core.specs.declared.ports.OutPort.TheVariants.{Report};
     ghost use Rattle.station_core.specs.Files.{has_file};
     ghost use Rattle.station_core.specs.Memory.{memory_meaning, files_of, failing_of, most_of, room_of, reads_of, writes_of, in_number, out_number, IsSamePlan};
@@ -256,10 +256,12 @@ impl<'a> Station<'a> for MemoryStation<'a> {
         requires created { (sink_at port (memory_meaning self.old)).created ≡ true }
         requires open { (sink_at port (memory_meaning self.old)).closed ≡ false }
         ensures ok { OnOk result (memory_meaning self.new ≡ with_sink port (written_sink (memory_meaning self.old).tells bytes.now (sink_at port (memory_meaning self.old))) (memory_meaning self.old)) }
-        ensures err { OnErr result ((n : ℕ) × (memory_meaning self.new ≡ with_write_faults (memory_meaning self.new).write_faults
+        ensures err { OnErr result ((n : ℕ) × (memory_meaning self.new ≡ with_failed_write port (memory_meaning self.new).write_faults (memory_meaning self.new).report_faults
             (with_sink port (written_sink (memory_meaning self.old).tells (take n bytes.now) (sink_at port (memory_meaning self.old))) (memory_meaning self.old)))) }
         ensures cause { OnErr result (Rose (memory_meaning self.old).write_faults (memory_meaning self.new).write_faults) }
+        ensures at_report { OnErr result (port ≡ Report → Rose (memory_meaning self.old).report_faults (memory_meaning self.new).report_faults) }
         ensures later { (memory_meaning self.old).write_faults ≤ (memory_meaning self.new).write_faults }
+        ensures later_report { (memory_meaning self.old).report_faults ≤ (memory_meaning self.new).report_faults }
         ensures bounded { OnErr result ((memory_meaning self.new).write_faults ≤ greatest_count) }
         ensures exact { IsErr result ↔ (Contains (failing_of self.old) (Failing.Write port (next_call (writes_of self.old) (out_number port)))
             ⊎ (room_of port self.old < length (sink_at port (memory_meaning self.old)).written + length bytes.now)) }

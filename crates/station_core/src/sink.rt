@@ -13,6 +13,8 @@ pub struct Writing<'a> {
     pub closed: bool,
     pub bytes: Vec<u8>,
     pub room: u32,
+    // the writes that have failed here
+    pub faults: u64,
     ghost fits: { room ≤ vec_capacity bytes },
 }
 
@@ -26,6 +28,7 @@ impl<'a> Writing<'a> {
     pub fn new(alloc: Global, room: u32) -> Result<Writing<'a>, AllocError>
         ensures new { IfOk result (λ w. sink_of w ≡ no_sink) }
         ensures room { IfOk result (λ w. w.room ≡ room) }
+        ensures faultless { IfOk result (λ w. w.faults ≡ 0) }
     {
         Ok(Writing {
             asked: None,
@@ -33,6 +36,7 @@ impl<'a> Writing<'a> {
             closed: false,
             bytes: Vec::with_capacity(alloc, room as usize)?,
             room,
+            faults: 0,
         })
     }
 
@@ -42,6 +46,7 @@ impl<'a> Writing<'a> {
         ensures err { OnErr result (sink_of self.new ≡ asked_sink name.now (sink_of self.old)) }
         ensures exact { IsErr result ↔ IsTrue fails }
         ensures room { self.new.room ≡ self.old.room }
+        ensures here { self.new.faults ≡ self.old.faults }
         ensures uncounted { OnOk result (faults.new ≡ faults.old) }
         ensures cause { OnErr result (Rose faults.old faults.new) }
         ensures later { faults.old ≤ faults.new }
@@ -66,6 +71,9 @@ impl<'a> Writing<'a> {
             → self.new.bytes.items ≡ self.old.bytes.items ++ take (length bytes.now / 2) bytes.now }
         ensures no_room { self.old.room < length self.old.bytes.items + length bytes.now → self.new.bytes.items ≡ self.old.bytes.items }
         ensures room { self.new.room ≡ self.old.room }
+        ensures here { OnOk result (self.new.faults ≡ self.old.faults) }
+        ensures here_rose { OnErr result (Rose self.old.faults self.new.faults) }
+        ensures here_later { self.old.faults ≤ self.new.faults }
         ensures uncounted { OnOk result (faults.new ≡ faults.old) }
         ensures cause { OnErr result (Rose faults.old faults.new) }
         ensures later { faults.old ≤ faults.new }
@@ -74,16 +82,31 @@ impl<'a> Writing<'a> {
         let room = self.room as usize;
         let used = self.bytes.len();
         if used > room || bytes.len() > room - used {
-            return Err(count_fault(faults));
+            return Err(self.fail_write(faults));
         }
         if fails {
             let _ = self.bytes.extend_from_slice(&bytes[..bytes.len() / 2]);
-            return Err(count_fault(faults));
+            return Err(self.fail_write(faults));
         }
         match self.bytes.extend_from_slice(bytes) {
             Ok(()) => Ok(()),
-            Err(_) => Err(count_fault(faults)),
+            Err(_) => Err(self.fail_write(faults)),
         }
+    }
+
+    // Counts a write that has failed, also among those of this port.
+    fn fail_write(&mut self, faults: &mut u64) -> Failed
+        ensures same { sink_of self.new ≡ sink_of self.old }
+        ensures bytes { self.new.bytes ≡ self.old.bytes }
+        ensures room { self.new.room ≡ self.old.room }
+        ensures here { Rose self.old.faults self.new.faults }
+        ensures here_later { self.old.faults ≤ self.new.faults }
+        ensures rose { Rose faults.old faults.new }
+        ensures later { faults.old ≤ faults.new }
+        ensures bounded { faults.new ≤ greatest_count }
+    {
+        self.faults = self.faults.saturating_add(1);
+        count_fault(faults)
     }
 
     // Closes the output, and fails as it is told to.
@@ -91,6 +114,7 @@ impl<'a> Writing<'a> {
         ensures closed { sink_of self.new ≡ closed_sink (sink_of self.old) }
         ensures exact { IsErr result ↔ IsTrue fails }
         ensures room { self.new.room ≡ self.old.room }
+        ensures here { self.new.faults ≡ self.old.faults }
         ensures uncounted { OnOk result (faults.new ≡ faults.old) }
         ensures cause { OnErr result (Rose faults.old faults.new) }
         ensures later { faults.old ≤ faults.new }

@@ -23,4 +23,4 @@ returns-in-Bytes-clause-err c = some_front _ (λ n front. rw c.in-Bytes.is (ap (
 
 pub returns-in-Report-clause-err : goal.returns-in-Report-clause-err
 unfolding memory_meaning
-returns-in-Report-clause-err c = some_front _ (λ n front. rw c.in-Report.is (ap (λ (x : Sink). record (memory_meaning c.args.self.now) { report = x; write_faults = c.write-in-Report.new.faults }) front)) c.write-in-Report.ensures.err
+returns-in-Report-clause-err c = some_front _ (λ n front. rw c.in-Report.is (ap (λ (x : Sink). record (memory_meaning c.args.self.now) { report = x; write_faults = c.write-in-Report.new.faults; report_faults = c.write-in-Report.new.self.faults }) front)) c.write-in-Report.ensures.err
