@@ -5,8 +5,7 @@ use Rattle.std.proofs.lemmas.Bool.{lt-ltb, le-ltb, eq-eqb, eqb-true}
 use Rattle.spec_words.proofs.Counting.{first_is, first_from}
 use Rattle.mode_set.specs.declared.modes.Stream.TheVariants.{Hp}
 use Rattle.run_clauses.specs.declared.work.Refusal.TheVariants.{NotSync, Limit}
-use Rattle.run_clauses.specs.Packets.{whole_packets, is_sync, is_accepted, accepted, AcceptsFirst}
-use Rattle.run_clauses.specs.Outcome.{packet_refusal}
+use Rattle.run_clauses.specs.Packets.{whole_packets, is_sync, is_accepted, accepted, AcceptsFirst, packet_refusal}
 
 -- all of the first n are accepted and the next is not, or there is none
 pub accepted_is : (limit : ℕ) (input : List ℕ) (n : ℕ) → n ≤ whole_packets input → AcceptsFirst limit input n

@@ -9,7 +9,9 @@ use Rattle.mode_set.specs.declared.modes.Shape.{Shape}
 use Rattle.mode_set.specs.declared.modes.Hierarchy.{Hierarchy}
 use Rattle.mode_set.specs.declared.modes.Rate.{Rate}
 use Rattle.mode_set.specs.declared.settings.Settings.{Settings}
-use Rattle.run_clauses.specs.StatedSettings.{fit, kept_if, settings_if, settings_from, settings_of}
+use Rattle.run_clauses.specs.Fit.{fit}
+use Rattle.run_clauses.specs.StatedSettings.{settings_if, settings_from, settings_of}
+use Rattle.run_clauses.specs.FitKept.{kept_if}
 use denote.Struct.Props.{props}
 
 -- what the type of settings keeps is a proposition

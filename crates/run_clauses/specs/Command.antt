@@ -1,93 +1,65 @@
--- What the words ask for, and the ports that each command uses.
-use Rattle.std.specs.Prelude.{ℕ, List, [], ◌∷◌, Option, None, Some, codes, ⊤, if◌then◌else◌}
-use Rattle.std.specs.Option.{option_map}
-use Rattle.std.specs.Str.{bytes_eq}
+-- What a command is, with its words: the files that it reads and writes, and what they come to.
+use Rattle.std.specs.Prelude.{◌≡◌, ◌==◌, ◌||◌, ℕ, Bool, false, true, IsTrue, List, [], ◌∷◌, Option, None, Some, is_some, if◌then◌else◌, option_map}
+use Rattle.std.specs.Option.{option_or}
+use Rattle.station_core.specs.Meaning.{Meaning, source_at}
 use Rattle.station_core.specs.declared.ports.InPort.{InPort}
-use Rattle.station_core.specs.declared.ports.InPort.TheVariants as ins
 use Rattle.station_core.specs.declared.ports.OutPort.{OutPort}
-use Rattle.station_core.specs.declared.ports.OutPort.TheVariants as outs
-use Rattle.run_clauses.specs.Number.{number_of}
+use Rattle.run_clauses.specs.declared.work.Refusal.{Refusal}
 
--- what is made of the packets of a transport file
-pub data Coding : Type 0 where
-  -- disperse: they are dispersed
-  Disperse : Coding
-  -- outer: they are coded by the outer code, and interleaved
-  Outer : Coding
-  -- inner: and then by the inner code, at the rate of HP of the settings file of this name
-  Inner : List ℕ → Coding
+-- the bytes that a station has under a name
+abbrev pub Files : Type 0
+Files = List ℕ → List ℕ
 
--- the commands with their words
-pub data Command : Type 0 where
-  -- disperse TS OUT, outer TS OUT, inner SETTINGS TS OUT
-  Code : Coding → List ℕ → List ℕ → Command
-  -- modulate SETTINGS HP CELLS, modulate SETTINGS HP LP CELLS
-  Modulate : List ℕ → List ℕ → Option (List ℕ) → List ℕ → Command
-  -- receive SETTINGS CELLS HP, receive SETTINGS CELLS HP LP
-  Receive : List ℕ → List ℕ → List ℕ → Option (List ℕ) → Command
-  -- trial SETTINGS NUMBER
-  Trial : List ℕ → ℕ → Command
+-- what is left to be read of each input
+abbrev pub Unread : Type 0
+Unread = InPort → List ℕ
 
--- the coding that is named by one word
-abbrev pub coding_of : List ℕ → Option Coding
-coding_of name = if bytes_eq name (codes "disperse") then Some Disperse else if bytes_eq name (codes "outer") then Some Outer else None
+pub record Command : Type 1 where
+  -- the name of the file that the command reads at a port, if it reads there, and of the file that it writes
+  pub reads : InPort → Option (List ℕ)
+  pub writes : OutPort → Option (List ℕ)
+  -- the statuses that it may end with
+  pub statuses : List ℕ
+  -- why its words or its settings are refused, if they are
+  pub early_refusal : Files → Option Refusal
+  -- why its work is refused, if it is; the number is the most packets that a run takes of a transport file
+  pub work_refusal : ℕ → Files → Option Refusal
+  -- the most bytes that it takes of an input
+  pub most_taken : ℕ → Files → InPort → ℕ
+  -- the bytes that the output at a port comes to: all of them or, where the work is refused, those before the refusal
+  pub Comes : ℕ → Files → OutPort → List ℕ → Type 0
+  -- the lines that the report comes to, likewise; a refusal's own text is none of them
+  pub Prints : ℕ → Files → List ℕ → Type 0
+  -- the same where the reading has stopped at a fault, with this left unread
+  pub ComesSoFar : ℕ → Files → Unread → OutPort → List ℕ → Type 0
+  pub PrintsSoFar : ℕ → Files → Unread → List ℕ → Type 0
+  -- what it promises beside what every command does, of the station before and after and the status
+  pub Own : Meaning → Meaning → ℕ → Type 0
 
--- the command that the words spell, if they are of a form
-abbrev pub command_of : List (List ℕ) → Option Command
-command_of (name ∷ first ∷ second ∷ []) = if bytes_eq name (codes "trial") then option_map (λ number. Trial first number) (number_of second)
-    else option_map (λ coding. Code coding first second) (coding_of name)
-command_of (name ∷ settings ∷ input ∷ output ∷ []) = if bytes_eq name (codes "inner") then Some (Code (Inner settings) input output)
-    else if bytes_eq name (codes "modulate") then Some (Modulate settings input None output)
-    else if bytes_eq name (codes "receive") then Some (Receive settings input output None) else None
-command_of (name ∷ settings ∷ first ∷ second ∷ third ∷ []) = if bytes_eq name (codes "modulate") then Some (Modulate settings first (Some second) third)
-    else if bytes_eq name (codes "receive") then Some (Receive settings first second (Some third)) else None
-command_of words = None
+-- the command writes at the port, or reads there
+abbrev pub IsOutput : Command → OutPort → Type 0
+IsOutput c port = IsTrue (is_some (c.writes port))
 
--- a command takes memory for its work, or none
-abbrev pub TakesMemory : Command → Type 0
-TakesMemory (Code Disperse input output) = ⊥
-TakesMemory (Code Outer input output) = ⊤
-TakesMemory (Code (Inner settings) input output) = ⊤
-TakesMemory (Modulate settings hp lp cells) = ⊤
-TakesMemory (Receive settings cells hp lp) = ⊤
-TakesMemory (Trial settings number) = ⊤
+abbrev pub IsInput : Command → InPort → Type 0
+IsInput c port = IsTrue (is_some (c.reads port))
 
--- the name of the file that a command reads at a port, if it reads there
-abbrev pub source_name : Command → InPort → Option (List ℕ)
-source_name (Code Disperse input output) ins.Settings = None
-source_name (Code Outer input output) ins.Settings = None
-source_name (Code (Inner settings) input output) ins.Settings = Some settings
-source_name (Code coding input output) ins.Hp = Some input
-source_name (Code coding input output) ins.Lp = None
-source_name (Code coding input output) ins.Cells = None
-source_name (Modulate settings hp lp cells) ins.Settings = Some settings
-source_name (Modulate settings hp lp cells) ins.Hp = Some hp
-source_name (Modulate settings hp lp cells) ins.Lp = lp
-source_name (Modulate settings hp lp cells) ins.Cells = None
-source_name (Receive settings cells hp lp) ins.Settings = Some settings
-source_name (Receive settings cells hp lp) ins.Hp = None
-source_name (Receive settings cells hp lp) ins.Lp = None
-source_name (Receive settings cells hp lp) ins.Cells = Some cells
-source_name (Trial settings number) ins.Settings = Some settings
-source_name (Trial settings number) ins.Hp = None
-source_name (Trial settings number) ins.Lp = None
-source_name (Trial settings number) ins.Cells = None
+-- the number is among these
+abbrev pub is_among : ℕ → List ℕ → Bool
+is_among n [] = false
+is_among n (m ∷ ms) = (n == m) || is_among n ms
 
--- the name of the file that a command writes at a port, if it writes there
-abbrev pub sink_name : Command → OutPort → Option (List ℕ)
-sink_name (Code coding input output) outs.Cells = None
-sink_name (Code coding input output) outs.Hp = None
-sink_name (Code coding input output) outs.Lp = None
-sink_name (Code coding input output) outs.Bytes = Some output
-sink_name (Code coding input output) outs.Report = None
-sink_name (Modulate settings hp lp cells) outs.Cells = Some cells
-sink_name (Modulate settings hp lp cells) outs.Hp = None
-sink_name (Modulate settings hp lp cells) outs.Lp = None
-sink_name (Modulate settings hp lp cells) outs.Bytes = None
-sink_name (Modulate settings hp lp cells) outs.Report = None
-sink_name (Receive settings cells hp lp) outs.Cells = None
-sink_name (Receive settings cells hp lp) outs.Hp = Some hp
-sink_name (Receive settings cells hp lp) outs.Lp = lp
-sink_name (Receive settings cells hp lp) outs.Bytes = None
-sink_name (Receive settings cells hp lp) outs.Report = None
-sink_name (Trial settings number) port = None
+-- the refusal that a run comes to where nothing fails: that of the settings before that of the work
+abbrev pub refusal_of : ℕ → Files → Command → Option Refusal
+refusal_of limit file c = option_or (c.early_refusal file) (c.work_refusal limit file)
+
+-- the whole file that a command reads at a port
+abbrev pub named : Files → Option (List ℕ) → List ℕ
+named file None = []
+named file (Some name) = file name
+
+abbrev pub input_file : Files → Command → InPort → List ℕ
+input_file file c port = named file (c.reads port)
+
+-- what is left to be read of an input: all of it where it was not opened
+abbrev pub unread : Command → Meaning → Unread
+unread c m port = if (source_at port m).attached then (source_at port m).left else input_file m.file c port

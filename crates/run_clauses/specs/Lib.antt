@@ -1,12 +1,9 @@
-pub mod Command
-pub mod Number
 pub mod Packets
 pub mod SettingsFile
+pub mod Fit
+pub mod FitKept
 pub mod StatedSettings
-pub mod InnerBytes
+pub mod StreamForm
 pub mod Text
-pub mod Modulation
-pub mod ReceivedCells
-pub mod TrialReport
-pub mod Outcome
-pub mod Runs
+pub mod Command
+pub mod Run

@@ -1,9 +1,12 @@
 -- The whole packets of a transport file, and the first of them that a run refuses.
-use Rattle.std.specs.Prelude.{◌≡◌, ◌<◌, ◌*◌, ◌/◌, ◌%◌, ◌==◌, ℕ, zero, suc, Bool, not, List, [], ◌∷◌, ◌++◌, flat_map, length, take, drop, slice_index, nat_lt, ◌&&◌, true}
-use Rattle.std.specs.List.{enumerate_from}
+use Rattle.std.specs.Prelude.{◌≡◌, ◌<◌, ◌+◌, ◌*◌, ◌/◌, ◌%◌, ◌==◌, ℕ, zero, suc, Bool, not, List, [], ◌∷◌, ◌++◌, length, take, drop, slice_index, nat_lt, ◌&&◌, true, Option, None, Some, codes, decimal, if◌then◌else◌}
 use Rattle.spec_words.specs.Words.{first_below}
-use Rattle.dispersal.specs.Packet.{dispersed}
+use Rattle.mode_set.specs.declared.modes.Stream.{Stream}
+use Rattle.mode_set.specs.declared.modes.Stream.TheVariants.{Hp}
+use Rattle.report_line.specs.Streams.{stream_text}
 use Rattle.run_clauses.specs.declared.work.Counts.{Counts}
+use Rattle.run_clauses.specs.declared.work.Refusal.{Refusal}
+use Rattle.run_clauses.specs.declared.work.Refusal.TheVariants.{NotSync, Limit}
 
 -- packet i of a transport file
 abbrev pub file_packet : List ℕ → ℕ → List ℕ
@@ -41,10 +44,6 @@ first_packets (suc n) bytes = first_packets n bytes ++ file_packet bytes n ∷ [
 abbrev pub packets_of : List ℕ → List (List ℕ)
 packets_of bytes = first_packets (whole_packets bytes) bytes
 
--- packets one after another, dispersed: packet i at phase i modulo 8
-unfoldable pub dispersed_packets : List (List ℕ) → List ℕ
-dispersed_packets packets = flat_map (λ p. dispersed (p.0 % 8) p.1) (enumerate_from 0 packets)
-
 -- the first n packets are accepted
 abbrev pub AcceptsFirst : ℕ → List ℕ → ℕ → Type 0
 AcceptsFirst limit input n = (i : ℕ) → i < n → is_accepted limit input i ≡ true
@@ -52,3 +51,20 @@ AcceptsFirst limit input n = (i : ℕ) → i < n → is_accepted limit input i �
 -- the counts of a whole input
 abbrev pub counts_of : List ℕ → Counts
 counts_of input = record { packets = whole_packets input; tail = tail_of input }
+
+-- the refusal of the first packet of HP that is not accepted, if there is one: past the limit before no sync byte
+abbrev pub packet_refusal : ℕ → List ℕ → Option Refusal
+packet_refusal limit input = let n = accepted limit input in
+    if n == whole_packets input then None else if nat_lt n limit then Some (NotSync Hp n) else Some (Limit limit)
+
+-- The most bytes that are taken of a transport file: those of the packets that are accepted and one packet
+-- more. So it is at most one packet past the limit, and nothing behind a packet without its sync byte.
+abbrev pub most_packets_taken : ℕ → List ℕ → ℕ
+most_packets_taken limit input = 188 * (accepted limit input + 1)
+
+-- the closing line of a transport file
+abbrev pub packets_line : Stream → Counts → List ℕ
+packets_line σ counts = stream_text σ ++ codes " packets " ++ decimal counts.packets ++ codes " tail " ++ decimal counts.tail ++ codes "\n"
+
+abbrev pub closing_line : Counts → List ℕ
+closing_line = packets_line Hp

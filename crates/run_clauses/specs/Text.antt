@@ -1,17 +1,12 @@
 -- The lines of the report, and the statuses.
-use Rattle.std.specs.Prelude.{ℕ, List, [], ◌++◌, Option, None, Some, codes, decimal}
-use Rattle.mode_set.specs.declared.modes.Stream.{Stream}
-use Rattle.mode_set.specs.declared.modes.Stream.TheVariants.{Hp, Lp}
-use Rattle.run_clauses.specs.declared.work.Counts.{Counts}
+use Rattle.std.specs.Prelude.{ℕ, List, [], ◌++◌, ◌==◌, Option, None, Some, codes, decimal, if◌then◌else◌}
+use Rattle.report_line.specs.Streams.{stream_text}
 use Rattle.run_clauses.specs.declared.work.Refusal.{Refusal}
 use Rattle.mode_set.specs.Keys.{key_text}
+use Rattle.run_clauses.specs.Command.{Command, Files, refusal_of}
 use Rattle.run_clauses.specs.declared.work.SettingsRefusal.{SettingsRefusal}
 use Rattle.run_clauses.specs.declared.work.SettingsRefusal.TheVariants as settings
 use Rattle.run_clauses.specs.declared.work.Refusal.TheVariants.{Usage, Settings, ReadFault, WriteFault, NotSync, Memory, Limit}
-
-abbrev pub stream_text : Stream → List ℕ
-stream_text Hp = codes "hp"
-stream_text Lp = codes "lp"
 
 -- what is wrong with refused settings
 abbrev pub settings_text : SettingsRefusal → List ℕ
@@ -52,6 +47,9 @@ abbrev pub status_of : Option Refusal → ℕ
 status_of None = 0
 status_of (Some refusal) = refusal_status refusal
 
--- the closing line of a transport input
-abbrev pub closing_line : Counts → List ℕ
-closing_line counts = codes "hp packets " ++ decimal counts.packets ++ codes " tail " ++ decimal counts.tail ++ codes "\n"
+-- The text that ends the report at a status: of a fault of the outside, of want of memory, or else of what the
+-- words and the files come to.
+abbrev pub text_at : Command → ℕ → Files → ℕ → List ℕ
+text_at c limit file status =
+    if status == 5 then refusal_text ReadFault else if status == 6 then refusal_text WriteFault
+    else if status == 7 then refusal_text Memory else text_if_refused (refusal_of limit file c)

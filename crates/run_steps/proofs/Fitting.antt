@@ -10,7 +10,7 @@ use Rattle.mode_set.specs.declared.settings.Settings.{Settings as TheSettings}
 use Rattle.run_clauses.specs.declared.work.Refusal.{Refusal}
 use Rattle.run_clauses.specs.declared.work.Refusal.TheVariants.{Settings}
 use Rattle.run_clauses.specs.declared.work.SettingsRefusal.TheVariants.{Form}
-use Rattle.run_clauses.specs.Modulation.{form_refusal}
+use Rattle.run_clauses.specs.StreamForm.{form_refusal}
 use Rattle.run_clauses.specs.SettingsFile.{settings_refusal}
 use Rattle.run_clauses.specs.StatedSettings.{settings_of}
 use Rattle.run_clauses.proofs.Stated.{stated}

@@ -22,22 +22,24 @@ more a b before mid after (Err refusal) first next = (
 )
 
 keeps_report : (m0 m1 m2 : Meaning)
-    → m1 ≡ record m0 { report = record m0.report { written = m1.report.written }; write_faults = m1.write_faults }
-    → m2 ≡ record m1 { report = record m1.report { written = m2.report.written }; write_faults = m2.write_faults }
-    → m2 ≡ record m0 { report = record m0.report { written = m2.report.written }; write_faults = m2.write_faults }
-keeps_report m0 m1 m2 p q = q ∙ ap (λ (x : Meaning). record x { report = record x.report { written = m2.report.written }; write_faults = m2.write_faults }) p
+    → m1 ≡ record m0 { report = record m0.report { written = m1.report.written }; write_faults = m1.write_faults; report_faults = m1.report_faults }
+    → m2 ≡ record m1 { report = record m1.report { written = m2.report.written }; write_faults = m2.write_faults; report_faults = m2.report_faults }
+    → m2 ≡ record m0 { report = record m0.report { written = m2.report.written }; write_faults = m2.write_faults; report_faults = m2.report_faults }
+keeps_report m0 m1 m2 p q = q ∙ ap (λ (x : Meaning). record x { report = record x.report { written = m2.report.written }; write_faults = m2.write_faults; report_faults = m2.report_faults }) p
 
 pub writes_then : (a b : List ℕ) (m0 m1 m2 : Meaning) (r : Result (Unit {0}) Refusal) → WritesLines a m0 m1 (Ok tt) → WritesLines b m1 m2 r → WritesLines (a ++ b) m0 m2 r
 writes_then a b m0 m1 m2 r first next =
     let tells : m1.tells ≡ m0.tells = ap (λ (x : Meaning). x.tells) first.others in
     record {
       others = keeps_report m0 m1 m2 first.others next.others;
+      later_report = omega (arith, first.later_report, next.later_report);
       written = λ t. more a b m0.report.written m1.report.written m2.report.written r (first.written t) (next.written (tells ∙ t));
     }
 
 pub writes_stopped : (a b : List ℕ) (m0 m1 : Meaning) (refusal : Refusal) → WritesLines a m0 m1 (Err refusal) → WritesLines (a ++ b) m0 m1 (Err refusal)
 writes_stopped a b m0 m1 refusal first = record {
   others = first.others;
+  later_report = first.later_report;
   written = λ t.
       let w = first.written t in
       let f = front_of a b w.0 in
@@ -46,4 +48,4 @@ writes_stopped a b m0 m1 refusal first = record {
 
 -- no line was written
 pub writes_nothing : (m : Meaning) → WritesLines [] m m (Ok tt)
-writes_nothing m = record { others = refl; written = λ t. sym (append-nil m.report.written) }
+writes_nothing m = record { others = refl; later_report = omega arith; written = λ t. sym (append-nil m.report.written) }

@@ -1,14 +1,11 @@
 -- Settings that fit the form of a command are read: there is a file of LP exactly with a hierarchy.
 use Rattle.std.specs.Prelude.{◌≡◌, ℕ, true, List, Result, Ok, Err, Option, Some}
-use Rattle.std.specs.Option.{option_or}
 use Rattle.station_core.specs.Meaning.{Meaning}
 use Rattle.station_core.specs.Causes.{Rose}
 use Rattle.mode_set.specs.declared.settings.Settings.{Settings as TheSettings}
 use Rattle.run_clauses.specs.declared.work.Refusal.{Refusal}
 use Rattle.run_clauses.specs.declared.work.Refusal.TheVariants.{Settings, ReadFault, Memory}
-use Rattle.run_clauses.specs.Modulation.{fits_form, form_refusal}
-use Rattle.run_clauses.specs.SettingsFile.{settings_refusal}
-use Rattle.run_clauses.specs.StatedSettings.{settings_of}
+use Rattle.run_clauses.specs.StreamForm.{fits_form, fitting_refusal}
 use Rattle.run_steps.specs.SettingsStep.{ReadsSettings}
 
 -- settings that fit the form, or why there are none
@@ -18,5 +15,5 @@ Accepts name lp old new (Err ReadFault) = Rose old.read_faults new.read_faults
 Accepts name lp old new (Err Memory) = new.read_faults ≡ old.read_faults
 Accepts name lp old new (Err (Settings reason)) =
     (new.read_faults ≡ old.read_faults)
-    × (old.tells ≡ true → option_or (settings_refusal (old.file name)) (form_refusal (settings_of (old.file name)) lp) ≡ Some (Settings reason))
+    × (old.tells ≡ true → fitting_refusal (old.file name) lp ≡ Some (Settings reason))
 Accepts name lp old new (Err refusal) = ⊥

@@ -4,3 +4,4 @@ pub mod Reading
 pub mod Report
 pub mod SettingsStep
 pub mod FittingStep
+pub mod Ended

@@ -1,0 +1,8 @@
+-- The names of the streams in a report.
+use Rattle.std.specs.Prelude.{ℕ, List, codes}
+use Rattle.mode_set.specs.declared.modes.Stream.{Stream}
+use Rattle.mode_set.specs.declared.modes.Stream.TheVariants.{Hp, Lp}
+
+abbrev pub stream_text : Stream → List ℕ
+stream_text Hp = codes "hp"
+stream_text Lp = codes "lp"
