@@ -43,8 +43,8 @@ refused_early c limit name old mid (NotSync stream n) same later reads = reads
 refused_early c limit name old mid Memory same later reads = reads
 refused_early c limit name old mid (Limit n) same later reads = reads
 
-module _ (c : Command) (limit : ℕ) (name : List ℕ) (old mid : Meaning) (reads : c.reads ins.Settings ≡ Some name) (no_report : c.writes outs.Report ≡ None)
-    (settings : c.most_taken limit old.file ins.Settings ≡ most_settings + 1)
+module _ (c : Command) (limit : ℕ) (name : List ℕ) (old mid : Meaning) (no_report : c.writes outs.Report ≡ None)
+    (reads : (mid.settings ≡ old.settings) ⊎ ((c.reads ins.Settings ≡ Some name) × (c.most_taken limit old.file ins.Settings ≡ most_settings + 1)))
     (nothing : (u : Unread) → ((port : InPort) → port ≢ ins.Settings → u port ≡ input_file old.file c port) → c.PrintsSoFar limit old.file u []) (own : c.Own limit old.file)
     (fresh : IsFresh old) (asks : AsksSettings name old mid) where
   -- the ports but Settings are as before
@@ -106,9 +106,12 @@ module _ (c : Command) (limit : ℕ) (name : List ℕ) (old mid : Meaning) (read
       ∙ ap (λ (f : Files). input_file f c port) files_same
 
   sources_asked : (port : InPort) → ((source_at port mid).asked ≡ None) ⊎ ((source_at port mid).asked ≡ c.reads port)
-  sources_asked ins.Settings = elim asks.asked [
+  sources_asked ins.Settings = elim reads [
     | inl same ↦ inl (ap (λ (s : Source). s.asked) same ∙ fresh.settings.asked)
-    | inr is ↦ inr (is ∙ sym reads)
+    | inr it ↦ elim asks.asked [
+        | inl same ↦ inl (ap (λ (s : Source). s.asked) same ∙ fresh.settings.asked)
+        | inr is ↦ inr (is ∙ sym it.0)
+      ]
   ]
   sources_asked ins.Hp = inl (alone.sources ins.Hp (λ is. cc))
   sources_asked ins.Lp = inl (alone.sources ins.Lp (λ is. cc))
@@ -116,9 +119,12 @@ module _ (c : Command) (limit : ℕ) (name : List ℕ) (old mid : Meaning) (read
 
   took : old.tells ≡ true → (port : InPort) → (source_at port mid).attached ≡ true
       → (k : ℕ) × (k ≤ c.most_taken limit old.file port) × ((source_at port mid).left ≡ drop k (input_file old.file c port))
-  took t ins.Settings is =
-      let r = asks.read t is in
-      (r.0, subst (λ (n : ℕ). r.0 ≤ n) (sym settings) r.1, r.2 ∙ ap (λ (o : Option (List ℕ)). drop r.0 (named old.file o)) (sym reads))
+  took t ins.Settings is = elim reads [
+    | inl same ↦ absurd (true≢false (sym is ∙ ap (λ (s : Source). s.attached) same ∙ fresh.settings.attached))
+    | inr it ↦
+        let r = asks.read t is in
+        (r.0, subst (λ (n : ℕ). r.0 ≤ n) (sym it.1) r.1, r.2 ∙ ap (λ (o : Option (List ℕ)). drop r.0 (named old.file o)) (sym it.0))
+  ]
   took t ins.Hp is = absurd (true≢false (sym is ∙ unopened ins.Hp (λ e. cc)))
   took t ins.Lp is = absurd (true≢false (sym is ∙ unopened ins.Lp (λ e. cc)))
   took t ins.Cells is = absurd (true≢false (sym is ∙ unopened ins.Cells (λ e. cc)))
@@ -195,3 +201,11 @@ module _ (c : Command) (limit : ℕ) (name : List ℕ) (old mid : Meaning) (read
     leaves = leaves r h;
     own = own;
   }
+
+-- the same of a run that has asked for nothing
+pub unstarted_ended : (c : Command) (limit : ℕ) (old : Meaning) → c.writes outs.Report ≡ None
+    → ((u : Unread) → ((port : InPort) → port ≢ ins.Settings → u port ≡ input_file old.file c port) → c.PrintsSoFar limit old.file u [])
+    → c.Own limit old.file → IsFresh old → (r : Refusal) → RefusedEarly c limit old old r → is_among (status_of (Some r)) c.statuses ≡ true → Ended c limit old old (Some r)
+unstarted_ended c limit old no_report nothing own fresh r h known =
+    early_ended c limit [] old old no_report (inl refl) nothing own fresh
+    (record { others = refl; asked = inl refl; read = λ t is. absurd (true≢false (sym is ∙ fresh.settings.attached)) }) r h known
