@@ -208,4 +208,4 @@ pub unstarted_ended : (c : Command) (limit : ℕ) (old : Meaning) → c.writes o
     → c.Own limit old.file → IsFresh old → (r : Refusal) → RefusedEarly c limit old old r → is_among (status_of (Some r)) c.statuses ≡ true → Ended c limit old old (Some r)
 unstarted_ended c limit old no_report nothing own fresh r h known =
     early_ended c limit [] old old no_report (inl refl) nothing own fresh
-    (record { others = refl; asked = inl refl; read = λ t is. absurd (true≢false (sym is ∙ fresh.settings.attached)) }) r h known
+    (record { others = refl; later = omega arith; asked = inl refl; read = λ t is. absurd (true≢false (sym is ∙ fresh.settings.attached)) }) r h known
