@@ -33,8 +33,8 @@ pub record Command : Type 1 where
   -- the same where the reading has stopped at a fault, with this left unread
   pub ComesSoFar : ℕ → Files → Unread → OutPort → List ℕ → Type 0
   pub PrintsSoFar : ℕ → Files → Unread → List ℕ → Type 0
-  -- what it promises beside what every command does, of the station before and after and the status
-  pub Own : Meaning → Meaning → ℕ → Type 0
+  -- what is so of all that it comes to, as a law over these files: of its own, where other commands have none
+  pub Own : ℕ → Files → Type 0
 
 -- the command writes at the port, or reads there
 abbrev pub IsOutput : Command → OutPort → Type 0

@@ -99,6 +99,6 @@ pub record Run (c : Command) (limit : ℕ) (old new : Meaning) (status : ℕ) : 
   pub front_report : old.tells ≡ true → status ≡ 6
       → (lines : List ℕ) × c.Prints limit old.file lines × ((k : ℕ) × Reports old new (take k lines) (text_at c limit old.file status))
 
-  -- BESIDE
-  -- what this command promises of its own
-  pub own : c.Own old new status
+  -- OF ITS OWN
+  -- What the command comes to obeys the laws that its definition names.
+  pub own : c.Own limit old.file

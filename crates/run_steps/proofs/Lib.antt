@@ -3,3 +3,5 @@ pub mod Station_laws
 pub mod SettingsAnswer
 pub mod ReportLines
 pub mod Fitting
+pub mod Whole
+pub mod Early

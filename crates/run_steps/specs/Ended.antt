@@ -100,3 +100,4 @@ pub record Ended (c : Command) (limit : ℕ) (old mid : Meaning) (r : Option Ref
   pub report_open : mid.report.closed ≡ old.report.closed
   -- what stands
   pub leaves : Leaves c limit old mid r
+  pub own : c.Own limit old.file

@@ -12,6 +12,7 @@ use Rattle.run_clauses.specs.SettingsFile.{most_settings, settings_refusal}
 -- none, and the file was read to its end, or as far as shows that it is too long.
 pub record AsksSettings (name : List ℕ) (old new : Meaning) : Type 0 where
   pub others : new ≡ record old { settings = new.settings; read_faults = new.read_faults }
+  pub later : old.read_faults ≤ new.read_faults
   pub asked : new.settings ≡ old.settings ⊎ (new.settings.asked ≡ Some name)
   pub read : old.tells ≡ true → new.settings.attached ≡ true → (k : ℕ) × (k ≤ most_settings + 1) × (new.settings.left ≡ drop k (old.file name))
 

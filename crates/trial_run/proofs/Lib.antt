@@ -1,4 +1,2 @@
 pub mod Running
-pub mod Clauses
-pub mod Asking
 pub mod WholeRun

@@ -7,7 +7,7 @@ use Rattle.trial.specs.declared.counts.TrialCounts.{TrialCounts}
 use Rattle.trial.specs.Outcome.{TrialGives, trial_counts}
 use Rattle.run_clauses.specs.declared.work.Refusal.{Refusal}
 use Rattle.run_clauses.specs.declared.work.Refusal.TheVariants.{WriteFault}
-use Rattle.run_clauses.specs.TrialReport.{trial_lines, trial_symbols}
+use Rattle.trial_run.specs.TrialCommand.{trial_lines, trial_symbols}
 use Rattle.run_steps.specs.Lines.{IsWriting, WritesLines}
 use Rattle.trial_run.specs.Steps.{Prints, Ran}
 

@@ -1,64 +1,59 @@
--- The clauses of a whole run of `trial`.
-use Rattle.std.proofs.Common.{◌≡◌, inl, inr, true, ℕ, List, Some, Ok, Err, refl, ◌∙◌, sym, ap, subst}
-use Rattle.station_core.specs.Meaning.{Meaning, IsFresh}
+-- What a run of `trial` leaves, and the promise of the whole run.
+use Rattle.std.proofs.Common.{◌≡◌, ◌≢◌, ◌⊎◌, inl, inr, true, ℕ, ◌+◌, ◌<◌, ◌≤◌, Bool, List, [], ◌++◌, take, drop, Option, Some, None, Result, Ok, Err, refl, ◌∙◌, sym, ap, subst, arith, if◌then◌else◌}
+use Rattle.std.specs.Prelude.{is_some, option_and_then}
+use Rattle.std.specs.Option.{option_or}
+use Rattle.std.proofs.lemmas.Bool.{le-ltb, lt-ltb, true≢false}
+use Rattle.station_core.specs.Meaning.{Meaning, Source, Sink, IsFresh, source_at, sink_at}
+use Rattle.station_core.specs.declared.ports.InPort.{InPort}
+use Rattle.station_core.specs.declared.ports.InPort.TheVariants as ins
+use Rattle.station_core.specs.declared.ports.OutPort.{OutPort}
+use Rattle.station_core.specs.declared.ports.OutPort.TheVariants as outs
 use Rattle.mode_set.specs.declared.settings.Settings.{Settings as TheSettings}
-use Rattle.trial.specs.Outcome.{at_zero}
+use Rattle.trial.specs.Outcome.{at_zero, trial_counts}
 use Rattle.run_clauses.specs.declared.work.Refusal.{Refusal}
-use Rattle.run_clauses.specs.declared.work.Refusal.TheVariants.{Memory}
-use Rattle.run_clauses.specs.Command.{Command, Trial}
-use Rattle.run_clauses.specs.Runs.{AsksOnly, HasStatus, IsComplete, IsDone, Stands}
-use Rattle.run_clauses.specs.Text.{refusal_status, refusal_text}
+use Rattle.run_clauses.specs.declared.work.Refusal.TheVariants.{Usage, Settings, ReadFault, WriteFault, NotSync, Memory, Limit}
+use Rattle.run_clauses.specs.Command.{Command, Files, Unread, IsInput, IsOutput, is_among, refusal_of, input_file}
+use Rattle.run_clauses.specs.Run.{Run, AsksSettingsAlone}
+use Rattle.run_clauses.specs.SettingsFile.{settings_refusal}
+use Rattle.run_clauses.specs.StatedSettings.{settings_of}
+use Rattle.run_clauses.specs.Text.{refusal_status, refusal_text, status_of}
 use Rattle.run_clauses.proofs.Stated.{stated}
+use Rattle.run_steps.specs.Causes.{HasCause}
 use Rattle.run_steps.specs.Report.{WritesText}
 use Rattle.run_steps.specs.SettingsStep.{AsksSettings, ReadsSettings}
-use Rattle.run_steps.proofs.Early.{ReadsFirst, RefusedEarly, refused_early, status_early, asks_early, stands_early, complete_early}
-use Rattle.trial_run.specs.Steps.{IsReady, RunsTrial, RunsOrLacks}
-use Rattle.trial_run.proofs.Clauses.{SettingsDone, done_of, status_of_run, stands_of, complete_of, never_zero}
-use Rattle.trial_run.proofs.Asking.{asks_of}
+use Rattle.run_steps.specs.Ended.{Ended, IsCaused, IsExact, Leaves}
+use Rattle.run_steps.proofs.Early.{RefusedEarly, refused_early, early_ended}
+use Rattle.run_steps.proofs.Whole.{run_done, run_refused}
+use Rattle.trial_run.specs.Steps.{IsReady, Ran, ReportOnly, RunsTrial, RunsOrLacks, Tells, outcome_status}
+use Rattle.trial_run.specs.TrialCommand.{trial_command, trial_lines, trial_refusal, trial_symbols, TrialPrints, AreTrialLines}
 
-module _ (limit : ℕ) (name : List ℕ) (number : ℕ) (start mid new : Meaning) (fresh : IsFresh start) (asks : AsksSettings name start mid) where
+-- why a run was refused, if it was
+abbrev refusal_in : Result (Unit {0}) Refusal → Option Refusal
+refusal_in (Ok u) = None
+refusal_in (Err r) = Some r
+
+module _ (limit : ℕ) (name : List ℕ) (number : ℕ) (start mid : Meaning) (fresh : IsFresh start) (asks : AsksSettings name start mid) where
   abbrev c : Command
-  c = Trial name number
-
-  first : ReadsFirst c name
-  first = record { named = refl; memory = tt; no_report = refl }
+  c = trial_command name number
 
   -- ---- refused before the work
-  module _ (r : Refusal) (reads : RefusedEarly c start mid r) (status : ℕ) (is : status ≡ refusal_status r) (text : WritesText (refusal_text r) mid new) where
-    early_done : status ≡ 0 → start.tells ≡ true → IsDone limit c start new
-    early_done zero t = absurd (never_zero r (sym is ∙ zero))
+  early : (r : Refusal) → RefusedEarly c limit start mid r → is_among (status_of (Some r)) c.statuses ≡ true → Ended c limit start mid (Some r)
+  early = early_ended c limit name start mid refl (inr (refl, refl)) (λ u whole. refl) tt fresh asks
 
-    early_status : HasStatus limit (Some c) start new status
-    early_status = subst (λ (n : ℕ). HasStatus limit (Some c) start new n) (sym is) (status_early limit c name start mid new first fresh asks r reads text)
+  known_early : (r : Refusal) → ReadsSettings name start mid (Err r) → is_among (status_of (Some r)) c.statuses ≡ true
+  known_early Usage reads = absurd reads
+  known_early (Settings reason) reads = refl
+  known_early ReadFault reads = refl
+  known_early WriteFault reads = absurd reads
+  known_early (NotSync stream n) reads = absurd reads
+  known_early Memory reads = refl
+  known_early (Limit n) reads = absurd reads
 
-    early_asks : AsksOnly (Some c) start new status
-    early_asks = subst (λ (n : ℕ). AsksOnly (Some c) start new n) (sym is) (asks_early limit c name start mid new first fresh asks r reads text)
-
-    early_stands : Stands limit (Some c) start new status
-    early_stands = subst (λ (n : ℕ). Stands limit (Some c) start new n) (sym is) (stands_early limit c name start mid new first fresh asks r reads text)
-
-    early_complete : IsComplete limit c start new status
-    early_complete = subst (λ (n : ℕ). IsComplete limit c start new n) (sym is) (complete_early limit c name start mid new first fresh asks r reads text)
-
-  -- ---- the settings were refused
-  module _ (r : Refusal) (reads : ReadsSettings name start mid (Err r)) (status : ℕ) (is : status ≡ refusal_status r) (text : WritesText (refusal_text r) mid new) where
-    early : RefusedEarly c start mid r
-    early = refused_early c name start mid r (λ reason e. e) reads
-
-    pub refused_done : status ≡ 0 → start.tells ≡ true → IsDone limit c start new
-    refused_done = early_done r early status is text
-
-    pub refused_status : HasStatus limit (Some c) start new status
-    refused_status = early_status r early status is text
-
-    pub refused_asks : AsksOnly (Some c) start new status
-    refused_asks = early_asks r early status is text
-
-    pub refused_stands : Stands limit (Some c) start new status
-    refused_stands = early_stands r early status is text
-
-    pub refused_complete : IsComplete limit c start new status
-    refused_complete = early_complete r early status is text
+  pub refused : (r : Refusal) → start.read_faults ≤ mid.read_faults → ReadsSettings name start mid (Err r) → (status : ℕ) (new : Meaning) → status ≡ refusal_status r
+      → WritesText (refusal_text r) mid new → Run c limit start new status
+  refused r later reads status new is text =
+      subst (λ (n : ℕ). Run c limit start new n) (sym is)
+      (run_refused c limit start mid new r (early r (refused_early c limit name start mid r (λ reason e. e) later reads) (known_early r reads)) text)
 
   -- ---- the settings were accepted
   module _ (s : TheSettings) (accepts : ReadsSettings name start mid (Ok s)) where
@@ -68,45 +63,174 @@ module _ (limit : ℕ) (name : List ℕ) (number : ℕ) (start mid new : Meaning
     pub ready : IsReady mid
     ready = subst IsReady (sym same_mid) (record { created = fresh.report; opened = fresh.report_open })
 
-    settings : SettingsDone name s start mid.settings
-    settings = record {
-      asked = accepts.1;
-      attached = accepts.2;
-      left = λ t. (accepts.3 t).0;
-      accepted = λ t. (accepts.3 t).1.1;
-      stated = λ t. stated s (start.file name) (accepts.3 t).1.2;
-    }
+    telling : mid.tells ≡ start.tells
+    telling = ap (λ (x : Meaning). x.tells) asks.others
 
-    module _ (status : ℕ) where
-      runs_from : RunsTrial (at_zero s) number mid new status → RunsTrial (at_zero s) number (record start { settings = mid.settings }) new status
-      runs_from runs = subst (λ (m : Meaning). RunsTrial (at_zero s) number m new status) same_mid runs
+    stated_is : start.tells ≡ true → settings_of (start.file name) ≡ Some s
+    stated_is t = stated s (start.file name) (accepts.3 t).1.2
 
-      pub run_done : RunsOrLacks (at_zero s) number mid new status → status ≡ 0 → start.tells ≡ true → IsDone limit c start new
-      run_done runs zero t = elim runs [
-        | inl r ↦ done_of limit name number start new mid.settings fresh s settings status (runs_from r) zero t
-        | inr lacks ↦ early_done Memory accepts.0 status lacks.0 lacks.1 zero t
-      ]
+    accepted : start.tells ≡ true → c.early_refusal start.file ≡ None
+    accepted t = (accepts.3 t).1.1
 
-      pub run_status : RunsOrLacks (at_zero s) number mid new status → HasStatus limit (Some c) start new status
-      run_status runs = elim runs [
-        | inl r ↦ status_of_run limit name number start new mid.settings fresh s settings status (runs_from r)
-        | inr lacks ↦ early_status Memory accepts.0 status lacks.0 lacks.1
-      ]
+    refusal_is : start.tells ≡ true → refusal_of limit start.file c ≡ trial_refusal s
+    refusal_is t =
+        ap (λ (o : Option Refusal). option_or o (option_and_then trial_refusal (settings_of (start.file name)))) (accepted t)
+        ∙ ap (λ (o : Option TheSettings). option_and_then trial_refusal o) (stated_is t)
 
-      pub run_asks : RunsOrLacks (at_zero s) number mid new status → AsksOnly (Some c) start new status
-      run_asks runs = elim runs [
-        | inl r ↦ asks_of limit name number start new mid.settings fresh s settings status (runs_from r) asks.read
-        | inr lacks ↦ early_asks Memory accepts.0 status lacks.0 lacks.1
-      ]
+    -- ---- after the work
+    module _ (end : Meaning) (others : ReportOnly mid end) where
+      abbrev by_end : (T : Type 0) (f : Meaning → T) → Type 0
+      by_end T f = f end ≡ f mid
 
-      pub run_stands : RunsOrLacks (at_zero s) number mid new status → Stands limit (Some c) start new status
-      run_stands runs = elim runs [
-        | inl r ↦ stands_of limit name number start new mid.settings fresh s settings status (runs_from r)
-        | inr lacks ↦ early_stands Memory accepts.0 status lacks.0 lacks.1
-      ]
+      source_same : (port : InPort) → source_at port end ≡ source_at port mid
+      source_same ins.Settings = ap (λ (x : Meaning). x.settings) others
+      source_same ins.Hp = ap (λ (x : Meaning). x.hp) others
+      source_same ins.Lp = ap (λ (x : Meaning). x.lp) others
+      source_same ins.Cells = ap (λ (x : Meaning). x.cells) others
 
-      pub run_complete : RunsOrLacks (at_zero s) number mid new status → IsComplete limit c start new status
-      run_complete runs = elim runs [
-        | inl r ↦ complete_of limit name number start new mid.settings fresh s settings status (runs_from r)
-        | inr lacks ↦ early_complete Memory accepts.0 status lacks.0 lacks.1
-      ]
+      source_fresh : (port : InPort) → port ≢ ins.Settings → (source_at port end).asked ≡ None
+      source_fresh ins.Settings other = absurd (other refl)
+      source_fresh ins.Hp other = ap (λ (x : Source). x.asked) (source_same ins.Hp ∙ ap (λ (x : Meaning). x.hp) asks.others) ∙ fresh.hp.asked
+      source_fresh ins.Lp other = ap (λ (x : Source). x.asked) (source_same ins.Lp ∙ ap (λ (x : Meaning). x.lp) asks.others) ∙ fresh.lp.asked
+      source_fresh ins.Cells other = ap (λ (x : Source). x.asked) (source_same ins.Cells ∙ ap (λ (x : Meaning). x.cells) asks.others) ∙ fresh.cells.asked
+
+      sink_fresh : (port : OutPort) → (sink_at port end).asked ≡ None
+      sink_fresh outs.Cells = ap (λ (x : Meaning). x.cells_out.asked) others ∙ ap (λ (x : Meaning). x.cells_out.asked) asks.others ∙ fresh.cells_out.asked
+      sink_fresh outs.Hp = ap (λ (x : Meaning). x.hp_out.asked) others ∙ ap (λ (x : Meaning). x.hp_out.asked) asks.others ∙ fresh.hp_out.asked
+      sink_fresh outs.Lp = ap (λ (x : Meaning). x.lp_out.asked) others ∙ ap (λ (x : Meaning). x.lp_out.asked) asks.others ∙ fresh.lp_out.asked
+      sink_fresh outs.Bytes = ap (λ (x : Meaning). x.bytes_out.asked) others ∙ ap (λ (x : Meaning). x.bytes_out.asked) asks.others ∙ fresh.bytes_out.asked
+      sink_fresh outs.Report = ap (λ (x : Meaning). x.report.asked) others ∙ ap (λ (x : Meaning). x.report.asked) asks.others ∙ fresh.report_asked
+
+      alone : AsksSettingsAlone end
+      alone = record { sources = source_fresh; sinks = sink_fresh }
+
+      sources_asked : (port : InPort) → ((source_at port end).asked ≡ None) ⊎ ((source_at port end).asked ≡ c.reads port)
+      sources_asked ins.Settings = inr (ap (λ (x : Source). x.asked) (source_same ins.Settings) ∙ accepts.1)
+      sources_asked ins.Hp = inl (source_fresh ins.Hp (λ e. cc))
+      sources_asked ins.Lp = inl (source_fresh ins.Lp (λ e. cc))
+      sources_asked ins.Cells = inl (source_fresh ins.Cells (λ e. cc))
+
+      attached_at : (port : InPort) → IsInput c port → (source_at port end).attached ≡ true
+      attached_at ins.Settings is = ap (λ (x : Source). x.attached) (source_same ins.Settings) ∙ accepts.2
+      attached_at ins.Hp is = absurd (true≢false (sym is))
+      attached_at ins.Lp is = absurd (true≢false (sym is))
+      attached_at ins.Cells is = absurd (true≢false (sym is))
+
+      read_at : start.tells ≡ true → (port : InPort) → IsInput c port → (source_at port end).left ≡ []
+      read_at t ins.Settings is = ap (λ (x : Source). x.left) (source_same ins.Settings) ∙ (accepts.3 t).0
+      read_at t ins.Hp is = absurd (true≢false (sym is))
+      read_at t ins.Lp is = absurd (true≢false (sym is))
+      read_at t ins.Cells is = absurd (true≢false (sym is))
+
+      took : start.tells ≡ true → (port : InPort) → IsInput c port → (k : ℕ) × (k ≤ c.most_taken limit start.file port) × ((source_at port end).left ≡ drop k (input_file start.file c port))
+      took t ins.Settings is =
+          let r = asks.read t accepts.2 in
+          (r.0, r.1, ap (λ (x : Source). x.left) (source_same ins.Settings) ∙ r.2)
+      took t ins.Hp is = absurd (true≢false (sym is))
+      took t ins.Lp is = absurd (true≢false (sym is))
+      took t ins.Cells is = absurd (true≢false (sym is))
+
+      input_is : (port : InPort) → port ≢ ins.Settings → IsInput c port → ⊥
+      input_is ins.Settings other is = other refl
+      input_is ins.Hp other is = true≢false (sym is)
+      input_is ins.Lp other is = true≢false (sym is)
+      input_is ins.Cells other is = true≢false (sym is)
+
+      ended : (r : Option Refusal) → is_among (status_of r) c.statuses ≡ true → IsCaused start end r → start.write_faults ≤ end.write_faults → start.report_faults ≤ end.report_faults
+          → IsExact c limit start r → Leaves c limit start end r → Ended c limit start end r
+      ended r known caused writes reports exact leaves = record {
+        known = known;
+        caused = caused;
+        later_reads = omega (arith, ap (λ (x : Meaning). x.read_faults) others, accepts.0);
+        later_writes = writes;
+        later_report = reports;
+        exact = exact;
+        sources = sources_asked;
+        sinks = λ port. inl (sink_fresh port);
+        settings_first = λ is. inl alone;
+        lp_behind_hp = inl (source_fresh ins.Lp (λ e. cc));
+        outputs_behind_inputs = λ out. inl (sink_fresh out);
+        lp_made_behind_hp = inl (sink_fresh outs.Lp);
+        work_behind_outputs = λ t port other is. absurd (input_is port other is);
+        taken = λ t port is attached. took t port is;
+        opened = λ is. attached_at;
+        read_out = λ is t. read_at t;
+        closed = λ out is made. absurd (true≢false (sym is));
+        no_report = refl;
+        same_telling = ap (λ (x : Meaning). x.tells) others ∙ telling;
+        same_files = ap (λ (x : Meaning). x.file) others ∙ ap (λ (x : Meaning). x.file) asks.others;
+        report_open = ap (λ (x : Meaning). x.report.closed) others ∙ ap (λ (x : Meaning). x.report.closed) asks.others;
+        leaves = leaves;
+        own = tt;
+      }
+
+    -- ---- what stands by the outcome
+    module _ (end : Meaning) (others : ReportOnly mid end) where
+      same_writes : mid.write_faults ≡ start.write_faults
+      same_writes = ap (λ (x : Meaning). x.write_faults) asks.others
+
+      same_reports : mid.report_faults ≡ start.report_faults
+      same_reports = ap (λ (x : Meaning). x.report_faults) asks.others
+
+      same_reads : end.read_faults ≡ start.read_faults
+      same_reads = ap (λ (x : Meaning). x.read_faults) others ∙ accepts.0
+
+      empty : start.tells ≡ true → (l : List ℕ) → mid.report.written ++ l ≡ l
+      empty t l = ap (λ (x : Meaning). x.report.written ++ l) asks.others ∙ ap (λ (w : List ℕ). w ++ l) (fresh.report_empty t)
+
+      prints : trial_symbols ≤ s.max_symbols → (lines : List ℕ) → AreTrialLines s number lines → TrialPrints s number lines
+      prints enough lines are = record { enough = λ e. are; few = λ few. absurd (omega (arith, enough, few)) }
+
+      nothing_refused : trial_symbols ≤ s.max_symbols → start.tells ≡ true → refusal_of limit start.file c ≡ None
+      nothing_refused enough t = refusal_is t ∙ ap (λ (b : Bool). if b then Some (Limit s.max_symbols) else None) (le-ltb s.max_symbols trial_symbols enough)
+
+      limit_refused : s.max_symbols < trial_symbols → start.tells ≡ true → refusal_of limit start.file c ≡ Some (Limit s.max_symbols)
+      limit_refused few t = refusal_is t ∙ ap (λ (b : Bool). if b then Some (Limit s.max_symbols) else None) (lt-ltb s.max_symbols trial_symbols few)
+
+      by_outcome : (o : Result (Unit {0}) Refusal) → HasCause mid end o → Ran (at_zero s) number mid end o → Ended c limit start end (refusal_in o)
+      by_outcome (Ok u) cause ran = ended end others None refl (same_reads, cause.writes ∙ same_writes) (omega (arith, cause.writes, same_writes)) (omega (arith, ran.writes.later_report, same_reports))
+          (nothing_refused ran.enough)
+          (record {
+            made = λ out is. absurd (true≢false (sym is));
+            outputs = λ t out is. absurd (true≢false (sym is));
+            report = λ t. (s, stated_is t, prints ran.enough end.report.written
+                (ran.given, ran.gives, ran.writes.written (telling ∙ t) ∙ empty t (trial_lines (trial_counts (at_zero s) number ran.given))));
+          })
+      by_outcome (Err Usage) cause ran = absurd ran
+      by_outcome (Err (Settings reason)) cause ran = absurd ran
+      by_outcome (Err ReadFault) cause ran = absurd ran
+      by_outcome (Err WriteFault) cause ran = ended end others (Some WriteFault) refl (same_reads, omega (arith, cause.1, same_writes)) (omega (arith, cause.2, same_writes)) (omega (arith, ran.writes.later_report, same_reports))
+          tt
+          (record {
+            outputs = λ t out is. absurd (true≢false (sym is));
+            report = λ t.
+                let lines : List ℕ = trial_lines (trial_counts (at_zero s) number ran.given) in
+                let w = ran.writes.written (telling ∙ t) in
+                (lines, (s, stated_is t, prints ran.enough lines (ran.given, ran.gives, refl)), (w.0, w.1 ∙ empty t (take w.0 lines)));
+          })
+      by_outcome (Err (NotSync stream n)) cause ran = absurd ran
+      by_outcome (Err Memory) cause ran = absurd ran
+      by_outcome (Err (Limit n)) cause ran = ended end others (Some (Limit n)) refl same_reads
+          (omega (arith, ap (λ (x : Meaning). x.write_faults) ran.2, same_writes)) (omega (arith, ap (λ (x : Meaning). x.report_faults) ran.2, same_reports))
+          (λ t. limit_refused ran.1 t ∙ ap (λ (k : ℕ). Some (Limit k)) (sym ran.0))
+          (record {
+            made = λ out is. absurd (true≢false (sym is));
+            outputs = λ t out is. absurd (true≢false (sym is));
+            report = λ t. (s, stated_is t,
+                record {
+                  enough = λ enough. absurd (omega (arith, enough, ran.1));
+                  few = λ few. ap (λ (x : Meaning). x.report.written) ran.2 ∙ ap (λ (x : Meaning). x.report.written) asks.others ∙ fresh.report_empty t;
+                });
+          })
+
+    told : (new end : Meaning) (o : Result (Unit {0}) Refusal) → Ended c limit start end (refusal_in o) → Tells end new o → Run c limit start new (outcome_status o)
+    told new end (Ok u) e same = subst (λ (m : Meaning). Run c limit start m 0) (sym same) (run_done c limit start end e)
+    told new end (Err r) e text = run_refused c limit start end new r e text
+
+    pub run_of : (status : ℕ) (new : Meaning) → RunsOrLacks (at_zero s) number mid new status → Run c limit start new status
+    run_of status new (inl runs) =
+        subst (λ (n : ℕ). Run c limit start new n) (sym runs.status_is)
+        (told new runs.mid runs.outcome (by_outcome runs.mid runs.others runs.outcome runs.cause runs.ran) runs.tells)
+    run_of status new (inr lacks) =
+        subst (λ (n : ℕ). Run c limit start new n) (sym lacks.0)
+        (run_refused c limit start mid new Memory (early Memory accepts.0 refl) lacks.1)

@@ -8,7 +8,7 @@ use Rattle.trial.specs.Outcome.{TrialGives, trial_counts}
 use Rattle.run_clauses.specs.declared.work.Refusal.{Refusal}
 use Rattle.run_clauses.specs.declared.work.Refusal.TheVariants.{WriteFault, Memory, Limit}
 use Rattle.run_clauses.specs.Text.{refusal_status, refusal_text}
-use Rattle.run_clauses.specs.TrialReport.{trial_lines, trial_symbols}
+use Rattle.trial_run.specs.TrialCommand.{trial_lines, trial_symbols}
 use Rattle.run_steps.specs.Causes.{HasCause}
 use Rattle.run_steps.specs.Lines.{WritesLines}
 use Rattle.run_steps.specs.Report.{WritesText}
@@ -18,9 +18,9 @@ pub record IsReady (m : Meaning) : Type 0 where
   pub created : m.report.created ≡ true
   pub opened : m.report.closed ≡ false
 
--- only what is written to Report and the count of write faults have changed
+-- only what is written to Report and the counts of write faults have changed
 abbrev pub ReportOnly : Meaning → Meaning → Type 0
-ReportOnly old new = new ≡ record old { report = record old.report { written = new.report.written }; write_faults = new.write_faults }
+ReportOnly old new = new ≡ record old { report = record old.report { written = new.report.written }; write_faults = new.write_faults; report_faults = new.report_faults }
 
 -- the settings allow a trial's symbols, and the closing lines of the trial were written, or a front of them
 pub record Prints (s : Settings) (number : ℕ) (old new : Meaning) (result : Result (Unit {0}) Refusal) : Type 0 where

@@ -1,10 +1,10 @@
 // The command.
-ghost use Rattle.std.specs.Prelude.{◌≡◌, true, Some};
+ghost use Rattle.std.specs.Prelude.{◌≡◌};
 ghost use Rattle.station_core.specs.Meaning.{IsFresh};
 ghost use Rattle.trial.specs.Outcome.{at_zero};
-ghost use Rattle.run_clauses.specs.Command.{Trial};
-ghost use Rattle.run_clauses.specs.Runs.{IsDone, HasStatus, AsksOnly, Stands, IsComplete};
+ghost use Rattle.run_clauses.specs.Run.{Run};
 ghost use Rattle.trial_run.specs.Steps.{IsReady, RunsOrLacks};
+ghost use Rattle.trial_run.specs.TrialCommand.{trial_command};
 
 use crate::run::run_trial;
 use mode_set::{Carriers, Mode, Mode2k, Mode8k, Settings, Start};
@@ -78,12 +78,7 @@ pub fn trial<'a, R: Threads + Sync, G: Gate, S: Station<'a>>(
     station: &mut S,
 ) -> u8
     requires fresh { IsFresh (S.meaning station.old) }
-    ensures done { result ≡ 0 → (S.meaning station.old).tells ≡ true
-        → IsDone limits.now.packets (Trial settings.now number) (S.meaning station.old) (S.meaning station.new) }
-    ensures status { HasStatus limits.now.packets (Some (Trial settings.now number)) (S.meaning station.old) (S.meaning station.new) result }
-    ensures asks { AsksOnly (Some (Trial settings.now number)) (S.meaning station.old) (S.meaning station.new) result }
-    ensures stands { Stands limits.now.packets (Some (Trial settings.now number)) (S.meaning station.old) (S.meaning station.new) result }
-    ensures complete { IsComplete limits.now.packets (Trial settings.now number) (S.meaning station.old) (S.meaning station.new) result }
+    ensures { Run (trial_command settings.now number) limits.now.packets (S.meaning station.old) (S.meaning station.new) result }
 {
     match read_settings(alloc, settings, station) {
         Ok(accepted) => trial_accepted(rt, alloc, gate, &accepted, number, station),

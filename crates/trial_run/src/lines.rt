@@ -1,15 +1,39 @@
 // The closing lines of a trial.
 ghost use Rattle.std.specs.Prelude.{◌≡◌, ◌++◌, true, false};
 ghost use Rattle.mode_set.specs.declared.modes.Stream.TheVariants.{Hp};
-ghost use Rattle.run_clauses.specs.TrialReport.{lp_return_line, return_line, trial_lines};
+ghost use Rattle.trial_run.specs.TrialCommand.{cells_line, lp_return_line, return_line, trial_lines};
 ghost use Rattle.run_steps.specs.Causes.{HasCause};
 ghost use Rattle.run_steps.specs.Lines.{IsWriting, WritesLines};
 
 use mode_set::Stream;
-use run_clauses::{Refusal, cells_line_of, return_line_of};
+use report_line::{Line, name_of, push_count};
+use run_clauses::Refusal;
 use run_steps::write_line;
 use station_core::Station;
 use trial::{StreamReturn, TrialCounts};
+
+// The closing line of the cells that a trial has fed.
+fn cells_line_of(counts: &TrialCounts) -> Line
+    ensures { result.bytes ≡ cells_line counts.now }
+{
+    let mut line = Line::new();
+    push_count(&mut line, "cells ", u64::from(counts.cells));
+    line.push_str("\n");
+    line
+}
+
+// The closing line of what came back of a stream in a trial.
+fn return_line_of(stream: Stream, counts: &StreamReturn) -> Line
+    ensures { result.bytes ≡ return_line stream counts.now }
+{
+    let mut line = Line::new();
+    line.push_str(name_of(stream));
+    push_count(&mut line, " packets ", u64::from(counts.packets));
+    push_count(&mut line, " back ", counts.back);
+    push_count(&mut line, " sum ", u64::from(counts.sum));
+    line.push_str("\n");
+    line
+}
 
 // Writes the line of LP, if there is LP.
 fn write_lp<'a, S: Station<'a>>(lp: &Option<StreamReturn>, station: &mut S) -> Result<(), Refusal>

@@ -1,7 +1,7 @@
 use Rattle.std.proofs.Common.{List, ℕ, Ok, Err, subst}
 use Rattle.station_core.specs.Meaning.{Meaning}
 use Rattle.mode_set.specs.declared.modes.Stream.TheVariants.{Hp}
-use Rattle.run_clauses.specs.TrialReport.{lp_return_line, return_line}
+use Rattle.trial_run.specs.TrialCommand.{lp_return_line, return_line}
 use Rattle.run_steps.specs.Lines.{WritesLines}
 use Rattle.run_steps.proofs.ReportLines.{writes_then, writes_stopped}
 use Rattle.trial_run.proofs.lines.write_streams.Goals as goal

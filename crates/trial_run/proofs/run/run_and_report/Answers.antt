@@ -1,7 +1,7 @@
 use Rattle.std.proofs.Common.{◌≡◌, ◌≤◌, ℕ, arith}
 use Rattle.station_core.specs.Meaning.{Meaning}
 use Rattle.mode_set.specs.declared.settings.Settings.{Settings}
-use Rattle.run_clauses.specs.TrialReport.{trial_symbols}
+use Rattle.trial_run.specs.TrialCommand.{trial_symbols}
 use Rattle.trial_run.proofs.Running.{ran_by}
 use Rattle.trial_run.proofs.run.run_and_report.Goals as goal
 

@@ -1,0 +1,78 @@
+-- The command `trial SETTINGS NUMBER`: what it comes to, from its settings and its number alone.
+use Rattle.std.specs.Prelude.{◌≡◌, ◌<◌, ◌≤◌, ◌+◌, ⊤, ℕ, nat_lt, if◌then◌else◌, List, [], ◌∷◌, ◌++◌, codes, decimal, Option, Some, None, option_and_then}
+use Rattle.station_core.specs.declared.ports.InPort.{InPort}
+use Rattle.station_core.specs.declared.ports.InPort.TheVariants as ins
+use Rattle.mode_set.specs.declared.modes.Stream.{Stream}
+use Rattle.mode_set.specs.declared.modes.Stream.TheVariants.{Hp, Lp}
+use Rattle.mode_set.specs.declared.settings.Settings.{Settings}
+use Rattle.reception.specs.Streams.{Reception}
+use Rattle.report_line.specs.Streams.{stream_text}
+use Rattle.trial.specs.declared.counts.StreamReturn.{StreamReturn}
+use Rattle.trial.specs.declared.counts.TrialCounts.{TrialCounts}
+use Rattle.trial.specs.Outcome.{TrialGives, at_zero, trial_counts}
+use Rattle.run_clauses.specs.Command.{Command, Files}
+use Rattle.run_clauses.specs.SettingsFile.{most_settings, settings_refusal}
+use Rattle.run_clauses.specs.StatedSettings.{settings_of}
+use Rattle.run_clauses.specs.declared.work.Refusal.{Refusal}
+use Rattle.run_clauses.specs.declared.work.Refusal.TheVariants.{Limit}
+
+-- a trial sends one super-frame
+abbrev pub trial_symbols : ℕ
+trial_symbols = 272
+
+-- settings that allow fewer symbols are refused
+abbrev pub trial_refusal : Settings → Option Refusal
+trial_refusal s = if nat_lt s.max_symbols trial_symbols then Some (Limit s.max_symbols) else None
+
+-- the line of the cells that were fed, and that of the packets of a stream
+abbrev pub cells_line : TrialCounts → List ℕ
+cells_line counts = codes "cells " ++ decimal counts.cells ++ codes "\n"
+
+abbrev pub return_line : Stream → StreamReturn → List ℕ
+return_line σ r = stream_text σ ++ codes " packets " ++ decimal r.packets ++ codes " back " ++ decimal r.back ++ codes " sum " ++ decimal r.sum ++ codes "\n"
+
+abbrev pub lp_return_line : Option StreamReturn → List ℕ
+lp_return_line None = []
+lp_return_line (Some r) = return_line Lp r
+
+-- the closing lines of a trial
+abbrev pub trial_lines : TrialCounts → List ℕ
+trial_lines counts = cells_line counts ++ (return_line Hp counts.hp ++ lp_return_line counts.lp)
+
+-- the lines of the trial of this number: they count what is received of the cells fed
+abbrev pub AreTrialLines : Settings → ℕ → List ℕ → Type 0
+AreTrialLines s number lines = (r : Reception) × TrialGives (at_zero s) number r × (lines ≡ trial_lines (trial_counts (at_zero s) number r))
+
+-- what a trial by these settings prints: nothing where they allow too few symbols
+pub record TrialPrints (s : Settings) (number : ℕ) (lines : List ℕ) : Type 0 where
+  pub enough : trial_symbols ≤ s.max_symbols → AreTrialLines s number lines
+  pub few : s.max_symbols < trial_symbols → lines ≡ []
+
+-- the most bytes that are taken of the settings; no other file is read
+abbrev pub trial_takes : InPort → ℕ
+trial_takes ins.Settings = most_settings + 1
+trial_takes ins.Hp = 0
+trial_takes ins.Lp = 0
+trial_takes ins.Cells = 0
+
+-- the name of the file that is read at a port
+abbrev pub trial_reads : List ℕ → InPort → Option (List ℕ)
+trial_reads settings ins.Settings = Some settings
+trial_reads settings ins.Hp = None
+trial_reads settings ins.Lp = None
+trial_reads settings ins.Cells = None
+
+abbrev pub trial_command : List ℕ → ℕ → Command
+trial_command settings number = record {
+  reads = trial_reads settings;
+  writes = λ port. None;
+  statuses = 0 ∷ 3 ∷ 5 ∷ 6 ∷ 7 ∷ 8 ∷ [];
+  early_refusal = λ file. settings_refusal (file settings);
+  work_refusal = λ limit file. option_and_then trial_refusal (settings_of (file settings));
+  most_taken = λ limit file. trial_takes;
+  Comes = λ limit file port bytes. bytes ≡ [];
+  Prints = λ limit file lines. (s : Settings) × (settings_of (file settings) ≡ Some s) × TrialPrints s number lines;
+  ComesSoFar = λ limit file unread port bytes. bytes ≡ [];
+  PrintsSoFar = λ limit file unread lines. lines ≡ [];
+  Own = λ limit file. ⊤;
+}
