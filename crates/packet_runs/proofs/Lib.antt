@@ -7,3 +7,5 @@ pub mod OuterGrows
 pub mod WholeBytes
 pub mod SentOfBytes
 pub mod InnerGrows
+pub mod CodingEnd
+pub mod InnerRuns
