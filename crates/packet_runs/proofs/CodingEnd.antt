@@ -1,5 +1,5 @@
 -- What a run of a command that codes packets leaves at its end, before the text of a refusal, and so its promise.
-use Rattle.std.proofs.Common.{◌≡◌, ◌≢◌, ◌⊎◌, inl, inr, true, false, ℕ, ◌+◌, ◌*◌, ◌-◌, ◌/◌, ◌≤◌, ◌<◌, Bool, List, [], ◌∷◌, ◌++◌, length, take, drop, refl, ◌∙◌, sym, ap, subst, arith, Result, Ok, Err, Option, None, Some}
+use Rattle.std.proofs.Common.{◌≡◌, ◌≢◌, ◌⊎◌, inl, inr, true, false, ℕ, ◌+◌, ◌*◌, ◌≤◌, ◌<◌, Bool, List, [], ◌++◌, length, take, drop, refl, ◌∙◌, sym, ap, subst, arith, Result, Ok, Err, Option, None, Some}
 use Rattle.std.specs.Prelude.{IsTrue, is_some, if◌then◌else◌, ◌==◌}
 use Rattle.std.specs.Option.{option_or}
 use Rattle.std.proofs.lemmas.List.{append-nil, drop_all}
@@ -14,9 +14,9 @@ use Rattle.run_clauses.specs.declared.work.Counts.{Counts}
 use Rattle.run_clauses.specs.declared.work.Refusal.{Refusal}
 use Rattle.run_clauses.specs.declared.work.Refusal.TheVariants.{Usage, Settings, ReadFault, WriteFault, NotSync, Memory, Limit}
 use Rattle.run_clauses.specs.Command.{Command, Files, IsInput, IsOutput, is_among, refusal_of, named, unread}
-use Rattle.run_clauses.specs.Packets.{whole_packets, first_packets, packets_of, accepted, AreAccepted, AcceptsFirst, packet_refusal, most_packets_taken, closing_line, counts_of}
-use Rattle.run_clauses.specs.Run.{Run, AsksSettingsAlone, IsUntaken}
-use Rattle.run_clauses.specs.Text.{status_of, refusal_status}
+use Rattle.run_clauses.specs.Packets.{whole_packets, first_packets, packets_of, accepted, AcceptsFirst, packet_refusal, most_packets_taken, closing_line, counts_of}
+use Rattle.run_clauses.specs.Run.{Run, IsUntaken}
+use Rattle.run_clauses.specs.Text.{status_of}
 use Rattle.run_clauses.proofs.Accepting.{all_accepted, no_refusal, not_sync_at, not_sync, past_limit_at, past_limit, accepted_from}
 use Rattle.run_steps.specs.Causes.{HasCause}
 use Rattle.run_steps.specs.Ended.{Ended, IsCaused, IsExact, Leaves, AreMade}
@@ -117,7 +117,7 @@ module _ (settings : Option (List ℕ)) (statuses : List ℕ) (knows : KnowsStat
   output_before t n within is bytes are = inr (
     refused_at n within is,
     subst (λ (m : ℕ). k.Gives start.file (first_packets m file) bytes) (sym is)
-    (subst (λ (b : List ℕ). k.Gives start.file (first_packets n file) b) (sym are) ((same t).so_far (first_packets n file))),
+        (subst (λ (b : List ℕ). k.Gives start.file (first_packets n file) b) (sym are) ((same t).so_far (first_packets n file))),
   )
 
   -- what the output comes to, of which what fewer packets give is a front

@@ -166,7 +166,7 @@ module _ (coded : List (List ℕ) → List ℕ) (limit : ℕ) (input before left
   ended (Err (Limit m)) left' after' e =
       let At : ℕ → Type 0 = λ k. AcceptsFirst limit input k × (k < whole_packets input) × (left' ≡ drop (188 * (k + 1)) input) × (after' ≡ before ++ coded (first_packets k input)) in
       let behind : left' ≡ drop (188 * (limit + 1)) input =
-          e.2 ∙ ap (λ (l : List ℕ). drop 188 l) p.left_is ∙ drop-drop 188 (188 * limit) input ∙ ap (λ (k : ℕ). drop k input) (omega arith) in
+      e.2 ∙ ap (λ (l : List ℕ). drop 188 l) p.left_is ∙ drop-drop 188 (188 * limit) input ∙ ap (λ (k : ℕ). drop k input) (omega arith) in
       let here : At limit = (p.accepted, omega (arith, e.1, all_size), behind, e.3 ∙ p.written) in
       let there : At m = subst At (sym e.0) here in
       (e.0, there.0, there.1, there.2, there.3)

@@ -1,8 +1,8 @@
 use Rattle.station_core.specs.Meaning.{Meaning}
 use Rattle.run_clauses.specs.Packets.{first_packets}
 use Rattle.packet_runs.proofs.Progress.{ends_first}
-use Rattle.packet_runs.proofs.Endings.{finished, refused_end, refused_work, unopened}
-use Rattle.packet_runs.proofs.Keeping.{keeps_again, works_closed, works_finished, later_closed, later_finished, asks_worked, asks_unopened}
+use Rattle.packet_runs.proofs.Endings.{finished, refused_end}
+use Rattle.packet_runs.proofs.Keeping.{keeps_again, works_closed, works_finished, later_closed, later_finished, asks_worked}
 use Rattle.packet_runs.proofs.packets_command.code_all.Goals as goal
 
 pub returns-in-Ok-write_end-clause-ran : goal.returns-in-Ok-write_end-clause-ran
