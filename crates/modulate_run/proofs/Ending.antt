@@ -120,7 +120,7 @@ module _ (limit : ℕ) (hp : List ℕ) (lp : Option (List ℕ)) (cells : List �
   unmade_as : end.cells_out.created ≡ start.cells_out.created → end.cells_out.created ≡ false
   unmade_as is = is ∙ fresh.cells_out.created
 
-  pub fails_at_hp : FailsAtHp hp old end → Ports limit hp lp cells start at end
+  fails_at_hp : FailsAtHp hp old end → Ports limit hp lp cells start at end
   fails_at_hp e =
       let lp_none : end.lp.asked ≡ None = ap (λ (x : Meaning). x.lp.asked) e ∙ fresh.lp.asked in
       let cells_none : end.cells_out.asked ≡ None = ap (λ (x : Meaning). x.cells_out.asked) e ∙ fresh.cells_out.asked in
@@ -129,7 +129,7 @@ module _ (limit : ℕ) (hp : List ℕ) (lp : Option (List ℕ)) (cells : List �
           (subst (λ (x : Meaning). KeepsElse old x) (sym e) refl) (omega (arith, ap (λ (x : Meaning). x.report_faults) e))
           (ap (λ (x : Meaning). x.hp.asked) e) (inl lp_none) (inl lp_none) (inl cells_none) (inl cells_none)
 
-  pub fails_at_lp : FailsAtLp hp lp old end → Ports limit hp lp cells start at end
+  fails_at_lp : FailsAtLp hp lp old end → Ports limit hp lp cells start at end
   fails_at_lp fails = go lp refl fails
     where
       go : (o : Option (List ℕ)) → lp ≡ o → FailsAtLp hp o old end → Ports limit hp lp cells start at end
@@ -142,7 +142,7 @@ module _ (limit : ℕ) (hp : List ℕ) (lp : Option (List ℕ)) (cells : List �
               (subst (λ (x : Meaning). KeepsElse old x) (sym e) refl) (omega (arith, ap (λ (x : Meaning). x.report_faults) e))
               (ap (λ (x : Meaning). x.hp.asked) e) (inr (ap (λ (x : Meaning). x.lp.asked) e ∙ sym is)) (inr hp_open) (inl cells_none) (inl cells_none)
 
-  pub fails_at_cells : FailsAtCells hp lp cells old end → Ports limit hp lp cells start at end
+  fails_at_cells : FailsAtCells hp lp cells old end → Ports limit hp lp cells start at end
   fails_at_cells e =
       let hp_open : end.hp.attached ≡ true = ap (λ (x : Meaning). x.hp.attached) e in
       ports_unmade (unmade_as (ap (λ (x : Meaning). x.cells_out.created) e))
@@ -156,7 +156,7 @@ module _ (limit : ℕ) (hp : List ℕ) (lp : Option (List ℕ)) (cells : List �
   few_in s (Ok counts) w = w.5
   few_in s (Err r) w = w.1
 
-  pub has_worked : (s : TheSettings) (r : Result TransmissionCounts Refusal) → Worked s limit hp lp cells old end r → Ports limit hp lp cells start at end
+  has_worked : (s : TheSettings) (r : Result TransmissionCounts Refusal) → Worked s limit hp lp cells old end r → Ports limit hp lp cells start at end
   has_worked s r w =
       let e = w.ports.others in
       let hp_open : end.hp.attached ≡ true = ap (λ (x : Meaning). x.hp.attached) e in
