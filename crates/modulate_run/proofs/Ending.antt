@@ -1,9 +1,9 @@
 -- What a run of `modulate` leaves whose settings were accepted and whose memory was there.
 use Rattle.std.proofs.Common.{◌≡◌, ◌≢◌, ◌⊎◌, inl, inr, true, false, ℕ, ◌+◌, ◌≤◌, Bool, if◌then◌else◌, List, [], ◌++◌, take, drop, Option, Some, None, Result, Ok, Err, refl, ◌∙◌, sym, ap, subst, arith}
-use Rattle.std.specs.Prelude.{IsTrue, IsSomeAnd, is_some, option_and_then}
+use Rattle.std.specs.Prelude.{IsTrue, is_some, option_and_then}
 use Rattle.std.specs.Option.{option_or}
 use Rattle.std.proofs.lemmas.Bool.{true≢false}
-use Rattle.station_core.specs.Meaning.{Meaning, Source, Sink, IsFresh, source_at, sink_at}
+use Rattle.station_core.specs.Meaning.{Meaning, Source, IsFresh, source_at, sink_at}
 use Rattle.station_core.specs.declared.ports.InPort.{InPort}
 use Rattle.station_core.specs.declared.ports.InPort.TheVariants as ins
 use Rattle.station_core.specs.declared.ports.OutPort.{OutPort}
@@ -25,8 +25,8 @@ use Rattle.run_steps.specs.Ended.{AreMade, Ended, Hold, IsCaused, IsExact, Leave
 use Rattle.modulate_run.specs.declared.counts.TransmissionCounts.{TransmissionCounts}
 use Rattle.modulate_run.specs.ModulateCommand.{HoldsSymbolsSoFar, cells_sent, files_of, inputs_of, left_unread, lines_before, modulate_command, modulation_lines, modulation_refusal, transmission_counts, transmission_lines}
 use Rattle.modulate_run.specs.Inputs.{left_of, lp_left}
-use Rattle.modulate_run.specs.Work.{Ends, Modulates, TakeFew, TakesFew}
-use Rattle.modulate_run.specs.Steps.{FailsAtCells, FailsAtHp, FailsAtLp, HasPrinted, OpensAll, Ran, Worked, lp_source}
+use Rattle.modulate_run.specs.Work.{Modulates, TakeFew, TakesFew}
+use Rattle.modulate_run.specs.Steps.{FailsAtCells, FailsAtHp, FailsAtLp, OpensAll, Ran, Worked, lp_source}
 
 -- what was done at the port of the settings before the work
 pub record SettingsDone (name : List ℕ) (lp : Option (List ℕ)) (s : TheSettings) (start : Meaning) (at : Source) : Type 0 where
@@ -125,9 +125,9 @@ module _ (limit : ℕ) (hp : List ℕ) (lp : Option (List ℕ)) (cells : List �
       let lp_none : end.lp.asked ≡ None = ap (λ (x : Meaning). x.lp.asked) e ∙ fresh.lp.asked in
       let cells_none : end.cells_out.asked ≡ None = ap (λ (x : Meaning). x.cells_out.asked) e ∙ fresh.cells_out.asked in
       ports_unmade (unmade_as (ap (λ (x : Meaning). x.cells_out.created) e))
-          (inl (ap (λ (x : Meaning). x.hp.attached) e ∙ fresh.hp.attached)) (inl (ap (λ (x : Meaning). x.lp.attached) e ∙ fresh.lp.attached))
-          (subst (λ (x : Meaning). KeepsElse old x) (sym e) refl) (omega (arith, ap (λ (x : Meaning). x.report_faults) e))
-          (ap (λ (x : Meaning). x.hp.asked) e) (inl lp_none) (inl lp_none) (inl cells_none) (inl cells_none)
+      (inl (ap (λ (x : Meaning). x.hp.attached) e ∙ fresh.hp.attached)) (inl (ap (λ (x : Meaning). x.lp.attached) e ∙ fresh.lp.attached))
+      (subst (λ (x : Meaning). KeepsElse old x) (sym e) refl) (omega (arith, ap (λ (x : Meaning). x.report_faults) e))
+      (ap (λ (x : Meaning). x.hp.asked) e) (inl lp_none) (inl lp_none) (inl cells_none) (inl cells_none)
 
   fails_at_lp : FailsAtLp hp lp old end → Ports limit hp lp cells start at end
   fails_at_lp fails = go lp refl fails
@@ -138,18 +138,18 @@ module _ (limit : ℕ) (hp : List ℕ) (lp : Option (List ℕ)) (cells : List �
           let cells_none : end.cells_out.asked ≡ None = ap (λ (x : Meaning). x.cells_out.asked) e ∙ fresh.cells_out.asked in
           let hp_open : end.hp.attached ≡ true = ap (λ (x : Meaning). x.hp.attached) e in
           ports_unmade (unmade_as (ap (λ (x : Meaning). x.cells_out.created) e))
-              (inr (hp_open, ap (λ (x : Meaning). x.hp.left) e)) (inl (ap (λ (x : Meaning). x.lp.attached) e ∙ fresh.lp.attached))
-              (subst (λ (x : Meaning). KeepsElse old x) (sym e) refl) (omega (arith, ap (λ (x : Meaning). x.report_faults) e))
-              (ap (λ (x : Meaning). x.hp.asked) e) (inr (ap (λ (x : Meaning). x.lp.asked) e ∙ sym is)) (inr hp_open) (inl cells_none) (inl cells_none)
+          (inr (hp_open, ap (λ (x : Meaning). x.hp.left) e)) (inl (ap (λ (x : Meaning). x.lp.attached) e ∙ fresh.lp.attached))
+          (subst (λ (x : Meaning). KeepsElse old x) (sym e) refl) (omega (arith, ap (λ (x : Meaning). x.report_faults) e))
+          (ap (λ (x : Meaning). x.hp.asked) e) (inr (ap (λ (x : Meaning). x.lp.asked) e ∙ sym is)) (inr hp_open) (inl cells_none) (inl cells_none)
 
   fails_at_cells : FailsAtCells hp lp cells old end → Ports limit hp lp cells start at end
   fails_at_cells e =
       let hp_open : end.hp.attached ≡ true = ap (λ (x : Meaning). x.hp.attached) e in
       ports_unmade (unmade_as (ap (λ (x : Meaning). x.cells_out.created) e))
-          (inr (hp_open, ap (λ (x : Meaning). x.hp.left) e)) (lp_whole_of lp (ap (λ (x : Meaning). x.lp) e))
-          (subst (λ (x : Meaning). KeepsElse old x) (sym e) refl) (omega (arith, ap (λ (x : Meaning). x.report_faults) e))
-          (ap (λ (x : Meaning). x.hp.asked) e) (lp_asked_of lp (ap (λ (x : Meaning). x.lp.asked) e)) (inr hp_open)
-          (inr (ap (λ (x : Meaning). x.cells_out.asked) e)) (inr (hp_open, lp_open_of lp (ap (λ (x : Meaning). x.lp.attached) e)))
+      (inr (hp_open, ap (λ (x : Meaning). x.hp.left) e)) (lp_whole_of lp (ap (λ (x : Meaning). x.lp) e))
+      (subst (λ (x : Meaning). KeepsElse old x) (sym e) refl) (omega (arith, ap (λ (x : Meaning). x.report_faults) e))
+      (ap (λ (x : Meaning). x.hp.asked) e) (lp_asked_of lp (ap (λ (x : Meaning). x.lp.asked) e)) (inr hp_open)
+      (inr (ap (λ (x : Meaning). x.cells_out.asked) e)) (inr (hp_open, lp_open_of lp (ap (λ (x : Meaning). x.lp.attached) e)))
 
   -- ---- the work was begun
   few_in : (s : TheSettings) (r : Result TransmissionCounts Refusal) → Modulates s limit (files_of start.file hp lp) end r → TakeFew limit (files_of start.file hp lp) (left_of end)
@@ -352,9 +352,9 @@ module _ (limit : ℕ) (name hp : List ℕ) (lp : Option (List ℕ)) (cells : Li
         ports : Ports limit hp lp cells start at end
         ports = elim ran [
           | inl opens ↦ elim opens [
-              | inl e ↦ fails_at_hp limit hp lp cells start at fresh end e
-              | inr e ↦ fails_at_lp limit hp lp cells start at fresh end e
-            ]
+            | inl e ↦ fails_at_hp limit hp lp cells start at fresh end e
+            | inr e ↦ fails_at_lp limit hp lp cells start at fresh end e
+          ]
           | inr w ↦ has_worked limit hp lp cells start at fresh end s (Err ReadFault) w
         ]
 
@@ -366,19 +366,22 @@ module _ (limit : ℕ) (name hp : List ℕ) (lp : Option (List ℕ)) (cells : Li
         stands : start.tells ≡ true → end.cells_out.created ≡ true → c.ComesSoFar limit start.file (unread c end) outs.Cells end.cells_out.written
         stands t is = elim ran [
           | inl opens ↦ absurd (elim opens [
-              | inl e ↦ true≢false (sym is ∙ ap (λ (x : Meaning). x.cells_out.created) e ∙ fresh.cells_out.created)
-              | inr e ↦ true≢false (sym is ∙ at_lp Bool lp (λ x. x.cells_out.created) (λ a b n. refl) e ∙ fresh.cells_out.created)
-            ])
-          | inr w ↦ (s, settings.stated t,
-              subst (λ (l : Stream → List ℕ). HoldsSymbolsSoFar s limit files l end.cells_out.written) (left_same (Err ReadFault) w) (w.modulates t).0)
+            | inl e ↦ true≢false (sym is ∙ ap (λ (x : Meaning). x.cells_out.created) e ∙ fresh.cells_out.created)
+            | inr e ↦ true≢false (sym is ∙ at_lp Bool lp (λ x. x.cells_out.created) (λ a b n. refl) e ∙ fresh.cells_out.created)
+          ])
+          | inr w ↦ (
+            s,
+            settings.stated t,
+            subst (λ (l : Stream → List ℕ). HoldsSymbolsSoFar s limit files l end.cells_out.written) (left_same (Err ReadFault) w) (w.modulates t).0,
+          )
         ]
 
         printed : start.tells ≡ true → end.report.written ≡ start.report.written
         printed t = elim ran [
           | inl opens ↦ elim opens [
-              | inl e ↦ ap (λ (x : Meaning). x.report.written) e
-              | inr e ↦ at_lp (List ℕ) lp (λ x. x.report.written) (λ a b n. refl) e
-            ]
+            | inl e ↦ ap (λ (x : Meaning). x.report.written) e
+            | inr e ↦ at_lp (List ℕ) lp (λ x. x.report.written) (λ a b n. refl) e
+          ]
           | inr w ↦ w.printed t
         ]
     by_refusal WriteFault cause ran = refused end ports WriteFault refl (cause.0, cause.1) (omega (arith, cause.0)) cause.2 tt (record {

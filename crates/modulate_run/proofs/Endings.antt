@@ -1,6 +1,6 @@
 -- What the parts of a run leave together, from the opening of the ports to their closing.
 use Rattle.std.proofs.Common.{◌≡◌, ◌≤◌, inr, ℕ, Bool, true, false, if◌then◌else◌, List, [], ◌++◌, length, take, Option, Some, None, Result, Ok, Err, refl, ap, sym, subst, ◌∙◌, arith}
-use Rattle.std.specs.Prelude.{is_some, IfSome, IsTrue, not}
+use Rattle.std.specs.Prelude.{is_some, IsTrue, not}
 use Rattle.std.proofs.lemmas.List.{append-nil, take_all}
 use Rattle.std.specs.Bool.{beq}
 use Rattle.station_core.specs.Meaning.{Meaning, Source, Sink}
@@ -147,7 +147,7 @@ module _ (s : TheSettings) (limit : ℕ) (hp : List ℕ) (lp : Option (List ℕ)
             ap (λ (x : Meaning). x.cells_out.written) f.others ∙ w.4,
             left_same w.5,
           )
-        );
+          );
       printed = λ t. f.written (tells_same ∙ t) ∙ all_lines t;
     }
       where
@@ -169,9 +169,11 @@ module _ (s : TheSettings) (limit : ℕ) (hp : List ℕ) (lp : Option (List ℕ)
       );
       printed = λ t.
           let w = f.written (tells_same ∙ t) in
-          let k = work (tells ∙ t) in
-          (w.0, w.1 ∙ ap (λ (x : Sink). x.written ++ take w.0 (transmission_lines (is_some lp) counts)) same_report
-              ∙ ap (λ (l : List ℕ). old.report.written ++ take w.0 l) (lines_are counts k.0 k.3));
+          let k = work (tells ∙ t) in (
+            w.0,
+            w.1 ∙ ap (λ (x : Sink). x.written ++ take w.0 (transmission_lines (is_some lp) counts)) same_report
+                ∙ ap (λ (l : List ℕ). old.report.written ++ take w.0 l) (lines_are counts k.0 k.3),
+          );
     }))
       where
         ports : IsClosed hp lp cells old new

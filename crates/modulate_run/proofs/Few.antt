@@ -1,5 +1,5 @@
 -- How much was taken of the inputs, by the packets that were put.
-use Rattle.std.proofs.Common.{◌≡◌, inl, inr, ℕ, ◌+◌, ◌*◌, ◌<◌, ◌≤◌, Bool, true, false, List, length, drop, Option, Some, None, Result, Ok, Err, refl, ap, sym, subst, ◌∙◌, arith, length-drop}
+use Rattle.std.proofs.Common.{◌≡◌, inl, inr, ℕ, ◌+◌, ◌*◌, ◌<◌, ◌≤◌, Bool, true, false, List, length, Option, Some, None, Result, Ok, Err, refl, ap, sym, subst, ◌∙◌, arith, length-drop}
 use Rattle.std.specs.Prelude.{◌&&◌, ◌==◌, is_some, slice_index}
 use Rattle.std.proofs.lemmas.Bool.{cases_lt, lt-ltb, false≢true}
 use Rattle.std.proofs.lemmas.List.{drop_all}
@@ -17,7 +17,7 @@ use Rattle.modulate_run.specs.declared.inputs.PacketInputs.{PacketInputs}
 use Rattle.modulate_run.specs.declared.input.PacketInput.{PacketInput}
 use Rattle.modulate_run.specs.ModulateCommand.{inputs_of}
 use Rattle.modulate_run.specs.Inputs.{Gives, HasLeft, IsNear, Reads, ReadsAt, left_of, lp_left}
-use Rattle.modulate_run.specs.Seen.{Seen, with_one}
+use Rattle.modulate_run.specs.Seen.{Seen}
 use Rattle.modulate_run.specs.Work.{AreNear, BothRead, GivesOf, IsAtWork, TakeFew, TakesFew, TellsPut}
 use Rattle.modulate_run.proofs.Refusing.{packet_within, refused_past, refused_unsynced}
 
@@ -70,10 +70,10 @@ module _ (limit : ℕ) (files : Stream → List ℕ) (σ : Stream) where
       by_sync : p < limit → (b : Bool) → is_sync (files σ) p ≡ b → is_accepted limit (files σ) p ≡ true
       by_sync lt true e = ap (λ (x : Bool). x && is_sync (files σ) p) (lt-ltb p limit lt) ∙ e
       by_sync lt false e = absurd (
-        let unsynced = ap (λ (l : List ℕ). slice_index l 0 == 0x47) (packet_within (files σ) p within) ∙ e in
-        let x : Some (agenda.NotSync σ p) ≡ None = sym (refused_unsynced limit files σ p within lt unsynced) ∙ none in
-        cc
-      )
+          let unsynced = ap (λ (l : List ℕ). slice_index l 0 == 0x47) (packet_within (files σ) p within) ∙ e in
+          let x : Some (agenda.NotSync σ p) ≡ None = sym (refused_unsynced limit files σ p within lt unsynced) ∙ none in
+          cc
+          )
 
   bound : (k n a : ℕ) → k ≤ 188 * (n + 1) → n ≤ a → k ≤ 188 * (a + 1)
   bound k n a few l = omega (arith, few, l)

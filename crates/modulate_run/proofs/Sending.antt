@@ -87,8 +87,7 @@ module _ (sends : SendsSymbol) (so_far : SentSoFar) (next : OneSymbolMore) (part
         ∙ ap (λ (x : Seen). first_symbols x.settings (inputs_of files) x.made) (sym seen);
   }
   sends_on (Err refusal) writes =
-      let front = front_cells part t.settings limit (inputs_of files) t.made writes.1 due.more sent in
-      (
+      let front = front_cells part t.settings limit (inputs_of files) t.made writes.1 due.more sent in (
         subst (λ (r : Refusal). Ends t'.settings limit files m' r) (sym writes.0) (
           front.0,
           writes.2 ∙ ap (λ (w : List ℕ). w ++ take writes.1 (tx_symbol t.settings (inputs_of files) t.made)) written ∙ front.1

@@ -71,8 +71,7 @@ module _ (limit : ℕ) (files : Stream → List ℕ) (σ : Stream) (put : ℕ) (
       pub lacks_sync : input.taken < limit → length bytes ≡ 188 → slice_index bytes 0 ≢ 0x47 → Gives limit files σ put (drop n left) input (Err (NotSync σ input.taken))
       lacks_sync few long differs =
           let sync : (slice_index (packet_at (packets_of (files σ)) put) 0 == 0x47) ≡ false =
-          ap (λ (l : List ℕ). slice_index l 0 == 0x47) (sym (packet_is long)) ∙ ne_eqb (slice_index bytes 0) 0x47 differs in
-          (
+          ap (λ (l : List ℕ). slice_index l 0 == 0x47) (sym (packet_is long)) ∙ ne_eqb (slice_index bytes 0) 0x47 differs in (
             ap (option_map refused_by) (refused_unsynced limit files σ put within (omega (arith, few, open_is.1)) sync) ∙ ap (λ (k : ℕ). Some (NotSync σ k)) open_is.1,
             near n (omega (arith, is_whole)),
           )

@@ -1,5 +1,5 @@
 -- The promise of a whole run of `modulate`.
-use Rattle.std.proofs.Common.{◌≡◌, ◌≤◌, inl, inr, true, ℕ, List, Option, Some, None, Result, Ok, Err, refl, ◌∙◌, sym, ap, subst}
+use Rattle.std.proofs.Common.{◌≡◌, inl, inr, true, ℕ, List, Option, Some, Result, Ok, Err, refl, ◌∙◌, sym, ap, subst}
 use Rattle.station_core.specs.Meaning.{Meaning, IsFresh}
 use Rattle.mode_set.specs.declared.settings.Settings.{Settings as TheSettings}
 use Rattle.run_clauses.specs.declared.work.Refusal.{Refusal}
@@ -59,10 +59,8 @@ module _ (limit : ℕ) (name hp : List ℕ) (lp : Option (List ℕ)) (cells : Li
       lp = fresh.lp.asked;
       lp_attached = fresh.lp.attached;
       cells = fresh.cells_out.asked;
-      not_created = fresh.cells_out.created;
       report = fresh.report;
       report_open = fresh.report_open;
-      report_empty = fresh.report_empty;
     })
 
     settings : SettingsDone name lp s start mid.settings

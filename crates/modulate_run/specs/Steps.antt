@@ -15,16 +15,14 @@ use Rattle.modulate_run.specs.Work.{Modulates}
 use Rattle.modulate_run.specs.ModulateCommand.{files_of, modulation_lines}
 use Rattle.modulate_run.specs.declared.counts.TransmissionCounts.{TransmissionCounts}
 
--- nothing was asked on HP, LP and Cells, Report is open, and nothing was written there
+-- nothing was asked on HP, LP and Cells, and Report is open
 pub record IsReady (m : Meaning) : Type 0 where
   pub hp : m.hp.asked ≡ None
   pub lp : m.lp.asked ≡ None
   pub lp_attached : m.lp.attached ≡ false
   pub cells : m.cells_out.asked ≡ None
-  pub not_created : m.cells_out.created ≡ false
   pub report : m.report.created ≡ true
   pub report_open : m.report.closed ≡ false
-  pub report_empty : m.tells ≡ true → m.report.written ≡ []
 
 -- a transmitter before its first packet
 pub record IsNew (t : Seen) : Type 0 where
