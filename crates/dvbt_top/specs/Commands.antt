@@ -3,8 +3,8 @@ use Rattle.std.specs.Prelude.{◌≡◌, ℕ, ⊤, List, [], ◌∷◌, Option, 
 use Rattle.run_clauses.specs.Command.{Command}
 use Rattle.run_clauses.specs.declared.work.Refusal.TheVariants.{Usage}
 use Rattle.packet_runs.specs.Commands.{disperse_command, outer_command, inner_command}
-use Rattle.modulate_run.specs.Commands.{modulate_command}
-use Rattle.receive_run.specs.Commands.{receive_command}
+use Rattle.modulate_run.specs.ModulateCommand.{modulate_command}
+use Rattle.receive_run.specs.ReceiveCommand.{receive_command}
 use Rattle.trial_run.specs.TrialCommand.{trial_command}
 use Rattle.dvbt_top.specs.Order.{Order, Disperse, Outer, Inner, Code, Modulate, Receive, Trial, order_of}
 
