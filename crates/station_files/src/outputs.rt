@@ -18,7 +18,7 @@ pub struct Outputs<'a, F> {
 }
 
 impl<'a, F: Write + OpenFile + Drop> Outputs<'a, F> {
-    ghost use Rattle.station_files.specs.Outputs.{AllOut, SameSinks};
+    ghost use Rattle.station_files.specs.Outputs.{AllOut, AllTold, SameSinks};
 
     /// Writes what waits at any port. A file that fails is told of by `tell`.
     pub fn flush(&mut self)
@@ -36,6 +36,7 @@ impl<'a, F: Write + OpenFile + Drop> Outputs<'a, F> {
         requires out { AllOut self.old }
         ensures same { SameSinks self.old self.new }
         ensures out { AllOut self.new }
+        ensures told { AllTold self.new }
     {
         let cells = self.cells.tell();
         let hp = self.hp.tell();
@@ -47,7 +48,9 @@ impl<'a, F: Write + OpenFile + Drop> Outputs<'a, F> {
     /// Writes a line to standard output, behind all that the ports were given. Where one of them
     /// fails, so does this call, and nothing of the line is written.
     pub fn report<R: Print>(&mut self, rt: &R, line: &[u8]) -> Result<(), Failed>
-        ensures { SameSinks self.old self.new }
+        ensures same { SameSinks self.old self.new }
+        ensures out { AllOut self.new }
+        ensures told { AllTold self.new }
     {
         self.flush();
         self.tell()?;

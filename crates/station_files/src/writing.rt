@@ -65,6 +65,8 @@ impl<'a, F: Write + OpenFile + Drop> FileWriting<'a, F> {
     pub fn flush(&mut self)
         ensures same { sink_of self.new ≡ sink_of self.old }
         ensures out { IsOut self.new }
+        ensures failed { self.old.fault ≢ Absent → self.new.fault ≢ Absent }
+        ensures untold { self.old.fault ≡ Untold → self.new.fault ≡ Untold }
     {
         if self.buffer.is_empty() {
             return;
@@ -96,7 +98,9 @@ impl<'a, F: Write + OpenFile + Drop> FileWriting<'a, F> {
 
     /// Takes the bytes to be written behind those before. Once the file has failed each call does.
     pub fn write(&mut self, bytes: &[u8]) -> Result<(), Failed>
-        ensures { sink_of self.new ≡ sink_of self.old }
+        ensures same { sink_of self.new ≡ sink_of self.old }
+        ensures failed { self.old.fault ≢ Absent → IsErr result }
+        ensures told { IsErr result ↔ (self.new.fault ≢ Absent) }
     {
         if self.fault == Fault::Absent && self.buffer.gather(bytes) {
             return Ok(());
@@ -121,7 +125,8 @@ impl<'a, F: Write + OpenFile + Drop> FileWriting<'a, F> {
 
     /// Writes what waits and closes the file, also where that fails.
     pub fn close(&mut self) -> Result<(), Failed>
-        ensures { sink_of self.new ≡ closed_sink (sink_of self.old) }
+        ensures closed { sink_of self.new ≡ closed_sink (sink_of self.old) }
+        ensures told { self.old.fault ≡ Untold → IsErr result }
     {
         self.flush();
         let told = self.tell();
