@@ -32,6 +32,8 @@ pub struct FileStation<'a, R: Files + Print> {
     report_closed: bool,
     read_faults: u64,
     write_faults: u64,
+    // the writes to Report that have failed
+    report_faults: u64,
 }
 
 impl<'a, R: Files + Print> FileStation<'a, R> {
@@ -60,6 +62,7 @@ impl<'a, R: Files + Print> FileStation<'a, R> {
             report_closed: false,
             read_faults: 0,
             write_faults: 0,
+            report_faults: 0,
         }
     }
 
@@ -84,6 +87,7 @@ impl<'a, R: Files + Print> FileStation<'a, R> {
             report_closed: false,
             read_faults: 0,
             write_faults: 0,
+            report_faults: 0,
         }
     }
 }
@@ -146,7 +150,10 @@ impl<'a, R: Files + Print> Station<'a> for FileStation<'a, R> {
             OutPort::Hp => counted(self.outputs.hp.write(bytes), faults),
             OutPort::Lp => counted(self.outputs.lp.write(bytes), faults),
             OutPort::Bytes => counted(self.outputs.bytes.write(bytes), faults),
-            OutPort::Report => counted(self.outputs.report(self.rt, bytes), faults),
+            OutPort::Report => {
+                let answer = counted(self.outputs.report(self.rt, bytes), faults);
+                counted(answer, &mut self.report_faults)
+            }
         }
     }
 
