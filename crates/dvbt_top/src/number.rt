@@ -1,6 +1,6 @@
 // A number among the words.
 ghost use Rattle.std.specs.Prelude.{◌≡◌, ◌==◌, slice_index};
-ghost use Rattle.run_clauses.specs.Number as spelled;
+ghost use Rattle.dvbt_top.specs.Number as spelled;
 
 /// The most digits of a number.
 const MOST_DIGITS: usize = 10;

@@ -1,9 +1,9 @@
 // From the words to the form.
 ghost use Rattle.std.specs.Prelude.{◌≡◌, map, string_bytes};
 ghost use Rattle.std.specs.Option.{option_map};
-ghost use Rattle.run_clauses.specs.Command.{Trial, command_of};
-ghost use Rattle.run_clauses.specs.Number.{number_of};
-ghost use Rattle.dvbt_top.specs.Form.{command};
+ghost use Rattle.dvbt_top.specs.Form.{order};
+ghost use Rattle.dvbt_top.specs.Number.{number_of};
+ghost use Rattle.dvbt_top.specs.Order.{Trial, order_of};
 ghost use Rattle.dvbt_top.specs.Words.{TwoAfter, ThreeAfter, FourAfter};
 
 use crate::form::Form;
@@ -55,7 +55,7 @@ fn four_after<'a>(words: &'a [String], name: &str) -> Option<(&'a str, &'a str, 
 
 // The form of a trial, if the word of its number is one.
 fn trial_form<'a>(settings: &'a str, number: &str) -> Option<Form<'a>>
-    ensures { option_map command result ≡ option_map (λ n. Trial settings.now n) (number_of number.now) }
+    ensures { option_map order result ≡ option_map (λ n. Trial settings.now n) (number_of number.now) }
 {
     match number_of(number) {
         Some(number) => Some(Form::Trial { settings, number }),
@@ -65,7 +65,7 @@ fn trial_form<'a>(settings: &'a str, number: &str) -> Option<Form<'a>>
 
 /// The form of the words, if they are of one. A word is taken as it stands; there are no options.
 pub fn form_of<'a>(words: &'a [String]) -> Option<Form<'a>>
-    ensures { option_map command result ≡ command_of (map string_bytes words.now) }
+    ensures { option_map order result ≡ order_of (map string_bytes words.now) }
 {
     if let Some((input, output)) = two_after(words, "disperse") {
         return Some(Form::Disperse { input, output });

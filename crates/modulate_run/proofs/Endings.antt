@@ -1,6 +1,6 @@
 -- What the parts of a run leave together, from the opening of the ports to their closing.
-use Rattle.std.proofs.Common.{◌≡◌, ℕ, Bool, true, false, if◌then◌else◌, List, [], ◌++◌, length, take, Option, Some, None, Result, Ok, Err, refl, ap, sym, subst, ◌∙◌, arith}
-use Rattle.std.specs.Prelude.{is_some, IfSome, IsTrue, not}
+use Rattle.std.proofs.Common.{◌≡◌, ◌≤◌, inr, ℕ, Bool, true, false, if◌then◌else◌, List, [], ◌++◌, length, take, Option, Some, None, Result, Ok, Err, refl, ap, sym, subst, ◌∙◌, arith}
+use Rattle.std.specs.Prelude.{is_some, IsTrue, not}
 use Rattle.std.proofs.lemmas.List.{append-nil, take_all}
 use Rattle.std.specs.Bool.{beq}
 use Rattle.station_core.specs.Meaning.{Meaning, Source, Sink}
@@ -12,20 +12,37 @@ use Rattle.mode_set.specs.declared.settings.Settings.{Settings as TheSettings}
 use Rattle.transmission.specs.Transmission.{Inputs, first_symbols}
 use Rattle.transmission.specs.AgendaLaws.{IsAt, WorkBegins}
 use Rattle.transmission.specs.Laws.{NoSymbol}
-use Rattle.run_clauses.specs.declared.work.TransmissionCounts.{TransmissionCounts}
+use Rattle.modulate_run.specs.declared.counts.TransmissionCounts.{TransmissionCounts}
 use Rattle.run_clauses.specs.declared.work.Refusal.{Refusal}
 use Rattle.run_clauses.specs.declared.work.Refusal.TheVariants.{Usage, Settings, ReadFault, WriteFault, NotSync, Memory, Limit}
-use Rattle.run_clauses.specs.Modulation.{files_of, fits_form, inputs_of, lp_file, lp_left, HoldsSymbolsSoFar, transmission_lines}
-use Rattle.modulate_run.specs.Inputs.{Reads}
+use Rattle.run_clauses.specs.Command.{named}
+use Rattle.run_clauses.specs.StreamForm.{fits_form}
+use Rattle.modulate_run.specs.ModulateCommand.{files_of, inputs_of, lines_before, modulation_lines, modulation_refusal, transmission_counts, transmission_lines}
+use Rattle.modulate_run.specs.Inputs.{Reads, left_of, lp_left}
 use Rattle.modulate_run.specs.Seen.{Seen}
-use Rattle.modulate_run.specs.Work.{Ends, IsWritten, KeepsOthers, Modulates}
+use Rattle.modulate_run.specs.Work.{Ends, IsWritten, KeepsOthers, Modulates, TakeFew}
 use Rattle.modulate_run.specs.Reporting.{Finishes, IsFinish}
-use Rattle.modulate_run.specs.Steps.{ClosesRefused, IsNew, OpensAll, Ran, first_inputs, lp_source}
+use Rattle.modulate_run.specs.Steps.{ClosesRefused, HasPrinted, IsClosed, IsNew, OpensAll, Ran, first_inputs, lp_source}
+
+-- Cells is closed; what is left of the inputs, what was written and the counts may differ
+abbrev closed_as : Meaning → Meaning → Meaning
+closed_as new m = record m {
+  hp = record m.hp { left = new.hp.left };
+  lp = record m.lp { left = new.lp.left };
+  cells_out = record m.cells_out { closed = true; written = new.cells_out.written };
+  report = record m.report { written = new.report.written };
+  read_faults = new.read_faults;
+  write_faults = new.write_faults;
+  report_faults = new.report_faults;
+}
+
+abbrev ClosedSince : Meaning → Meaning → Type 0
+ClosedSince m new = new ≡ closed_as new m
 
 -- ---- before the first symbol
 -- the file of LP is there to be read from its beginning, or there is none
 lp_reads : (lp : Option (List ℕ)) (old mid : Meaning) (put : ℕ) → put ≡ 0 → old.lp.attached ≡ false → mid.lp ≡ lp_source lp old
-    → Reads (lp_file old.file lp) (lp_left mid) (first_inputs (is_some lp)).lp put
+    → Reads (named old.file lp) (lp_left mid) (first_inputs (is_some lp)).lp put
 lp_reads None old mid put none closed is =
     let attached : mid.lp.attached ≡ false = ap (λ (x : Source). x.attached) is ∙ closed in
     record {
@@ -65,87 +82,103 @@ module _ (s : TheSettings) (limit : ℕ) (hp : List ℕ) (lp : Option (List ℕ)
           (subst (λ (n : ℕ). IsAt t.settings limit (inputs_of files) 0 n t.lp) (sym new.hp)
           (subst (λ (n : ℕ). IsAt t.settings limit (inputs_of files) 0 0 n) (sym new.lp) (begins t.settings limit (inputs_of files))))
 
-  -- ---- a run that was refused in the work, and whose output was then closed
+  -- ---- the work has ended, and the output was then closed
   module _ (fin new : Meaning) (keeps : KeepsOthers mid fin) where
-    created : fin.cells_out.created ≡ true
-    created = ap (λ (x : Meaning). x.cells_out.created) keeps ∙ ap (λ (x : Meaning). x.cells_out.created) opened
-
     same_report : fin.report ≡ old.report
     same_report = ap (λ (x : Meaning). x.report) keeps ∙ ap (λ (x : Meaning). x.report) opened
+
+    same_faults : fin.report_faults ≡ old.report_faults
+    same_faults = ap (λ (x : Meaning). x.report_faults) keeps ∙ ap (λ (x : Meaning). x.report_faults) opened
 
     tells_same : fin.tells ≡ old.tells
     tells_same = ap (λ (x : Meaning). x.tells) keeps ∙ tells
 
-    so_far : (n : ℕ) → HoldsSymbolsSoFar s limit files fin fin.cells_out.written → Ends s limit files (record fin { cells_out = record fin.cells_out { closed = true }; write_faults = n }) ReadFault
-    so_far n h = record { met = h.met; at_end = h.at_end; symbols = h.symbols; enough = h.enough; is = h.is; in_order = h.in_order; accepted = h.accepted }
+    is_closed : ClosedSince fin new → old.report_faults ≤ new.report_faults → IsClosed hp lp cells old new
+    is_closed since later = record { others = since ∙ ap (closed_as new) keeps ∙ ap (closed_as new) opened; later_report = later }
 
+    -- what holds of the cells and of what is left holds also when Cells is closed
     ends_same : (n : ℕ) (r : Refusal) → Ends s limit files fin r → Ends s limit files (record fin { cells_out = record fin.cells_out { closed = true }; write_faults = n }) r
-    ends_same n ReadFault e = so_far n e
     ends_same n Usage e = e
     ends_same n (Settings reason) e = e
+    ends_same n ReadFault e = e
     ends_same n WriteFault e = e
     ends_same n (NotSync σ p) e = e
     ends_same n Memory e = e
     ends_same n (Limit most) e = e
 
-    pub refused_with : (r : Refusal) → (mid.tells ≡ true → Ends s limit files fin r) → ClosesRefused fin new → Ran s limit hp lp old new (Err r)
-    refused_with r work closes =
-        cases r (λ t. subst (λ (x : Meaning). Ends s limit files x r) (sym closes.closed) (ends_same new.write_faults r (work (tells ∙ t))))
+    -- the work was refused: nothing was printed
+    pub refused_with : (r : Refusal) → (mid.tells ≡ true → Modulates s limit files fin (Err r)) → ClosesRefused fin new → Ran s limit hp lp cells old new (Err r)
+    refused_with r work closes = inr (record {
+      ports = is_closed (subst (λ (x : Meaning). ClosedSince fin x) (sym closes.closed) refl) (omega (arith, same_faults, ap (λ (x : Meaning). x.report_faults) closes.closed));
+      modulates = λ t. subst (λ (x : Meaning). Modulates s limit files x (Err r)) (sym closes.closed)
+          (let w = work (tells ∙ t) in (ends_same new.write_faults r w.0, w.1));
+      printed = λ t. none r;
+    })
       where
-        report' : new.report ≡ old.report
-        report' = ap (λ (x : Meaning). x.report) closes.closed ∙ same_report
+        report_same : new.report.written ≡ old.report.written
+        report_same = ap (λ (x : Meaning). x.report.written) closes.closed ∙ ap (λ (x : Sink). x.written) same_report
 
-        created' : new.cells_out.created ≡ true
-        created' = ap (λ (x : Meaning). x.cells_out.created) closes.closed ∙ created
+        none : (r : Refusal) → HasPrinted (modulation_lines s limit (is_some lp) files) old new (Err r)
+        none Usage = report_same
+        none (Settings reason) = report_same
+        none ReadFault = report_same
+        none WriteFault = (0, report_same ∙ sym (append-nil old.report.written))
+        none (NotSync σ p) = report_same
+        none Memory = report_same
+        none (Limit n) = report_same
 
-        cases : (r : Refusal) → (old.tells ≡ true → Ends s limit files new r) → Ran s limit hp lp old new (Err r)
-        cases ReadFault d = (report', (λ t is. d t))
-        cases WriteFault d = ((λ t is. d t), (λ t. (0, ap (λ (x : Sink). x.written) report' ∙ sym (append-nil old.report.written))))
-        cases Usage d = (report', created', d)
-        cases (Settings reason) d = (report', created', d)
-        cases (NotSync σ p) d = (report', created', d)
-        cases Memory d = (report', created', d)
-        cases (Limit n) d = (report', created', d)
+    -- the work was done: its closing lines are those of the modulation
+    lines_are : (counts : TransmissionCounts) → counts ≡ transmission_counts s files → modulation_refusal s limit (inputs_of files) ≡ None
+        → transmission_lines (is_some lp) counts ≡ modulation_lines s limit (is_some lp) files
+    lines_are counts same none =
+        ap (transmission_lines (is_some lp)) same ∙ sym (ap (λ (o : Option Refusal). lines_before o (transmission_lines (is_some lp) (transmission_counts s files))) none)
 
-    lp_is : (o : Option (List ℕ)) → mid.lp ≡ lp_source o old → IfSome o (λ name. new.lp.attached ≡ mid.lp.attached → new.lp.attached ≡ true)
-    lp_is None is = tt
-    lp_is (Some name) is = λ same. same ∙ ap (λ (x : Source). x.attached) is
-
-    lp_attached : (o : Option (List ℕ)) → mid.lp ≡ lp_source o old → new.lp.attached ≡ mid.lp.attached → IfSome o (λ name. new.lp.attached ≡ true)
-    lp_attached None is same = tt
-    lp_attached (Some name) is same = same ∙ ap (λ (x : Source). x.attached) is
-
-    -- ---- the work was done; the closing lines were written, or were not
+    -- they were written, or were not
     pub finished : (counts : TransmissionCounts) → (mid.tells ≡ true → Modulates s limit files fin (Ok counts))
-        → (r : Result TransmissionCounts Refusal) → IsFinish counts r → Finishes (is_some lp) counts fin new r → Ran s limit hp lp old new r
-    finished counts work (Ok c) is f = subst (λ (x : TransmissionCounts). Ran s limit hp lp old new (Ok x)) (sym is) (
-      record {
-        hp = ap (λ (x : Meaning). x.hp.attached) f.others ∙ ap (λ (x : Meaning). x.hp.attached) keeps ∙ ap (λ (x : Meaning). x.hp.attached) opened;
-        lp_attached = lp_attached lp (ap (λ (x : Meaning). x.lp) opened) (ap (λ (x : Meaning). x.lp.attached) f.others ∙ ap (λ (x : Meaning). x.lp.attached) keeps);
-        created = ap (λ (x : Meaning). x.cells_out.created) f.others ∙ created;
-        closed = ap (λ (x : Meaning). x.cells_out.closed) f.others;
-        report = λ t. f.written (tells_same ∙ t) ∙ ap (λ (x : Sink). x.written ++ transmission_lines (is_some lp) counts) same_report;
-      },
-      (λ t. let w = work (tells ∙ t) in (
-        w.0,
-        ap (λ (x : Meaning). x.hp.left) f.others ∙ w.1,
-        ap lp_left f.others ∙ w.2,
-        w.3,
-        ap (λ (x : Meaning). x.cells_out.written) f.others ∙ w.4,
-      )),
-    )
-    finished counts work (Err r) is f = subst (λ (x : Refusal). Ran s limit hp lp old new (Err x)) (sym is) (
-      (λ t made.
-          let w = work (tells ∙ t) in
-          (length fin.cells_out.written, ap (λ (x : Meaning). x.cells_out.written) f.others ∙ whole fin.cells_out.written ∙ ap (take (length fin.cells_out.written)) w.4)),
-      (λ t.
-          let w = f.written (tells_same ∙ t) in (
+        → (r : Result TransmissionCounts Refusal) → IsFinish counts r → Finishes (is_some lp) counts fin new r → Ran s limit hp lp cells old new r
+    finished counts work (Ok c) is f = record {
+      ports = ports;
+      modulates = λ t. subst (λ (x : TransmissionCounts). Modulates s limit files new (Ok x)) (sym is) (
+          let w = work (tells ∙ t) in (
+            w.0,
+            ap (λ (x : Meaning). x.hp.left) f.others ∙ w.1,
+            ap lp_left f.others ∙ w.2,
+            w.3,
+            ap (λ (x : Meaning). x.cells_out.written) f.others ∙ w.4,
+            left_same w.5,
+          )
+          );
+      printed = λ t. f.written (tells_same ∙ t) ∙ all_lines t;
+    }
+      where
+        ports : IsClosed hp lp cells old new
+        ports = is_closed (subst (λ (x : Meaning). ClosedSince fin x) (sym f.others) refl) (omega (arith, same_faults, f.later_report))
+
+        left_same : TakeFew limit files (left_of fin) → TakeFew limit files (left_of new)
+        left_same few = subst (λ (l : Stream → List ℕ). TakeFew limit files l) (sym (ap left_of f.others)) few
+
+        all_lines : old.tells ≡ true → fin.report.written ++ transmission_lines (is_some lp) counts ≡ old.report.written ++ modulation_lines s limit (is_some lp) files
+        all_lines t =
+            ap (λ (x : Sink). x.written ++ transmission_lines (is_some lp) counts) same_report
+            ∙ ap (λ (l : List ℕ). old.report.written ++ l) (lines_are counts (work (tells ∙ t)).0 (work (tells ∙ t)).3)
+    finished counts work (Err r) is f = subst (λ (x : Refusal). Ran s limit hp lp cells old new (Err x)) (sym is) (inr (record {
+      ports = ports;
+      modulates = λ t. let w = work (tells ∙ t) in (
+        (length fin.cells_out.written, ap (λ (x : Meaning). x.cells_out.written) f.others ∙ whole fin.cells_out.written ∙ ap (take (length fin.cells_out.written)) w.4),
+        subst (λ (l : Stream → List ℕ). TakeFew limit files l) (sym (ap left_of f.others)) w.5,
+      );
+      printed = λ t.
+          let w = f.written (tells_same ∙ t) in
+          let k = work (tells ∙ t) in (
             w.0,
             w.1 ∙ ap (λ (x : Sink). x.written ++ take w.0 (transmission_lines (is_some lp) counts)) same_report
-                ∙ ap (λ (c : TransmissionCounts). old.report.written ++ take w.0 (transmission_lines (is_some lp) c)) (work (tells ∙ t)).0,
-          )),
-    )
+                ∙ ap (λ (l : List ℕ). old.report.written ++ take w.0 l) (lines_are counts k.0 k.3),
+          );
+    }))
       where
+        ports : IsClosed hp lp cells old new
+        ports = is_closed (subst (λ (x : Meaning). ClosedSince fin x) (sym f.others) refl) (omega (arith, same_faults, f.later_report))
+
         whole : (l : List ℕ) → l ≡ take (length l) l
         whole l = sym (take_all (length l) l (omega arith))
 

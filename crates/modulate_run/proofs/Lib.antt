@@ -1,11 +1,11 @@
 pub mod Refusing
 pub mod Taking
+pub mod Few
 pub mod Stopping
 pub mod Sending
 pub mod WholeWork
 pub mod Keeping
 pub mod Lines
 pub mod Endings
-pub mod Clauses
-pub mod Ports
+pub mod Ending
 pub mod WholeRun

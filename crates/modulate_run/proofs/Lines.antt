@@ -3,15 +3,16 @@ use Rattle.std.proofs.Common.{◌≡◌, ℕ, Bool, true, false, if◌then◌els
 use Rattle.std.proofs.lemmas.List.{append-nil, take_all}
 use Rattle.station_core.specs.Meaning.{Meaning, with_sink, closed_sink, with_write_faults}
 use Rattle.station_core.specs.declared.ports.OutPort.TheVariants.{Cells}
-use Rattle.run_clauses.specs.declared.work.TransmissionCounts.{TransmissionCounts}
+use Rattle.modulate_run.specs.declared.counts.TransmissionCounts.{TransmissionCounts}
 use Rattle.run_clauses.specs.declared.work.Refusal.TheVariants.{WriteFault}
-use Rattle.run_clauses.specs.Modulation.{transmission_lines}
+use Rattle.modulate_run.specs.ModulateCommand.{transmission_lines}
 use Rattle.run_steps.specs.Lines.{WritesLines}
 use Rattle.modulate_run.specs.Reporting.{Finishes}
 
 pub writes_none : (b : Bool) (text : List ℕ) (m : Meaning) → b ≡ false → WritesLines (if b then text else []) m m (Ok tt)
 writes_none b text m is = record {
   others = refl;
+  later_report = omega arith;
   written = λ t. sym (ap (λ (x : Bool). m.report.written ++ (if x then text else [])) is ∙ append-nil m.report.written);
 }
 
@@ -23,10 +24,13 @@ pub closes_late : (two : Bool) (counts : TransmissionCounts) (m m' m'' : Meaning
 closes_late two counts m m' m'' writes closes =
     let text : List ℕ = transmission_lines two counts in
     let report : m''.report.written ≡ m'.report.written = ap (λ (x : Meaning). x.report.written) closes in
+    let faults : m''.report_faults ≡ m'.report_faults = ap (λ (x : Meaning). x.report_faults) closes in
     record {
       others =
           closes
           ∙ ap (λ (x : Meaning). with_write_faults m''.write_faults (with_sink Cells (closed_sink x.cells_out) x)) writes.others
-          ∙ ap (λ (l : List ℕ). record m { cells_out = record m.cells_out { closed = true }; report = record m.report { written = l }; write_faults = m''.write_faults }) (sym report);
+          ∙ ap (λ (l : List ℕ). record m { cells_out = record m.cells_out { closed = true }; report = record m.report { written = l }; write_faults = m''.write_faults; report_faults = m'.report_faults }) (sym report)
+          ∙ ap (λ (n : ℕ). record m { cells_out = record m.cells_out { closed = true }; report = record m.report { written = m''.report.written }; write_faults = m''.write_faults; report_faults = n }) (sym faults);
+      later_report = omega (arith, writes.later_report, faults);
       written = λ t. (length text, report ∙ writes.written t ∙ ap (λ (l : List ℕ). m.report.written ++ l) (sym (take_all (length text) text (omega arith))));
     }

@@ -6,7 +6,7 @@ use Rattle.mode_set.specs.declared.modes.Stream.{Stream}
 use Rattle.outer_chain.specs.Sent.{packet_at}
 use Rattle.transmission.specs.Agenda.{packet_refusal, Limit, NotSync}
 use Rattle.run_clauses.specs.Packets.{file_packet, packets_of, whole_packets}
-use Rattle.run_clauses.specs.Modulation.{inputs_of}
+use Rattle.modulate_run.specs.ModulateCommand.{inputs_of}
 use Rattle.run_clauses.proofs.FilePackets.{count_is, packet_is}
 use Rattle.std.proofs.lemmas.List.{get_or_past}
 use Rattle.ts_packet.specs.Packet.{null_packet}

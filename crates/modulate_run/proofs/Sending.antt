@@ -11,10 +11,12 @@ use Rattle.transmission.specs.AgendaLaws.{IsAt, SendsSymbol, SentSoFar}
 use Rattle.transmission.specs.Laws.{OneSymbolMore, PartOfSymbols}
 use Rattle.run_clauses.specs.declared.work.Refusal.{Refusal}
 use Rattle.run_clauses.specs.declared.work.Refusal.TheVariants.{Usage, Settings, ReadFault, WriteFault, NotSync, Memory, Limit}
-use Rattle.run_clauses.specs.Modulation.{HoldsSymbolsSoFar, cells_sent, inputs_of, sent_by}
+use Rattle.modulate_run.specs.ModulateCommand.{HoldsSymbolsSoFar, cells_sent, inputs_of, sent_by}
 use Rattle.modulate_run.specs.declared.inputs.PacketInputs.{PacketInputs}
 use Rattle.modulate_run.specs.Seen.{Seen, wanted}
-use Rattle.modulate_run.specs.Work.{BothRead, Ends, IsAtWork, IsDue, KeepsOutputs, Sends, Stops, WritesCells, WritesSymbol}
+use Rattle.modulate_run.specs.Work.{BothRead, Ends, IsAtWork, IsDue, KeepsOutputs, Sends, Stops, TakeFew, WritesCells, WritesSymbol}
+use Rattle.modulate_run.specs.Inputs.{left_of}
+use Rattle.modulate_run.proofs.Few.{few_at_work}
 
 -- the symbols before one, and a part of it, are a front of the cells that are sent
 pub front_cells : PartOfSymbols → (s : TheSettings) (limit : ℕ) (inputs : Inputs) (m k : ℕ) → m < symbols_of s inputs → m < symbols_sent s limit inputs
@@ -44,7 +46,7 @@ pub ends_before : (limit : ℕ) (files : Stream → List ℕ) (t : Seen) (m : Me
     → (r : Refusal) → Stops limit files m t r → Ends t.settings limit files m r
 ends_before limit files t m written Usage s = (s.0, written ∙ sym s.1)
 ends_before limit files t m written (Settings reason) s = (s.0, written ∙ sym s.1)
-ends_before limit files t m written ReadFault s = subst (λ (w : List ℕ). HoldsSymbolsSoFar t.settings limit files m w) (sym written) s
+ends_before limit files t m written ReadFault s = subst (λ (w : List ℕ). HoldsSymbolsSoFar t.settings limit files (left_of m) w) (sym written) s
 ends_before limit files t m written WriteFault s = absurd s
 ends_before limit files t m written (NotSync σ p) s = (s.0, written ∙ sym s.1)
 ends_before limit files t m written Memory s = (s.0, written ∙ sym s.1)
@@ -85,9 +87,11 @@ module _ (sends : SendsSymbol) (so_far : SentSoFar) (next : OneSymbolMore) (part
         ∙ ap (λ (x : Seen). first_symbols x.settings (inputs_of files) x.made) (sym seen);
   }
   sends_on (Err refusal) writes =
-      let front = front_cells part t.settings limit (inputs_of files) t.made writes.1 due.more sent in
-      subst (λ (r : Refusal). Ends t'.settings limit files m' r) (sym writes.0) (
-        front.0,
-        writes.2 ∙ ap (λ (w : List ℕ). w ++ take writes.1 (tx_symbol t.settings (inputs_of files) t.made)) written ∙ front.1
-            ∙ ap (λ (x : Seen). take front.0 (cells_sent x.settings limit (inputs_of files))) (sym seen),
+      let front = front_cells part t.settings limit (inputs_of files) t.made writes.1 due.more sent in (
+        subst (λ (r : Refusal). Ends t'.settings limit files m' r) (sym writes.0) (
+          front.0,
+          writes.2 ∙ ap (λ (w : List ℕ). w ++ take writes.1 (tx_symbol t.settings (inputs_of files) t.made)) written ∙ front.1
+              ∙ ap (λ (x : Seen). take front.0 (cells_sent x.settings limit (inputs_of files))) (sym seen),
+        ),
+        subst (λ (l : Stream → List ℕ). TakeFew limit files l) (sym (ap left_of keeps)) (few_at_work limit files m inputs t before work),
       )

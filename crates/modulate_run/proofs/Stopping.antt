@@ -15,10 +15,11 @@ use Rattle.transmission.specs.Agenda as agenda
 use Rattle.transmission.specs.AgendaLaws.{IsAt, StopsAt, TakesOfHp, TakesOfLp, StopsAtPacket, SentSoFar, SentAtFault}
 use Rattle.run_clauses.specs.declared.work.Refusal.{Refusal}
 use Rattle.run_clauses.specs.declared.work.Refusal.TheVariants.{Usage, Settings, ReadFault, WriteFault, NotSync, Memory, Limit}
-use Rattle.run_clauses.specs.Modulation.{HoldsSymbolsSoFar, cells_sent, inputs_of, left_of, modulation_refusal, refused_by, sent_by, taken_of}
+use Rattle.modulate_run.specs.ModulateCommand.{HoldsSymbolsSoFar, cells_sent, inputs_of, modulation_refusal, refused_by, sent_by, taken_of}
+use Rattle.modulate_run.specs.Inputs.{left_of}
 use Rattle.modulate_run.specs.declared.inputs.PacketInputs.{PacketInputs}
 use Rattle.modulate_run.specs.Seen.{Seen, wanted, with_one}
-use Rattle.modulate_run.specs.Work.{BothRead, BothTell, GivesOf, IsAtWork, IsDue, Stops}
+use Rattle.modulate_run.specs.Work.{AreNear, BothRead, BothTell, GivesOf, IsAtWork, IsDue, Stops}
 
 -- ---- what is wanted
 hp_only : (b c : Bool) → cond b (Some Hp) (cond c (Some Lp) None) ≡ Some Hp → b ≡ true
@@ -76,7 +77,7 @@ module _ (at_packet : StopsAtPacket) (so_far : SentSoFar) (at_fault : SentAtFaul
     not_met None e = refl
     not_met (Some n) e = absurd (true≢false e)
 
-    put_is : (τ : Stream) → (by_stream inputs.hp inputs.lp τ).tail ≡ None → taken_of files m τ ≡ by_stream t.hp t.lp τ
+    put_is : (τ : Stream) → (by_stream inputs.hp inputs.lp τ).tail ≡ None → taken_of files (left_of m) τ ≡ by_stream t.hp t.lp τ
     put_is Hp none = tell.hp.all none
     put_is Lp none = tell.lp.all none
 
@@ -93,7 +94,7 @@ module _ (at_packet : StopsAtPacket) (so_far : SentSoFar) (at_fault : SentAtFaul
     at_most : (a b : ℕ) → a < b → a ≤ b
     at_most a b l = omega (arith, l)
 
-    within : (τ : Stream) (p : ℕ) → p < taken_of files m τ → p < by_stream t.hp t.lp τ
+    within : (τ : Stream) (p : ℕ) → p < taken_of files (left_of m) τ → p < by_stream t.hp t.lp τ
     within Hp p l = omega (arith, l, tell.hp.most)
     within Lp p l = omega (arith, l, tell.lp.most)
 
@@ -102,28 +103,38 @@ module _ (at_packet : StopsAtPacket) (so_far : SentSoFar) (at_fault : SentAtFaul
     at_end Lp = tell.lp.none
 
     -- a read that has failed
-    failed : HoldsSymbolsSoFar t.settings limit files m (first_symbols t.settings (inputs_of files) t.made)
+    failed : HoldsSymbolsSoFar t.settings limit files (left_of m) (first_symbols t.settings (inputs_of files) t.made)
     failed = record {
       met = met;
       at_end = at_end;
       symbols = t.made;
-      enough = at_fault t.settings (taken_of files m) met t.made σ
-          (λ τ e. through (packets_for t.settings τ t.made) (taken_of files m τ) (by_stream t.hp t.lp τ) (put_is τ (not_met (by_stream inputs.hp inputs.lp τ).tail e)) (least τ))
+      enough = at_fault t.settings (taken_of files (left_of m)) met t.made σ
+          (λ τ e. through (packets_for t.settings τ t.made) (taken_of files (left_of m) τ) (by_stream t.hp t.lp τ) (put_is τ (not_met (by_stream inputs.hp inputs.lp τ).tail e)) (least τ))
           (ap is_some tail_is)
-          (before (taken_of files m σ) (by_stream t.hp t.lp σ) (packets_for t.settings σ (t.made + 1)) (put_is σ tail_is) (is_short t.settings t.made t.hp t.lp σ is_wanted));
+          (before (taken_of files (left_of m) σ) (by_stream t.hp t.lp σ) (packets_for t.settings σ (t.made + 1)) (put_is σ tail_is) (is_short t.settings t.made t.hp t.lp σ is_wanted));
       is = refl;
       in_order = so_far t.settings limit (inputs_of files) t.made t.hp t.lp at (at_most t.made (symbols_of t.settings (inputs_of files)) due.more);
       accepted = λ τ p l. at.accepted τ p (within τ p l);
     }
 
   pub stops : (m : Meaning) (inputs : PacketInputs) (r : Refusal) → GivesOf limit files σ t m inputs (Err r) → Stops limit files m t r
-  stops m inputs Usage g = refused Usage g
-  stops m inputs (Settings reason) g = refused (Settings reason) g
+  stops m inputs Usage g = refused Usage g.0
+  stops m inputs (Settings reason) g = refused (Settings reason) g.0
   stops m inputs ReadFault g = failed m inputs g.0 g.1
-  stops m inputs WriteFault g = never_write_fault g
-  stops m inputs (NotSync τ p) g = refused (NotSync τ p) g
-  stops m inputs Memory g = refused Memory g
-  stops m inputs (Limit n) g = refused (Limit n) g
+  stops m inputs WriteFault g = never_write_fault g.0
+  stops m inputs (NotSync τ p) g = refused (NotSync τ p) g.0
+  stops m inputs Memory g = refused Memory g.0
+  stops m inputs (Limit n) g = refused (Limit n) g.0
+
+-- whatever the reason, no more than one packet was taken behind those that were put
+pub are_near : (limit : ℕ) (files : Stream → List ℕ) (σ : Stream) (t : Seen) (m : Meaning) (inputs : PacketInputs) (r : Refusal) → GivesOf limit files σ t m inputs (Err r) → AreNear files m t
+are_near limit files σ t m inputs Usage g = g.1
+are_near limit files σ t m inputs (Settings reason) g = g.1
+are_near limit files σ t m inputs ReadFault g = g.2
+are_near limit files σ t m inputs WriteFault g = g.1
+are_near limit files σ t m inputs (NotSync τ p) g = g.1
+are_near limit files σ t m inputs Memory g = g.1
+are_near limit files σ t m inputs (Limit n) g = g.1
 
 -- ---- a packet was put
 module _ (takes_hp : TakesOfHp) (takes_lp : TakesOfLp) (limit : ℕ) (files : Stream → List ℕ) (t : Seen)

@@ -1,53 +1,52 @@
--- The clauses of a whole run of `modulate`.
-use Rattle.std.proofs.Common.{◌≡◌, inl, inr, true, ℕ, List, Option, Some, Ok, Err, refl, ◌∙◌, sym, ap, subst}
+-- The promise of a whole run of `modulate`.
+use Rattle.std.proofs.Common.{◌≡◌, inl, inr, true, ℕ, List, Option, Some, Result, Ok, Err, refl, ◌∙◌, sym, ap, subst}
 use Rattle.station_core.specs.Meaning.{Meaning, IsFresh}
 use Rattle.mode_set.specs.declared.settings.Settings.{Settings as TheSettings}
 use Rattle.run_clauses.specs.declared.work.Refusal.{Refusal}
 use Rattle.run_clauses.specs.declared.work.Refusal.TheVariants.{Usage, Settings, ReadFault, WriteFault, NotSync, Memory, Limit}
-use Rattle.run_clauses.specs.Command.{Command, Modulate}
-use Rattle.run_clauses.specs.Runs.{AsksOnly, HasStatus, IsComplete, IsDone, Stands}
-use Rattle.run_clauses.specs.Text.{refusal_status, refusal_text}
+use Rattle.run_clauses.specs.Command.{Command, is_among}
+use Rattle.run_clauses.specs.Run.{Run}
+use Rattle.run_clauses.specs.Text.{refusal_status, refusal_text, status_of}
 use Rattle.run_clauses.proofs.Stated.{stated}
+use Rattle.run_steps.specs.Ended.{Ended}
+use Rattle.run_steps.specs.FittingStep.{Accepts}
 use Rattle.run_steps.specs.Report.{WritesText}
 use Rattle.run_steps.specs.SettingsStep.{AsksSettings}
-use Rattle.run_steps.proofs.Early.{ReadsFirst, RefusedEarly, status_early, asks_early, stands_early, complete_early}
-use Rattle.run_steps.specs.FittingStep.{Accepts}
-use Rattle.modulate_run.specs.Steps.{IsReady, RunsModulation, RunsOrLacks}
-use Rattle.modulate_run.proofs.Clauses.{SettingsDone, done_of, status_of_run, stands_of, complete_of, never_zero}
-use Rattle.modulate_run.proofs.Ports.{asks_of}
+use Rattle.run_steps.proofs.Early.{RefusedEarly, early_ended}
+use Rattle.run_steps.proofs.Whole.{run_done, run_refused}
+use Rattle.modulate_run.specs.declared.counts.TransmissionCounts.{TransmissionCounts}
+use Rattle.modulate_run.specs.ModulateCommand.{modulate_command}
+use Rattle.modulate_run.specs.Steps.{IsReady, RunsModulation, RunsOrLacks, Tells, outcome_status}
+use Rattle.modulate_run.proofs.Ending.{SettingsDone, by_outcome, refusal_in}
 
 module _ (limit : ℕ) (name hp : List ℕ) (lp : Option (List ℕ)) (cells : List ℕ) (start mid new : Meaning) (fresh : IsFresh start) (asks : AsksSettings name start mid) where
   abbrev c : Command
-  c = Modulate name hp lp cells
-
-  first : ReadsFirst c name
-  first = record { named = refl; memory = tt; no_report = refl }
+  c = modulate_command name hp lp cells
 
   -- ---- refused before another port is asked
-  early : (r : Refusal) → Accepts name lp start mid (Err r) → RefusedEarly c start mid r
-  early Usage a = a
+  early : (r : Refusal) → Accepts name lp start mid (Err r) → RefusedEarly c limit start mid r
+  early Usage a = absurd a
   early (Settings reason) a = a
-  early ReadFault a = a
+  early ReadFault a = (a, asks.later)
   early WriteFault a = a
   early (NotSync σ p) a = a
   early Memory a = a
   early (Limit n) a = a
 
-  module _ (r : Refusal) (accepts : Accepts name lp start mid (Err r)) (status : ℕ) (is : status ≡ refusal_status r) (text : WritesText (refusal_text r) mid new) where
-    pub refused_done : status ≡ 0 → start.tells ≡ true → IsDone limit c start new
-    refused_done zero t = absurd (never_zero r (sym is ∙ zero))
+  known : (r : Refusal) → Accepts name lp start mid (Err r) → is_among (status_of (Some r)) c.statuses ≡ true
+  known Usage a = absurd a
+  known (Settings reason) a = refl
+  known ReadFault a = refl
+  known WriteFault a = absurd a
+  known (NotSync σ p) a = absurd a
+  known Memory a = refl
+  known (Limit n) a = absurd a
 
-    pub refused_status : HasStatus limit (Some c) start new status
-    refused_status = subst (λ (n : ℕ). HasStatus limit (Some c) start new n) (sym is) (status_early limit c name start mid new first fresh asks r (early r accepts) text)
-
-    pub refused_asks : AsksOnly (Some c) start new status
-    refused_asks = subst (λ (n : ℕ). AsksOnly (Some c) start new n) (sym is) (asks_early limit c name start mid new first fresh asks r (early r accepts) text)
-
-    pub refused_stands : Stands limit (Some c) start new status
-    refused_stands = subst (λ (n : ℕ). Stands limit (Some c) start new n) (sym is) (stands_early limit c name start mid new first fresh asks r (early r accepts) text)
-
-    pub refused_complete : IsComplete limit c start new status
-    refused_complete = subst (λ (n : ℕ). IsComplete limit c start new n) (sym is) (complete_early limit c name start mid new first fresh asks r (early r accepts) text)
+  pub refused : (r : Refusal) → Accepts name lp start mid (Err r) → (status : ℕ) → status ≡ refusal_status r → WritesText (refusal_text r) mid new → Run c limit start new status
+  refused r accepts status is text =
+      let ended : Ended c limit start mid (Some r) =
+      early_ended c limit name start mid refl (inr (refl, refl)) (λ u whole. refl) tt fresh asks r (early r accepts) (known r accepts) in
+      subst (λ (n : ℕ). Run c limit start new n) (sym is) (run_refused c limit start mid new r ended text)
 
   -- ---- the settings were accepted
   module _ (s : TheSettings) (accepts : Accepts name lp start mid (Ok s)) where
@@ -60,10 +59,8 @@ module _ (limit : ℕ) (name hp : List ℕ) (lp : Option (List ℕ)) (cells : Li
       lp = fresh.lp.asked;
       lp_attached = fresh.lp.attached;
       cells = fresh.cells_out.asked;
-      not_created = fresh.cells_out.created;
       report = fresh.report;
       report_open = fresh.report_open;
-      report_empty = fresh.report_empty;
     })
 
     settings : SettingsDone name lp s start mid.settings
@@ -71,41 +68,24 @@ module _ (limit : ℕ) (name hp : List ℕ) (lp : Option (List ℕ)) (cells : Li
       asked = accepts.0.1;
       attached = accepts.0.2;
       left = λ t. (accepts.0.3 t).0;
+      taken = λ t. asks.read t accepts.0.2;
       accepted = λ t. (accepts.0.3 t).1.1;
       stated = λ t. stated s (start.file name) (accepts.0.3 t).1.2;
       fits = accepts.1;
     }
 
     module _ (status : ℕ) where
-      runs_from : RunsModulation s limit hp lp cells mid new status → RunsModulation s limit hp lp cells (record start { settings = mid.settings }) new status
-      runs_from runs = subst (λ (m : Meaning). RunsModulation s limit hp lp cells m new status) same_mid runs
+      tells_run : (o : Result TransmissionCounts Refusal) (end : Meaning) → Ended c limit start end (refusal_in o) → Tells end new o → Run c limit start new (outcome_status o)
+      tells_run (Ok counts) end ended tells = subst (λ (x : Meaning). Run c limit start x 0) (sym tells) (run_done c limit start end ended)
+      tells_run (Err r) end ended tells = run_refused c limit start end new r ended tells
 
-      pub run_done : RunsOrLacks s limit hp lp cells mid new status → status ≡ 0 → start.tells ≡ true → IsDone limit c start new
-      run_done runs zero t = elim runs [
-        | inl r ↦ done_of limit name hp lp cells start new mid.settings fresh s settings status (runs_from r) zero t
-        | inr lacks ↦ refused_done Memory accepts.0.0 status lacks.0 lacks.1 zero t
-      ]
+      run : RunsModulation s limit hp lp cells (record start { settings = mid.settings }) new status → Run c limit start new status
+      run r =
+          let ended = by_outcome limit name hp lp cells start mid.settings fresh s settings r.mid r.outcome r.cause r.ran in
+          subst (λ (n : ℕ). Run c limit start new n) (sym r.status_is) (tells_run r.outcome r.mid ended r.tells)
 
-      pub run_status : RunsOrLacks s limit hp lp cells mid new status → HasStatus limit (Some c) start new status
-      run_status runs = elim runs [
-        | inl r ↦ status_of_run limit name hp lp cells start new mid.settings fresh s settings status (runs_from r)
-        | inr lacks ↦ refused_status Memory accepts.0.0 status lacks.0 lacks.1
-      ]
-
-      pub run_asks : RunsOrLacks s limit hp lp cells mid new status → AsksOnly (Some c) start new status
-      run_asks runs = elim runs [
-        | inl r ↦ asks_of limit name hp lp cells start new mid.settings fresh s settings status (runs_from r) asks.read
-        | inr lacks ↦ refused_asks Memory accepts.0.0 status lacks.0 lacks.1
-      ]
-
-      pub run_stands : RunsOrLacks s limit hp lp cells mid new status → Stands limit (Some c) start new status
-      run_stands runs = elim runs [
-        | inl r ↦ stands_of limit name hp lp cells start new mid.settings fresh s settings status (runs_from r)
-        | inr lacks ↦ refused_stands Memory accepts.0.0 status lacks.0 lacks.1
-      ]
-
-      pub run_complete : RunsOrLacks s limit hp lp cells mid new status → IsComplete limit c start new status
-      run_complete runs = elim runs [
-        | inl r ↦ complete_of limit name hp lp cells start new mid.settings fresh s settings status (runs_from r)
-        | inr lacks ↦ refused_complete Memory accepts.0.0 status lacks.0 lacks.1
+      pub run_of : RunsOrLacks s limit hp lp cells mid new status → Run c limit start new status
+      run_of runs = elim runs [
+        | inl r ↦ run (subst (λ (m : Meaning). RunsModulation s limit hp lp cells m new status) same_mid r)
+        | inr lacks ↦ refused Memory accepts.0.0 status lacks.0 lacks.1
       ]

@@ -13,15 +13,17 @@ use Rattle.transmission.specs.SuperFrames.{packets_for, super_frames, symbols_of
 use Rattle.transmission.specs.Agenda as agenda
 use Rattle.transmission.specs.AgendaLaws.{EndsUnrefused, StopsAtLimit}
 use Rattle.transmission.specs.Laws.{PacketsOfSuperFrames, TheFormulaIsLeast}
-use Rattle.run_clauses.specs.declared.work.TransmissionCounts.{TransmissionCounts}
+use Rattle.modulate_run.specs.declared.counts.TransmissionCounts.{TransmissionCounts}
 use Rattle.run_clauses.specs.declared.work.Refusal.TheVariants.{Limit}
 use Rattle.run_clauses.specs.Packets.{packets_of, tail_of, whole_packets}
-use Rattle.run_clauses.specs.Modulation.{inputs_of, left_of, refused_by, sent_by, transmission_counts}
+use Rattle.modulate_run.specs.ModulateCommand.{inputs_of, refused_by, sent_by, transmission_counts}
+use Rattle.modulate_run.specs.Inputs.{left_of}
 use Rattle.run_clauses.proofs.FilePackets.{count_is}
 use Rattle.modulate_run.specs.declared.inputs.PacketInputs.{PacketInputs}
 use Rattle.modulate_run.specs.Inputs.{HasLeft}
 use Rattle.modulate_run.specs.Seen.{Seen}
-use Rattle.modulate_run.specs.Work.{CountsAt, Ends, IsDue, IsWritten, Modulates}
+use Rattle.modulate_run.specs.Work.{CountsAt, Ends, IsDue, IsWritten, Modulates, TakeFew}
+use Rattle.modulate_run.proofs.Few.{few_at_work}
 use Rattle.modulate_run.proofs.Stopping.{cells_at}
 
 -- ---- one input
@@ -71,6 +73,9 @@ frames_are s files a b e f =
     (e ∙ sym (count_is (whole_packets (files Hp)) (files Hp))) (f ∙ sym (count_is (whole_packets (files Lp)) (files Lp)))
 
 module _ (limit : ℕ) (files : Stream → List ℕ) (m : Meaning) (inputs : PacketInputs) (t : Seen) (put : Inputs → Type 0) (w : IsWritten limit files m inputs t put) where
+  few : TakeFew limit files (left_of m)
+  few = few_at_work limit files m inputs t put w.work
+
   -- all inputs have ended, and their super-frames were sent
   pub ends_done : EndsUnrefused → (n : ℕ) (counts : TransmissionCounts) → t.made ≡ n → CountsAt t.settings inputs n (Some counts)
       → Modulates t.settings limit files m (Ok counts)
@@ -88,14 +93,18 @@ module _ (limit : ℕ) (files : Stream → List ℕ) (m : Meaning) (inputs : Pac
         lp.0,
         ap (option_map refused_by) through.none,
         w.written ∙ ap (first_symbols t.settings (inputs_of files)) all ∙ sym (ap (sent_by t.settings limit (inputs_of files)) through.none),
+        few,
       )
 
   -- the limit of symbols is passed
-  pub ends_at_limit : StopsAtLimit → (most : ℕ) → t.settings.max_symbols ≡ most → most ≤ t.made → t.made < symbols_of t.settings (inputs_of files) → Ends t.settings limit files m (Limit most)
+  pub ends_at_limit : StopsAtLimit → (most : ℕ) → t.settings.max_symbols ≡ most → most ≤ t.made → t.made < symbols_of t.settings (inputs_of files) → Ends t.settings limit files m (Limit most) × TakeFew limit files (left_of m)
   ends_at_limit at_limit most is past more =
       let stops = at_limit t.settings limit (inputs_of files) t.made t.hp t.lp w.work.at more (omega (arith, is, past)) in (
-        ap (option_map refused_by) stops.first ∙ ap (λ (n : ℕ). Some (Limit n)) is,
-        w.written ∙ sym (cells_at t.settings limit (inputs_of files) (agenda.Limit t.settings.max_symbols) t.made stops),
+        (
+          ap (option_map refused_by) stops.first ∙ ap (λ (n : ℕ). Some (Limit n)) is,
+          w.written ∙ sym (cells_at t.settings limit (inputs_of files) (agenda.Limit t.settings.max_symbols) t.made stops),
+        ),
+        few,
       )
 
   -- the transmission goes on

@@ -1,3 +1,4 @@
+pub mod ModulateCommand
 pub mod Seen
 pub mod Inputs
 pub mod Work

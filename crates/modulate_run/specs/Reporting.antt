@@ -1,15 +1,21 @@
 -- What is written to Report at the end of a modulation.
-use Rattle.std.specs.Prelude.{◌≡◌, Bool, true, Result, Ok, Err}
+use Rattle.std.specs.Prelude.{◌≡◌, ◌≤◌, Bool, true, Result, Ok, Err}
 use Rattle.station_core.specs.Meaning.{Meaning}
-use Rattle.run_clauses.specs.declared.work.TransmissionCounts.{TransmissionCounts}
 use Rattle.run_clauses.specs.declared.work.Refusal.{Refusal}
 use Rattle.run_clauses.specs.declared.work.Refusal.TheVariants.{WriteFault}
-use Rattle.run_clauses.specs.Modulation.{transmission_lines}
 use Rattle.run_steps.specs.Lines.{IsFrontOf}
+use Rattle.modulate_run.specs.declared.counts.TransmissionCounts.{TransmissionCounts}
+use Rattle.modulate_run.specs.ModulateCommand.{transmission_lines}
 
 -- the closing lines are written to Report, and Cells is closed, also where that has failed
 pub record Finishes (two : Bool) (counts : TransmissionCounts) (old new : Meaning) (result : Result TransmissionCounts Refusal) : Type 0 where
-  pub others : new ≡ record old { cells_out = record old.cells_out { closed = true }; report = record old.report { written = new.report.written }; write_faults = new.write_faults }
+  pub others : new ≡ record old {
+    cells_out = record old.cells_out { closed = true };
+    report = record old.report { written = new.report.written };
+    write_faults = new.write_faults;
+    report_faults = new.report_faults;
+  }
+  pub later_report : old.report_faults ≤ new.report_faults
   pub written : old.tells ≡ true → IsFrontOf (transmission_lines two counts) old.report.written new.report.written result
 
 -- it answers the counts, or that writing has failed

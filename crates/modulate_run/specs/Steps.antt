@@ -1,29 +1,28 @@
 -- The steps of a modulation behind its settings, each as a relation of what the station stood for before
 -- and after it. The clauses of the run as a whole follow from them.
-use Rattle.std.specs.Prelude.{◌≡◌, ◌⊎◌, ◌≤◌, ℕ, Bool, true, false, if◌then◌else◌, List, [], ◌++◌, take, Result, Ok, Err, Option, Some, None, is_some, IfSome}
-use Rattle.station_core.specs.Meaning.{Meaning, Source}
+use Rattle.std.specs.Prelude.{◌≡◌, ◌⊎◌, ◌≤◌, ℕ, Bool, true, false, if◌then◌else◌, List, [], ◌++◌, take, Result, Ok, Err, Option, Some, None, is_some, IsSomeAnd}
+use Rattle.station_core.specs.Meaning.{Meaning, Source, asked_source, asked_sink}
+use Rattle.station_core.specs.declared.station.Failed.{Failed}
 use Rattle.mode_set.specs.declared.settings.Settings.{Settings as TheSettings}
-use Rattle.run_clauses.specs.declared.work.TransmissionCounts.{TransmissionCounts}
 use Rattle.run_clauses.specs.declared.work.Refusal.{Refusal}
 use Rattle.run_clauses.specs.declared.work.Refusal.TheVariants.{ReadFault, WriteFault, Memory}
-use Rattle.run_clauses.specs.Modulation.{files_of, transmission_counts, transmission_lines}
 use Rattle.run_clauses.specs.Text.{refusal_text, refusal_status}
 use Rattle.run_steps.specs.Causes.{HasCause}
 use Rattle.run_steps.specs.Report.{WritesText}
 use Rattle.modulate_run.specs.declared.inputs.PacketInputs.{PacketInputs}
 use Rattle.modulate_run.specs.Seen.{Seen}
-use Rattle.modulate_run.specs.Work.{Ends, Modulates}
+use Rattle.modulate_run.specs.Work.{Modulates}
+use Rattle.modulate_run.specs.ModulateCommand.{files_of, modulation_lines}
+use Rattle.modulate_run.specs.declared.counts.TransmissionCounts.{TransmissionCounts}
 
--- nothing was asked on HP, LP and Cells, Report is open, and nothing was written there
+-- nothing was asked on HP, LP and Cells, and Report is open
 pub record IsReady (m : Meaning) : Type 0 where
   pub hp : m.hp.asked ≡ None
   pub lp : m.lp.asked ≡ None
   pub lp_attached : m.lp.attached ≡ false
   pub cells : m.cells_out.asked ≡ None
-  pub not_created : m.cells_out.created ≡ false
   pub report : m.report.created ≡ true
   pub report_open : m.report.closed ≡ false
-  pub report_empty : m.tells ≡ true → m.report.written ≡ []
 
 -- a transmitter before its first packet
 pub record IsNew (t : Seen) : Type 0 where
@@ -40,54 +39,68 @@ abbrev pub lp_source : Option (List ℕ) → Meaning → Source
 lp_source None m = m.lp
 lp_source (Some name) m = record { asked = Some name; attached = true; left = m.file name }
 
-abbrev pub OpensLp : Option (List ℕ) → Meaning → Meaning → Result (Unit {0}) Refusal → Type 0
+abbrev pub hp_source : List ℕ → Meaning → Source
+hp_source name m = record { asked = Some name; attached = true; left = m.file name }
+
+-- LP was opened, if there is LP, or its file could not be
+abbrev pub OpensLp : Option (List ℕ) → Meaning → Meaning → Result (Unit {0}) Failed → Type 0
 OpensLp lp old new (Ok u) = new ≡ record old { lp = lp_source lp old }
-OpensLp lp old new (Err refusal) = (refusal ≡ ReadFault) × (new.lp.asked ≡ lp) × (new ≡ record old { lp = new.lp; read_faults = new.read_faults })
+OpensLp lp old new (Err failed) = IsSomeAnd lp (λ name. new ≡ record old { lp = asked_source name old.lp; read_faults = new.read_faults })
 
--- only HP, LP, Cells, what is written to Report and the counts have changed, and only these names were asked
-pub record AsksPorts (hp : List ℕ) (lp : Option (List ℕ)) (cells : List ℕ) (old new : Meaning) : Type 0 where
-  pub others : new ≡ record old {
-    hp = new.hp;
-    lp = new.lp;
-    cells_out = new.cells_out;
-    report = record old.report { written = new.report.written };
-    read_faults = new.read_faults;
-    write_faults = new.write_faults;
-  }
-  pub hp_asked : new.hp.asked ≡ Some hp
-  pub lp_asked : new.lp ≡ old.lp ⊎ (new.lp.asked ≡ lp)
-  pub cells_asked : new.cells_out ≡ old.cells_out ⊎ (new.cells_out.asked ≡ Some cells)
+-- HP could not be opened, and nothing else was asked for
+abbrev pub FailsAtHp : List ℕ → Meaning → Meaning → Type 0
+FailsAtHp hp old new = new ≡ record old { hp = asked_source hp old.hp; read_faults = new.read_faults }
 
--- after the ports were opened, or one was not
+-- HP was opened, and LP could not be
+abbrev pub FailsAtLp : List ℕ → Option (List ℕ) → Meaning → Meaning → Type 0
+FailsAtLp hp lp old new = IsSomeAnd lp (λ name. new ≡ record old { hp = hp_source hp old; lp = asked_source name old.lp; read_faults = new.read_faults })
+
+-- the inputs were opened, and Cells could not be made
+abbrev pub FailsAtCells : List ℕ → Option (List ℕ) → List ℕ → Meaning → Meaning → Type 0
+FailsAtCells hp lp cells old new =
+    new ≡ record old { hp = hp_source hp old; lp = lp_source lp old; cells_out = asked_sink cells old.cells_out; write_faults = new.write_faults }
+
+-- the ports were opened in order, HP before LP and Cells behind both, or one was not
 abbrev pub OpensAll : List ℕ → Option (List ℕ) → List ℕ → Meaning → Meaning → Result (Unit {0}) Refusal → Type 0
 OpensAll hp lp cells old new (Ok u) =
     new ≡ record old {
-      hp = record { asked = Some hp; attached = true; left = old.file hp };
+      hp = hp_source hp old;
       lp = lp_source lp old;
       cells_out = record { asked = Some cells; created = true; closed = false; written = [] };
     }
-OpensAll hp lp cells old new (Err refusal) =
-    (refusal ≡ ReadFault ⊎ (refusal ≡ WriteFault)) × (new.report ≡ old.report) × (new.cells_out.created ≡ old.cells_out.created)
+OpensAll hp lp cells old new (Err ReadFault) = FailsAtHp hp old new ⊎ FailsAtLp hp lp old new
+OpensAll hp lp cells old new (Err WriteFault) = FailsAtCells hp lp cells old new
+OpensAll hp lp cells old new (Err refusal) = ⊥
 
--- after the whole work every port is done with
-pub record IsFinished (lp : Option (List ℕ)) (counts : TransmissionCounts) (old new : Meaning) : Type 0 where
-  pub hp : new.hp.attached ≡ true
-  pub lp_attached : IfSome lp (λ name. new.lp.attached ≡ true)
-  pub created : new.cells_out.created ≡ true
-  pub closed : new.cells_out.closed ≡ true
-  pub report : old.tells ≡ true → new.report.written ≡ old.report.written ++ transmission_lines (is_some lp) counts
+-- all ports were opened, and Cells is closed; what is left of the inputs, what was written and the counts may differ
+pub record IsClosed (hp : List ℕ) (lp : Option (List ℕ)) (cells : List ℕ) (old new : Meaning) : Type 0 where
+  pub others : new ≡ record old {
+    hp = record (hp_source hp old) { left = new.hp.left };
+    lp = record (lp_source lp old) { left = new.lp.left };
+    cells_out = record { asked = Some cells; created = true; closed = true; written = new.cells_out.written };
+    report = record old.report { written = new.report.written };
+    read_faults = new.read_faults;
+    write_faults = new.write_faults;
+    report_faults = new.report_faults;
+  }
+  pub later_report : old.report_faults ≤ new.report_faults
 
--- What a run leaves, by its outcome. Before the output is created nothing of it is said.
-abbrev pub Ran : TheSettings → ℕ → List ℕ → Option (List ℕ) → Meaning → Meaning → Result TransmissionCounts Refusal → Type 0
-Ran s limit hp lp old new (Ok counts) =
-    IsFinished lp counts old new × (old.tells ≡ true → Modulates s limit (files_of old.file hp lp) new (Ok counts))
-Ran s limit hp lp old new (Err ReadFault) =
-    (new.report ≡ old.report) × (old.tells ≡ true → new.cells_out.created ≡ true → Ends s limit (files_of old.file hp lp) new ReadFault)
-Ran s limit hp lp old new (Err WriteFault) =
-    (old.tells ≡ true → new.cells_out.created ≡ true → Ends s limit (files_of old.file hp lp) new WriteFault)
-    × (old.tells ≡ true → (k : ℕ) × (new.report.written ≡ old.report.written ++ take k (transmission_lines (is_some lp) (transmission_counts s (files_of old.file hp lp)))))
-Ran s limit hp lp old new (Err refusal) =
-    (new.report ≡ old.report) × (new.cells_out.created ≡ true) × (old.tells ≡ true → Ends s limit (files_of old.file hp lp) new refusal)
+-- what was printed by then: the lines, or a front of them where writing has failed, or nothing
+abbrev pub HasPrinted : List ℕ → Meaning → Meaning → Result TransmissionCounts Refusal → Type 0
+HasPrinted lines old new (Ok counts) = new.report.written ≡ old.report.written ++ lines
+HasPrinted lines old new (Err WriteFault) = (k : ℕ) × (new.report.written ≡ old.report.written ++ take k lines)
+HasPrinted lines old new (Err refusal) = new.report.written ≡ old.report.written
+
+-- the work was begun, and has left this
+pub record Worked (s : TheSettings) (limit : ℕ) (hp : List ℕ) (lp : Option (List ℕ)) (cells : List ℕ) (old new : Meaning) (result : Result TransmissionCounts Refusal) : Type 0 where
+  pub ports : IsClosed hp lp cells old new
+  pub modulates : old.tells ≡ true → Modulates s limit (files_of old.file hp lp) new result
+  pub printed : old.tells ≡ true → HasPrinted (modulation_lines s limit (is_some lp) (files_of old.file hp lp)) old new result
+
+-- what a run leaves, by its outcome: it has worked, or a port was not opened
+abbrev pub Ran : TheSettings → ℕ → List ℕ → Option (List ℕ) → List ℕ → Meaning → Meaning → Result TransmissionCounts Refusal → Type 0
+Ran s limit hp lp cells old new (Ok counts) = Worked s limit hp lp cells old new (Ok counts)
+Ran s limit hp lp cells old new (Err refusal) = OpensAll hp lp cells old new (Err refusal) ⊎ Worked s limit hp lp cells old new (Err refusal)
 
 -- after a refusal in the work the output is closed all the same, and whether that failed is only counted
 pub record ClosesRefused (old new : Meaning) : Type 0 where
@@ -109,9 +122,8 @@ pub record RunsModulation (s : TheSettings) (limit : ℕ) (hp : List ℕ) (lp : 
   pub outcome : Result TransmissionCounts Refusal
   pub mid : Meaning
   pub status_is : status ≡ outcome_status outcome
-  pub asks : AsksPorts hp lp cells old mid
   pub cause : HasCause old mid outcome
-  pub ran : Ran s limit hp lp old mid outcome
+  pub ran : Ran s limit hp lp cells old mid outcome
   pub tells : Tells mid new outcome
 
 -- the run, or want of memory before a port is asked

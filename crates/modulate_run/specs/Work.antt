@@ -1,5 +1,5 @@
 -- The work of a modulation, symbol by symbol.
-use Rattle.std.specs.Prelude.{◌≡◌, ◌≢◌, ◌⊎◌, ℕ, ◌-◌, ◌*◌, ◌/◌, ◌<◌, ◌≤◌, List, [], ◌++◌, length, take, true, Option, Some, None, is_some, Result, Ok, Err}
+use Rattle.std.specs.Prelude.{◌≡◌, ◌≢◌, ◌⊎◌, ℕ, ◌-◌, ◌*◌, ◌/◌, ◌<◌, ◌≤◌, List, [], ◌++◌, length, take, drop, true, Option, Some, None, is_some, Result, Ok, Err}
 use Rattle.std.specs.Option.{option_map}
 use Rattle.station_core.specs.Meaning.{Meaning}
 use Rattle.mode_set.specs.declared.modes.Stream.{Stream}
@@ -10,13 +10,14 @@ use Rattle.transmission.specs.SuperFrames.{super_frames, symbols_of}
 use Rattle.outer_chain.specs.Sent.{packet_at}
 use Rattle.transmission.specs.Agenda.{packet_refusal}
 use Rattle.transmission.specs.AgendaLaws.{IsAt}
-use Rattle.run_clauses.specs.declared.work.TransmissionCounts.{TransmissionCounts}
 use Rattle.run_clauses.specs.declared.work.Refusal.{Refusal}
 use Rattle.run_clauses.specs.declared.work.Refusal.TheVariants.{ReadFault, WriteFault}
-use Rattle.run_clauses.specs.Modulation.{HoldsSymbolsSoFar, cells_sent, inputs_of, left_of, modulation_refusal, refused_by, transmission_counts}
+use Rattle.run_clauses.specs.Packets.{most_packets_taken}
+use Rattle.modulate_run.specs.ModulateCommand.{HoldsSymbolsSoFar, cells_sent, inputs_of, modulation_refusal, refused_by, transmission_counts}
+use Rattle.modulate_run.specs.declared.counts.TransmissionCounts.{TransmissionCounts}
 use Rattle.modulate_run.specs.declared.inputs.PacketInputs.{PacketInputs}
 use Rattle.modulate_run.specs.declared.input.PacketInput.{PacketInput}
-use Rattle.modulate_run.specs.Inputs.{Reads}
+use Rattle.modulate_run.specs.Inputs.{IsNear, Reads, left_of}
 use Rattle.modulate_run.specs.Seen.{Seen, with_one}
 
 -- an input that has not met its end is attached
@@ -58,13 +59,27 @@ pub record BothTell (files : Stream → List ℕ) (m : Meaning) (inputs : Packet
   pub hp : TellsPut (files Hp) (left_of m Hp) inputs.hp t.hp
   pub lp : TellsPut (files Lp) (left_of m Lp) inputs.lp t.lp
 
+-- of neither input more was taken than whole packets that were put, and one packet behind them
+pub record AreNear (files : Stream → List ℕ) (m : Meaning) (t : Seen) : Type 0 where
+  pub hp : IsNear (files Hp) (left_of m Hp) t.hp
+  pub lp : IsNear (files Lp) (left_of m Lp) t.lp
+
+-- what is left of a file lies behind no more bytes than a run may take of it
+abbrev pub TakesFew : ℕ → List ℕ → List ℕ → Type 0
+TakesFew limit file left = (k : ℕ) × (k ≤ most_packets_taken limit file) × (left ≡ drop k file)
+
+pub record TakeFew (limit : ℕ) (files left : Stream → List ℕ) : Type 0 where
+  pub hp : TakesFew limit (files Hp) (left Hp)
+  pub lp : TakesFew limit (files Lp) (left Lp)
+
 -- the next packet of a stream, or why there is none
 abbrev pub GivesOf : ℕ → (Stream → List ℕ) → Stream → Seen → Meaning → PacketInputs → Result (List ℕ) Refusal → Type 0
 GivesOf limit files σ t m inputs (Ok packet) =
     (packet ≡ packet_at (inputs_of files σ) (by_stream t.hp t.lp σ)) × (packet_refusal limit (inputs_of files) σ (by_stream t.hp t.lp σ) ≡ None)
     × BothRead files m inputs (with_one σ t)
-GivesOf limit files σ t m inputs (Err ReadFault) = ((by_stream inputs.hp inputs.lp σ).tail ≡ None) × BothTell files m inputs t
-GivesOf limit files σ t m inputs (Err refusal) = option_map refused_by (packet_refusal limit (inputs_of files) σ (by_stream t.hp t.lp σ)) ≡ Some refusal
+GivesOf limit files σ t m inputs (Err ReadFault) = ((by_stream inputs.hp inputs.lp σ).tail ≡ None) × BothTell files m inputs t × AreNear files m t
+GivesOf limit files σ t m inputs (Err refusal) =
+    (option_map refused_by (packet_refusal limit (inputs_of files) σ (by_stream t.hp t.lp σ)) ≡ Some refusal) × AreNear files m t
 
 -- The work stands at a point of its order at which nothing was refused, and the transmitter has had the
 -- packets of both inputs as far as they were read.
@@ -80,7 +95,7 @@ pub record IsDue (files : Stream → List ℕ) (t : Seen) : Type 0 where
 
 -- why the work stops before a symbol: for the first refusal of all, or a failed read
 abbrev pub Stops : ℕ → (Stream → List ℕ) → Meaning → Seen → Refusal → Type 0
-Stops limit files m t ReadFault = HoldsSymbolsSoFar t.settings limit files m (first_symbols t.settings (inputs_of files) t.made)
+Stops limit files m t ReadFault = HoldsSymbolsSoFar t.settings limit files (left_of m) (first_symbols t.settings (inputs_of files) t.made)
 Stops limit files m t WriteFault = ⊥
 Stops limit files m t refusal =
     (modulation_refusal t.settings limit (inputs_of files) ≡ Some refusal) × (cells_sent t.settings limit (inputs_of files) ≡ first_symbols t.settings (inputs_of files) t.made)
@@ -88,11 +103,11 @@ Stops limit files m t refusal =
 -- the work goes on, or stops
 abbrev pub GoesOn : ℕ → (Stream → List ℕ) → Meaning → PacketInputs → Seen → (Inputs → Type 0) → Result (Unit {0}) Refusal → Type 0
 GoesOn limit files m inputs t put (Ok u) = IsAtWork limit files m inputs t put
-GoesOn limit files m inputs t put (Err refusal) = Stops limit files m t refusal
+GoesOn limit files m inputs t put (Err refusal) = Stops limit files m t refusal × TakeFew limit files (left_of m)
 
 -- what Cells holds where the work ends with a refusal
 abbrev pub Ends : Settings → ℕ → (Stream → List ℕ) → Meaning → Refusal → Type 0
-Ends s limit files m ReadFault = HoldsSymbolsSoFar s limit files m m.cells_out.written
+Ends s limit files m ReadFault = HoldsSymbolsSoFar s limit files (left_of m) m.cells_out.written
 Ends s limit files m WriteFault = (k : ℕ) × (m.cells_out.written ≡ take k (cells_sent s limit (inputs_of files)))
 Ends s limit files m refusal =
     (modulation_refusal s limit (inputs_of files) ≡ Some refusal) × (m.cells_out.written ≡ cells_sent s limit (inputs_of files))
@@ -114,7 +129,7 @@ pub record IsWritten (limit : ℕ) (files : Stream → List ℕ) (m : Meaning) (
 -- a symbol more, or a refusal
 abbrev pub Sends : ℕ → (Stream → List ℕ) → Meaning → PacketInputs → Seen → (Inputs → Type 0) → Result (Unit {0}) Refusal → Type 0
 Sends limit files m inputs t put (Ok u) = IsWritten limit files m inputs t put
-Sends limit files m inputs t put (Err refusal) = Ends t.settings limit files m refusal
+Sends limit files m inputs t put (Err refusal) = Ends t.settings limit files m refusal × TakeFew limit files (left_of m)
 
 -- what was counted, where all inputs have ended and just their super-frames were sent
 abbrev pub CountsAt : Settings → PacketInputs → ℕ → Option TransmissionCounts → Type 0
@@ -128,5 +143,5 @@ CountsAt s inputs symbols None =
 abbrev pub Modulates : Settings → ℕ → (Stream → List ℕ) → Meaning → Result TransmissionCounts Refusal → Type 0
 Modulates s limit files m (Ok counts) =
     (counts ≡ transmission_counts s files) × (left_of m Hp ≡ []) × (left_of m Lp ≡ [])
-    × (modulation_refusal s limit (inputs_of files) ≡ None) × (m.cells_out.written ≡ cells_sent s limit (inputs_of files))
-Modulates s limit files m (Err refusal) = Ends s limit files m refusal
+    × (modulation_refusal s limit (inputs_of files) ≡ None) × (m.cells_out.written ≡ cells_sent s limit (inputs_of files)) × TakeFew limit files (left_of m)
+Modulates s limit files m (Err refusal) = Ends s limit files m refusal × TakeFew limit files (left_of m)

@@ -1,10 +1,10 @@
 // The command.
-ghost use Rattle.std.specs.Prelude.{◌≡◌, ◌≤◌, true, Some};
+ghost use Rattle.std.specs.Prelude.{◌≡◌, ◌≤◌, true};
 ghost use Rattle.std.specs.Option.{option_copied};
 ghost use Rattle.station_core.specs.Meaning.{IsFresh};
-ghost use Rattle.run_clauses.specs.Command.{Modulate};
-ghost use Rattle.run_clauses.specs.Modulation.{fits_form};
-ghost use Rattle.run_clauses.specs.Runs.{IsDone, HasStatus, AsksOnly, Stands, IsComplete};
+ghost use Rattle.run_clauses.specs.Run.{Run};
+ghost use Rattle.run_clauses.specs.StreamForm.{fits_form};
+ghost use Rattle.modulate_run.specs.ModulateCommand.{modulate_command};
 ghost use Rattle.modulate_run.specs.Steps.{IsReady, RunsOrLacks};
 
 use crate::run::{Names, run_modulation};
@@ -72,12 +72,7 @@ pub fn modulate<'a, S: Station<'a>>(
 ) -> u8
     requires fresh { IsFresh (S.meaning station.old) }
     requires few { limits.now.packets ≤ 100000000 }
-    ensures done { result ≡ 0 → (S.meaning station.old).tells ≡ true
-        → IsDone limits.now.packets (Modulate settings.now hp.now (option_copied lp.entry) cells.now) (S.meaning station.old) (S.meaning station.new) }
-    ensures status { HasStatus limits.now.packets (Some (Modulate settings.now hp.now (option_copied lp.entry) cells.now)) (S.meaning station.old) (S.meaning station.new) result }
-    ensures asks { AsksOnly (Some (Modulate settings.now hp.now (option_copied lp.entry) cells.now)) (S.meaning station.old) (S.meaning station.new) result }
-    ensures stands { Stands limits.now.packets (Some (Modulate settings.now hp.now (option_copied lp.entry) cells.now)) (S.meaning station.old) (S.meaning station.new) result }
-    ensures complete { IsComplete limits.now.packets (Modulate settings.now hp.now (option_copied lp.entry) cells.now) (S.meaning station.old) (S.meaning station.new) result }
+    ensures { Run (modulate_command settings.now hp.now (option_copied lp.entry) cells.now) limits.now.packets (S.meaning station.old) (S.meaning station.new) result }
 {
     match read_fitting(alloc, settings, lp, station) {
         Ok(accepted) => {

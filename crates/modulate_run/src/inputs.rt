@@ -7,10 +7,11 @@ ghost use Rattle.modulate_run.specs.Seen.{Seen, wanted, with_one};
 ghost use Rattle.modulate_run.specs.Steps.{first_inputs};
 ghost use Rattle.modulate_run.specs.Work.{AreOpen, AreWithin, BothRead, CountsAt, GivesOf, GoesOn, IsAtWork, IsDue, KeepsOutputs};
 
+use crate::counts::TransmissionCounts;
 use crate::input::PacketInput;
 use crate::transmitter::Transmitter;
 use mode_set::{Settings, Stream};
-use run_clauses::{Counts, Refusal, TransmissionCounts};
+use run_clauses::{Counts, Refusal};
 use station_core::Station;
 use transmission::laws::work;
 use ts_packet::Packet;

@@ -2,10 +2,12 @@
 //! transmission.
 //!
 //! The work goes over the symbols. For each one the packets that it wants are read and put, and the
-//! symbol is written. The call carries the five clauses of a run.
+//! symbol is written. The call carries the promise of a run of its command
+//! (`specs/ModulateCommand.antt`).
 #![tactic(auto)]
 
 mod command;
+mod counts;
 mod input;
 mod inputs;
 mod modulators;
@@ -15,3 +17,4 @@ mod symbols;
 mod transmitter;
 
 pub use command::modulate;
+pub use counts::TransmissionCounts;

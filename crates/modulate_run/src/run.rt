@@ -2,16 +2,17 @@
 ghost use Rattle.std.specs.Prelude.{◌≡◌, ◌≤◌, ◌*◌, ℕ, true, vec_capacity};
 ghost use Rattle.std.specs.Option.{option_copied};
 ghost use Rattle.transmission.specs.Transmission.{Inputs};
-ghost use Rattle.run_clauses.specs.Modulation.{fits_form};
+ghost use Rattle.run_clauses.specs.StreamForm.{fits_form};
 ghost use Rattle.run_steps.specs.Causes.{HasCause};
-ghost use Rattle.modulate_run.specs.Steps.{AsksPorts, IsNew, IsReady, Ran, RunsModulation};
+ghost use Rattle.modulate_run.specs.Steps.{IsNew, IsReady, Ran, RunsModulation};
 
+use crate::counts::TransmissionCounts;
 use crate::inputs::PacketInputs;
 use crate::steps::{close_refused, finish, open};
 use crate::symbols::send_all;
 use crate::transmitter::Transmitter;
 use mode_set::Settings;
-use run_clauses::{Limits, Refusal, TransmissionCounts};
+use run_clauses::{Limits, Refusal};
 use run_steps::refuse;
 use station_core::Station;
 use transmission::laws::{symbols, work};
@@ -43,9 +44,8 @@ fn modulate_all<'a, T: Transmitter, S: Station<'a>>(
     requires new { IsNew (T.seen tx.old) }
     requires stands { (inputs : Inputs) → T.stands tx.old inputs }
     requires room { T.symbol_len ≤ vec_capacity bytes.old }
-    ensures asks { AsksPorts names.entry.hp.now (option_copied names.entry.lp) names.entry.cells.now (S.meaning station.old) (S.meaning station.new) }
     ensures cause { HasCause (S.meaning station.old) (S.meaning station.new) result }
-    ensures ran { Ran (T.seen tx.old).settings limits.now.packets names.entry.hp.now (option_copied names.entry.lp) (S.meaning station.old) (S.meaning station.new) result }
+    ensures ran { Ran (T.seen tx.old).settings limits.now.packets names.entry.hp.now (option_copied names.entry.lp) names.entry.cells.now (S.meaning station.old) (S.meaning station.new) result }
 {
     work();
     symbols();

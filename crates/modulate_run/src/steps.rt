@@ -1,34 +1,35 @@
 // The steps of a run: the ports are opened, and closed behind the work.
-ghost use Rattle.std.specs.Prelude.{◌≡◌, ◌≤◌, ◌++◌, ℕ, List, [], true, false, None, if◌then◌else◌};
+ghost use Rattle.std.specs.Prelude.{◌≡◌, ◌≤◌, ◌++◌, ℕ, List, [], true, false, None, OnOk, OnErr, if◌then◌else◌};
 ghost use Rattle.mode_set.specs.declared.modes.Stream.TheVariants.{Lp};
 ghost use Rattle.std.specs.Option.{option_copied};
-ghost use Rattle.run_clauses.specs.Modulation.{packets_line, super_frames_line, transmission_lines};
+ghost use Rattle.station_core.specs.Causes.{Rose};
+ghost use Rattle.run_clauses.specs.Packets.{packets_line};
 ghost use Rattle.run_steps.specs.Causes.{HasCause};
 ghost use Rattle.run_steps.specs.Lines.{IsWriting, WritesLines};
+ghost use Rattle.modulate_run.specs.ModulateCommand.{super_frames_line, transmission_lines};
 ghost use Rattle.modulate_run.specs.Reporting.{Finishes, IsFinish};
-ghost use Rattle.modulate_run.specs.Steps.{AsksPorts, ClosesRefused, OpensAll, OpensLp};
+ghost use Rattle.modulate_run.specs.Steps.{ClosesRefused, OpensAll, OpensLp};
 
+use crate::counts::{TransmissionCounts, super_frames_line_of};
 use mode_set::Stream;
-use run_clauses::{Counts, Refusal, TransmissionCounts, packets_line_of, super_frames_line_of};
+use run_clauses::{Counts, Refusal, packets_line_of};
 use run_steps::write_line;
-use station_core::{InPort, OutPort, Station};
+use station_core::{Failed, InPort, OutPort, Station};
 
 // Opens the file of LP to be read, if there is one.
-fn open_lp<'a, S: Station<'a>>(lp: Option<&'a str>, station: &mut S) -> Result<(), Refusal>
+fn open_lp<'a, S: Station<'a>>(lp: Option<&'a str>, station: &mut S) -> Result<(), Failed>
     requires { (S.meaning station.old).lp.asked ≡ None }
-    ensures cause { HasCause (S.meaning station.old) (S.meaning station.new) result }
     ensures opened { OpensLp (option_copied lp.entry) (S.meaning station.old) (S.meaning station.new) result }
+    ensures cause { OnErr result (Rose (S.meaning station.old).read_faults (S.meaning station.new).read_faults) }
+    ensures later { (S.meaning station.old).read_faults ≤ (S.meaning station.new).read_faults }
 {
     match lp {
-        Some(name) => match station.attach(InPort::Lp, name) {
-            Ok(()) => Ok(()),
-            Err(_) => Err(Refusal::ReadFault),
-        },
+        Some(name) => station.attach(InPort::Lp, name),
         None => Ok(()),
     }
 }
 
-/// Opens HP and LP to be read, and then makes the output.
+/// Opens HP to be read, then LP, and then makes the output.
 pub(crate) fn open<'a, S: Station<'a>>(
     hp: &'a str,
     lp: Option<&'a str>,
@@ -38,21 +39,19 @@ pub(crate) fn open<'a, S: Station<'a>>(
     requires hp { (S.meaning station.old).hp.asked ≡ None }
     requires lp { (S.meaning station.old).lp.asked ≡ None }
     requires cells { (S.meaning station.old).cells_out.asked ≡ None }
-    ensures asks { AsksPorts hp.now (option_copied lp.entry) cells.now (S.meaning station.old) (S.meaning station.new) }
     ensures cause { HasCause (S.meaning station.old) (S.meaning station.new) result }
     ensures opened { OpensAll hp.now (option_copied lp.entry) cells.now (S.meaning station.old) (S.meaning station.new) result }
 {
     if station.attach(InPort::Hp, hp).is_err() {
         return Err(Refusal::ReadFault);
     }
-    match open_lp(lp, station) {
-        Ok(()) => {}
-        Err(refusal) => return Err(refusal),
+    if open_lp(lp, station).is_err() {
+        return Err(Refusal::ReadFault);
     }
-    match station.create(OutPort::Cells, cells) {
-        Ok(()) => Ok(()),
-        Err(_) => Err(Refusal::WriteFault),
+    if station.create(OutPort::Cells, cells).is_err() {
+        return Err(Refusal::WriteFault);
     }
+    Ok(())
 }
 
 // Writes the closing line of LP, if there is LP.

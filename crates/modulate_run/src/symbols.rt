@@ -8,10 +8,11 @@ ghost use Rattle.run_steps.specs.Causes.{HasCause};
 ghost use Rattle.modulate_run.specs.Seen.{wanted};
 ghost use Rattle.modulate_run.specs.Work.{AreOpen, AreWithin, GoesOn, IsAtWork, IsDue, IsWritten, KeepsOthers, KeepsOutputs, Modulates, Sends, WritesCells, WritesSymbol};
 
+use crate::counts::TransmissionCounts;
 use crate::inputs::PacketInputs;
 use crate::transmitter::Transmitter;
 use mode_set::Settings;
-use run_clauses::{Limits, Refusal, TransmissionCounts};
+use run_clauses::{Limits, Refusal};
 use station_core::{OutPort, Station};
 use transmission::laws::{packets, super_frames, symbols, work};
 

@@ -4,7 +4,7 @@ use Rattle.std.specs.Prelude.{flat_map}
 use Rattle.std.specs.List.{enumerate_from}
 use Rattle.std.proofs.lemmas.List.{append-nil}
 use Rattle.dispersal.specs.Packet.{dispersed}
-use Rattle.run_clauses.specs.Packets.{dispersed_packets}
+use Rattle.packet_runs.specs.DispersedPackets.{dispersed_packets}
 use Rattle.packet_runs.proofs.Growing.{Grows}
 
 from : ℕ → List (List ℕ) → List ℕ

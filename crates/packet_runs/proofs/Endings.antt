@@ -1,15 +1,15 @@
 -- What the parts of a run leave together, from the opening of the ports to their closing.
-use Rattle.std.proofs.Common.{◌≡◌, inr, true, Bool, ℕ, ◌+◌, List, [], ◌++◌, length, take, if◌then◌else◌, ◌∙◌, sym, ap, subst, arith, Result, Ok, Err}
-use Rattle.std.proofs.lemmas.List.{take_all, append-nil}
+use Rattle.std.proofs.Common.{◌≡◌, inl, inr, true, Bool, ℕ, ◌+◌, List, [], ◌++◌, length, take, if◌then◌else◌, ◌∙◌, sym, ap, subst, arith, Result, Ok, Err}
+use Rattle.std.proofs.lemmas.Bool.{true≢false}
+use Rattle.std.proofs.lemmas.List.{take_all}
 use Rattle.std.proofs.Math.Seq.{take-append-add}
 use Rattle.station_core.specs.Meaning.{Meaning, Sink}
 use Rattle.run_clauses.specs.declared.work.Counts.{Counts}
 use Rattle.run_clauses.specs.declared.work.Refusal.{Refusal}
 use Rattle.run_clauses.specs.declared.work.Refusal.TheVariants.{Usage, Settings, ReadFault, WriteFault, NotSync, Memory, Limit}
-use Rattle.run_clauses.specs.Packets.{whole_packets, first_packets}
+use Rattle.run_clauses.specs.Packets.{whole_packets, first_packets, closing_line}
 use Rattle.packet_runs.specs.Coding.{Codes, CodesWhole, EndsCoding, KeepsOthers}
-use Rattle.run_clauses.specs.Text.{closing_line}
-use Rattle.packet_runs.specs.Steps.{Ran, OpensAll, Finishes, ClosesRefused}
+use Rattle.packet_runs.specs.Steps.{IsReady, Ran, OpensAll, Finishes, ClosesRefused}
 
 -- the work over the ports as they were opened is the work over the file
 from_opened : (input output : List ℕ) (old mid : Meaning) → OpensAll input output old mid (Ok tt) → (P : List ℕ → List ℕ → Type 0) → P mid.hp.left mid.bytes_out.written → P (old.file input) []
@@ -36,10 +36,29 @@ module _ (coded ended : List (List ℕ) → List ℕ) (limit : ℕ) (input outpu
       cases Usage d = (report', created', d)
       cases (Settings reason) d = (report', created', d)
       cases ReadFault d = (report', (λ t is. d t))
-      cases WriteFault d = ((λ t is. d t), (λ t. (0, ap (λ (x : Sink). x.written) report' ∙ sym (append-nil old.report.written))))
+      cases WriteFault d = ((λ t is. d t), (λ t. inl (ap (λ (x : Sink). x.written) report')))
       cases (NotSync stream n) d = (report', created', d)
       cases Memory d = (report', created', d)
       cases (Limit n) d = (report', created', d)
+
+  -- the work was refused
+  pub refused_work : (r : Refusal) (fin new : Meaning) → KeepsOthers mid fin
+      → (mid.tells ≡ true → Codes coded limit mid.hp.left mid.bytes_out.written fin.hp.left fin.bytes_out.written (Err r)) → ClosesRefused fin new → Ran coded ended limit input old new (Err r)
+  refused_work r fin new keeps work closes =
+      refused_with r fin new
+      (ap (λ (x : Meaning). x.report) keeps ∙ ap (λ (x : Meaning). x.report) opened)
+      (ap (λ (x : Meaning). x.bytes_out.created) keeps ∙ ap (λ (x : Meaning). x.bytes_out.created) opened)
+      (λ t. by r (from_opened input output old mid opened (λ i b. Codes coded limit i b fin.hp.left fin.bytes_out.written (Err r)) (work (tells ∙ t))))
+      closes
+    where
+      by : (r : Refusal) → Codes coded limit (old.file input) [] fin.hp.left fin.bytes_out.written (Err r) → CodesWhole coded ended limit (old.file input) [] fin.hp.left fin.bytes_out.written (Err r)
+      by Usage e = absurd e
+      by (Settings reason) e = absurd e
+      by ReadFault e = e
+      by WriteFault e = inl e
+      by (NotSync stream n) e = e
+      by Memory e = absurd e
+      by (Limit n) e = e
 
   module _ (done : Meaning) (counts : Counts) (keeps : KeepsOthers mid done)
       (work : mid.tells ≡ true → Codes coded limit mid.hp.left mid.bytes_out.written done.hp.left done.bytes_out.written (Ok counts))
@@ -74,6 +93,7 @@ module _ (coded ended : List (List ℕ) → List ℕ) (limit : ℕ) (input outpu
             let few = coded (first_packets (whole_packets (old.file input)) (old.file input)) in
             inr (
               c.1,
+              e.1 ∙ c.2,
               (
                 length few + e.0,
                 e.2 ∙ ap (λ (l : List ℕ). l ++ take e.0 piece) c.3
@@ -110,7 +130,6 @@ module _ (coded ended : List (List ℕ) → List ℕ) (limit : ℕ) (input outpu
               record {
                 attached = ap (λ (x : Meaning). x.hp.attached) f.1 ∙ ap (λ (x : Meaning). x.hp.attached) keeps' ∙ ap (λ (x : Meaning). x.hp.attached) keeps ∙ ap (λ (x : Meaning). x.hp.attached) opened;
                 created = ap (λ (x : Meaning). x.bytes_out.created) f.1 ∙ ap (λ (x : Meaning). x.bytes_out.created) keeps' ∙ ap (λ (x : Meaning). x.bytes_out.created) keeps ∙ ap (λ (x : Meaning). x.bytes_out.created) opened;
-                closed = ap (λ (x : Meaning). x.bytes_out.closed) f.1;
                 report = λ t. ap (λ (x : Meaning). x.report.written) f.1
                     ∙ ap (λ (b : Bool). if b then fin.report.written ++ closing_line counts else fin.report.written) (tells' ∙ t)
                     ∙ ap (λ (l : List ℕ). l ++ closing_line counts) same_report;
@@ -126,12 +145,31 @@ module _ (coded ended : List (List ℕ) → List ℕ) (limit : ℕ) (input outpu
           (λ t is.
               let all = ended (first_packets (whole_packets (old.file input)) (old.file input)) in
               let whole : take (length all) all ≡ all = take_all (length all) all (omega arith) in
-              inr ((contents t).1, (length all, ap (λ (x : Meaning). x.bytes_out.written) f.2 ∙ written t ∙ sym whole))),
-          (λ t. (
-            f.1,
-            ap (λ (x : Meaning). x.report.written) f.2
-                ∙ ap (λ (b : Bool). if b then fin.report.written ++ take f.1 (closing_line counts) else fin.report.written) (tells' ∙ t)
-                ∙ ap (λ (l : List ℕ). l ++ take f.1 (closing_line counts)) same_report
-                ∙ ap (λ (c : Counts). old.report.written ++ take f.1 (closing_line c)) (contents t).0,
+              inr (
+                (contents t).1,
+                ap (λ (x : Meaning). x.hp.left) f.3 ∙ left t,
+                (length all, ap (λ (x : Meaning). x.bytes_out.written) f.3 ∙ written t ∙ sym whole),
+              )),
+          (λ t. inr (
+            (contents t).1,
+            (
+              f.2,
+              ap (λ (x : Meaning). x.report.written) f.3
+                  ∙ ap (λ (b : Bool). if b then fin.report.written ++ take f.2 (closing_line counts) else fin.report.written) (tells' ∙ t)
+                  ∙ ap (λ (l : List ℕ). l ++ take f.2 (closing_line counts)) same_report
+                  ∙ ap (λ (c : Counts). old.report.written ++ take f.2 (closing_line c)) (contents t).0,
+            ),
           )),
         )
+
+-- a port could not be opened
+pub unopened : (coded ended : List (List ℕ) → List ℕ) (limit : ℕ) (input output : List ℕ) (old new : Meaning) (r : Refusal) → IsReady old → OpensAll input output old new (Err r) → Ran coded ended limit input old new (Err r)
+unopened coded ended limit input output old new Usage ready p = absurd p
+unopened coded ended limit input output old new (Settings reason) ready p = absurd p
+unopened coded ended limit input output old new (NotSync stream n) ready p = absurd p
+unopened coded ended limit input output old new Memory ready p = absurd p
+unopened coded ended limit input output old new (Limit n) ready p = absurd p
+unopened coded ended limit input output old new ReadFault ready p =
+    (ap (λ (x : Meaning). x.report) p, (λ t is. absurd (true≢false (sym is ∙ ap (λ (x : Meaning). x.bytes_out.created) p ∙ ready.not_created))))
+unopened coded ended limit input output old new WriteFault ready p =
+    ((λ t is. absurd (true≢false (sym is ∙ ap (λ (x : Meaning). x.bytes_out.created) p ∙ ready.not_created))), (λ t. inl (ap (λ (x : Meaning). x.report.written) p)))

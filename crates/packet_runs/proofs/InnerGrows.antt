@@ -7,7 +7,7 @@ use Rattle.outer_chain.specs.Bits.{bytes_of}
 use Rattle.outer_chain.specs.Sent.{sent_bytes}
 use Rattle.outer_chain.specs.SendingLaws.{MorePacketsSent}
 use Rattle.puncture.specs.Laws.{StepsSendInOrder, StepsAreNumbered, SentBitsAreRuns}
-use Rattle.run_clauses.specs.InnerBytes.{inner_bits, inner_bytes, filled_inner_bytes}
+use Rattle.packet_runs.specs.InnerBytes.{inner_bits, inner_bytes, filled_inner_bytes}
 use Rattle.packet_runs.specs.Inner.{rest_of}
 use Rattle.packet_runs.proofs.Growing.{Grows, Ends}
 use Rattle.packet_runs.proofs.OuterGrows.{outer_grows}

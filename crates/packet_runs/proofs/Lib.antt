@@ -2,12 +2,10 @@ pub mod Keeping
 pub mod Progress
 pub mod DispersedPackets
 pub mod Endings
-pub mod Clauses
-pub mod CodingPorts
-pub mod CodingClauses
 pub mod Growing
 pub mod OuterGrows
 pub mod WholeBytes
 pub mod SentOfBytes
 pub mod InnerGrows
+pub mod CodingEnd
 pub mod InnerRuns

@@ -74,10 +74,17 @@ module _ (coded : List (List ℕ) → List ℕ) (limit n : ℕ) (input before le
   accepted_more : n < limit → is_sync left 0 ≡ true → AcceptsFirst limit input (n + 1)
   accepted_more lt sync = below_more (λ i. is_accepted limit input i ≡ true) n p.accepted (accepts limit n input lt (sym first_is_next ∙ sync))
 
+  -- what is left behind the next packet, and behind a part of it
+  next_left : (left' : List ℕ) → left' ≡ drop 188 left → left' ≡ drop (188 * (n + 1)) input
+  next_left left' e = e ∙ ap (λ (l : List ℕ). drop 188 l) p.left_is ∙ drop-drop 188 (188 * n) input ∙ ap (λ (k : ℕ). drop k input) (omega arith)
+
+  part_left : (left' : List ℕ) (j : ℕ) → left' ≡ drop j left → left' ≡ drop (188 * n + j) input
+  part_left left' j e = e ∙ ap (λ (l : List ℕ). drop j l) p.left_is ∙ drop-drop j (188 * n) input
+
   pub goes_on : (piece left' after' : List ℕ) → n < limit → Gives piece → Step n piece left after left' after' (Ok None) → Progress coded limit (n + 1) input before left' after'
   goes_on piece left' after' lt gives s = record {
     within = omega (arith, s.0, size);
-    left_is = s.2 ∙ ap (λ (l : List ℕ). drop 188 l) p.left_is ∙ drop-drop 188 (188 * n) input ∙ ap (λ (k : ℕ). drop k input) (omega arith);
+    left_is = next_left left' s.2;
     written =
         s.3 ∙ ap (λ (l : List ℕ). l ++ piece) p.written
         ∙ append_assoc before (coded (first_packets n input)) piece
@@ -110,6 +117,7 @@ module _ (coded : List (List ℕ) → List ℕ) (limit n : ℕ) (input before le
     omega (arith, s.1, s.2, ap length s.3, length-drop s.0 left, size),
     omega (arith, size),
     p.accepted,
+    (s.0, s.1, part_left left' s.0 s.3),
     s.4 ∙ p.written,
   )
   refused piece WriteFault left' after' lt gives s = (
@@ -117,21 +125,23 @@ module _ (coded : List (List ℕ) → List ℕ) (limit n : ℕ) (input before le
     length (coded (first_packets n input)) + s.0,
     omega (arith, s.1, size),
     accepted_more lt s.2,
-    s.3 ∙ ap (λ (l : List ℕ). l ++ take s.0 piece) p.written
+    next_left left' s.3,
+    s.4 ∙ ap (λ (l : List ℕ). l ++ take s.0 piece) p.written
         ∙ append_assoc before (coded (first_packets n input)) (take s.0 piece)
         ∙ ap (λ (l : List ℕ). before ++ l) (prefix piece s.0 (gives refl)),
   )
   refused piece (NotSync stream m) left' after' lt gives s =
-      let At : ℕ → Type 0 = λ k. AcceptsFirst limit input k × (k < whole_packets input) × (k < limit) × (is_sync input k ≡ false) × (after' ≡ before ++ coded (first_packets k input)) in
+      let At : ℕ → Type 0 = λ k. AcceptsFirst limit input k × (k < whole_packets input) × (k < limit) × (is_sync input k ≡ false) × (left' ≡ drop (188 * (k + 1)) input) × (after' ≡ before ++ coded (first_packets k input)) in
       let here : At n = (
         p.accepted,
         omega (arith, s.2, size),
         lt,
         sym first_is_next ∙ s.3,
+        next_left left' s.4,
         s.5 ∙ p.written,
       ) in
       let there : At m = subst At (sym s.1) here in
-      (s.0, there.0, there.1, there.2, there.3, there.4)
+      (s.0, there.0, there.1, there.2, there.3, there.4, there.5)
 
 -- the end at the limit
 module _ (coded : List (List ℕ) → List ℕ) (limit : ℕ) (input before left after : List ℕ) (p : Progress coded limit limit input before left after) where
@@ -154,14 +164,17 @@ module _ (coded : List (List ℕ) → List ℕ) (limit : ℕ) (input before left
   ended (Err WriteFault) left' after' e = absurd e
   ended (Err (NotSync stream m)) left' after' e = absurd e
   ended (Err (Limit m)) left' after' e =
-      let At : ℕ → Type 0 = λ k. AcceptsFirst limit input k × (k < whole_packets input) × (after' ≡ before ++ coded (first_packets k input)) in
-      let here : At limit = (p.accepted, omega (arith, e.1, all_size), e.3 ∙ p.written) in
+      let At : ℕ → Type 0 = λ k. AcceptsFirst limit input k × (k < whole_packets input) × (left' ≡ drop (188 * (k + 1)) input) × (after' ≡ before ++ coded (first_packets k input)) in
+      let behind : left' ≡ drop (188 * (limit + 1)) input =
+      e.2 ∙ ap (λ (l : List ℕ). drop 188 l) p.left_is ∙ drop-drop 188 (188 * limit) input ∙ ap (λ (k : ℕ). drop k input) (omega arith) in
+      let here : At limit = (p.accepted, omega (arith, e.1, all_size), behind, e.3 ∙ p.written) in
       let there : At m = subst At (sym e.0) here in
-      (e.0, there.0, there.1, there.2)
+      (e.0, there.0, there.1, there.2, there.3)
   ended (Err ReadFault) left' after' e = (
     limit,
     omega (arith, e.1, e.2, ap length e.3, length-drop e.0 left, all_size),
     omega (arith, all_size),
     p.accepted,
+    (e.0, e.1, e.3 ∙ ap (λ (l : List ℕ). drop e.0 l) p.left_is ∙ drop-drop e.0 (188 * limit) input),
     e.4 ∙ p.written,
   )

@@ -15,7 +15,7 @@ use Rattle.puncture.specs.SentBits.{path_of, window, bits_from, sent_bits}
 use Rattle.puncture.specs.Steps.{sent_before, bits_of_step, Coder, IsAtPath}
 use Rattle.puncture.specs.Laws.{StepsSendInOrder, StepsAreNumbered, SentBitsAreRuns, BytesArePaths}
 use Rattle.outer_chain.specs.Bits.{bytes_of}
-use Rattle.run_clauses.specs.InnerBytes.{inner_bits, inner_bytes}
+use Rattle.packet_runs.specs.InnerBytes.{inner_bits, inner_bytes}
 use Rattle.packet_runs.specs.Inner.{rest_of}
 use Rattle.packet_runs.proofs.WholeBytes.{bytes_after, rest_after}
 

@@ -1,6 +1,6 @@
 -- The work of a command that codes the packets of HP one after another: what is left of the input and
 -- what was written, by the answer. `coded n input` is what the first n packets of an input give.
-use Rattle.std.specs.Prelude.{◌⊎◌, length, ◌/◌, ◌≡◌, ◌<◌, ◌≤◌, ◌-◌, ◌++◌, ℕ, List, [], take, drop, Result, Ok, Err, Option, None, Some, true, false, ⊤}
+use Rattle.std.specs.Prelude.{◌⊎◌, length, ◌/◌, ◌≡◌, ◌<◌, ◌≤◌, ◌+◌, ◌-◌, ◌*◌, ◌++◌, ℕ, List, [], take, drop, Result, Ok, Err, Option, None, Some, true, false, ⊤}
 use Rattle.station_core.specs.Meaning.{Meaning}
 use Rattle.mode_set.specs.declared.modes.Stream.TheVariants.{Hp}
 use Rattle.run_clauses.specs.declared.work.Counts.{Counts}
@@ -29,7 +29,7 @@ Step number piece input before left after (Err (Limit n)) = ⊥
 Step number piece input before left after (Err ReadFault) =
     (k : ℕ) × (k < 188) × (k ≤ length input) × (left ≡ drop k input) × (after ≡ before)
 Step number piece input before left after (Err WriteFault) =
-    (k : ℕ) × (188 ≤ length input) × (is_sync input 0 ≡ true) × (after ≡ before ++ take k piece)
+    (k : ℕ) × (188 ≤ length input) × (is_sync input 0 ≡ true) × (left ≡ drop 188 input) × (after ≡ before ++ take k piece)
 Step number piece input before left after (Err Usage) = ⊥
 Step number piece input before left after (Err (Settings reason)) = ⊥
 Step number piece input before left after (Err Memory) = ⊥
@@ -60,13 +60,16 @@ Codes coded limit input before left after (Ok counts) =
     × (left ≡ []) × (after ≡ before ++ coded (first_packets (whole_packets input) input))
 Codes coded limit input before left after (Err (NotSync stream n)) =
     (stream ≡ Hp) × AcceptsFirst limit input n × (n < whole_packets input) × (n < limit) × (is_sync input n ≡ false)
-    × (after ≡ before ++ coded (first_packets n input))
+    × (left ≡ drop (188 * (n + 1)) input) × (after ≡ before ++ coded (first_packets n input))
 Codes coded limit input before left after (Err (Limit n)) =
-    (n ≡ limit) × AcceptsFirst limit input n × (n < whole_packets input) × (after ≡ before ++ coded (first_packets n input))
+    (n ≡ limit) × AcceptsFirst limit input n × (n < whole_packets input)
+    × (left ≡ drop (188 * (n + 1)) input) × (after ≡ before ++ coded (first_packets n input))
 Codes coded limit input before left after (Err ReadFault) =
-    (n : ℕ) × (n ≡ (length input - length left) / 188) × (n ≤ whole_packets input) × AcceptsFirst limit input n × (after ≡ before ++ coded (first_packets n input))
+    (n : ℕ) × (n ≡ (length input - length left) / 188) × (n ≤ whole_packets input) × AcceptsFirst limit input n
+    × ((j : ℕ) × (j < 188) × (left ≡ drop (188 * n + j) input)) × (after ≡ before ++ coded (first_packets n input))
 Codes coded limit input before left after (Err WriteFault) =
-    (n : ℕ) × (k : ℕ) × (n ≤ whole_packets input) × AcceptsFirst limit input n × (after ≡ before ++ take k (coded (first_packets n input)))
+    (n : ℕ) × (k : ℕ) × (n ≤ whole_packets input) × AcceptsFirst limit input n
+    × (left ≡ drop (188 * n) input) × (after ≡ before ++ take k (coded (first_packets n input)))
 Codes coded limit input before left after (Err Usage) = ⊥
 Codes coded limit input before left after (Err (Settings reason)) = ⊥
 Codes coded limit input before left after (Err Memory) = ⊥
@@ -84,5 +87,5 @@ CodesWhole coded ended limit input before left after (Ok counts) =
     × (left ≡ []) × (after ≡ before ++ ended (first_packets (whole_packets input) input))
 CodesWhole coded ended limit input before left after (Err WriteFault) =
     Codes coded limit input before left after (Err WriteFault)
-    ⊎ (AcceptsFirst limit input (whole_packets input) × ((k : ℕ) × (after ≡ before ++ take k (ended (first_packets (whole_packets input) input)))))
+    ⊎ (AcceptsFirst limit input (whole_packets input) × (left ≡ []) × ((k : ℕ) × (after ≡ before ++ take k (ended (first_packets (whole_packets input) input)))))
 CodesWhole coded ended limit input before left after (Err refusal) = Codes coded limit input before left after (Err refusal)

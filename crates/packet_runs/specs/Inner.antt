@@ -4,7 +4,7 @@ use Rattle.mode_set.specs.declared.modes.Rate.{Rate}
 use Rattle.forney.specs.Values.{stream_of}
 use Rattle.puncture.specs.SentBits.{path_of}
 use Rattle.puncture.specs.Steps.{Coder, IsAtPath}
-use Rattle.run_clauses.specs.InnerBytes.{inner_bits}
+use Rattle.packet_runs.specs.InnerBytes.{inner_bits}
 
 -- the bits behind the whole bytes of these bits
 unfoldable pub rest_of : List Bool → List Bool

@@ -1,5 +1,5 @@
 -- The steps of a run of a command that codes the packets of HP, each as a relation of what the station
--- stood for before and after it. The clauses of the run as a whole follow from them.
+-- stood for before and after it. The promise of the run as a whole follows from them.
 use Rattle.std.specs.Prelude.{◌≡◌, ◌⊎◌, ◌≤◌, ◌++◌, ℕ, true, false, List, [], take, Result, Ok, Err, Some, None, if◌then◌else◌}
 use Rattle.station_core.specs.Meaning.{Meaning}
 use Rattle.run_clauses.specs.declared.work.Counts.{Counts}
@@ -7,20 +7,22 @@ use Rattle.run_clauses.specs.declared.work.Refusal.{Refusal}
 use Rattle.run_clauses.specs.declared.work.Refusal.TheVariants.{Usage, Settings, ReadFault, WriteFault, NotSync, Memory, Limit}
 use Rattle.run_steps.specs.Causes.{HasCause}
 use Rattle.packet_runs.specs.Coding.{CodesWhole}
-use Rattle.run_clauses.specs.Packets.{counts_of}
+use Rattle.run_clauses.specs.Packets.{AcceptsFirst, closing_line, counts_of, whole_packets}
 use Rattle.run_steps.specs.Report.{WritesText}
-use Rattle.run_clauses.specs.Text.{closing_line, refusal_text, refusal_status}
+use Rattle.run_clauses.specs.Text.{refusal_text, refusal_status}
 
 -- nothing was asked on HP and Bytes, Report is open, and nothing was written there
 pub record IsReady (m : Meaning) : Type 0 where
   pub hp : m.hp.asked ≡ None
+  pub hp_closed : m.hp.attached ≡ false
   pub bytes : m.bytes_out.asked ≡ None
   pub not_created : m.bytes_out.created ≡ false
   pub report : m.report.created ≡ true
   pub report_open : m.report.closed ≡ false
   pub report_empty : m.tells ≡ true → m.report.written ≡ []
 
--- only HP, Bytes, what is written to Report and the counts have changed, and only these names were asked
+-- After the work, before the text of a refusal: only HP, Bytes, what is written to Report and the counts have
+-- changed, and only these names were asked.
 pub record AsksPorts (input output : List ℕ) (old new : Meaning) : Type 0 where
   pub others : new ≡ record old {
     hp = new.hp;
@@ -28,16 +30,27 @@ pub record AsksPorts (input output : List ℕ) (old new : Meaning) : Type 0 wher
     report = record old.report { written = new.report.written };
     read_faults = new.read_faults;
     write_faults = new.write_faults;
+    report_faults = new.report_faults;
   }
+  pub later_report : old.report_faults ≤ new.report_faults
   pub hp : new.hp.asked ≡ Some input
-  pub bytes : new.bytes_out ≡ old.bytes_out ⊎ (new.bytes_out.asked ≡ Some output)
+  -- the output is asked for only where the input was opened
+  pub bytes : (new.bytes_out ≡ old.bytes_out) ⊎ ((new.bytes_out.asked ≡ Some output) × (new.hp.attached ≡ true))
+  -- nothing is taken of the input before the output was made
+  pub untaken : new.hp.attached ≡ true → (new.bytes_out.created ≡ true) ⊎ (new.hp.left ≡ old.file input)
+  -- an output that was made is closed
+  pub closed : new.bytes_out.created ≡ true → new.bytes_out.closed ≡ true
 
 -- after the whole work every port is done with
 pub record IsFinished (old new : Meaning) (counts : Counts) : Type 0 where
   pub attached : new.hp.attached ≡ true
   pub created : new.bytes_out.created ≡ true
-  pub closed : new.bytes_out.closed ≡ true
   pub report : old.tells ≡ true → new.report.written ≡ old.report.written ++ closing_line counts
+
+-- the closing line was written to Report, or a front of it, where every packet is accepted
+abbrev pub ClosesFront : ℕ → List ℕ → List ℕ → List ℕ → Type 0
+ClosesFront limit input before after =
+    AcceptsFirst limit input (whole_packets input) × ((k : ℕ) × (after ≡ before ++ take k (closing_line (counts_of input))))
 
 -- What a run leaves, by its outcome. Before the output is created nothing of it is said.
 abbrev pub Ran : (List (List ℕ) → List ℕ) → (List (List ℕ) → List ℕ) → ℕ → List ℕ → Meaning → Meaning → Result Counts Refusal → Type 0
@@ -45,7 +58,7 @@ Ran coded ended limit input old new (Ok counts) =
     IsFinished old new counts × (old.tells ≡ true → CodesWhole coded ended limit (old.file input) [] new.hp.left new.bytes_out.written (Ok counts))
 Ran coded ended limit input old new (Err WriteFault) =
     (old.tells ≡ true → new.bytes_out.created ≡ true → CodesWhole coded ended limit (old.file input) [] new.hp.left new.bytes_out.written (Err WriteFault))
-    × (old.tells ≡ true → (k : ℕ) × (new.report.written ≡ old.report.written ++ take k (closing_line (counts_of (old.file input)))))
+    × (old.tells ≡ true → (new.report.written ≡ old.report.written) ⊎ ClosesFront limit (old.file input) old.report.written new.report.written)
 Ran coded ended limit input old new (Err ReadFault) =
     (new.report ≡ old.report)
     × (old.tells ≡ true → new.bytes_out.created ≡ true → CodesWhole coded ended limit (old.file input) [] new.hp.left new.bytes_out.written (Err ReadFault))
@@ -53,22 +66,27 @@ Ran coded ended limit input old new (Err refusal) =
     (new.report ≡ old.report) × (new.bytes_out.created ≡ true)
     × (old.tells ≡ true → CodesWhole coded ended limit (old.file input) [] new.hp.left new.bytes_out.written (Err refusal))
 
--- after the ports were opened, or one was not
+-- after the ports were opened, or one was not: the output is asked for only behind the input
 abbrev pub OpensAll : List ℕ → List ℕ → Meaning → Meaning → Result (Unit {0}) Refusal → Type 0
 OpensAll input output old new (Ok u) =
     new ≡ record old {
       hp = record { asked = Some input; attached = true; left = old.file input };
       bytes_out = record { asked = Some output; created = true; closed = false; written = [] };
     }
+OpensAll input output old new (Err ReadFault) = new ≡ record old { hp = record old.hp { asked = Some input }; read_faults = new.read_faults }
+OpensAll input output old new (Err WriteFault) =
+    new ≡ record old {
+      hp = record { asked = Some input; attached = true; left = old.file input };
+      bytes_out = record old.bytes_out { asked = Some output };
+      write_faults = new.write_faults;
+    }
 OpensAll input output old new (Err (NotSync stream n)) = ⊥
 OpensAll input output old new (Err (Limit n)) = ⊥
 OpensAll input output old new (Err Usage) = ⊥
 OpensAll input output old new (Err (Settings reason)) = ⊥
 OpensAll input output old new (Err Memory) = ⊥
-OpensAll input output old new (Err refusal) =
-    (new.report ≡ old.report) × (new.bytes_out.created ≡ old.bytes_out.created)
 
--- after the closing line and the closing of the output
+-- after the closing line and the closing of the output, which is closed also where the line was not written
 abbrev pub Finishes : Counts → Meaning → Meaning → Result Counts Refusal → Type 0
 Finishes counts old new (Ok c) =
     (c ≡ counts) × (new ≡ record old {
@@ -76,10 +94,11 @@ Finishes counts old new (Ok c) =
       report = record old.report { written = if old.tells then old.report.written ++ closing_line counts else old.report.written };
     })
 Finishes counts old new (Err refusal) =
-    (refusal ≡ WriteFault) × (k : ℕ) × (new ≡ record old {
+    (refusal ≡ WriteFault) × (old.report_faults ≤ new.report_faults) × (k : ℕ) × (new ≡ record old {
       bytes_out = record old.bytes_out { closed = true };
       report = record old.report { written = if old.tells then old.report.written ++ take k (closing_line counts) else old.report.written };
       write_faults = new.write_faults;
+      report_faults = new.report_faults;
     })
 
 -- after a refusal in the work the output is closed all the same, and whether that failed is only counted

@@ -1,8 +1,7 @@
-// The commands, each over its part of the station, with the clauses of the whole run.
-ghost use Rattle.std.specs.Prelude.{◌≡◌, ℕ, List, [], true, Some};
+// The commands, each over its part of the station, with the promise of the whole run.
 ghost use Rattle.station_core.specs.Meaning.{IsFresh};
-ghost use Rattle.run_clauses.specs.Command.{Disperse, Outer, Inner, Code};
-ghost use Rattle.run_clauses.specs.Runs.{IsDone, HasStatus, AsksOnly, Stands, IsComplete};
+ghost use Rattle.run_clauses.specs.Run.{Run};
+ghost use Rattle.packet_runs.specs.Commands.{disperse_command, outer_command, inner_command};
 
 use crate::disperser::Disperser;
 use crate::inner_coder::InnerCoder;
@@ -24,12 +23,7 @@ pub fn disperse<'a, S: Station<'a>>(
     station: &mut S,
 ) -> u8
     requires fresh { IsFresh (S.meaning station.old) }
-    ensures done { result ≡ 0 → (S.meaning station.old).tells ≡ true
-        → IsDone limits.now.packets (Code Disperse input.now output.now) (S.meaning station.old) (S.meaning station.new) }
-    ensures status { HasStatus limits.now.packets (Some (Code Disperse input.now output.now)) (S.meaning station.old) (S.meaning station.new) result }
-    ensures asks { AsksOnly (Some (Code Disperse input.now output.now)) (S.meaning station.old) (S.meaning station.new) result }
-    ensures stands { Stands limits.now.packets (Some (Code Disperse input.now output.now)) (S.meaning station.old) (S.meaning station.new) result }
-    ensures complete { IsComplete limits.now.packets (Code Disperse input.now output.now) (S.meaning station.old) (S.meaning station.new) result }
+    ensures { Run (disperse_command input.now output.now) limits.now.packets (S.meaning station.old) (S.meaning station.new) result }
 {
     run_coding(input, output, limits, &mut Disperser::start(), station)
 }
@@ -43,12 +37,7 @@ pub fn outer<'a, S: Station<'a>>(
     station: &mut S,
 ) -> u8
     requires fresh { IsFresh (S.meaning station.old) }
-    ensures done { result ≡ 0 → (S.meaning station.old).tells ≡ true
-        → IsDone limits.now.packets (Code Outer input.now output.now) (S.meaning station.old) (S.meaning station.new) }
-    ensures status { HasStatus limits.now.packets (Some (Code Outer input.now output.now)) (S.meaning station.old) (S.meaning station.new) result }
-    ensures asks { AsksOnly (Some (Code Outer input.now output.now)) (S.meaning station.old) (S.meaning station.new) result }
-    ensures stands { Stands limits.now.packets (Some (Code Outer input.now output.now)) (S.meaning station.old) (S.meaning station.new) result }
-    ensures complete { IsComplete limits.now.packets (Code Outer input.now output.now) (S.meaning station.old) (S.meaning station.new) result }
+    ensures { Run (outer_command input.now output.now) limits.now.packets (S.meaning station.old) (S.meaning station.new) result }
 {
     sending();
     match OuterTx::new(alloc) {
@@ -68,12 +57,7 @@ pub fn inner<'a, S: Station<'a>>(
     station: &mut S,
 ) -> u8
     requires fresh { IsFresh (S.meaning station.old) }
-    ensures done { result ≡ 0 → (S.meaning station.old).tells ≡ true
-        → IsDone limits.now.packets (Code (Inner settings.now) input.now output.now) (S.meaning station.old) (S.meaning station.new) }
-    ensures status { HasStatus limits.now.packets (Some (Code (Inner settings.now) input.now output.now)) (S.meaning station.old) (S.meaning station.new) result }
-    ensures asks { AsksOnly (Some (Code (Inner settings.now) input.now output.now)) (S.meaning station.old) (S.meaning station.new) result }
-    ensures stands { Stands limits.now.packets (Some (Code (Inner settings.now) input.now output.now)) (S.meaning station.old) (S.meaning station.new) result }
-    ensures complete { IsComplete limits.now.packets (Code (Inner settings.now) input.now output.now) (S.meaning station.old) (S.meaning station.new) result }
+    ensures { Run (inner_command settings.now input.now output.now) limits.now.packets (S.meaning station.old) (S.meaning station.new) result }
 {
     sending();
     steps_send_in_order();

@@ -1,6 +1,6 @@
 // The command `disperse`.
 ghost use Rattle.std.specs.Prelude.{◌≡◌, ◌%◌, ◌++◌, ◌∷◌, [], List, ℕ, length, if◌then◌else◌};
-ghost use Rattle.run_clauses.specs.Packets.{dispersed_packets};
+ghost use Rattle.packet_runs.specs.DispersedPackets.{dispersed_packets};
 
 use crate::coder::Coder;
 use dispersal::Dispersal;

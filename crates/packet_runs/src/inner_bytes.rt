@@ -3,7 +3,7 @@ ghost use Rattle.std.specs.Prelude.{◌≡◌, ◌≤◌, ◌+◌, ◌-◌, ◌*
 ghost use Rattle.arrayvec.specs.ArrayVec.{array_vec_len};
 ghost use Rattle.mode_set.specs.declared.modes.Rate.{Rate as AnyRate};
 ghost use Rattle.outer_chain.specs.Bits.{bytes_of};
-ghost use Rattle.run_clauses.specs.InnerBytes.{inner_bytes, filled_inner_bytes};
+ghost use Rattle.packet_runs.specs.InnerBytes.{inner_bytes, filled_inner_bytes};
 ghost use Rattle.packet_runs.specs.Inner.{rest_of, IsAfter};
 
 use arrayvec::ArrayVec;

@@ -3,7 +3,7 @@ ghost use Rattle.std.specs.Prelude.{◌≡◌, ◌≤◌, ◌++◌, ◌∷◌, [
 ghost use Rattle.mode_set.specs.declared.modes.Rate.{Rate as AnyRate};
 ghost use Rattle.outer_chain.specs.Sent.{sent_bytes};
 ghost use Rattle.outer_chain.specs.Sending.{Sends};
-ghost use Rattle.run_clauses.specs.InnerBytes.{inner_bytes, filled_inner_bytes};
+ghost use Rattle.packet_runs.specs.InnerBytes.{inner_bytes, filled_inner_bytes};
 ghost use Rattle.packet_runs.specs.Inner.{IsAfter};
 
 use crate::coder::Coder;

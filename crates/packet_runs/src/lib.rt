@@ -1,8 +1,9 @@
 //! The commands that code the packets of a transport file, one after another: [`disperse`],
 //! [`outer`] and [`inner`].
 //!
-//! A command is a [`Coder`] of packets and one run of it over the station. Each call carries the five
-//! clauses of a run.
+//! `specs/Commands.antt` says what each command is: its files, and what its output and its report come to.
+//! A command is a [`Coder`] of packets and one run of it over the station. Each call has one clause, the
+//! promise of a run of its command.
 #![tactic(auto)]
 
 mod coder;

@@ -32,9 +32,9 @@ fn code_all<'a, C: Coder, S: Station<'a>>(
     match code_packets(limits, coder, station) {
         Ok(counts) => match write_end(coder, station) {
             Ok(()) => finish(counts, station),
-            Err(refusal) => {
+            Err(fault) => {
                 close_refused(station);
-                Err(refusal)
+                Err(fault)
             }
         },
         Err(refusal) => {

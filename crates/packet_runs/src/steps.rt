@@ -1,7 +1,7 @@
 // The steps of a run: the ports are opened, and closed behind the work.
 ghost use Rattle.std.specs.Prelude.{◌≡◌, ◌≤◌, ℕ, true, false, None};
 ghost use Rattle.run_steps.specs.Causes.{HasCause};
-ghost use Rattle.packet_runs.specs.Steps.{AsksPorts, OpensAll, Finishes, ClosesRefused};
+ghost use Rattle.packet_runs.specs.Steps.{OpensAll, Finishes, ClosesRefused};
 
 use run_clauses::{Counts, Refusal, closing_line_of};
 use station_core::{InPort, OutPort, Station};
@@ -14,7 +14,6 @@ pub fn open<'a, S: Station<'a>>(
 ) -> Result<(), Refusal>
     requires hp { (S.meaning station.old).hp.asked ≡ None }
     requires bytes { (S.meaning station.old).bytes_out.asked ≡ None }
-    ensures asks { AsksPorts input.now output.now (S.meaning station.old) (S.meaning station.new) }
     ensures cause { HasCause (S.meaning station.old) (S.meaning station.new) result }
     ensures opened { OpensAll input.now output.now (S.meaning station.old) (S.meaning station.new) result }
 {

@@ -5,7 +5,7 @@ mod counts;
 mod text;
 
 pub use counts::{Counts, Event, StreamCounts};
-pub use report_line::Line;
+pub use text::Line;
 
 #[cfg(test)]
 mod tests;

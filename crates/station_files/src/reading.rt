@@ -1,75 +1,67 @@
 // A file that is read, in large pieces.
-ghost use Rattle.std.specs.Prelude.{◌≤◌};
-
+use crate::buffer::Buffer;
+use crate::outputs::Outputs;
+use crate::patience::read_patiently;
 use station_core::Failed;
-use std::io::Read;
-
-/// The bytes that one read of the file asks for.
-pub const BUFFER: usize = 32768;
+use std::fs::OpenFile;
+use std::io::{Read, Write};
 
 /// A port that is read.
 #[derive(Drop)]
 pub struct FileReading<'a, F> {
     pub asked: Option<&'a str>,
     pub file: Option<F>,
-    // read and not yet handed out: the bytes from `start` to `end`
-    buffer: [u8; 32768],
-    start: usize,
-    end: usize,
-    ghost in_order: { start ≤ end },
-    ghost within: { end ≤ 32768 },
+    // read and not yet handed out
+    buffer: Buffer,
 }
 
-impl<'a, F: Read + Drop> FileReading<'a, F> {
+impl<'a, F: Read + Write + OpenFile + Drop> FileReading<'a, F> {
     ghost use Rattle.std.specs.Prelude.{◌≡◌, ◌≤◌, length, IfOk};
     ghost use Rattle.station_core.specs.Meaning.{no_source};
-    ghost use Rattle.station_files.specs.Ports.{source_of};
+    ghost use Rattle.station_files.specs.Ports.{source_of, sink_of};
+    ghost use Rattle.station_files.specs.Outputs.{AllOut, SameSinks};
 
     /// A port at which nothing was asked.
-    pub fn new() -> FileReading<'a, F>
+    pub fn new(memory: Option<Vec<u8>>) -> FileReading<'a, F>
         ensures { source_of result ≡ no_source }
     {
         FileReading {
             asked: None,
             file: None,
-            buffer: [0; 32768],
-            start: 0,
-            end: 0,
+            buffer: Buffer::new(memory),
         }
     }
 
-    // Hands out from the front of what is there.
-    fn hand_out(&mut self, buf: &mut [u8]) -> usize
-        ensures same { source_of self.new ≡ source_of self.old }
-        ensures bound { result ≤ length buf.new }
-    {
-        let count = buf.len().min(self.end - self.start);
-        buf[..count].copy_from_slice(&self.buffer[self.start..self.start + count]);
-        self.start += count;
-        count
-    }
-
-    /// Reads some bytes, none at the end of the file.
-    pub fn read(&mut self, buf: &mut [u8]) -> Result<usize, Failed>
+    // Reads of the file itself, which may wait for others to write it: behind all that was given to
+    // be written.
+    fn read_file(&mut self, _written: &Outputs<'a, F>, buf: &mut [u8]) -> Result<usize, Failed>
+        requires written { AllOut _written.now }
         ensures same { source_of self.new ≡ source_of self.old }
         ensures bound { IfOk result (λ n. n ≤ length buf.new) }
     {
-        if self.start < self.end {
-            return Ok(self.hand_out(buf));
-        }
         let Some(file) = &mut self.file else {
             return Err(Failed);
         };
-        if buf.len() >= BUFFER {
-            return file.read(buf).map_err(|_| Failed);
+        if buf.len() >= self.buffer.room() {
+            return read_patiently(file, buf);
         }
-        match file.read(&mut self.buffer) {
-            Ok(count) => {
-                self.start = 0;
-                self.end = count;
-                Ok(self.hand_out(buf))
-            }
+        match self.buffer.fill(file) {
+            Ok(()) => Ok(self.buffer.hand_out(buf)),
             Err(_) => Err(Failed),
         }
+    }
+
+    /// Reads some bytes, none at the end of the file. Before it asks the file, all that the outputs
+    /// were given is written there.
+    pub fn read(&mut self, outputs: &mut Outputs<'a, F>, buf: &mut [u8]) -> Result<usize, Failed>
+        ensures same { source_of self.new ≡ source_of self.old }
+        ensures outputs { SameSinks outputs.old outputs.new }
+        ensures bound { IfOk result (λ n. n ≤ length buf.new) }
+    {
+        if !self.buffer.is_empty() {
+            return Ok(self.buffer.hand_out(buf));
+        }
+        outputs.flush();
+        self.read_file(outputs, buf)
     }
 }

@@ -2,18 +2,25 @@
 ghost use Rattle.std.specs.Prelude.{◌≡◌, ◌≤◌, OnOk, OnErr};
 ghost use Rattle.station_core.specs.Causes.{Rose, greatest_count};
 
+use crate::buffers::Buffers;
 use crate::opening::{attach_at, create_at};
+use crate::outputs::Outputs;
 use crate::reading::FileReading;
-use crate::writing::{FileWriting, write_whole};
+use crate::writing::FileWriting;
 use station_core::{Failed, InPort, OutPort, Station};
-use std::io;
 use std::rt::Files;
 
 /// The files of a runtime, and its standard output as Report.
 ///
-/// Each call that the runtime refuses is counted; a count stands still at its greatest number. A
-/// write that takes nothing of a piece that is not empty is a fault. What a call has reported as
-/// written stands in the file once `close` has answered `Ok`.
+/// What is written to a port waits in its buffer, where it has one: until that is full, until a
+/// read asks a file, until a line is written to Report, or until `close`. Once `close` has answered
+/// `Ok`, and no call before it failed, all of it stands in the file.
+///
+/// Each call that fails is counted; a count stands still at its greatest number. A write that takes
+/// nothing of a piece that is not empty is a fault, and so is a call that signals interrupt a
+/// thousand times. Once the file of a port has failed, nothing more is written to it. A fault that
+/// is met as a read begins is told by the next write to its port or to Report, or by `close`. Where
+/// Report tells one, nothing of the line is written, and the next line is free of it.
 #[derive(Drop)]
 pub struct FileStation<'a, R: Files + Print> {
     rt: &'a R,
@@ -21,10 +28,7 @@ pub struct FileStation<'a, R: Files + Print> {
     hp: FileReading<'a, R::File>,
     lp: FileReading<'a, R::File>,
     cells: FileReading<'a, R::File>,
-    cells_out: FileWriting<'a, R::File>,
-    hp_out: FileWriting<'a, R::File>,
-    lp_out: FileWriting<'a, R::File>,
-    bytes_out: FileWriting<'a, R::File>,
+    outputs: Outputs<'a, R::File>,
     report_closed: bool,
     read_faults: u64,
     write_faults: u64,
@@ -34,7 +38,8 @@ impl<'a, R: Files + Print> FileStation<'a, R> {
     ghost use Rattle.station_files.specs.Station.{file_meaning};
     ghost use Rattle.station_core.specs.Meaning.{IsFresh};
 
-    /// A station at which nothing was asked, and no fault was counted.
+    /// A station without buffers, at which nothing was asked, and no fault was counted. Each read
+    /// and write goes to the system.
     pub fn new(rt: &'a R) -> FileStation<'a, R>
         ensures fresh { IsFresh (file_meaning result) }
         ensures no_read_fault { (file_meaning result).read_faults ≡ 0 }
@@ -42,14 +47,40 @@ impl<'a, R: Files + Print> FileStation<'a, R> {
     {
         FileStation {
             rt,
-            settings: FileReading::new(),
-            hp: FileReading::new(),
-            lp: FileReading::new(),
-            cells: FileReading::new(),
-            cells_out: FileWriting::new(),
-            hp_out: FileWriting::new(),
-            lp_out: FileWriting::new(),
-            bytes_out: FileWriting::new(),
+            settings: FileReading::new(None),
+            hp: FileReading::new(None),
+            lp: FileReading::new(None),
+            cells: FileReading::new(None),
+            outputs: Outputs {
+                cells: FileWriting::new(None),
+                hp: FileWriting::new(None),
+                lp: FileWriting::new(None),
+                bytes: FileWriting::new(None),
+            },
+            report_closed: false,
+            read_faults: 0,
+            write_faults: 0,
+        }
+    }
+
+    /// A station with these buffers, at which nothing was asked, and no fault was counted.
+    pub fn with_buffers(rt: &'a R, buffers: Buffers) -> FileStation<'a, R>
+        ensures fresh { IsFresh (file_meaning result) }
+        ensures no_read_fault { (file_meaning result).read_faults ≡ 0 }
+        ensures no_write_fault { (file_meaning result).write_faults ≡ 0 }
+    {
+        FileStation {
+            rt,
+            settings: FileReading::new(Some(buffers.settings)),
+            hp: FileReading::new(Some(buffers.hp)),
+            lp: FileReading::new(Some(buffers.lp)),
+            cells: FileReading::new(Some(buffers.cells)),
+            outputs: Outputs {
+                cells: FileWriting::new(Some(buffers.cells_out)),
+                hp: FileWriting::new(Some(buffers.hp_out)),
+                lp: FileWriting::new(Some(buffers.lp_out)),
+                bytes: FileWriting::new(Some(buffers.bytes_out)),
+            },
             report_closed: false,
             read_faults: 0,
             write_faults: 0,
@@ -88,21 +119,22 @@ impl<'a, R: Files + Print> Station<'a> for FileStation<'a, R> {
 
     fn read(&mut self, port: InPort, buf: &mut [u8]) -> Result<usize, Failed> {
         let faults = &mut self.read_faults;
+        let outputs = &mut self.outputs;
         match port {
-            InPort::Settings => counted(self.settings.read(buf), faults),
-            InPort::Hp => counted(self.hp.read(buf), faults),
-            InPort::Lp => counted(self.lp.read(buf), faults),
-            InPort::Cells => counted(self.cells.read(buf), faults),
+            InPort::Settings => counted(self.settings.read(outputs, buf), faults),
+            InPort::Hp => counted(self.hp.read(outputs, buf), faults),
+            InPort::Lp => counted(self.lp.read(outputs, buf), faults),
+            InPort::Cells => counted(self.cells.read(outputs, buf), faults),
         }
     }
 
     fn create(&mut self, port: OutPort, name: &'a str) -> Result<(), Failed> {
         let faults = &mut self.write_faults;
         match port {
-            OutPort::Cells => counted(create_at(self.rt, &mut self.cells_out, name), faults),
-            OutPort::Hp => counted(create_at(self.rt, &mut self.hp_out, name), faults),
-            OutPort::Lp => counted(create_at(self.rt, &mut self.lp_out, name), faults),
-            OutPort::Bytes => counted(create_at(self.rt, &mut self.bytes_out, name), faults),
+            OutPort::Cells => counted(create_at(self.rt, &mut self.outputs.cells, name), faults),
+            OutPort::Hp => counted(create_at(self.rt, &mut self.outputs.hp, name), faults),
+            OutPort::Lp => counted(create_at(self.rt, &mut self.outputs.lp, name), faults),
+            OutPort::Bytes => counted(create_at(self.rt, &mut self.outputs.bytes, name), faults),
             OutPort::Report => unreachable!(),
         }
     }
@@ -110,21 +142,21 @@ impl<'a, R: Files + Print> Station<'a> for FileStation<'a, R> {
     fn write(&mut self, port: OutPort, bytes: &[u8]) -> Result<(), Failed> {
         let faults = &mut self.write_faults;
         match port {
-            OutPort::Cells => counted(self.cells_out.write(bytes), faults),
-            OutPort::Hp => counted(self.hp_out.write(bytes), faults),
-            OutPort::Lp => counted(self.lp_out.write(bytes), faults),
-            OutPort::Bytes => counted(self.bytes_out.write(bytes), faults),
-            OutPort::Report => counted(write_whole(&mut io::writer(self.rt), bytes), faults),
+            OutPort::Cells => counted(self.outputs.cells.write(bytes), faults),
+            OutPort::Hp => counted(self.outputs.hp.write(bytes), faults),
+            OutPort::Lp => counted(self.outputs.lp.write(bytes), faults),
+            OutPort::Bytes => counted(self.outputs.bytes.write(bytes), faults),
+            OutPort::Report => counted(self.outputs.report(self.rt, bytes), faults),
         }
     }
 
     fn close(&mut self, port: OutPort) -> Result<(), Failed> {
         let faults = &mut self.write_faults;
         match port {
-            OutPort::Cells => counted(self.cells_out.close(), faults),
-            OutPort::Hp => counted(self.hp_out.close(), faults),
-            OutPort::Lp => counted(self.lp_out.close(), faults),
-            OutPort::Bytes => counted(self.bytes_out.close(), faults),
+            OutPort::Cells => counted(self.outputs.cells.close(), faults),
+            OutPort::Hp => counted(self.outputs.hp.close(), faults),
+            OutPort::Lp => counted(self.outputs.lp.close(), faults),
+            OutPort::Bytes => counted(self.outputs.bytes.close(), faults),
             OutPort::Report => {
                 self.report_closed = true;
                 Ok(())

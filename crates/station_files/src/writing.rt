@@ -1,12 +1,20 @@
 // A file that is written, in large pieces.
-ghost use Rattle.std.specs.Prelude.{◌≤◌, ◌≡◌, ◌-◌, length, IfErr};
-
+use crate::buffer::Buffer;
+use crate::patience::write_whole;
 use station_core::Failed;
 use std::fs::OpenFile;
 use std::io::{ErrorKind, Write};
 
-/// The bytes that are gathered before the file is written.
-pub const BUFFER: usize = 32768;
+/// Whether a write of the file has failed. Nothing more is written to it then.
+#[derive(Clone, Copy, Debug, PartialEq, Eq)]
+pub enum Fault {
+    /// None has.
+    Absent,
+    /// One has, and no call of the station has answered so.
+    Untold,
+    /// One has, and a call has answered so.
+    Told,
+}
 
 /// A port that is written.
 #[derive(Drop)]
@@ -15,42 +23,9 @@ pub struct FileWriting<'a, F> {
     pub file: Option<F>,
     pub created: bool,
     pub closed: bool,
-    // to be written: the bytes from `start` to `end`
-    buffer: [u8; 32768],
-    start: usize,
-    end: usize,
-    ghost in_order: { start ≤ end },
-    ghost within: { end ≤ 32768 },
-}
-
-// Writes the bytes from the front on. Where it fails it answers how many were written. A write that
-// takes nothing is a failure.
-fn write_front<W: Write>(writer: &mut W, bytes: &[u8]) -> Result<(), usize>
-    ensures { IfErr result (λ n. n ≤ length bytes.now) }
-{
-    let mut written = 0;
-    while written < bytes.len() {
-        match writer.write(&bytes[written..]) {
-            Ok(0) => return Err(written),
-            Ok(count) => written += count,
-            Err(_) => return Err(written),
-        }
-    }
-    Ok(())
-}
-
-/// Writes all the bytes, or fails.
-pub fn write_whole<W: Write>(writer: &mut W, bytes: &[u8]) -> Result<(), Failed> {
-    write_front(writer, bytes).map_err(|_| Failed)
-}
-
-// A part of a buffer.
-fn part(buffer: &[u8; 32768], start: usize, end: usize) -> &[u8]
-    requires in_order { start ≤ end }
-    requires within { end ≤ 32768 }
-    ensures { length result.now ≡ end - start }
-{
-    &buffer[start..end]
+    fault: Fault,
+    // to be written
+    buffer: Buffer,
 }
 
 // Sees that what was written has come to the file. A pipe or a terminal keeps nothing that could be
@@ -66,12 +41,14 @@ fn sync<F: OpenFile>(file: &F) -> Result<(), Failed> {
 }
 
 impl<'a, F: Write + OpenFile + Drop> FileWriting<'a, F> {
-    ghost use Rattle.std.specs.Prelude.{◌≡◌, ◌≤◌, ◌+◌, length, IfOk, OnOk};
+    ghost use Rattle.std.specs.Prelude.{◌≡◌, ◌≢◌, ◌↔◌, IsErr};
     ghost use Rattle.station_core.specs.Meaning.{no_sink, closed_sink};
+    ghost use Rattle.station_files.specs.declared.writing.Fault.TheVariants.{Absent, Untold, Told};
     ghost use Rattle.station_files.specs.Ports.{sink_of};
+    ghost use Rattle.station_files.specs.Waiting.{IsOut};
 
     /// A port at which nothing was asked.
-    pub fn new() -> FileWriting<'a, F>
+    pub fn new(memory: Option<Vec<u8>>) -> FileWriting<'a, F>
         ensures { sink_of result ≡ no_sink }
     {
         FileWriting {
@@ -79,71 +56,86 @@ impl<'a, F: Write + OpenFile + Drop> FileWriting<'a, F> {
             file: None,
             created: false,
             closed: false,
-            buffer: [0; 32768],
-            start: 0,
-            end: 0,
+            fault: Fault::Absent,
+            buffer: Buffer::new(memory),
         }
     }
 
-    // Writes what was gathered. Where it fails the rest stays, and is the first to be written next.
-    fn flush(&mut self) -> Result<(), Failed>
+    /// Writes to the file what waits. Where that fails the rest is let go, and `tell` answers so.
+    pub fn flush(&mut self)
         ensures same { sink_of self.new ≡ sink_of self.old }
-        ensures room { OnOk result (self.new.end ≡ 0) }
+        ensures out { IsOut self.new }
+        ensures failed { self.old.fault ≢ Absent → self.new.fault ≢ Absent }
+        ensures untold { self.old.fault ≡ Untold → self.new.fault ≡ Untold }
     {
-        let Some(file) = &mut self.file else {
-            return Err(Failed);
+        if self.buffer.is_empty() {
+            return;
+        }
+        let written = match &mut self.file {
+            Some(file) => write_whole(file, self.buffer.waiting()),
+            None => Err(Failed),
         };
-        match write_front(file, part(&self.buffer, self.start, self.end)) {
-            Ok(()) => {
-                self.start = 0;
-                self.end = 0;
-                Ok(())
-            }
-            Err(written) => {
-                self.start += written;
-                Err(Failed)
-            }
+        self.buffer.clear();
+        if written.is_err() {
+            self.fault = Fault::Untold;
         }
     }
 
-    // Gathers the bytes, for which there is room.
-    fn gather(&mut self, bytes: &[u8])
-        requires { self.old.end + length bytes.now ≤ 32768 }
-        ensures { sink_of self.new ≡ sink_of self.old }
+    /// Fails where the file has failed since `tell` was last called. What is told once isn't told
+    /// again.
+    pub fn tell(&mut self) -> Result<(), Failed>
+        ensures same { sink_of self.new ≡ sink_of self.old }
+        ensures buffer { self.new.buffer ≡ self.old.buffer }
+        ensures told { self.new.fault ≢ Untold }
+        ensures fails { IsErr result ↔ (self.old.fault ≡ Untold) }
     {
-        let end = self.end + bytes.len();
-        self.buffer[self.end..end].copy_from_slice(bytes);
-        self.end = end;
-    }
-
-    /// Takes the bytes to be written behind those before.
-    pub fn write(&mut self, bytes: &[u8]) -> Result<(), Failed>
-        ensures { sink_of self.new ≡ sink_of self.old }
-    {
-        if bytes.len() > BUFFER - self.end {
-            self.flush()?;
+        if self.fault == Fault::Untold {
+            self.fault = Fault::Told;
+            return Err(Failed);
         }
-        if bytes.len() > BUFFER - self.end {
-            return match &mut self.file {
-                Some(file) => write_whole(file, bytes),
-                None => Err(Failed),
-            };
-        }
-        self.gather(bytes);
         Ok(())
     }
 
-    /// Writes what was gathered and closes the file, also where that fails.
-    pub fn close(&mut self) -> Result<(), Failed>
-        ensures { sink_of self.new ≡ closed_sink (sink_of self.old) }
+    /// Takes the bytes to be written behind those before. Once the file has failed each call does.
+    pub fn write(&mut self, bytes: &[u8]) -> Result<(), Failed>
+        ensures same { sink_of self.new ≡ sink_of self.old }
+        ensures failed { self.old.fault ≢ Absent → IsErr result }
+        ensures told { IsErr result ↔ (self.new.fault ≢ Absent) }
     {
-        let flushed = self.flush();
+        if self.fault == Fault::Absent && self.buffer.gather(bytes) {
+            return Ok(());
+        }
+        self.flush();
+        if self.fault != Fault::Absent {
+            self.fault = Fault::Told;
+            return Err(Failed);
+        }
+        if self.buffer.gather(bytes) {
+            return Ok(());
+        }
+        let written = match &mut self.file {
+            Some(file) => write_whole(file, bytes),
+            None => Err(Failed),
+        };
+        if written.is_err() {
+            self.fault = Fault::Told;
+        }
+        written
+    }
+
+    /// Writes what waits and closes the file, also where that fails.
+    pub fn close(&mut self) -> Result<(), Failed>
+        ensures closed { sink_of self.new ≡ closed_sink (sink_of self.old) }
+        ensures told { self.old.fault ≡ Untold → IsErr result }
+    {
+        self.flush();
+        let told = self.tell();
         let synced = match &self.file {
             Some(file) => sync(file),
             None => Err(Failed),
         };
         self.file = None;
         self.closed = true;
-        flushed.and(synced)
+        told.and(synced)
     }
 }

@@ -1,16 +1,16 @@
 use Rattle.std.proofs.Common.{ℕ, map, refl, subst, arith, Global}
-use Rattle.std.specs.Prelude.{IfSome, string_bytes}
+use Rattle.std.specs.Prelude.{string_bytes}
 use Rattle.station_core.specs.Meaning.{Meaning}
-use Rattle.run_clauses.specs.Command.{command_of}
-use Rattle.run_clauses.specs.Runs.{IsComplete}
+use Rattle.run_clauses.specs.Run.{Run}
+use Rattle.dvbt_top.specs.Commands.{command_of}
 use Rattle.dvbt_top.proofs.top.run.Goals as goal
 
 pub run_within-requires-sync-R : goal.run_within-requires-sync-R
 run_within-requires-sync-R g c κs within = (c.type_bounds.sync-R, ((refl, tt), (c.requires.fresh, (omega (arith, c.shipped.ensures), omega (arith, c.shipped.ensures)))))
 
-pub returns-clause-complete : goal.returns-clause-complete
-returns-clause-complete g c =
+pub returns : goal.returns
+returns g c =
     let old : Meaning = g.S.Station.meaning c.args.station.now in
     let new : Meaning = g.S.Station.meaning c.run_within.new.station in
-    subst (λ (n : ℕ). IfSome (command_of (map (string_bytes {Z = Global}) c.args.words.now)) (λ ordered. IsComplete n ordered old new c.run_within.result))
-    c.shipped.ensures.shipped c.run_within.ensures.complete
+    subst (λ (n : ℕ). Run (command_of (map (string_bytes {Z = Global}) c.args.words.now)) n old new c.run_within.result)
+    c.shipped.ensures.shipped c.run_within.ensures

@@ -1,52 +1,63 @@
-use Rattle.std.proofs.Common.{◌∙◌, sym, ap, subst, Option, Some}
-use Rattle.std.specs.Prelude.{IfSome}
+-- Each form of the words is run as the command that it is.
+use Rattle.std.proofs.Common.{◌≡◌, ℕ, List, refl, ◌∙◌, sym, ap, subst, Option, Some, None}
 use Rattle.station_core.specs.Meaning.{Meaning}
-use Rattle.run_clauses.specs.Command.{Command}
-use Rattle.run_clauses.specs.Runs.{IsComplete}
-use Rattle.receive_run.specs.Returns.{ReturnsOwn}
-use Rattle.receive_run.specs.Workers.{IgnoresWorkers}
+use Rattle.run_clauses.specs.Run.{Run}
+use Rattle.run_clauses.specs.declared.work.Refusal.TheVariants.{Usage}
+use Rattle.run_steps.proofs.Early.{unstarted_ended}
+use Rattle.run_steps.proofs.Whole.{run_refused}
 use Rattle.dvbt_top.specs.declared.form.Form.{Form}
-use Rattle.dvbt_top.specs.Form.{command}
+use Rattle.dvbt_top.specs.Form.{order}
+use Rattle.dvbt_top.specs.Order.{Order}
+use Rattle.dvbt_top.specs.Commands.{command_for, no_command}
 use Rattle.dvbt_top.proofs.top.run_gated.Goals as goal
 
-pub returns-in-Some-Inner-clause-complete : goal.returns-in-Some-Inner-clause-complete
-returns-in-Some-Inner-clause-complete g c =
+pub returns-in-Some-Disperse : goal.returns-in-Some-Disperse
+returns-in-Some-Disperse g c =
+    let old : Meaning = g.S.Station.meaning c.args.station.now in
+    let new : Meaning = g.S.Station.meaning c.disperse.new.station in
+    subst (λ (x : Option Order). Run (command_for x) c.args.limits.packets old new c.disperse.result)
+    (ap (λ (f : Form). Some (order f)) (sym c.in-Some-Disperse.field-0-is) ∙ c.in-Some-Disperse.ensures) c.disperse.ensures
+
+pub returns-in-Some-Outer : goal.returns-in-Some-Outer
+returns-in-Some-Outer g c =
+    let old : Meaning = g.S.Station.meaning c.args.station.now in
+    let new : Meaning = g.S.Station.meaning c.outer.new.station in
+    subst (λ (x : Option Order). Run (command_for x) c.args.limits.packets old new c.outer.result)
+    (ap (λ (f : Form). Some (order f)) (sym c.in-Some-Outer.field-0-is) ∙ c.in-Some-Outer.ensures) c.outer.ensures
+
+pub returns-in-Some-Inner : goal.returns-in-Some-Inner
+returns-in-Some-Inner g c =
     let old : Meaning = g.S.Station.meaning c.args.station.now in
     let new : Meaning = g.S.Station.meaning c.inner.new.station in
-    subst (λ (x : Option Command). IfSome x (λ ordered. IsComplete c.args.limits.packets ordered old new c.inner.result))
-    (ap (λ (f : Form). Some (command f)) (sym c.in-Some-Inner.field-0-is) ∙ c.in-Some-Inner.ensures) c.inner.ensures.complete
+    subst (λ (x : Option Order). Run (command_for x) c.args.limits.packets old new c.inner.result)
+    (ap (λ (f : Form). Some (order f)) (sym c.in-Some-Inner.field-0-is) ∙ c.in-Some-Inner.ensures) c.inner.ensures
 
-pub returns-in-Some-Modulate-clause-complete : goal.returns-in-Some-Modulate-clause-complete
-returns-in-Some-Modulate-clause-complete g c =
+pub returns-in-Some-Modulate : goal.returns-in-Some-Modulate
+returns-in-Some-Modulate g c =
     let old : Meaning = g.S.Station.meaning c.args.station.now in
     let new : Meaning = g.S.Station.meaning c.modulate.new.station in
-    subst (λ (x : Option Command). IfSome x (λ ordered. IsComplete c.args.limits.packets ordered old new c.modulate.result))
-    (ap (λ (f : Form). Some (command f)) (sym c.in-Some-Modulate.field-0-is) ∙ c.in-Some-Modulate.ensures) c.modulate.ensures.complete
+    subst (λ (x : Option Order). Run (command_for x) c.args.limits.packets old new c.modulate.result)
+    (ap (λ (f : Form). Some (order f)) (sym c.in-Some-Modulate.field-0-is) ∙ c.in-Some-Modulate.ensures) c.modulate.ensures
 
-pub returns-in-Some-Receive-clause-complete : goal.returns-in-Some-Receive-clause-complete
-returns-in-Some-Receive-clause-complete g c =
+pub returns-in-Some-Receive : goal.returns-in-Some-Receive
+returns-in-Some-Receive g c =
     let old : Meaning = g.S.Station.meaning c.args.station.now in
     let new : Meaning = g.S.Station.meaning c.receive.new.station in
-    subst (λ (x : Option Command). IfSome x (λ ordered. IsComplete c.args.limits.packets ordered old new c.receive.result))
-    (ap (λ (f : Form). Some (command f)) (sym c.in-Some-Receive.field-0-is) ∙ c.in-Some-Receive.ensures) c.receive.ensures.complete
+    subst (λ (x : Option Order). Run (command_for x) c.args.limits.packets old new c.receive.result)
+    (ap (λ (f : Form). Some (order f)) (sym c.in-Some-Receive.field-0-is) ∙ c.in-Some-Receive.ensures) c.receive.ensures
 
-pub returns-in-Some-Receive-clause-returns : goal.returns-in-Some-Receive-clause-returns
-returns-in-Some-Receive-clause-returns g c =
-    let old : Meaning = g.S.Station.meaning c.args.station.now in
-    let new : Meaning = g.S.Station.meaning c.receive.new.station in
-    subst (λ (x : Option Command). ReturnsOwn x old new c.receive.result)
-    (ap (λ (f : Form). Some (command f)) (sym c.in-Some-Receive.field-0-is) ∙ c.in-Some-Receive.ensures) c.receive.ensures.returns
-
-pub returns-in-Some-Trial-clause-complete : goal.returns-in-Some-Trial-clause-complete
-returns-in-Some-Trial-clause-complete g c =
+pub returns-in-Some-Trial : goal.returns-in-Some-Trial
+returns-in-Some-Trial g c =
     let old : Meaning = g.S.Station.meaning c.args.station.now in
     let new : Meaning = g.S.Station.meaning c.trial.new.station in
-    subst (λ (x : Option Command). IfSome x (λ ordered. IsComplete c.args.limits.packets ordered old new c.trial.result))
-    (ap (λ (f : Form). Some (command f)) (sym c.in-Some-Trial.field-0-is) ∙ c.in-Some-Trial.ensures) c.trial.ensures.complete
+    subst (λ (x : Option Order). Run (command_for x) c.args.limits.packets old new c.trial.result)
+    (ap (λ (f : Form). Some (order f)) (sym c.in-Some-Trial.field-0-is) ∙ c.in-Some-Trial.ensures) c.trial.ensures
 
-pub returns-in-Some-Receive-clause-alike : goal.returns-in-Some-Receive-clause-alike
-returns-in-Some-Receive-clause-alike g c =
+pub returns-in-None : goal.returns-in-None
+returns-in-None g c =
     let old : Meaning = g.S.Station.meaning c.args.station.now in
-    let new : Meaning = g.S.Station.meaning c.receive.new.station in
-    subst (λ (x : Option Command). IgnoresWorkers x old new c.receive.result)
-    (ap (λ (f : Form). Some (command f)) (sym c.in-Some-Receive.field-0-is) ∙ c.in-Some-Receive.ensures) c.receive.ensures.alike
+    let new : Meaning = g.S.Station.meaning c.refuse.new.station in
+    let limit : ℕ = c.args.limits.packets in
+    let ended = unstarted_ended no_command limit old refl (λ u whole. refl) tt c.requires.fresh Usage (refl, λ t. refl) refl in
+    subst (λ (x : Option Order). Run (command_for x) limit old new c.refuse.result) c.in-None.ensures
+    (subst (λ (n : ℕ). Run no_command limit old new n) (sym c.refuse.ensures.status) (run_refused no_command limit old old new Usage ended c.refuse.ensures.text))

@@ -1,7 +1,7 @@
 use Rattle.std.proofs.Common.{◌∙◌, refl, ap, arith, List, ℕ, Option}
 use Rattle.std.specs.Option.{option_copied}
 use Rattle.mode_set.specs.declared.settings.Settings.{Settings}
-use Rattle.run_clauses.specs.Modulation.{fits_form}
+use Rattle.run_clauses.specs.StreamForm.{fits_form}
 use Rattle.modulate_run.proofs.command.modulate_in.Goals as goal
 
 pub run_modulation-requires : goal.run_modulation-requires

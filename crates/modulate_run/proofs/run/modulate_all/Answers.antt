@@ -1,9 +1,9 @@
-use Rattle.std.proofs.Common.{◌≡◌, ◌∙◌, ℕ, Bool, List, Option, ap, sym, subst}
+use Rattle.std.proofs.Common.{◌≡◌, ◌∙◌, inl, ℕ, Bool, List, Option, ap, sym, subst}
 use Rattle.std.specs.Prelude.{is_some}
 use Rattle.std.specs.Option.{option_copied}
 use Rattle.station_core.specs.Meaning.{Meaning}
 use Rattle.mode_set.specs.declared.modes.Stream.{Stream}
-use Rattle.run_clauses.specs.Modulation.{files_of, inputs_of}
+use Rattle.modulate_run.specs.ModulateCommand.{files_of, inputs_of}
 use Rattle.modulate_run.specs.declared.inputs.PacketInputs.{PacketInputs}
 use Rattle.modulate_run.specs.Seen.{Seen}
 use Rattle.modulate_run.specs.Work.{IsWritten}
@@ -12,6 +12,9 @@ use Rattle.modulate_run.specs.Steps.{first_inputs}
 use Rattle.run_steps.proofs.Fitting.{copied_some}
 use Rattle.modulate_run.proofs.Endings.{starts, refused_with, finished}
 use Rattle.modulate_run.proofs.run.modulate_all.Goals as goal
+
+pub returns-in-Err-clause-ran : goal.returns-in-Err-clause-ran
+returns-in-Err-clause-ran g c = inl c.in-Err.ensures.opened
 
 pub returns-in-Ok-send_all-clause-ran : goal.returns-in-Ok-send_all-clause-ran
 returns-in-Ok-send_all-clause-ran g c =

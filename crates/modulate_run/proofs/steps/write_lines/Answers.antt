@@ -1,7 +1,8 @@
 use Rattle.std.proofs.Common.{List, ℕ, ◌++◌, if◌then◌else◌, [], Ok, Err, subst}
 use Rattle.station_core.specs.Meaning.{Meaning}
 use Rattle.mode_set.specs.declared.modes.Stream.TheVariants.{Hp, Lp}
-use Rattle.run_clauses.specs.Modulation.{packets_line, super_frames_line}
+use Rattle.run_clauses.specs.Packets.{packets_line}
+use Rattle.modulate_run.specs.ModulateCommand.{super_frames_line}
 use Rattle.run_steps.specs.Lines.{WritesLines}
 use Rattle.run_steps.proofs.ReportLines.{writes_then, writes_stopped}
 use Rattle.modulate_run.proofs.steps.write_lines.Goals as goal

@@ -1,8 +1,8 @@
 use Rattle.std.proofs.Common.{◌∙◌, ap}
 use Rattle.station_core.specs.Meaning.{Meaning}
-use Rattle.run_clauses.specs.Modulation.{inputs_of}
+use Rattle.modulate_run.specs.ModulateCommand.{inputs_of}
 use Rattle.modulate_run.specs.Seen.{Seen}
-use Rattle.modulate_run.proofs.Sending.{still_due, still_written, sends_on}
+use Rattle.modulate_run.proofs.Sending.{ends_before, still_due, still_written, sends_on}
 use Rattle.modulate_run.proofs.symbols.next_symbol.Goals as goal
 
 pub returns-in-Ok-clause-sends : goal.returns-in-Ok-clause-sends
@@ -21,3 +21,13 @@ returns-in-Ok-clause-sends g c = λ t files due written.
     (still_due files seen seen' e.settings e.made due) work (still_written files seen seen' m m' e.settings e.made e.others written.written)
     c.send_symbol.ensures.seen c.send_symbol.ensures.others (c.send_symbol.ensures.stands (inputs_of files) work.stands)
     c.send_symbol.result (c.send_symbol.ensures.written (tells ∙ t) (inputs_of files) work.stands)
+
+pub returns-in-Err-clause-sends : goal.returns-in-Err-clause-sends
+returns-in-Err-clause-sends g c = λ t files due written.
+    let m : Meaning = g.S.Station.meaning c.args.station.now in
+    let m' : Meaning = g.S.Station.meaning c.put_wanted.new.station in
+    let seen : Seen = g.T.Transmitter.seen c.args.tx.now in
+    let seen' : Seen = g.T.Transmitter.seen c.put_wanted.new.tx in
+    let e = c.in-Err.ensures in
+    let stops = e.works t files due written.work in
+    (ends_before c.args.limit files seen' m' (still_written files seen seen' m m' e.settings e.made e.others written.written) c.in-Err.refusal stops.0, stops.1)

@@ -2,7 +2,7 @@ use Rattle.std.proofs.Common.{◌≡◌, ◌+◌, ◌∙◌, ℕ, Some, None, Ok
 use Rattle.station_core.specs.Meaning.{Meaning}
 use Rattle.mode_set.specs.declared.settings.Settings.{Settings}
 use Rattle.run_clauses.specs.declared.work.Refusal.TheVariants.{Limit}
-use Rattle.run_clauses.specs.Modulation.{inputs_of}
+use Rattle.modulate_run.specs.ModulateCommand.{inputs_of}
 use Rattle.modulate_run.specs.Seen.{Seen}
 use Rattle.modulate_run.specs.Work.{CountsAt, Ends, Modulates}
 use Rattle.modulate_run.proofs.Keeping.{keeps_again}
@@ -34,7 +34,8 @@ returns-in-Err-clause-modulates g c = λ t files w.
     let works = inv.works t files w in
     let due = due_at files seen seen' c.loop-symbol.symbol c.args.settings.now.max_symbols inv.settings inv.made (ap (λ (s : Settings). s.max_symbols) c.requires.same) works.1 c.loop-symbol-test.true in
     let same : seen''.settings ≡ seen.settings = c.in-Err.ensures.settings ∙ inv.settings in
-    subst (λ (s : Settings). Ends s c.args.limits.now.packets files m c.in-Err.refusal) same (c.in-Err.ensures.sends (tells ∙ t) files due works.0)
+    let e = c.in-Err.ensures.sends (tells ∙ t) files due works.0 in
+    (subst (λ (s : Settings). Ends s c.args.limits.now.packets files m c.in-Err.refusal) same e.0, e.1)
 
 pub returns-in-Some-clause-modulates : goal.returns-in-Some-clause-modulates
 returns-in-Some-clause-modulates g c = λ t files w.
@@ -97,4 +98,4 @@ returns-clause-modulates g c = λ t files w.
     let most : seen'.settings.max_symbols ≡ c.args.settings.now.max_symbols = ap (λ (s : Settings). s.max_symbols) inv.settings ∙ (ap (λ (s : Settings). s.max_symbols) c.requires.same) in
     let past = ends_at_limit c.args.limits.now.packets files m c.loop-symbol.inputs seen' (g.T.Transmitter.stands c.loop-symbol.tx) works.0 c.work.ensures.at_limit c.args.settings.now.max_symbols most
     (omega (arith, inv.made, c.loop-symbol-test.false)) (due_more files seen seen' c.loop-symbol.symbol inv.settings inv.made works.1) in
-    subst (λ (s : Settings). Ends s c.args.limits.now.packets files m (Limit c.args.settings.now.max_symbols)) inv.settings past
+    (subst (λ (s : Settings). Ends s c.args.limits.now.packets files m (Limit c.args.settings.now.max_symbols)) inv.settings past.0, past.1)

@@ -1,7 +1,7 @@
 use Rattle.std.proofs.Common.{◌≡◌, ◌<◌, ℕ, List, None, true, vec_capacity}
 use Rattle.mode_set.specs.declared.modes.Stream.{Stream}
 use Rattle.transmission.specs.SuperFrames.{symbols_of}
-use Rattle.run_clauses.specs.Modulation.{inputs_of}
+use Rattle.modulate_run.specs.ModulateCommand.{inputs_of}
 use Rattle.modulate_run.specs.Work.{AreOpen, AreWithin, IsWritten, KeepsOthers}
 use Rattle.modulate_run.proofs.symbols.send_all.Given as goal
 

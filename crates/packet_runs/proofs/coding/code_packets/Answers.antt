@@ -1,8 +1,8 @@
-use Rattle.std.proofs.Common.{ℕ, List, refl, ◌∙◌, ap, subst}
+use Rattle.std.proofs.Common.{◌≡◌, ℕ, List, refl, ◌∙◌, ap, subst, arith}
 use Rattle.station_core.specs.Meaning.{Meaning}
 use Rattle.run_clauses.specs.Packets.{first_packets}
 use Rattle.packet_runs.proofs.Keeping.{keeps_again}
-use Rattle.packet_runs.proofs.Progress.{started, goes_on, refused, next_packets, gives_first, taken}
+use Rattle.packet_runs.proofs.Progress.{Progress, started, goes_on, refused, ended, next_packets, gives_first, taken}
 use Rattle.packet_runs.proofs.coding.code_packets.Goals as goal
 
 pub loop-number-init : goal.loop-number-init
@@ -47,3 +47,16 @@ loop-number-preserved g c =
       contents = λ t. goes_on _ _ _ _ _ _ _ (inv.contents t) _ _ _ c.loop-number-test.true
           (gives_first _ _ packets _ _ inv.same (e.gives packets (tells ∙ t) (inv.took t))) (e.contents (tells ∙ t));
     }
+
+pub returns-clause-contents : goal.returns-clause-contents
+returns-clause-contents g c = λ t.
+    let inv = c.loop-number.invariant in
+    let m : Meaning = g.S.Station.meaning c.args.station.now in
+    let m' : Meaning = g.S.Station.meaning c.loop-number.station in
+    let m'' : Meaning = g.S.Station.meaning c.end_at_limit.new.station in
+    let limit : ℕ = c.args.limits.now.packets in
+    let coded : List (List ℕ) → List ℕ = g.C.Coder.coded c.args.coder.now in
+    let tells = ap (λ (x : Meaning). x.tells) inv.others in
+    let all : c.loop-number.number ≡ limit = omega (arith, c.loop-number-test.false, c.loop-number.auto.number-end) in
+    let p = subst (λ (n : ℕ). Progress coded limit n m.hp.left m.bytes_out.written m'.hp.left m'.bytes_out.written) all (inv.contents t) in
+    ended coded limit m.hp.left m.bytes_out.written m'.hp.left m'.bytes_out.written p c.end_at_limit.result m''.hp.left m''.bytes_out.written (c.end_at_limit.ensures.contents (tells ∙ t))

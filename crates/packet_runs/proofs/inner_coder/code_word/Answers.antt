@@ -1,6 +1,6 @@
 use Rattle.std.proofs.Common.{◌≡◌, ◌+◌, ◌++◌, ◌∷◌, [], ℕ, List, take, length, arith, get_or, sym, ◌∙◌, ap, subst, append-nil, append_assoc}
 use Rattle.std.proofs.lemmas.List.{take_all, take_more}
-use Rattle.run_clauses.specs.InnerBytes.{inner_bytes}
+use Rattle.packet_runs.specs.InnerBytes.{inner_bytes}
 use Rattle.packet_runs.specs.Inner.{IsAfter}
 use Rattle.packet_runs.proofs.inner_coder.code_word.Goals as goal
 

@@ -1,6 +1,6 @@
 use Rattle.std.proofs.Common.{◌≡◌, ◌≤◌, ◌*◌, ◌++◌, ℕ, List, take, length}
 use Rattle.mode_set.specs.declared.modes.Rate.{Rate}
-use Rattle.run_clauses.specs.InnerBytes.{inner_bytes}
+use Rattle.packet_runs.specs.InnerBytes.{inner_bytes}
 use Rattle.packet_runs.specs.Inner.{IsAfter}
 use Rattle.packet_runs.proofs.inner_coder.code_word.Given as goal
 

@@ -1,7 +1,7 @@
 use Rattle.std.proofs.Common.{length, refl, ap, ◌∙◌, ◌≡◌, List, ℕ}
 use Rattle.station_core.specs.Meaning.{Meaning, with_sink, written_sink}
 use Rattle.station_core.specs.declared.ports.OutPort.TheVariants.{Report}
-use Rattle.run_clauses.specs.Text.{closing_line}
+use Rattle.run_clauses.specs.Packets.{closing_line}
 use Rattle.packet_runs.proofs.Keeping.{closes_late}
 use Rattle.packet_runs.proofs.steps.finish.Goals as goal
 
@@ -11,4 +11,5 @@ returns-in-Err-close-clause-finished g c =
     let line : List ℕ = closing_line c.args.counts in
     let text : c.as_bytes.result.now ≡ line = c.as_bytes.ensures.value ∙ c.as_str.ensures.value ∙ c.closing_line_of-line.ensures in
     let written = c.in-Ok.ensures.ok ∙ ap (λ (l : List ℕ). with_sink Report (written_sink m.tells l m.report) m) text in
-    (refl, length line, closes_late line m (g.S.Station.meaning c.write.new.self) (g.S.Station.meaning c.close.new.self) written c.in-Err-close.ensures.err)
+    let closed = closes_late line m (g.S.Station.meaning c.write.new.self) (g.S.Station.meaning c.close.new.self) written c.in-Err-close.ensures.err in
+    (refl, closed.0, length line, closed.1)

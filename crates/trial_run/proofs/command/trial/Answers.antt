@@ -3,16 +3,16 @@ use Rattle.station_core.specs.Meaning.{Meaning}
 use Rattle.trial_run.proofs.WholeRun.{ready, run_of, refused}
 use Rattle.trial_run.proofs.command.trial.Goals as goal
 
-pub returns-in-Ok-clause : goal.returns-in-Ok-clause
-returns-in-Ok-clause g c =
+pub returns-in-Ok : goal.returns-in-Ok
+returns-in-Ok g c =
     let old : Meaning = g.S.Station.meaning c.args.station.now in
     let mid : Meaning = g.S.Station.meaning c.read_settings.new.station in
     let new : Meaning = g.S.Station.meaning c.trial_accepted.new.station in
     run_of c.args.limits.now.packets c.args.settings.now c.args.number old mid c.requires.fresh c.in-Ok.ensures.asks
     c.in-Ok.accepted c.in-Ok.ensures.reads c.trial_accepted.result new c.trial_accepted.ensures
 
-pub returns-in-Err-clause : goal.returns-in-Err-clause
-returns-in-Err-clause g c =
+pub returns-in-Err : goal.returns-in-Err
+returns-in-Err g c =
     let old : Meaning = g.S.Station.meaning c.args.station.now in
     let mid : Meaning = g.S.Station.meaning c.read_settings.new.station in
     let new : Meaning = g.S.Station.meaning c.refuse.new.station in

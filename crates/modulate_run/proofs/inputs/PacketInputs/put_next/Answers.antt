@@ -1,7 +1,8 @@
 use Rattle.station_core.specs.Meaning.{Meaning}
-use Rattle.run_clauses.specs.Modulation.{inputs_of}
+use Rattle.modulate_run.specs.ModulateCommand.{inputs_of}
 use Rattle.modulate_run.specs.Seen.{Seen}
-use Rattle.modulate_run.proofs.Stopping.{goes_on, stops}
+use Rattle.modulate_run.proofs.Few.{few_near}
+use Rattle.modulate_run.proofs.Stopping.{are_near, goes_on, stops}
 use Rattle.modulate_run.proofs.inputs.PacketInputs.put_next.Goals as goal
 
 pub returns-in-Ok-clause-works : goal.returns-in-Ok-clause-works
@@ -17,5 +18,8 @@ pub returns-in-Err-clause-works : goal.returns-in-Err-clause-works
 returns-in-Err-clause-works g c = λ t files due work.
     let m : Meaning = g.S.Station.meaning c.next_packet.new.station in
     let seen : Seen = g.T.Transmitter.seen c.args.tx.now in
-    stops c.work.ensures.at_packet c.work.ensures.so_far c.work.ensures.at_fault c.args.limit files c.args.stream seen c.requires.wanted due work.at
-    m c.next_packet.new.self c.in-Err.refusal (c.in-Err.ensures.gives t files seen work.read)
+    let gives = c.in-Err.ensures.gives t files seen work.read in (
+      stops c.work.ensures.at_packet c.work.ensures.so_far c.work.ensures.at_fault c.args.limit files c.args.stream seen c.requires.wanted due work.at
+          m c.next_packet.new.self c.in-Err.refusal gives,
+      few_near c.args.limit files m seen work.at.accepted (are_near c.args.limit files c.args.stream seen m c.next_packet.new.self c.in-Err.refusal gives),
+    )

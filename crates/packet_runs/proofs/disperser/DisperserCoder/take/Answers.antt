@@ -1,5 +1,5 @@
 use Rattle.std.proofs.Common.{ℕ, List, ◌++◌, sym, ◌∙◌, ap}
-use Rattle.run_clauses.specs.Packets.{dispersed_packets}
+use Rattle.packet_runs.specs.DispersedPackets.{dispersed_packets}
 use Rattle.packet_runs.proofs.DispersedPackets.{dispersed_more}
 use Rattle.packet_runs.proofs.disperser.DisperserCoder.take.Goals as goal
 

@@ -1,7 +1,7 @@
 use Rattle.std.proofs.Common.{◌≤◌, ◌++◌, ◌∙◌, sym, ap, subst, List, ℕ, Bool, false, length, arith}
 use Rattle.std.specs.Prelude.{replicate}
 use Rattle.outer_chain.specs.Bits.{bytes_of}
-use Rattle.run_clauses.specs.InnerBytes.{inner_bits, inner_bytes}
+use Rattle.packet_runs.specs.InnerBytes.{inner_bits, inner_bytes}
 use Rattle.packet_runs.specs.Inner.{InnerState, IsAfter}
 use Rattle.packet_runs.proofs.WholeBytes.{bytes_after, all_gives, behind}
 use Rattle.packet_runs.proofs.inner_bytes.InnerBytes.finish.Goals as goal

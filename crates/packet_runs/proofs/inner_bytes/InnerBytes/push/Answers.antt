@@ -2,7 +2,7 @@ use Rattle.std.proofs.Common.{◌≤◌, ◌*◌, ◌∷◌, [], ◌++◌, ◌�
 use Rattle.puncture.specs.SentBits.{path_of}
 use Rattle.outer_chain.specs.Bits.{bytes_of}
 use Rattle.forney.specs.Values.{stream_of}
-use Rattle.run_clauses.specs.InnerBytes.{inner_bytes}
+use Rattle.packet_runs.specs.InnerBytes.{inner_bytes}
 use Rattle.packet_runs.specs.Inner.{InnerState, IsAfter, rest_of}
 use Rattle.packet_runs.proofs.WholeBytes.{all_gives, all_rest, behind}
 use Rattle.packet_runs.proofs.SentOfBytes.{at_longer, stands, at_end, waits, whole}

@@ -1,5 +1,5 @@
 use Rattle.std.proofs.Common.{List, ℕ, sym, ◌∙◌, ap, subst}
-use Rattle.run_clauses.specs.InnerBytes.{inner_bytes}
+use Rattle.packet_runs.specs.InnerBytes.{inner_bytes}
 use Rattle.outer_chain.specs.Sent.{sent_bytes}
 use Rattle.packet_runs.specs.Inner.{IsAfter}
 use Rattle.packet_runs.proofs.inner_coder.InnerCoderCoder.take.Goals as goal

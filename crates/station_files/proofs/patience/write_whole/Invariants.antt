@@ -1,5 +1,5 @@
 use Rattle.std.proofs.Common.{◌≤◌, ◌-◌, length}
-use Rattle.station_files.proofs.writing.write_front.Given as goal
+use Rattle.station_files.proofs.patience.write_whole.Given as goal
 
 abbrev pub invariant-loop-written : goal.invariant-loop-written
 invariant-loop-written g l = l.written ≤ length l.bytes

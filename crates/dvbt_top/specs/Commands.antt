@@ -1,0 +1,37 @@
+-- The command that the words are. Each command is defined in the crate that runs it.
+use Rattle.std.specs.Prelude.{◌≡◌, ℕ, ⊤, List, [], ◌∷◌, Option, None, Some}
+use Rattle.run_clauses.specs.Command.{Command}
+use Rattle.run_clauses.specs.declared.work.Refusal.TheVariants.{Usage}
+use Rattle.packet_runs.specs.Commands.{disperse_command, outer_command, inner_command}
+use Rattle.modulate_run.specs.ModulateCommand.{modulate_command}
+use Rattle.receive_run.specs.ReceiveCommand.{receive_command}
+use Rattle.trial_run.specs.TrialCommand.{trial_command}
+use Rattle.dvbt_top.specs.Order.{Order, Disperse, Outer, Inner, Code, Modulate, Receive, Trial, order_of}
+
+-- words of no form: they are refused, and no file is asked for
+abbrev pub no_command : Command
+no_command = record {
+  reads = λ port. None;
+  writes = λ port. None;
+  statuses = 2 ∷ [];
+  early_refusal = λ file. Some Usage;
+  work_refusal = λ limit file. None;
+  most_taken = λ limit file port. 0;
+  Comes = λ limit file port bytes. bytes ≡ [];
+  Prints = λ limit file lines. lines ≡ [];
+  ComesSoFar = λ limit file unread port bytes. bytes ≡ [];
+  PrintsSoFar = λ limit file unread lines. lines ≡ [];
+  Own = λ limit file. ⊤;
+}
+
+abbrev pub command_for : Option Order → Command
+command_for None = no_command
+command_for (Some (Code Disperse input output)) = disperse_command input output
+command_for (Some (Code Outer input output)) = outer_command input output
+command_for (Some (Code (Inner settings) input output)) = inner_command settings input output
+command_for (Some (Modulate settings hp lp cells)) = modulate_command settings hp lp cells
+command_for (Some (Receive settings cells hp lp)) = receive_command settings cells hp lp
+command_for (Some (Trial settings number)) = trial_command settings number
+
+abbrev pub command_of : List (List ℕ) → Command
+command_of words = command_for (order_of words)

@@ -1,0 +1,40 @@
+-- What the words ask for: the forms of the words, as the words spell them.
+use Rattle.std.specs.Prelude.{ℕ, List, [], ◌∷◌, Option, None, Some, codes, if◌then◌else◌}
+use Rattle.std.specs.Option.{option_map}
+use Rattle.std.specs.Str.{bytes_eq}
+use Rattle.dvbt_top.specs.Number.{number_of}
+
+-- what is made of the packets of a transport file
+pub data Coding : Type 0 where
+  -- disperse: they are dispersed
+  Disperse : Coding
+  -- outer: they are coded by the outer code, and interleaved
+  Outer : Coding
+  -- inner: and then by the inner code, at the rate of HP of the settings file of this name
+  Inner : List ℕ → Coding
+
+-- the forms of the words
+pub data Order : Type 0 where
+  -- disperse TS OUT, outer TS OUT, inner SETTINGS TS OUT
+  Code : Coding → List ℕ → List ℕ → Order
+  -- modulate SETTINGS HP CELLS, modulate SETTINGS HP LP CELLS
+  Modulate : List ℕ → List ℕ → Option (List ℕ) → List ℕ → Order
+  -- receive SETTINGS CELLS HP, receive SETTINGS CELLS HP LP
+  Receive : List ℕ → List ℕ → List ℕ → Option (List ℕ) → Order
+  -- trial SETTINGS NUMBER
+  Trial : List ℕ → ℕ → Order
+
+-- the coding that is named by one word
+abbrev pub coding_of : List ℕ → Option Coding
+coding_of name = if bytes_eq name (codes "disperse") then Some Disperse else if bytes_eq name (codes "outer") then Some Outer else None
+
+-- the form that the words are of, if they are of one
+abbrev pub order_of : List (List ℕ) → Option Order
+order_of (name ∷ first ∷ second ∷ []) = if bytes_eq name (codes "trial") then option_map (λ number. Trial first number) (number_of second)
+    else option_map (λ coding. Code coding first second) (coding_of name)
+order_of (name ∷ settings ∷ input ∷ output ∷ []) = if bytes_eq name (codes "inner") then Some (Code (Inner settings) input output)
+    else if bytes_eq name (codes "modulate") then Some (Modulate settings input None output)
+    else if bytes_eq name (codes "receive") then Some (Receive settings input output None) else None
+order_of (name ∷ settings ∷ first ∷ second ∷ third ∷ []) = if bytes_eq name (codes "modulate") then Some (Modulate settings first (Some second) third)
+    else if bytes_eq name (codes "receive") then Some (Receive settings first second (Some third)) else None
+order_of words = None

@@ -1,0 +1,27 @@
+// What a modulation counts, and the closing line of its super-frames.
+ghost use Rattle.std.specs.Prelude.{◌≡◌};
+ghost use Rattle.modulate_run.specs.ModulateCommand.{super_frames_line};
+
+use report_line::{Line, push_count};
+use run_clauses::Counts;
+
+/// What was counted in a modulation.
+#[derive(Clone, Copy, Debug, PartialEq, Eq)]
+pub struct TransmissionCounts {
+    /// The input of the high priority stream.
+    pub hp: Counts,
+    /// The input of the low priority stream, of which there is nothing without a hierarchy.
+    pub lp: Counts,
+    /// The super-frames sent.
+    pub super_frames: u64,
+}
+
+// The closing line of the super-frames that were sent.
+pub(crate) fn super_frames_line_of(super_frames: u64) -> Line
+    ensures { result.bytes ≡ super_frames_line super_frames }
+{
+    let mut line = Line::new();
+    push_count(&mut line, "superframes ", super_frames);
+    line.push_str("\n");
+    line
+}

@@ -1,0 +1,12 @@
+-- What waits at a port of a station over files.
+use Rattle.std.specs.Prelude.{◌≡◌}
+use Rattle.station_files.specs.declared.buffer.Buffer.{Buffer}
+use Rattle.station_files.specs.declared.writing.FileWriting.{FileWriting}
+
+-- no byte waits
+abbrev pub IsEmpty : Buffer → Type 0
+IsEmpty b = b.start ≡ b.end
+
+-- nothing that was given to the port waits to be written
+abbrev pub IsOut : {F : Type 0} → FileWriting F → Type 0
+IsOut w = IsEmpty w.buffer
