@@ -16,8 +16,8 @@ at_hp old new w n p = subst (λ (x : Meaning). WritesOnly old x) (sym p) refl
 at_lp : (old new : Meaning) (w : List ℕ) (n : ℕ) → new ≡ record old { lp_out = record old.lp_out { written = w }; write_faults = n } → WritesOnly old new
 at_lp old new w n p = subst (λ (x : Meaning). WritesOnly old x) (sym p) refl
 
-at_report : (old new : Meaning) (w : List ℕ) (n : ℕ) → new ≡ record old { report = record old.report { written = w }; write_faults = n } → WritesOnly old new
-at_report old new w n p = subst (λ (x : Meaning). WritesOnly old x) (sym p) refl
+at_report : (old new : Meaning) (w : List ℕ) (n k : ℕ) → new ≡ record old { report = record old.report { written = w }; write_faults = n; report_faults = k } → WritesOnly old new
+at_report old new w n k p = subst (λ (x : Meaning). WritesOnly old x) (sym p) refl
 
 pub hp_frame : (bytes : List ℕ) (old new : Meaning) (r : Result (Unit {0}) Refusal) → WritesAt outs.Hp bytes old new r → WritesOnly old new
 hp_frame bytes old new (Ok u) w = at_hp old new (told old.tells old.hp_out.written bytes) old.write_faults w
@@ -30,7 +30,7 @@ lp_frame false bytes old new (Ok u) w = subst (λ (x : Meaning). WritesOnly old 
 lp_frame false bytes old new (Err r) w = absurd w
 
 pub report_frame : (old new : Meaning) → ReportOnly old new → WritesOnly old new
-report_frame old new p = at_report old new new.report.written new.write_faults p
+report_frame old new p = at_report old new new.report.written new.write_faults new.report_faults p
 
 pub writes_again : (a b c : Meaning) → WritesOnly a b → WritesOnly b c → WritesOnly a c
 writes_again a b c p q =
@@ -39,10 +39,11 @@ writes_again a b c p q =
       lp_out = record x.lp_out { written = c.lp_out.written };
       report = record x.report { written = c.report.written };
       write_faults = c.write_faults;
+      report_faults = c.report_faults;
     }) p
 
 pub report_again : (a b c : Meaning) → ReportOnly a b → ReportOnly b c → ReportOnly a c
-report_again a b c p q = q ∙ ap (λ (x : Meaning). record x { report = record x.report { written = c.report.written }; write_faults = c.write_faults }) p
+report_again a b c p q = q ∙ ap (λ (x : Meaning). record x { report = record x.report { written = c.report.written }; write_faults = c.write_faults; report_faults = c.report_faults }) p
 
 pub keeps_again : (a b c : Meaning) → KeepsOthers a b → KeepsOthers b c → KeepsOthers a c
 keeps_again a b c p q =
@@ -53,6 +54,7 @@ keeps_again a b c p q =
       report = record x.report { written = c.report.written };
       read_faults = c.read_faults;
       write_faults = c.write_faults;
+      report_faults = c.report_faults;
     }) p
 
 -- writing alone, and reading alone
@@ -88,21 +90,22 @@ lp_only false bytes old new (Err r) w = absurd w
 
 pub at_report_only : (old new : Meaning) (bytes : List ℕ) (r : Result (Unit {0}) Refusal) → WritesAt outs.Report bytes old new r → ReportOnly old new
 at_report_only old new bytes (Ok u) w = subst (λ (x : Meaning). ReportOnly old x) (sym w) refl
-at_report_only old new bytes (Err r) w = go (told old.tells old.report.written (take w.1 bytes)) new.write_faults w.2
+at_report_only old new bytes (Err r) w = go (told old.tells old.report.written (take w.1 bytes)) new.write_faults new.report_faults w.2
   where
-    go : (l : List ℕ) (n : ℕ) → new ≡ record old { report = record old.report { written = l }; write_faults = n } → ReportOnly old new
-    go l n p = subst (λ (x : Meaning). ReportOnly old x) (sym p) refl
+    go : (l : List ℕ) (n k : ℕ) → new ≡ record old { report = record old.report { written = l }; write_faults = n; report_faults = k } → ReportOnly old new
+    go l n k p = subst (λ (x : Meaning). ReportOnly old x) (sym p) refl
 
 -- Report holds this text more
 abbrev pub Printed : Meaning → Meaning → List ℕ → Type 0
-Printed m m' text = IsPrinting m' × ReportOnly m m' × (m'.write_faults ≡ m.write_faults) × (m.tells ≡ true → m'.report.written ≡ m.report.written ++ text)
+Printed m m' text = IsPrinting m' × ReportOnly m m' × (m'.write_faults ≡ m.write_faults) × (m'.report_faults ≡ m.report_faults) × (m.tells ≡ true → m'.report.written ≡ m.report.written ++ text)
 
 pub line_printed : (m m' m'' : Meaning) (text line : List ℕ) → Printed m m' text → WritesAt outs.Report line m' m'' (Ok tt) → Printed m m'' (text ++ line)
 line_printed m m' m'' text line p w = (
   record { created = ap (λ (x : Meaning). x.report.created) w ∙ p.0.created; opened = ap (λ (x : Meaning). x.report.closed) w ∙ p.0.opened },
   report_again m m' m'' p.1 (at_report_only m' m'' line (Ok tt) w),
   ap (λ (x : Meaning). x.write_faults) w ∙ p.2,
-  (λ t. report_appends line m' m'' (Ok tt) (ap (λ (x : Meaning). x.tells) p.1 ∙ t) w ∙ ap (λ (l : List ℕ). l ++ line) (p.3 t) ∙ append_assoc m.report.written text line),
+  ap (λ (x : Meaning). x.report_faults) w ∙ p.3,
+  (λ t. report_appends line m' m'' (Ok tt) (ap (λ (x : Meaning). x.tells) p.1 ∙ t) w ∙ ap (λ (l : List ℕ). l ++ line) (p.4 t) ∙ append_assoc m.report.written text line),
 )
 
 -- the ports stay open

@@ -8,9 +8,7 @@ pub mod Ends
 pub mod FewCells
 pub mod Begun
 pub mod Opening
-pub mod Clauses
-pub mod Asking
-pub mod Returning
-pub mod Ignoring
+pub mod Laws
+pub mod Ending
 pub mod WholeRun
 pub mod Taking

@@ -9,15 +9,13 @@ use Rattle.mode_set.specs.declared.settings.Settings.{Settings as TheSettings}
 use Rattle.reception.specs.Cells.{symbol_length, symbols}
 use Rattle.reception.specs.Streams.{Reception}
 use Rattle.reception.specs.Lines.{event_lines, closing_lines}
-use Rattle.reception.specs.Laws.{NothingLive, nothing}
+use Rattle.reception.specs.Laws.{nothing}
 use Rattle.run_clauses.specs.declared.work.Refusal.{Refusal}
 use Rattle.run_clauses.specs.declared.work.Refusal.TheVariants.{Usage, Settings, ReadFault, WriteFault, NotSync, Memory, Limit}
 use Rattle.receive_run.specs.Writing.{AreOpen}
 use Rattle.receive_run.specs.Receiving.{Holds, HoldsFronts, IsWhole, KeepsOthers, Refused, Works}
-use Rattle.receive_run.specs.Ports.{AsksPorts, Closes, IsFinished, IsReady, Makes, Ran, lp_closed, lp_made}
+use Rattle.receive_run.specs.Ports.{AsksPorts, Closes, IsReady, IsWorked, Makes, Ran, lp_closed, lp_made}
 use Rattle.receive_run.proofs.Fronts.{front_whole}
-use Rattle.receive_run.proofs.Parts.{some_bytes}
-use Rattle.std.proofs.Math.Nat.{div-eq_of_lt}
 
 -- ---- what the outputs hold, and what is left, is the same
 pub record SameOutputs (m m' : Meaning) : Type 0 where
@@ -108,6 +106,7 @@ PortsOnly old new = new ≡ record old {
   report = record old.report { written = new.report.written };
   read_faults = new.read_faults;
   write_faults = new.write_faults;
+  report_faults = new.report_faults;
 }
 
 ports_again : (a b c : Meaning) → PortsOnly a b → PortsOnly b c → PortsOnly a c
@@ -119,6 +118,7 @@ ports_again a b c p q =
       report = record x.report { written = c.report.written };
       read_faults = c.read_faults;
       write_faults = c.write_faults;
+      report_faults = c.report_faults;
     }) p
 
 kept_ports : (a b : Meaning) → KeepsOthers a b → PortsOnly a b
@@ -127,43 +127,46 @@ kept_ports a b p = subst (λ (x : Meaning). PortsOnly a x) (sym p) refl
 closed_ports : (two : Bool) (a b : Meaning) (n : ℕ) → ClosedWith two a b n → PortsOnly a b
 closed_ports two a b n p = subst (λ (x : Meaning). PortsOnly a x) (sym p) refl
 
+-- the cells could not be opened
+pub unopened_run : (s : TheSettings) (cells : List ℕ) (two : Bool) (old m : Meaning) (n : ℕ) → IsReady old
+    → m ≡ record old { cells = record old.cells { asked = Some cells }; read_faults = n } → Ran s cells two old m (Err ReadFault)
+unopened_run s cells two old m n ready attach = inl (refl, record {
+  unread = ap (λ (x : Meaning). x.cells.attached) attach ∙ ready.cells_unread;
+  hp = ap (λ (x : Meaning). x.hp_out) attach;
+  lp = ap (λ (x : Meaning). x.lp_out) attach;
+  report = ap (λ (x : Meaning). x.report) attach;
+})
+
 module _ (s : TheSettings) (cells hp : List ℕ) (lp : Option (List ℕ)) (old m : Meaning) (ready : IsReady old)
     (attach : m ≡ record old { cells = record { asked = Some cells; attached = true; left = old.file cells } }) where
   opened_ports : PortsOnly old m
   opened_ports = subst (λ (x : Meaning). PortsOnly old x) (sym attach) refl
 
   -- an output was not made
-  pub unmade : NothingLive → (m' : Meaning) (refusal : Refusal) → Makes hp lp m m' (Err refusal) → Ran s cells (is_some lp) old m' (Err refusal)
-  unmade none_live m' refusal p = subst (λ (r : Refusal). Ran s cells (is_some lp) old m' (Err r)) (sym p.0) (λ t. fronts t)
-    where
-      symbols_none : symbols s [] ≡ 0
-      symbols_none = div-eq_of_lt {n = 0} {m = symbol_length s} (some_bytes s)
-
-      report_none : m'.tells ≡ true → m'.report.written ≡ []
-      report_none t =
-          ap (λ (x : Meaning). x.report.written) p.1 ∙ ap (λ (x : Meaning). x.report.written) attach
-          ∙ ready.report_empty (sym (ap (λ (x : Meaning). x.tells) p.1 ∙ ap (λ (x : Meaning). x.tells) attach) ∙ t)
-
-      fronts : m'.tells ≡ true → HoldsFronts s (is_some lp) (old.file cells) m'
-      fronts t = record {
-        given = nothing;
-        up = record { taken = []; rest = old.file cells; are = refl; within = omega (arith, symbols_none); gives = inl (none_live s) };
-        hp = λ is. elim p.4 [
-          | inl same ↦ absurd (true≢false (sym is ∙ same ∙ ap (λ (x : Meaning). x.hp_out.created) attach ∙ ready.hp_unmade))
-          | inr none ↦ (0, none)
-        ];
-        lp = λ is both. absurd (true≢false (sym both ∙ p.5 ∙ ap (λ (x : Meaning). x.lp_out.created) attach ∙ ready.lp_unmade));
-        report = (0, report_none t);
-      }
+  pub unmade : (m' : Meaning) (refusal : Refusal) → Makes hp lp m m' (Err refusal) → Ran s cells (is_some lp) old m' (Err refusal)
+  unmade m' refusal p = inr (inl (ap (λ (r : Refusal). Err r) p.0, record {
+    attached = ap (λ (x : Meaning). x.cells.attached) p.1.others ∙ ap (λ (x : Meaning). x.cells.attached) attach;
+    untaken = ap (λ (x : Meaning). x.cells.left) p.1.others ∙ ap (λ (x : Meaning). x.cells.left) attach;
+    hp_shut = λ is. elim p.1.hp_shut [
+      | inl same ↦ absurd (true≢false (sym is ∙ same ∙ ap (λ (x : Meaning). x.hp_out.created) attach ∙ ready.hp_unmade))
+      | inr shut ↦ shut
+    ];
+    lp_behind = elim p.1.lp_asked [
+      | inl same ↦ inl (same ∙ ap (λ (x : Meaning). x.lp_out) attach)
+      | inr is ↦ inr is.1
+    ];
+    lp_unmade = p.1.lp_unmade ∙ ap (λ (x : Meaning). x.lp_out.created) attach ∙ ready.lp_unmade;
+    report = ap (λ (x : Meaning). x.report) p.1.others ∙ ap (λ (x : Meaning). x.report) attach;
+  }))
 
   pub unmade_asks : (m' : Meaning) (refusal : Refusal) → Makes hp lp m m' (Err refusal) → AsksPorts cells hp lp old m'
   unmade_asks m' refusal p = record {
-    others = ports_again old m m' opened_ports (subst (λ (x : Meaning). PortsOnly m x) (sym p.1) refl);
-    cells_asked = ap (λ (x : Meaning). x.cells.asked) p.1 ∙ ap (λ (x : Meaning). x.cells.asked) attach;
-    hp_asked = inr p.2;
-    lp_asked = elim p.3 [
+    others = ports_again old m m' opened_ports (subst (λ (x : Meaning). PortsOnly m x) (sym p.1.others) refl);
+    cells_asked = ap (λ (x : Meaning). x.cells.asked) p.1.others ∙ ap (λ (x : Meaning). x.cells.asked) attach;
+    hp_asked = inr p.1.hp_asked;
+    lp_asked = elim p.1.lp_asked [
       | inl same ↦ inl (same ∙ ap (λ (x : Meaning). x.lp_out) attach)
-      | inr is ↦ inr is
+      | inr is ↦ inr is.0
     ];
   }
 
@@ -214,24 +217,20 @@ module _ (s : TheSettings) (cells hp : List ℕ) (lp : Option (List ℕ)) (old m
       hp_created : new.hp_out.created ≡ true
       hp_created = same.hp_made ∙ ap (λ (x : Meaning). x.hp_out.created) keeps ∙ ap (λ (x : Meaning). x.hp_out.created) makes
 
+      worked_ports : IsWorked (is_some lp) new
+      worked_ports = record {
+        attached = ap (λ (x : Meaning). x.cells.attached) closed ∙ ap (λ (x : Meaning). x.cells.attached) keeps ∙ attached_is;
+        hp = hp_created;
+        hp_closed = ap (λ (x : Meaning). x.hp_out.closed) closed;
+        lp = λ is. same.lp_made_is ∙ ap (λ (x : Meaning). x.lp_out.created) keeps ∙ ap (λ (x : Meaning). x.lp_out.created) makes ∙ (lp_opened lp m.lp_out is).0;
+        lp_closed_too = λ is. ap (λ (x : Meaning). x.lp_out.closed) closed ∙ closed_closed (is_some lp) w.lp_out is;
+      }
+
       refused_in_file : (r : Refusal) → (w.tells ≡ true → Refused s (is_some lp) m'.cells.left w r) → new.tells ≡ true → Refused s (is_some lp) (old.file cells) new r
       refused_in_file r f t = subst (λ (l : List ℕ). Refused s (is_some lp) l new r) left_is (refused_same s (is_some lp) m'.cells.left w new same r (f (sym same.tells ∙ t)))
 
       pub refused : (r : Refusal) → Works s (is_some lp) m'.cells.left w (Err r) → Ran s cells (is_some lp) old new (Err r)
-      refused Usage f = (hp_created, refused_in_file Usage f)
-      refused (Settings reason) f = (hp_created, refused_in_file (Settings reason) f)
-      refused ReadFault f = inr (hp_created, refused_in_file ReadFault f)
-      refused WriteFault f = refused_in_file WriteFault f
-      refused (NotSync σ k) f = (hp_created, refused_in_file (NotSync σ k) f)
-      refused Memory f = (hp_created, refused_in_file Memory f)
-      refused (Limit k) f = (hp_created, refused_in_file (Limit k) f)
-
-      finished : IsFinished (is_some lp) new
-      finished = record {
-        attached = ap (λ (x : Meaning). x.cells.attached) closed ∙ ap (λ (x : Meaning). x.cells.attached) keeps ∙ attached_is;
-        hp = ap (λ (x : Meaning). x.hp_out.closed) closed;
-        lp = λ is. ap (λ (x : Meaning). x.lp_out.closed) closed ∙ closed_closed (is_some lp) w.lp_out is;
-      }
+      refused r f = inr (inr (worked_ports, refused_in_file r f))
 
       module _ (f : Works s (is_some lp) m'.cells.left w (Ok tt)) where
         worked : Works s (is_some lp) (old.file cells) new (Ok tt)
@@ -253,5 +252,5 @@ module _ (s : TheSettings) (cells hp : List ℕ) (lp : Option (List ℕ)) (old m
         }
 
         pub ended : (r : Result (Unit {0}) Refusal) → Closes (is_some lp) w new r → Ran s cells (is_some lp) old new r
-        ended (Ok u) p = (finished, worked)
-        ended (Err r) p = subst (λ (x : Refusal). Ran s cells (is_some lp) old new (Err x)) (sym p.0) unclosed
+        ended (Ok u) p = inr (inr (worked_ports, worked))
+        ended (Err r) p = subst (λ (x : Refusal). Ran s cells (is_some lp) old new (Err x)) (sym p.0) (inr (inr (worked_ports, unclosed)))

@@ -14,7 +14,7 @@ use Rattle.reception.specs.Lines.{events, event_lines}
 use Rattle.reception.specs.Feeds.{Output}
 use Rattle.reception.specs.Laws.{SameSymbols, SameCosts, TpsCellsStay, BitsOfCells}
 use Rattle.run_clauses.specs.declared.work.Refusal.{Refusal}
-use Rattle.run_clauses.specs.ReceivedCells.{within_limit}
+use Rattle.receive_run.specs.Received.{within_limit}
 use Rattle.std.proofs.Math.Seq.{take-append_seam}
 use Rattle.receive_run.specs.Writing.{IsPartlyWritten, WritesOnly, WritesOut, event_text}
 use Rattle.receive_run.specs.Receiving.{HoldsFronts, IsPast, IsReceiving, IsStopped, Next, ReceivesAll, Refused, Takes}

@@ -1,68 +1,51 @@
--- The clauses of a whole run of `receive`.
-use Rattle.std.proofs.Common.{◌≡◌, inl, inr, true, ℕ, List, Option, Some, Ok, Err, refl, ◌∙◌, sym, ap, subst}
-use Rattle.std.specs.Prelude.{is_some, IsSomeAnd}
+-- The promise of a whole run of `receive`.
+use Rattle.std.proofs.Common.{◌≡◌, ◌≢◌, inl, inr, true, ℕ, ◌≤◌, List, [], Option, Some, None, Result, Ok, Err, refl, ◌∙◌, sym, ap, subst}
+use Rattle.std.specs.Prelude.{is_some}
+use Rattle.std.specs.Option.{option_or}
 use Rattle.station_core.specs.Meaning.{Meaning, IsFresh}
+use Rattle.station_core.specs.declared.ports.InPort.{InPort}
+use Rattle.station_core.specs.declared.ports.InPort.TheVariants as ins
 use Rattle.mode_set.specs.declared.settings.Settings.{Settings as TheSettings}
 use Rattle.run_clauses.specs.declared.work.Refusal.{Refusal}
 use Rattle.run_clauses.specs.declared.work.Refusal.TheVariants.{Usage, Settings, ReadFault, WriteFault, NotSync, Memory, Limit}
-use Rattle.run_clauses.specs.Command.{Command, Receive}
-use Rattle.run_clauses.specs.Runs.{AsksOnly, HasStatus, IsComplete, IsDone, Stands}
-use Rattle.run_clauses.specs.Text.{refusal_status, refusal_text}
+use Rattle.run_clauses.specs.Command.{Command, Unread, input_file, is_among}
+use Rattle.run_clauses.specs.Run.{Run}
+use Rattle.run_clauses.specs.StatedSettings.{settings_of}
+use Rattle.run_clauses.specs.Text.{refusal_status, refusal_text, status_of}
 use Rattle.run_clauses.proofs.Stated.{stated}
 use Rattle.run_steps.specs.Report.{WritesText}
 use Rattle.run_steps.specs.SettingsStep.{AsksSettings}
-use Rattle.run_steps.proofs.Early.{ReadsFirst, RefusedEarly, status_early, asks_early, stands_early, complete_early}
 use Rattle.run_steps.specs.FittingStep.{Accepts}
-use Rattle.receive_run.specs.Ports.{IsReady, RunsReception, RunsOrLacks}
-use Rattle.receive_run.proofs.Clauses.{SettingsDone, done_of, got, whole, status_of_run, stands_of, complete_of, never_zero}
-use Rattle.receive_run.proofs.Begun.{ReceptionLaws}
-use Rattle.receive_run.proofs.Asking.{asks_of}
-use Rattle.receive_run.proofs.Returning.{returned}
-use Rattle.receive_run.proofs.Ignoring.{ignored}
-use Rattle.receive_run.specs.Receiving.{IsWhole}
-use Rattle.receive_run.specs.Returns.{Returns, ReturnsOwn}
-use Rattle.receive_run.specs.Workers.{IgnoresWorkers}
-use Rattle.worker_laws.specs.Alike.{DifferInWorkers, SameFinal, SameLines}
-use Rattle.own_cells.specs.Laws.{NoiseLaw, CleanLaw}
+use Rattle.run_steps.specs.Ended.{Ended}
+use Rattle.run_steps.proofs.Early.{RefusedEarly, early_ended}
+use Rattle.run_steps.proofs.Whole.{run_done, run_refused}
+use Rattle.receive_run.specs.ReceiveCommand.{receive_command}
+use Rattle.receive_run.specs.Ports.{IsReady, RunsReception, RunsOrLacks, Tells, outcome_status, refusal_in}
+use Rattle.receive_run.proofs.Ending.{SettingsDone, ended_of, no_lines}
+use Rattle.receive_run.proofs.Laws.{Laws, own_laws}
 
-module _ (limit : ℕ) (name cells hp : List ℕ) (lp : Option (List ℕ)) (start mid new : Meaning) (fresh : IsFresh start) (asks : AsksSettings name start mid) where
+module _ (limit : ℕ) (name cells hp : List ℕ) (lp : Option (List ℕ)) (start mid new : Meaning) (laws : Laws) (fresh : IsFresh start) (asks : AsksSettings name start mid) where
   abbrev c : Command
-  c = Receive name cells hp lp
-
-  first : ReadsFirst c name
-  first = record { named = refl; memory = tt; no_report = refl }
+  c = receive_command name cells hp lp
 
   -- ---- refused before another port is asked
-  early : (r : Refusal) → Accepts name lp start mid (Err r) → RefusedEarly c start mid r
-  early Usage a = a
-  early (Settings reason) a = a
-  early ReadFault a = a
-  early WriteFault a = a
-  early (NotSync σ p) a = a
-  early Memory a = a
-  early (Limit n) a = a
+  nothing : (u : Unread) → ((port : InPort) → port ≢ ins.Settings → u port ≡ input_file start.file c port) → c.PrintsSoFar limit start.file u []
+  nothing u whole = no_lines laws (settings_of (start.file name)) (start.file cells) (u ins.Cells) (whole ins.Cells (λ is. cc))
 
-  module _ (r : Refusal) (accepts : Accepts name lp start mid (Err r)) (status : ℕ) (is : status ≡ refusal_status r) (text : WritesText (refusal_text r) mid new) where
-    pub refused_done : status ≡ 0 → start.tells ≡ true → IsDone limit c start new
-    refused_done zero t = absurd (never_zero r (sym is ∙ zero))
+  early : (r : Refusal) → RefusedEarly c limit start mid r → is_among (status_of (Some r)) c.statuses ≡ true → Ended c limit start mid (Some r)
+  early = early_ended c limit name start mid refl (inr (refl, refl)) nothing (own_laws laws (settings_of (start.file name)) (start.file cells)) fresh asks
 
-    pub refused_status : HasStatus limit (Some c) start new status
-    refused_status = subst (λ (n : ℕ). HasStatus limit (Some c) start new n) (sym is) (status_early limit c name start mid new first fresh asks r (early r accepts) text)
+  refused_at : (r : Refusal) → Accepts name lp start mid (Err r) → Ended c limit start mid (Some r)
+  refused_at Usage a = absurd a
+  refused_at (Settings reason) a = early (Settings reason) a refl
+  refused_at ReadFault a = early ReadFault (a, asks.later) refl
+  refused_at WriteFault a = absurd a
+  refused_at (NotSync σ p) a = absurd a
+  refused_at Memory a = early Memory a refl
+  refused_at (Limit n) a = absurd a
 
-    pub refused_asks : AsksOnly (Some c) start new status
-    refused_asks = subst (λ (n : ℕ). AsksOnly (Some c) start new n) (sym is) (asks_early limit c name start mid new first fresh asks r (early r accepts) text)
-
-    pub refused_stands : Stands limit (Some c) start new status
-    refused_stands = subst (λ (n : ℕ). Stands limit (Some c) start new n) (sym is) (stands_early limit c name start mid new first fresh asks r (early r accepts) text)
-
-    pub refused_returns : ReturnsOwn (Some c) start new status
-    refused_returns zero t = absurd (never_zero r (sym is ∙ zero))
-
-    pub refused_alike : IgnoresWorkers (Some c) start new status
-    refused_alike zero t = absurd (never_zero r (sym is ∙ zero))
-
-    pub refused_complete : IsComplete limit c start new status
-    refused_complete = subst (λ (n : ℕ). IsComplete limit c start new n) (sym is) (complete_early limit c name start mid new first fresh asks r (early r accepts) text)
+  pub refused : (r : Refusal) → Accepts name lp start mid (Err r) → (status : ℕ) → status ≡ refusal_status r → WritesText (refusal_text r) mid new → Run c limit start new status
+  refused r a status is text = subst (λ (n : ℕ). Run c limit start new n) (sym is) (run_refused c limit start mid new r (refused_at r a) text)
 
   -- ---- the settings were accepted
   module _ (s : TheSettings) (accepts : Accepts name lp start mid (Ok s)) where
@@ -87,58 +70,27 @@ module _ (limit : ℕ) (name cells hp : List ℕ) (lp : Option (List ℕ)) (star
       asked = accepts.0.1;
       attached = accepts.0.2;
       left = λ t. (accepts.0.3 t).0;
+      read = asks.read;
       accepted = λ t. (accepts.0.3 t).1.1;
       stated = λ t. stated s (start.file name) (accepts.0.3 t).1.2;
       fits = accepts.1;
     }
 
-    module _ (status : ℕ) where
-      runs_from : RunsReception s cells hp lp mid new status → RunsReception s cells hp lp (record start { settings = mid.settings }) new status
-      runs_from runs = subst (λ (m : Meaning). RunsReception s cells hp lp m new status) same_mid runs
+    -- the run has ended with its outcome, and then a text was written or not
+    finished : (old : Meaning) → old ≡ record start { settings = mid.settings } → (status : ℕ) → RunsReception s cells hp lp old new status → Run c limit start new status
+    finished old same status runs = go (subst (λ (m : Meaning). RunsReception s cells hp lp m new status) same runs)
+      where
+        closing : (m : Meaning) (o : Result (Unit {0}) Refusal) → Ended c limit start m (refusal_in o) → Tells m new o → Run c limit start new (outcome_status o)
+        closing m (Ok u) e tells = run_done c limit start new (subst (λ (x : Meaning). Ended c limit start x None) (sym tells) e)
+        closing m (Err r) e tells = run_refused c limit start m new r e tells
 
-      pub run_done : RunsOrLacks s cells hp lp mid new status → status ≡ 0 → start.tells ≡ true → IsDone limit c start new
-      run_done runs zero t = elim runs [
-        | inl r ↦ done_of limit name cells hp lp start new mid.settings fresh s settings status (runs_from r) zero t
-        | inr lacks ↦ refused_done Memory accepts.0.0 status lacks.0 lacks.1 zero t
-      ]
+        go : RunsReception s cells hp lp (record start { settings = mid.settings }) new status → Run c limit start new status
+        go runs =
+            let e = ended_of limit name cells hp lp start runs.mid mid.settings fresh s settings laws runs.asks runs.taken runs.later_report runs.outcome runs.kind runs.cause runs.ran in
+            subst (λ (n : ℕ). Run c limit start new n) (sym runs.status_is) (closing runs.mid runs.outcome e runs.tells)
 
-      pub run_status : RunsOrLacks s cells hp lp mid new status → HasStatus limit (Some c) start new status
-      run_status runs = elim runs [
-        | inl r ↦ status_of_run limit name cells hp lp start new mid.settings fresh s settings status (runs_from r)
-        | inr lacks ↦ refused_status Memory accepts.0.0 status lacks.0 lacks.1
-      ]
-
-      pub run_asks : RunsOrLacks s cells hp lp mid new status → AsksOnly (Some c) start new status
-      run_asks runs = elim runs [
-        | inl r ↦ asks_of limit name cells hp lp start new mid.settings fresh s settings status (runs_from r) asks.read
-        | inr lacks ↦ refused_asks Memory accepts.0.0 status lacks.0 lacks.1
-      ]
-
-      pub run_stands : ReceptionLaws → RunsOrLacks s cells hp lp mid new status → Stands limit (Some c) start new status
-      run_stands laws runs = elim runs [
-        | inl r ↦ stands_of limit name cells hp lp start new mid.settings fresh s settings status (runs_from r) laws
-        | inr lacks ↦ refused_stands Memory accepts.0.0 status lacks.0 lacks.1
-      ]
-
-      pub run_returns : NoiseLaw → CleanLaw → RunsOrLacks s cells hp lp mid new status → ReturnsOwn (Some c) start new status
-      run_returns noise clean runs zero t = elim runs [
-        | inl r ↦
-            let g = got limit name cells hp lp start new mid.settings fresh s settings status (runs_from r) zero t in
-            subst (λ (o : Option TheSettings). IsSomeAnd o (λ x. Returns x (start.file cells) new)) (sym (settings.stated t)) (returned noise clean s lp (start.file cells) new g.0 accepts.1 g.1 g.2 g.3)
-        | inr lacks ↦ absurd (never_zero Memory (sym lacks.0 ∙ zero))
-      ]
-
-      pub run_alike : SameFinal → SameLines → RunsOrLacks s cells hp lp mid new status → IgnoresWorkers (Some c) start new status
-      run_alike final lines runs zero t = elim runs [
-        | inl r ↦
-            let w = whole limit name cells hp lp start new mid.settings fresh s settings status (runs_from r) zero t in
-            subst (λ (o : Option TheSettings). IsSomeAnd o (λ x. (u : TheSettings) → DifferInWorkers x u → IsWhole u (is_some lp) (start.file cells) new)) (sym (settings.stated t))
-            (λ u. ignored final lines s u (is_some lp) (start.file cells) new w)
-        | inr lacks ↦ absurd (never_zero Memory (sym lacks.0 ∙ zero))
-      ]
-
-      pub run_complete : RunsOrLacks s cells hp lp mid new status → IsComplete limit c start new status
-      run_complete runs = elim runs [
-        | inl r ↦ complete_of limit name cells hp lp start new mid.settings fresh s settings status (runs_from r)
-        | inr lacks ↦ refused_complete Memory accepts.0.0 status lacks.0 lacks.1
-      ]
+    pub run : (status : ℕ) → RunsOrLacks s cells hp lp mid new status → Run c limit start new status
+    run status runs = elim runs [
+      | inl r ↦ finished mid same_mid status r
+      | inr lacks ↦ refused Memory accepts.0.0 status lacks.0 lacks.1
+    ]

@@ -1,6 +1,7 @@
+pub mod Received
+pub mod OwnLaws
+pub mod ReceiveCommand
 pub mod Writing
 pub mod Receiving
 pub mod Ports
-pub mod Returns
-pub mod Workers
 pub mod Feeder

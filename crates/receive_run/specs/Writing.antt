@@ -1,6 +1,6 @@
 -- What is written behind what the outputs of a reception hold.
 use Rattle.std.specs.Prelude.{◌≡◌, ◌⊎◌, ℕ, Bool, true, false, List, ◌++◌, take, flat_map, Result, Ok, Err}
-use Rattle.station_core.specs.Meaning.{Meaning, sink_at, with_sink, written_sink, with_write_faults}
+use Rattle.station_core.specs.Meaning.{Meaning, sink_at, with_sink, written_sink, with_failed_write}
 use Rattle.station_core.specs.declared.ports.OutPort.{OutPort}
 use Rattle.station_core.specs.declared.ports.OutPort.TheVariants as outs
 use Rattle.rx_report.specs.Text.{event_line}
@@ -13,7 +13,7 @@ use Rattle.run_clauses.specs.declared.work.Refusal.TheVariants.{WriteFault}
 abbrev pub WritesAt : OutPort → List ℕ → Meaning → Meaning → Result (Unit {0}) Refusal → Type 0
 WritesAt port bytes old new (Ok u) = new ≡ with_sink port (written_sink old.tells bytes (sink_at port old)) old
 WritesAt port bytes old new (Err r) =
-    (r ≡ WriteFault) × (k : ℕ) × (new ≡ with_write_faults new.write_faults (with_sink port (written_sink old.tells (take k bytes) (sink_at port old)) old))
+    (r ≡ WriteFault) × (k : ℕ) × (new ≡ with_failed_write port new.write_faults new.report_faults (with_sink port (written_sink old.tells (take k bytes) (sink_at port old)) old))
 
 -- the same at Lp, where there are two streams
 abbrev pub WritesLp : Bool → List ℕ → Meaning → Meaning → Result (Unit {0}) Refusal → Type 0
@@ -31,17 +31,18 @@ abbrev pub Pushes : List ℕ → List ℕ → List ℕ → List ℕ → List ℕ
 Pushes line text text' before after (Ok u) = ((after ≡ before) × (text' ≡ text ++ line)) ⊎ ((after ≡ before ++ text) × (text' ≡ line))
 Pushes line text text' before after (Err r) = (r ≡ WriteFault) × (k : ℕ) × (after ≡ before ++ take k text)
 
--- only what is written to Report and the count of write faults have changed
+-- only what is written to Report and the counts of write faults have changed
 abbrev pub ReportOnly : Meaning → Meaning → Type 0
-ReportOnly old new = new ≡ record old { report = record old.report { written = new.report.written }; write_faults = new.write_faults }
+ReportOnly old new = new ≡ record old { report = record old.report { written = new.report.written }; write_faults = new.write_faults; report_faults = new.report_faults }
 
--- only what is written to Hp, Lp and Report and the count of write faults have changed
+-- only what is written to Hp, Lp and Report and the counts of write faults have changed
 abbrev pub WritesOnly : Meaning → Meaning → Type 0
 WritesOnly old new = new ≡ record old {
   hp_out = record old.hp_out { written = new.hp_out.written };
   lp_out = record old.lp_out { written = new.lp_out.written };
   report = record old.report { written = new.report.written };
   write_faults = new.write_faults;
+  report_faults = new.report_faults;
 }
 
 -- Report is open

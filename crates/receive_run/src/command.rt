@@ -1,19 +1,16 @@
 // The command.
-ghost use Rattle.std.specs.Prelude.{◌≡◌, ◌≤◌, ◌<◌, ◌^◌, true, false, [], Some, length};
+ghost use Rattle.std.specs.Prelude.{◌≡◌, ◌<◌, ◌^◌, false, [], length};
 ghost use Rattle.reception.specs.Cells.{symbol_length};
 ghost use Rattle.reception.specs.Streams.{so_far};
 ghost use Rattle.reception.specs.Laws.{nothing};
 ghost use Rattle.receiver.specs.Standing.{StandsFor};
 ghost use Rattle.std.specs.Option.{option_copied};
 ghost use Rattle.station_core.specs.Meaning.{IsFresh};
-ghost use Rattle.run_clauses.specs.Command.{Receive};
-ghost use Rattle.run_clauses.specs.Modulation.{fits_form};
-ghost use Rattle.run_clauses.specs.Runs.{IsDone, HasStatus, AsksOnly, Stands, IsComplete};
+ghost use Rattle.run_clauses.specs.Run.{Run};
 ghost use Rattle.std.specs.Thread.{IsSync};
 ghost use Rattle.receive_run.specs.Feeder.{IsFed, IsFeeder};
 ghost use Rattle.receive_run.specs.Ports.{IsReady, RunsReception, RunsOrLacks};
-ghost use Rattle.receive_run.specs.Returns.{ReturnsOwn};
-ghost use Rattle.receive_run.specs.Workers.{IgnoresWorkers};
+ghost use Rattle.receive_run.specs.ReceiveCommand.{receive_command};
 
 use crate::receivers::{ModeReceiver, ReceiverWithOutput};
 use crate::run::{Names, run_reception};
@@ -118,7 +115,8 @@ fn receive_accepted<'a, R: Threads + Sync, G: Gate, S: Station<'a>>(
 /// Runs `receive SETTINGS CELLS HP` or, with a file of LP, `receive SETTINGS CELLS HP LP`, and gives its
 /// status.
 ///
-/// The settings are read and checked, and then all memory is taken, before another port is asked. The
+/// What it promises is `Run` of its definition, `receive_command`. The settings are read and checked, and
+/// then all memory is taken, before another port is asked; the cells are opened before an output is made. The
 /// workers of the receiver enter the gate, of which no clause speaks: they hold for every one.
 pub fn receive<'a, R: Threads + Sync, G: Gate, S: Station<'a>>(
     rt: &R,
@@ -132,18 +130,13 @@ pub fn receive<'a, R: Threads + Sync, G: Gate, S: Station<'a>>(
     station: &mut S,
 ) -> u8
     requires fresh { IsFresh (S.meaning station.old) }
-    ensures done { result ≡ 0 → (S.meaning station.old).tells ≡ true
-        → IsDone limits.now.packets (Receive settings.now cells.now hp.now (option_copied lp.entry)) (S.meaning station.old) (S.meaning station.new) }
-    ensures status { HasStatus limits.now.packets (Some (Receive settings.now cells.now hp.now (option_copied lp.entry))) (S.meaning station.old) (S.meaning station.new) result }
-    ensures asks { AsksOnly (Some (Receive settings.now cells.now hp.now (option_copied lp.entry))) (S.meaning station.old) (S.meaning station.new) result }
-    ensures stands { Stands limits.now.packets (Some (Receive settings.now cells.now hp.now (option_copied lp.entry))) (S.meaning station.old) (S.meaning station.new) result }
-    ensures returns { ReturnsOwn (Some (Receive settings.now cells.now hp.now (option_copied lp.entry))) (S.meaning station.old) (S.meaning station.new) result }
-    ensures alike { IgnoresWorkers (Some (Receive settings.now cells.now hp.now (option_copied lp.entry))) (S.meaning station.old) (S.meaning station.new) result }
-    ensures complete { IsComplete limits.now.packets (Receive settings.now cells.now hp.now (option_copied lp.entry)) (S.meaning station.old) (S.meaning station.new) result }
+    ensures { Run (receive_command settings.now cells.now hp.now (option_copied lp.entry)) limits.now.packets (S.meaning station.old) (S.meaning station.new) result }
 {
     worker_laws::laws::workers();
     own_cells::laws::noise();
     reception::laws::symbols();
+    reception::laws::events();
+    reception::laws::nothing();
     reception_laws::laws::existence();
     reception_laws::laws::beginnings();
     own_cells::laws::own_cells();

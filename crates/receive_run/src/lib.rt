@@ -3,7 +3,7 @@
 //!
 //! The cells are read symbol by symbol and given to a receiver; after each symbol what it gave is
 //! written: the packets of HP, those of LP, and the lines of its unmerged reports. The call carries the
-//! five clauses of a run.
+//! promise of a run.
 #![tactic(auto)]
 
 mod cell_receiver;

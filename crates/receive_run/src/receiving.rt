@@ -5,7 +5,7 @@ ghost use Rattle.reception.specs.Streams.{Reception, so_far};
 ghost use Rattle.reception.specs.Laws.{nothing};
 ghost use Rattle.run_steps.specs.Causes.{HasCause};
 ghost use Rattle.receive_run.specs.Writing.{AreOpen};
-ghost use Rattle.receive_run.specs.Receiving.{EndsWhole, GoesOn, Holds, IsReceiving, KeepsOthers, Next, ReceivesAll, TakesAtMost, Works};
+ghost use Rattle.receive_run.specs.Receiving.{EndsWhole, GoesOn, Holds, IsOfWork, IsReceiving, KeepsOthers, Next, ReceivesAll, TakesAtMost, Works};
 
 use crate::cell_receiver::CellReceiver;
 use crate::writing::{write_lines, write_out};
@@ -31,7 +31,9 @@ fn receive_next<'a, X: CellReceiver, S: Station<'a>>(
     ensures size { length symbol.new ≡ length symbol.old }
     ensures settings { X.settings receiver.new ≡ X.settings receiver.old }
     ensures others { KeepsOthers (S.meaning station.old) (S.meaning station.new) }
+    ensures kind { IsOfWork result }
     ensures cause { HasCause (S.meaning station.old) (S.meaning station.new) result }
+    ensures later_report { (S.meaning station.old).report_faults ≤ (S.meaning station.new).report_faults }
     ensures taken { TakesAtMost (symbol_length (X.settings receiver.old)) (S.meaning station.old) (S.meaning station.new) }
     ensures next { (file bytes : List ℕ) (r : Reception) → length bytes ≡ number * symbol_length (X.settings receiver.old)
         → IsReceiving (X.settings receiver.old) two (X.stands receiver.old so_far) file (S.meaning station.old) bytes r
@@ -67,7 +69,9 @@ fn receive_rest<'a, X: CellReceiver, S: Station<'a>>(
     requires going { GoesOn (X.settings receiver.old) (X.stands receiver.old so_far) }
     ensures settings { X.settings receiver.new ≡ X.settings receiver.old }
     ensures others { KeepsOthers (S.meaning station.old) (S.meaning station.new) }
+    ensures kind { IsOfWork result }
     ensures cause { HasCause (S.meaning station.old) (S.meaning station.new) result }
+    ensures later_report { (S.meaning station.old).report_faults ≤ (S.meaning station.new).report_faults }
     ensures taken { TakesAtMost (symbol_length (X.settings receiver.old)) (S.meaning station.old) (S.meaning station.new) }
     ensures receives { (file bytes : List ℕ) (r : Reception) → length bytes ≡ max_symbols * symbol_length (X.settings receiver.old)
         → IsReceiving (X.settings receiver.old) two (X.stands receiver.old so_far) file (S.meaning station.old) bytes r
@@ -104,7 +108,9 @@ fn receive_cells<'a, X: CellReceiver, S: Station<'a>>(
     requires empty { IsTrue (S.meaning station.old).tells → Holds two (S.meaning station.old) nothing [] }
     ensures settings { X.settings receiver.new ≡ X.settings receiver.old }
     ensures others { KeepsOthers (S.meaning station.old) (S.meaning station.new) }
+    ensures kind { IsOfWork result }
     ensures cause { HasCause (S.meaning station.old) (S.meaning station.new) result }
+    ensures later_report { (S.meaning station.old).report_faults ≤ (S.meaning station.new).report_faults }
     ensures taken { TakesAtMost (((X.settings receiver.old).max_symbols + 1) * symbol_length (X.settings receiver.old)) (S.meaning station.old) (S.meaning station.new) }
     ensures receives { ReceivesAll (X.settings receiver.old) two (X.stands receiver.new so_far) (S.meaning station.old).cells.left (S.meaning station.new) result }
 {
@@ -130,7 +136,9 @@ fn end_reception<'a, X: CellReceiver, S: Station<'a>>(
     requires open { AreOpen two (S.meaning station.old) }
     requires going { GoesOn (X.settings receiver.old) (X.stands receiver.old so_far) }
     ensures others { KeepsOthers (S.meaning station.old) (S.meaning station.new) }
+    ensures kind { IsOfWork result }
     ensures cause { HasCause (S.meaning station.old) (S.meaning station.new) result }
+    ensures later_report { (S.meaning station.old).report_faults ≤ (S.meaning station.new).report_faults }
     ensures left { (S.meaning station.new).cells.left ≡ (S.meaning station.old).cells.left }
     ensures ends { (bytes : List ℕ) (r : Reception) → symbols (X.settings receiver.old) bytes ≤ (X.settings receiver.old).max_symbols
         → (IsTrue (S.meaning station.old).tells → (S.meaning station.old).cells.left ≡ [])
@@ -163,7 +171,9 @@ pub(crate) fn receive_file<'a, X: CellReceiver, S: Station<'a>>(
     requires start { X.stands receiver.old so_far [] nothing }
     requires empty { IsTrue (S.meaning station.old).tells → Holds two (S.meaning station.old) nothing [] }
     ensures others { KeepsOthers (S.meaning station.old) (S.meaning station.new) }
+    ensures kind { IsOfWork result }
     ensures cause { HasCause (S.meaning station.old) (S.meaning station.new) result }
+    ensures later_report { (S.meaning station.old).report_faults ≤ (S.meaning station.new).report_faults }
     ensures taken { TakesAtMost (((X.settings receiver.old).max_symbols + 1) * symbol_length (X.settings receiver.old)) (S.meaning station.old) (S.meaning station.new) }
     ensures works { Works (X.settings receiver.old) two (S.meaning station.old).cells.left (S.meaning station.new) result }
 {

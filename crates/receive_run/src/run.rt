@@ -1,11 +1,12 @@
 // A whole run behind its settings.
-ghost use Rattle.std.specs.Prelude.{◌≡◌, ℕ, [], length, is_some};
+ghost use Rattle.std.specs.Prelude.{◌≡◌, ◌≤◌, ℕ, [], length, is_some};
 ghost use Rattle.std.specs.Option.{option_copied};
 ghost use Rattle.reception.specs.Cells.{symbol_length};
 ghost use Rattle.reception.specs.Streams.{so_far};
 ghost use Rattle.reception.specs.Laws.{nothing};
 ghost use Rattle.run_steps.specs.Causes.{HasCause};
 ghost use Rattle.receive_run.specs.Ports.{AsksPorts, IsReady, Ran, RunsReception, TakesCells};
+ghost use Rattle.receive_run.specs.Receiving.{IsOfWork};
 
 use crate::cell_receiver::CellReceiver;
 use crate::ports::{close_outputs, create_outputs};
@@ -39,11 +40,12 @@ fn receive_all<'a, X: CellReceiver, S: Station<'a>>(
     requires size { length symbol.old ≡ symbol_length (X.settings receiver.old) }
     requires start { X.stands receiver.old so_far [] nothing }
     ensures asks { AsksPorts names.entry.cells.now names.entry.hp.now (option_copied names.entry.lp) (S.meaning station.old) (S.meaning station.new) }
+    ensures kind { IsOfWork result }
     ensures cause { HasCause (S.meaning station.old) (S.meaning station.new) result }
+    ensures later_report { (S.meaning station.old).report_faults ≤ (S.meaning station.new).report_faults }
     ensures ran { Ran (X.settings receiver.old) names.entry.cells.now (is_some (option_copied names.entry.lp)) (S.meaning station.old) (S.meaning station.new) result }
     ensures taken { TakesCells (X.settings receiver.old) names.entry.cells.now (S.meaning station.old) (S.meaning station.new) }
 {
-    reception::laws::nothing();
     match station.attach(InPort::Cells, names.cells) {
         Ok(()) => {}
         Err(_) => return Err(Refusal::ReadFault),

@@ -5,6 +5,7 @@ ghost use Rattle.arrayvec.specs.ArrayString.{array_string_len};
 ghost use Rattle.station_core.specs.Meaning.{sink_at};
 ghost use Rattle.rx_report.specs.Text.{closing_lines};
 ghost use Rattle.run_steps.specs.Causes.{HasCause};
+ghost use Rattle.receive_run.specs.Receiving.{IsOfWork};
 ghost use Rattle.receive_run.specs.Writing.{AreOpen, Appends, IsPrinting, Pushes, ReportOnly, WritesAt, WritesLp, WritesOnly, WritesOut, event_text};
 
 use crate::cell_receiver::CellReceiver;
@@ -24,7 +25,9 @@ fn write_some<'a, S: Station<'a>>(
 ) -> Result<(), Refusal>
     requires created { (sink_at port (S.meaning station.old)).created ≡ true }
     requires open { (sink_at port (S.meaning station.old)).closed ≡ false }
+    ensures kind { IsOfWork result }
     ensures cause { HasCause (S.meaning station.old) (S.meaning station.new) result }
+    ensures later_report { (S.meaning station.old).report_faults ≤ (S.meaning station.new).report_faults }
     ensures writes { WritesAt port bytes.now (S.meaning station.old) (S.meaning station.new) result }
 {
     if bytes.is_empty() {
@@ -39,7 +42,9 @@ fn write_some<'a, S: Station<'a>>(
 // Writes the packets of LP, where there are two streams.
 fn write_lp<'a, S: Station<'a>>(two: bool, bytes: &[u8], station: &mut S) -> Result<(), Refusal>
     requires open { AreOpen two (S.meaning station.old) }
+    ensures kind { IsOfWork result }
     ensures cause { HasCause (S.meaning station.old) (S.meaning station.new) result }
+    ensures later_report { (S.meaning station.old).report_faults ≤ (S.meaning station.new).report_faults }
     ensures writes { WritesLp two bytes.now (S.meaning station.old) (S.meaning station.new) result }
 {
     if two {
@@ -56,7 +61,9 @@ fn push_line<'a, S: Station<'a>>(
     station: &mut S,
 ) -> Result<(), Refusal>
     requires printing { IsPrinting (S.meaning station.old) }
+    ensures kind { IsOfWork result }
     ensures cause { HasCause (S.meaning station.old) (S.meaning station.new) result }
+    ensures later_report { (S.meaning station.old).report_faults ≤ (S.meaning station.new).report_faults }
     ensures others { ReportOnly (S.meaning station.old) (S.meaning station.new) }
     ensures pushes { IsTrue (S.meaning station.old).tells → Pushes line.now.bytes text.old.bytes text.new.bytes
         (S.meaning station.old).report.written (S.meaning station.new).report.written result }
@@ -78,7 +85,9 @@ fn push_line<'a, S: Station<'a>>(
 // Writes the lines of the events of a symbol, by one write.
 fn write_events<'a, S: Station<'a>>(events: &[Event], station: &mut S) -> Result<(), Refusal>
     requires printing { IsPrinting (S.meaning station.old) }
+    ensures kind { IsOfWork result }
     ensures cause { HasCause (S.meaning station.old) (S.meaning station.new) result }
+    ensures later_report { (S.meaning station.old).report_faults ≤ (S.meaning station.new).report_faults }
     ensures others { ReportOnly (S.meaning station.old) (S.meaning station.new) }
     ensures written { IsTrue (S.meaning station.old).tells → Appends (event_text events.now)
         (S.meaning station.old).report.written (S.meaning station.new).report.written result }
@@ -104,7 +113,9 @@ pub(crate) fn write_out<'a, X: CellReceiver, S: Station<'a>>(
     station: &mut S,
 ) -> Result<(), Refusal>
     requires open { AreOpen two (S.meaning station.old) }
+    ensures kind { IsOfWork result }
     ensures cause { HasCause (S.meaning station.old) (S.meaning station.new) result }
+    ensures later_report { (S.meaning station.old).report_faults ≤ (S.meaning station.new).report_faults }
     ensures others { WritesOnly (S.meaning station.old) (S.meaning station.new) }
     ensures written { IsTrue (S.meaning station.old).tells → WritesOut two (X.gave receiver.now) (S.meaning station.old) (S.meaning station.new) result }
 {
@@ -125,7 +136,9 @@ pub(crate) fn write_lines<'a, S: Station<'a>>(
     station: &mut S,
 ) -> Result<(), Refusal>
     requires printing { IsPrinting (S.meaning station.old) }
+    ensures kind { IsOfWork result }
     ensures cause { HasCause (S.meaning station.old) (S.meaning station.new) result }
+    ensures later_report { (S.meaning station.old).report_faults ≤ (S.meaning station.new).report_faults }
     ensures others { ReportOnly (S.meaning station.old) (S.meaning station.new) }
     ensures written { IsTrue (S.meaning station.old).tells → Appends (concat (closing_lines counts.now))
         (S.meaning station.old).report.written (S.meaning station.new).report.written result }

@@ -75,6 +75,7 @@ loop-number-preserved g c =
       others = keeps_again m m' m'' inv.others e.others;
       read_faults = e.cause.reads ∙ inv.read_faults;
       write_faults = e.cause.writes ∙ inv.write_faults;
+      later_report = omega (arith, e.later_report, inv.later_report);
       receiving = moved s s' (λ (x : Settings). Next x c.args.two standing' m.cells.left k m'' (Ok true)) same
           (subst (λ (b : Bool). Next s' c.args.two standing' m.cells.left k m'' (Ok b)) c.in-Ok-true.field-0-test (e.next m.cells.left is.0 is.1 size was));
     }

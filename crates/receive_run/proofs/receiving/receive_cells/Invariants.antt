@@ -1,4 +1,4 @@
-use Rattle.std.proofs.Common.{◌≡◌, ◌*◌, true, ℕ, List, length}
+use Rattle.std.proofs.Common.{◌≡◌, ◌≤◌, ◌*◌, true, ℕ, List, length}
 use Rattle.reception.specs.Cells.{symbol_length}
 use Rattle.reception.specs.Streams.{Reception, so_far}
 use Rattle.receive_run.specs.Writing.{AreOpen}
@@ -15,6 +15,7 @@ invariant-loop-number g l = record {
   others : KeepsOthers (g.S.Station.meaning l.initial.station) (g.S.Station.meaning l.station);
   read_faults : (g.S.Station.meaning l.station).read_faults ≡ (g.S.Station.meaning l.initial.station).read_faults;
   write_faults : (g.S.Station.meaning l.station).write_faults ≡ (g.S.Station.meaning l.initial.station).write_faults;
+  later_report : (g.S.Station.meaning l.initial.station).report_faults ≤ (g.S.Station.meaning l.station).report_faults;
   receiving : (bytes : List ℕ) × (r : Reception) × IsReceiving (g.X.CellReceiver.settings l.initial.receiver) l.two (g.X.CellReceiver.stands l.receiver so_far)
       (g.S.Station.meaning l.initial.station).cells.left (g.S.Station.meaning l.station) bytes r × (length bytes ≡ l.number * symbol_length (g.X.CellReceiver.settings l.initial.receiver));
 }

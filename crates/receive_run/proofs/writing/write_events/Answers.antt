@@ -1,4 +1,4 @@
-use Rattle.std.proofs.Common.{◌+◌, ℕ, List, [], take, drop, refl, sym, ◌∙◌, ap, subst}
+use Rattle.std.proofs.Common.{◌+◌, ℕ, List, [], take, drop, refl, sym, ◌∙◌, ap, subst, arith}
 use Rattle.std.proofs.lemmas.List.{append-nil}
 use Rattle.station_core.specs.Meaning.{Meaning}
 use Rattle.station_core.specs.declared.ports.OutPort.TheVariants as outs
@@ -12,6 +12,7 @@ loop-event-init g c = record {
   printing = c.requires.printing;
   others = refl;
   write_faults = refl;
+  later_report = omega arith;
   written = λ t. ([], sym (append-nil (g.S.Station.meaning c.args.station.now).report.written), c.new-text.ensures);
 }
 
@@ -39,6 +40,7 @@ loop-event-preserved g c =
       printing = record { created = ap (λ (x : Meaning). x.report.created) e.others ∙ inv.printing.created; opened = ap (λ (x : Meaning). x.report.closed) e.others ∙ inv.printing.opened };
       others = report_again m m' m'' inv.others e.others;
       write_faults = e.cause.writes ∙ inv.write_faults;
+      later_report = omega (arith, e.later_report, inv.later_report);
       written = λ t. waits_more c.line.result.bytes c.loop-event.text.bytes c.push_line.new.text.bytes m.report.written m'.report.written m''.report.written
           (event_text (take i c.args.events.now)) (event_text (take (i + 1) c.args.events.now)) (inv.written t) (e.pushes (ap (λ (x : Meaning). x.tells) inv.others ∙ t))
           (event_more c.args.events.now i _ c.line.result.bytes c.loop-event-test.true c.line.ensures);

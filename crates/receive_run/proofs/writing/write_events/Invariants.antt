@@ -1,4 +1,4 @@
-use Rattle.std.proofs.Common.{◌≡◌, true, take}
+use Rattle.std.proofs.Common.{◌≡◌, ◌≤◌, true, take}
 use Rattle.receive_run.specs.Writing.{IsPrinting, ReportOnly, event_text}
 use Rattle.receive_run.proofs.Events.{Waits}
 use Rattle.receive_run.proofs.writing.write_events.Given as goal
@@ -9,5 +9,6 @@ invariant-loop-event g l = record {
   printing : IsPrinting (g.S.Station.meaning l.station);
   others : ReportOnly (g.S.Station.meaning l.initial.station) (g.S.Station.meaning l.station);
   write_faults : (g.S.Station.meaning l.station).write_faults ≡ (g.S.Station.meaning l.initial.station).write_faults;
+  later_report : (g.S.Station.meaning l.initial.station).report_faults ≤ (g.S.Station.meaning l.station).report_faults;
   written : (g.S.Station.meaning l.initial.station).tells ≡ true → Waits (g.S.Station.meaning l.initial.station).report.written (g.S.Station.meaning l.station).report.written l.text.bytes (event_text (take l.event-index l.events));
 }

@@ -44,5 +44,5 @@ loop-number-preserved g c =
     let one : n + 1 ≡ suc n = omega arith in
     let more : concat (take (n + 1) lines) ≡ concat (take n lines) ++ line = ap (λ (k : ℕ). concat (take k lines)) one ∙ line_more lines n line c.in-Some.ensures.line in
     let p : Printed m m'' (concat (take (n + 1) lines)) = subst (Printed m m'') (sym more)
-    (line_printed m m' m'' (concat (take n lines)) line (inv.printing, inv.others, inv.write_faults, inv.written) w) in
-    record { printing = p.0; others = p.1; write_faults = p.2; written = p.3 }
+    (line_printed m m' m'' (concat (take n lines)) line (inv.printing, inv.others, inv.write_faults, inv.report_faults, inv.written) w) in
+    record { printing = p.0; others = p.1; write_faults = p.2; report_faults = p.3; written = p.4 }

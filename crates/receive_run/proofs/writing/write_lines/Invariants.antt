@@ -10,5 +10,6 @@ invariant-loop-number g l = record {
   printing : IsPrinting (g.S.Station.meaning l.station);
   others : ReportOnly (g.S.Station.meaning l.initial.station) (g.S.Station.meaning l.station);
   write_faults : (g.S.Station.meaning l.station).write_faults ≡ (g.S.Station.meaning l.initial.station).write_faults;
+  report_faults : (g.S.Station.meaning l.station).report_faults ≡ (g.S.Station.meaning l.initial.station).report_faults;
   written : (g.S.Station.meaning l.initial.station).tells ≡ true → (g.S.Station.meaning l.station).report.written ≡ (g.S.Station.meaning l.initial.station).report.written ++ concat (take l.number (closing_lines l.counts));
 }

@@ -1,0 +1,63 @@
+-- The command `receive`: the files that it reads and writes, and what it comes to, from its settings and the
+-- file of cells alone.
+use Rattle.std.specs.Prelude.{◌≡◌, ◌⊎◌, ℕ, ◌+◌, ◌*◌, ◌<◌, ◌≤◌, nat_lt, if◌then◌else◌, List, [], ◌∷◌, ◌++◌, take, Option, None, Some, option_and_then}
+use Rattle.station_core.specs.declared.ports.InPort.{InPort}
+use Rattle.station_core.specs.declared.ports.InPort.TheVariants as ins
+use Rattle.station_core.specs.declared.ports.OutPort.{OutPort}
+use Rattle.station_core.specs.declared.ports.OutPort.TheVariants as outs
+use Rattle.mode_set.specs.declared.modes.Stream.TheVariants.{Hp, Lp}
+use Rattle.mode_set.specs.declared.settings.Settings.{Settings}
+use Rattle.reception.specs.Cells.{symbol_length, symbols}
+use Rattle.reception.specs.Streams.{Reception, Live, Final}
+use Rattle.reception.specs.Lines.{event_lines, closing_lines}
+use Rattle.run_clauses.specs.declared.work.Refusal.{Refusal}
+use Rattle.run_clauses.specs.declared.work.Refusal.TheVariants.{Limit}
+use Rattle.run_clauses.specs.Command.{Command, Files, Unread}
+use Rattle.run_clauses.specs.SettingsFile.{most_settings}
+use Rattle.run_clauses.specs.StatedSettings.{settings_of}
+use Rattle.run_clauses.specs.StreamForm.{fitting_refusal}
+use Rattle.receive_run.specs.OwnLaws.{ReceiveLaws}
+use Rattle.receive_run.specs.Received.{LinesCome, LinesSoFar, OutputComes, OutputSoFar, reception_refusal}
+
+-- the settings and the cells are read
+abbrev pub reads_at : List ℕ → List ℕ → InPort → Option (List ℕ)
+reads_at settings cells ins.Settings = Some settings
+reads_at settings cells ins.Hp = None
+reads_at settings cells ins.Lp = None
+reads_at settings cells ins.Cells = Some cells
+
+-- a transport file is written for each stream
+abbrev pub writes_at : List ℕ → Option (List ℕ) → OutPort → Option (List ℕ)
+writes_at hp lp outs.Cells = None
+writes_at hp lp outs.Hp = Some hp
+writes_at hp lp outs.Lp = lp
+writes_at hp lp outs.Bytes = None
+writes_at hp lp outs.Report = None
+
+-- of the cells no more is taken than the limit and one symbol
+abbrev pub most_cells : Option Settings → ℕ
+most_cells None = 0
+most_cells (Some s) = (s.max_symbols + 1) * symbol_length s
+
+abbrev pub most_taken_at : List ℕ → Files → InPort → ℕ
+most_taken_at settings file ins.Settings = most_settings + 1
+most_taken_at settings file ins.Hp = 0
+most_taken_at settings file ins.Lp = 0
+most_taken_at settings file ins.Cells = most_cells (settings_of (file settings))
+
+-- receive SETTINGS CELLS HP, or receive SETTINGS CELLS HP LP
+abbrev pub receive_command : List ℕ → List ℕ → List ℕ → Option (List ℕ) → Command
+receive_command settings cells hp lp = record {
+  reads = reads_at settings cells;
+  writes = writes_at hp lp;
+  statuses = 0 ∷ 3 ∷ 5 ∷ 6 ∷ 7 ∷ 8 ∷ [];
+  early_refusal = λ file. fitting_refusal (file settings) lp;
+  work_refusal = λ limit file. option_and_then (λ s. reception_refusal s (file cells)) (settings_of (file settings));
+  most_taken = λ limit file. most_taken_at settings file;
+  Comes = λ limit file port output. (s : Settings) × (settings_of (file settings) ≡ Some s) × OutputComes s (file cells) port output;
+  Prints = λ limit file lines. (s : Settings) × (settings_of (file settings) ≡ Some s) × LinesCome s (file cells) lines;
+  ComesSoFar = λ limit file unread port output.
+      (s : Settings) × (settings_of (file settings) ≡ Some s) × OutputSoFar s (file cells) (unread ins.Cells) port output;
+  PrintsSoFar = λ limit file unread lines. LinesSoFar (settings_of (file settings)) (file cells) (unread ins.Cells) lines;
+  Own = λ limit file. ReceiveLaws (settings_of (file settings)) (file cells);
+}

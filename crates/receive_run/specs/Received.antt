@@ -1,0 +1,65 @@
+-- What is received of a file of cells, by settings: the packets of the streams, and the lines of the report.
+use Rattle.std.specs.Prelude.{◌≡◌, ◌⊎◌, ℕ, ◌*◌, ◌<◌, ◌≤◌, nat_lt, if◌then◌else◌, List, [], ◌++◌, take, Option, None, Some}
+use Rattle.station_core.specs.declared.ports.OutPort.{OutPort}
+use Rattle.station_core.specs.declared.ports.OutPort.TheVariants as outs
+use Rattle.mode_set.specs.declared.modes.Stream.TheVariants.{Hp, Lp}
+use Rattle.mode_set.specs.declared.settings.Settings.{Settings}
+use Rattle.reception.specs.Cells.{symbol_length, symbols}
+use Rattle.reception.specs.Streams.{Reception, Live, Final}
+use Rattle.reception.specs.Lines.{event_lines, closing_lines}
+use Rattle.run_clauses.specs.declared.work.Refusal.{Refusal}
+use Rattle.run_clauses.specs.declared.work.Refusal.TheVariants.{Limit}
+
+-- more whole symbols than the limit are refused
+abbrev pub reception_refusal : Settings → List ℕ → Option Refusal
+reception_refusal s bytes = if nat_lt s.max_symbols (symbols s bytes) then Some (Limit s.max_symbols) else None
+
+-- the bytes of as many symbols as the limit
+abbrev pub within_limit : Settings → List ℕ → List ℕ
+within_limit s bytes = take (s.max_symbols * symbol_length s) bytes
+
+-- The cells have no more whole symbols than the limit. All of them give this in the end.
+pub record IsAll (s : Settings) (bytes : List ℕ) (r : Reception) : Type 0 where
+  pub within : symbols s bytes ≤ s.max_symbols
+  pub final : Final s bytes r
+
+-- The cells have more whole symbols than the limit. Those within it give this, as if more might follow.
+pub record IsCutOff (s : Settings) (bytes : List ℕ) (r : Reception) : Type 0 where
+  pub past : s.max_symbols < symbols s bytes
+  pub live : Live s (within_limit s bytes) r
+
+-- After a failed read the bytes taken of the cells give this, as if more might follow. They are at most
+-- as many whole symbols as the limit.
+pub record IsSoFar (s : Settings) (bytes left : List ℕ) (r : Reception) : Type 0 where
+  pub taken : List ℕ
+  pub are : bytes ≡ taken ++ left
+  pub within : symbols s taken ≤ s.max_symbols
+  pub live : Live s taken r
+
+-- the packets that are written at a port
+abbrev pub packets_at : OutPort → Reception → List ℕ
+packets_at outs.Cells r = []
+packets_at outs.Hp r = r.packets Hp
+packets_at outs.Lp r = r.packets Lp
+packets_at outs.Bytes r = []
+packets_at outs.Report r = []
+
+-- The output at a port comes to the packets received.
+abbrev pub OutputComes : Settings → List ℕ → OutPort → List ℕ → Type 0
+OutputComes s bytes port output = (r : Reception) × (IsAll s bytes r ⊎ IsCutOff s bytes r) × (output ≡ packets_at port r)
+
+-- The report comes to the event lines of all cells and then the closing lines, or to the event lines of the
+-- symbols within the limit.
+abbrev pub LinesCome : Settings → List ℕ → List ℕ → Type 0
+LinesCome s bytes lines = (r : Reception) × (
+    (IsAll s bytes r × (lines ≡ event_lines s bytes r ++ closing_lines s bytes r))
+    ⊎ (IsCutOff s bytes r × (lines ≡ event_lines s (within_limit s bytes) r)))
+
+-- After a failed read the output at a port is the packets of the bytes taken.
+abbrev pub OutputSoFar : Settings → List ℕ → List ℕ → OutPort → List ℕ → Type 0
+OutputSoFar s bytes left port output = (r : Reception) × IsSoFar s bytes left r × (output ≡ packets_at port r)
+
+-- And the report has the event lines of these bytes. Where no settings are stated there are none.
+abbrev pub LinesSoFar : Option Settings → List ℕ → List ℕ → List ℕ → Type 0
+LinesSoFar None bytes left lines = lines ≡ []
+LinesSoFar (Some s) bytes left lines = (r : Reception) × (so_far : IsSoFar s bytes left r) × (lines ≡ event_lines s so_far.taken r)
