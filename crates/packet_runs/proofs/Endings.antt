@@ -1,6 +1,5 @@
 -- What the parts of a run leave together, from the opening of the ports to their closing.
 use Rattle.std.proofs.Common.{◌≡◌, inl, inr, true, Bool, ℕ, ◌+◌, List, [], ◌++◌, length, take, if◌then◌else◌, ◌∙◌, sym, ap, subst, arith, Result, Ok, Err}
-use Rattle.std.proofs.lemmas.Bool.{true≢false}
 use Rattle.std.proofs.lemmas.List.{take_all}
 use Rattle.std.proofs.Math.Seq.{take-append-add}
 use Rattle.station_core.specs.Meaning.{Meaning, Sink}
@@ -9,7 +8,7 @@ use Rattle.run_clauses.specs.declared.work.Refusal.{Refusal}
 use Rattle.run_clauses.specs.declared.work.Refusal.TheVariants.{Usage, Settings, ReadFault, WriteFault, NotSync, Memory, Limit}
 use Rattle.run_clauses.specs.Packets.{whole_packets, first_packets, closing_line}
 use Rattle.packet_runs.specs.Coding.{Codes, CodesWhole, EndsCoding, KeepsOthers}
-use Rattle.packet_runs.specs.Steps.{IsReady, Ran, OpensAll, Finishes, ClosesRefused}
+use Rattle.packet_runs.specs.Steps.{Ran, OpensAll, Finishes, ClosesRefused}
 
 -- the work over the ports as they were opened is the work over the file
 from_opened : (input output : List ℕ) (old mid : Meaning) → OpensAll input output old mid (Ok tt) → (P : List ℕ → List ℕ → Type 0) → P mid.hp.left mid.bytes_out.written → P (old.file input) []
@@ -40,25 +39,6 @@ module _ (coded ended : List (List ℕ) → List ℕ) (limit : ℕ) (input outpu
       cases (NotSync stream n) d = (report', created', d)
       cases Memory d = (report', created', d)
       cases (Limit n) d = (report', created', d)
-
-  -- the work was refused
-  pub refused_work : (r : Refusal) (fin new : Meaning) → KeepsOthers mid fin
-      → (mid.tells ≡ true → Codes coded limit mid.hp.left mid.bytes_out.written fin.hp.left fin.bytes_out.written (Err r)) → ClosesRefused fin new → Ran coded ended limit input old new (Err r)
-  refused_work r fin new keeps work closes =
-      refused_with r fin new
-      (ap (λ (x : Meaning). x.report) keeps ∙ ap (λ (x : Meaning). x.report) opened)
-      (ap (λ (x : Meaning). x.bytes_out.created) keeps ∙ ap (λ (x : Meaning). x.bytes_out.created) opened)
-      (λ t. by r (from_opened input output old mid opened (λ i b. Codes coded limit i b fin.hp.left fin.bytes_out.written (Err r)) (work (tells ∙ t))))
-      closes
-    where
-      by : (r : Refusal) → Codes coded limit (old.file input) [] fin.hp.left fin.bytes_out.written (Err r) → CodesWhole coded ended limit (old.file input) [] fin.hp.left fin.bytes_out.written (Err r)
-      by Usage e = absurd e
-      by (Settings reason) e = absurd e
-      by ReadFault e = e
-      by WriteFault e = inl e
-      by (NotSync stream n) e = e
-      by Memory e = absurd e
-      by (Limit n) e = e
 
   module _ (done : Meaning) (counts : Counts) (keeps : KeepsOthers mid done)
       (work : mid.tells ≡ true → Codes coded limit mid.hp.left mid.bytes_out.written done.hp.left done.bytes_out.written (Ok counts))
@@ -161,15 +141,3 @@ module _ (coded ended : List (List ℕ) → List ℕ) (limit : ℕ) (input outpu
             ),
           )),
         )
-
--- a port could not be opened
-pub unopened : (coded ended : List (List ℕ) → List ℕ) (limit : ℕ) (input output : List ℕ) (old new : Meaning) (r : Refusal) → IsReady old → OpensAll input output old new (Err r) → Ran coded ended limit input old new (Err r)
-unopened coded ended limit input output old new Usage ready p = absurd p
-unopened coded ended limit input output old new (Settings reason) ready p = absurd p
-unopened coded ended limit input output old new (NotSync stream n) ready p = absurd p
-unopened coded ended limit input output old new Memory ready p = absurd p
-unopened coded ended limit input output old new (Limit n) ready p = absurd p
-unopened coded ended limit input output old new ReadFault ready p =
-    (ap (λ (x : Meaning). x.report) p, (λ t is. absurd (true≢false (sym is ∙ ap (λ (x : Meaning). x.bytes_out.created) p ∙ ready.not_created))))
-unopened coded ended limit input output old new WriteFault ready p =
-    ((λ t is. absurd (true≢false (sym is ∙ ap (λ (x : Meaning). x.bytes_out.created) p ∙ ready.not_created))), (λ t. inl (ap (λ (x : Meaning). x.report.written) p)))

@@ -1,15 +1,13 @@
 -- How the meaning of a station goes on from step to step of a coding.
-use Rattle.std.proofs.Common.{◌≡◌, ◌≤◌, true, inl, inr, ℕ, List, ◌++◌, if◌then◌else◌, length, take, ◌∙◌, sym, ap, arith, Result, Ok, Err, Some}
+use Rattle.std.proofs.Common.{◌≡◌, ◌≤◌, true, inl, inr, ℕ, List, ◌++◌, if◌then◌else◌, length, take, ◌∙◌, sym, ap, arith, Result, Ok, Err}
 use Rattle.std.proofs.lemmas.List.{take_all}
-use Rattle.std.proofs.lemmas.Bool.{true≢false}
 use Rattle.station_core.specs.Meaning.{Meaning, Source, Sink, with_sink, written_sink, closed_sink, with_write_faults}
 use Rattle.station_core.specs.declared.ports.OutPort.TheVariants.{Report, Bytes}
 use Rattle.run_clauses.specs.declared.work.Counts.{Counts}
 use Rattle.run_clauses.specs.declared.work.Refusal.{Refusal}
-use Rattle.run_clauses.specs.declared.work.Refusal.TheVariants.{Usage, Settings, ReadFault, WriteFault, NotSync, Memory, Limit}
 use Rattle.run_clauses.specs.Packets.{closing_line}
 use Rattle.packet_runs.specs.Coding.{KeepsOthers}
-use Rattle.packet_runs.specs.Steps.{IsReady, AsksPorts, OpensAll, Finishes, ClosesRefused}
+use Rattle.packet_runs.specs.Steps.{AsksPorts, OpensAll, Finishes, ClosesRefused}
 
 pub keeps_again : (a b c : Meaning) → KeepsOthers a b → KeepsOthers b c → KeepsOthers a c
 keeps_again a b c p q =
@@ -132,27 +130,3 @@ asks_worked input output old mid new opened works later =
       untaken = λ is. inl (ap (λ (x : Meaning). x.bytes_out.created) all);
       closed = λ is. ap (λ (x : Meaning). x.bytes_out.closed) all;
     }
-
--- a port could not be opened
-pub asks_unopened : (input output : List ℕ) (old new : Meaning) (refusal : Refusal) → IsReady old → OpensAll input output old new (Err refusal) → AsksPorts input output old new
-asks_unopened input output old new Usage ready p = absurd p
-asks_unopened input output old new (Settings reason) ready p = absurd p
-asks_unopened input output old new (NotSync stream n) ready p = absurd p
-asks_unopened input output old new Memory ready p = absurd p
-asks_unopened input output old new (Limit n) ready p = absurd p
-asks_unopened input output old new ReadFault ready p = record {
-  others = others_from old new (record old.hp { asked = Some input }) old.bytes_out old.report.written new.read_faults old.write_faults old.report_faults p;
-  later_report = omega (arith, ap (λ (x : Meaning). x.report_faults) p);
-  hp = ap (λ (x : Meaning). x.hp.asked) p;
-  bytes = inl (ap (λ (x : Meaning). x.bytes_out) p);
-  untaken = λ is. absurd (true≢false (sym is ∙ ap (λ (x : Meaning). x.hp.attached) p ∙ ready.hp_closed));
-  closed = λ is. absurd (true≢false (sym is ∙ ap (λ (x : Meaning). x.bytes_out.created) p ∙ ready.not_created));
-}
-asks_unopened input output old new WriteFault ready p = record {
-  others = others_from old new (record { asked = Some input; attached = true; left = old.file input }) (record old.bytes_out { asked = Some output }) old.report.written old.read_faults new.write_faults old.report_faults p;
-  later_report = omega (arith, ap (λ (x : Meaning). x.report_faults) p);
-  hp = ap (λ (x : Meaning). x.hp.asked) p;
-  bytes = inr (ap (λ (x : Meaning). x.bytes_out.asked) p, ap (λ (x : Meaning). x.hp.attached) p);
-  untaken = λ is. inr (ap (λ (x : Meaning). x.hp.left) p);
-  closed = λ is. absurd (true≢false (sym is ∙ ap (λ (x : Meaning). x.bytes_out.created) p ∙ ready.not_created));
-}
