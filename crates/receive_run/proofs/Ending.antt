@@ -1,7 +1,7 @@
 -- What a run of `receive` leaves whose settings were accepted and whose memory was there, before the text of a
 -- refusal is written.
-use Rattle.std.proofs.Common.{◌≡◌, ◌≢◌, ◌⊎◌, inl, inr, true, false, ℕ, ◌+◌, ◌*◌, ◌<◌, ◌≤◌, Bool, List, [], ◌++◌, take, drop, Option, Some, None, Result, Ok, Err, refl, ◌∙◌, sym, ap, subst, arith, if◌then◌else◌}
-use Rattle.std.specs.Prelude.{IsTrue, is_some, flat_map, option_and_then}
+use Rattle.std.proofs.Common.{◌≡◌, ◌≢◌, ◌⊎◌, inl, inr, true, false, ℕ, ◌+◌, ◌<◌, ◌≤◌, Bool, List, [], ◌++◌, take, drop, Option, Some, None, Result, Ok, Err, refl, ◌∙◌, sym, ap, subst, arith, if◌then◌else◌}
+use Rattle.std.specs.Prelude.{is_some, flat_map, option_and_then}
 use Rattle.std.specs.Option.{option_or}
 use Rattle.std.proofs.lemmas.Bool.{lt-ltb, le-ltb, true≢false}
 use Rattle.std.proofs.Math.Nat.{div-eq_of_lt}
@@ -10,14 +10,12 @@ use Rattle.station_core.specs.declared.ports.InPort.{InPort}
 use Rattle.station_core.specs.declared.ports.InPort.TheVariants as ins
 use Rattle.station_core.specs.declared.ports.OutPort.{OutPort}
 use Rattle.station_core.specs.declared.ports.OutPort.TheVariants as outs
-use Rattle.mode_set.specs.declared.modes.Stream.{Stream}
 use Rattle.mode_set.specs.declared.modes.Stream.TheVariants.{Hp, Lp}
 use Rattle.mode_set.specs.declared.settings.Settings.{Settings as TheSettings}
 use Rattle.rx_report.specs.Text.{event_line}
 use Rattle.rx_report.specs.declared.counts.Event.{Event}
 use Rattle.reception.specs.Cells.{symbol_length, symbols}
-use Rattle.reception.specs.Streams.{Reception}
-use Rattle.reception.specs.Lines.{events, event_lines, closing_lines}
+use Rattle.reception.specs.Lines.{events, event_lines}
 use Rattle.reception.specs.Laws.{nothing}
 use Rattle.run_clauses.specs.declared.work.Refusal.{Refusal}
 use Rattle.run_clauses.specs.declared.work.SettingsRefusal.TheVariants.{Form}
@@ -30,13 +28,13 @@ use Rattle.run_clauses.specs.StreamForm.{fits_form, form_refusal}
 use Rattle.run_clauses.specs.Text.{status_of}
 use Rattle.run_steps.specs.Causes.{HasCause}
 use Rattle.run_steps.specs.Ended.{AreMade, Ended, Hold, HoldFronts, HoldSoFar, IsCaused, IsExact, Leaves}
-use Rattle.receive_run.specs.Received.{IsAll, IsCutOff, IsSoFar, LinesCome, LinesSoFar, OutputComes, OutputSoFar, packets_at, reception_refusal, within_limit}
+use Rattle.receive_run.specs.Received.{IsAll, IsCutOff, IsSoFar, LinesSoFar, reception_refusal}
 use Rattle.receive_run.specs.ReceiveCommand.{most_cells, receive_command}
-use Rattle.receive_run.specs.Receiving.{HoldsFronts, IsOfWork, IsPast, IsStopped, IsWhole, ReceivedUpTo, Refused, Works, lines_up_to}
+use Rattle.receive_run.specs.Receiving.{HoldsFronts, IsOfWork, IsPast, IsStopped, Works, lines_up_to}
 use Rattle.receive_run.specs.Ports.{AsksPorts, IsUnmade, IsUnopened, IsWorked, Ran, TakesCells, outcome_status, refusal_in}
 use Rattle.receive_run.proofs.Fronts.{front_of}
 use Rattle.receive_run.proofs.Parts.{some_bytes}
-use Rattle.receive_run.proofs.Begun.{Continues, begun}
+use Rattle.receive_run.proofs.Begun.{begun}
 use Rattle.receive_run.proofs.Laws.{Laws, own_laws}
 
 -- what was done at the port of the settings before the work

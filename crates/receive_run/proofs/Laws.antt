@@ -1,17 +1,16 @@
 -- The laws of what `receive` comes to.
-use Rattle.std.proofs.Common.{◌≡◌, ◌⊎◌, inl, inr, ℕ, ◌*◌, ◌/◌, ◌<◌, ◌≤◌, List, ◌++◌, length, take, Option, Some, ◌∙◌, sym, ap, ap₂, subst}
+use Rattle.std.proofs.Common.{◌≡◌, inl, inr, ℕ, ◌*◌, ◌/◌, ◌<◌, ◌≤◌, List, ◌++◌, length, take, Option, ◌∙◌, sym, ap, ap₂, subst}
 use Rattle.mode_set.specs.StreamTable.{carriers}
 use Rattle.mode_set.specs.declared.modes.Mode.{Mode}
 use Rattle.mode_set.specs.declared.settings.Settings.{Settings}
-use Rattle.station_core.specs.declared.ports.OutPort.{OutPort}
-use Rattle.reception.specs.Cells.{symbol_length, symbols}
+use Rattle.reception.specs.Cells.{symbols}
 use Rattle.reception.specs.Streams.{Reception, Live, Final}
 use Rattle.reception.specs.Lines.{event_lines, closing_lines}
 use Rattle.reception.specs.Laws.{NoEvents, NothingLive}
 use Rattle.own_cells.specs.Laws.{NoiseLaw, CleanLaw}
 use Rattle.worker_laws.specs.Alike.{DifferInWorkers, SameLive, SameFinal, SameLines}
-use Rattle.receive_run.specs.Received.{IsAll, IsCutOff, IsSoFar, LinesCome, LinesSoFar, OutputComes, OutputSoFar, packets_at, within_limit}
-use Rattle.receive_run.specs.OwnLaws.{AreAlike, ReceiveLaws, Returns}
+use Rattle.receive_run.specs.Received.{IsAll, IsCutOff, IsSoFar, within_limit}
+use Rattle.receive_run.specs.OwnLaws.{AreAlike, ReceiveLaws}
 use Rattle.receive_run.proofs.Begun.{ReceptionLaws}
 
 pub record Laws : Type 0 where
@@ -60,10 +59,13 @@ module _ (laws : Laws) (s t : Settings) (bytes : List ℕ) (d : DifferInWorkers 
   pub are_alike : AreAlike s t bytes
   are_alike = record {
     outputs = λ port output c. (c.0, elim c.1 [ inl is ↦ inl (all c.0 is) | inr is ↦ inr (cut_off c.0 is) ], c.2);
-    lines = λ lines c. (c.0, elim c.1 [
-      | inl p ↦ inl (all c.0 p.0, p.1 ∙ ap₂ (λ (a b : List ℕ). a ++ b) (events_same bytes c.0) (closing_same bytes c.0))
-      | inr p ↦ inr (cut_off c.0 p.0, p.1 ∙ events_same (within_limit s bytes) c.0 ∙ ap (λ (l : List ℕ). event_lines t l c.0) (sym within_same))
-    ]);
+    lines = λ lines c. (
+      c.0,
+      elim c.1 [
+        | inl p ↦ inl (all c.0 p.0, p.1 ∙ ap₂ (λ (a b : List ℕ). a ++ b) (events_same bytes c.0) (closing_same bytes c.0))
+        | inr p ↦ inr (cut_off c.0 p.0, p.1 ∙ events_same (within_limit s bytes) c.0 ∙ ap (λ (l : List ℕ). event_lines t l c.0) (sym within_same))
+      ],
+    );
     outputs_so_far = λ left port output c. (c.0, so_far left c.0 c.1, c.2);
     lines_so_far = λ left lines c. (c.0, so_far left c.0 c.1, c.2 ∙ events_same c.1.taken c.0);
   }

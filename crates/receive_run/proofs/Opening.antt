@@ -1,12 +1,12 @@
 -- The ports of a reception, from their opening to their closing.
-use Rattle.std.proofs.Common.{◌≡◌, inl, inr, ℕ, ◌≤◌, Bool, true, false, List, [], ◌++◌, Option, Some, None, Result, Ok, Err, refl, ◌∙◌, sym, ap, subst, arith}
+use Rattle.std.proofs.Common.{◌≡◌, inl, inr, ℕ, ◌≤◌, Bool, true, false, List, [], ◌++◌, Option, Some, None, Result, Ok, Err, refl, ◌∙◌, sym, ap, subst}
 use Rattle.std.specs.Prelude.{is_some}
 use Rattle.std.proofs.lemmas.Bool.{true≢false}
 use Rattle.std.proofs.lemmas.List.{append-nil}
 use Rattle.station_core.specs.Meaning.{Meaning, Sink}
 use Rattle.mode_set.specs.declared.modes.Stream.TheVariants.{Hp, Lp}
 use Rattle.mode_set.specs.declared.settings.Settings.{Settings as TheSettings}
-use Rattle.reception.specs.Cells.{symbol_length, symbols}
+use Rattle.reception.specs.Cells.{symbols}
 use Rattle.reception.specs.Streams.{Reception}
 use Rattle.reception.specs.Lines.{event_lines, closing_lines}
 use Rattle.reception.specs.Laws.{nothing}
@@ -130,12 +130,15 @@ closed_ports two a b n p = subst (λ (x : Meaning). PortsOnly a x) (sym p) refl
 -- the cells could not be opened
 pub unopened_run : (s : TheSettings) (cells : List ℕ) (two : Bool) (old m : Meaning) (n : ℕ) → IsReady old
     → m ≡ record old { cells = record old.cells { asked = Some cells }; read_faults = n } → Ran s cells two old m (Err ReadFault)
-unopened_run s cells two old m n ready attach = inl (refl, record {
-  unread = ap (λ (x : Meaning). x.cells.attached) attach ∙ ready.cells_unread;
-  hp = ap (λ (x : Meaning). x.hp_out) attach;
-  lp = ap (λ (x : Meaning). x.lp_out) attach;
-  report = ap (λ (x : Meaning). x.report) attach;
-})
+unopened_run s cells two old m n ready attach = inl (
+  refl,
+  record {
+    unread = ap (λ (x : Meaning). x.cells.attached) attach ∙ ready.cells_unread;
+    hp = ap (λ (x : Meaning). x.hp_out) attach;
+    lp = ap (λ (x : Meaning). x.lp_out) attach;
+    report = ap (λ (x : Meaning). x.report) attach;
+  },
+)
 
 module _ (s : TheSettings) (cells hp : List ℕ) (lp : Option (List ℕ)) (old m : Meaning) (ready : IsReady old)
     (attach : m ≡ record old { cells = record { asked = Some cells; attached = true; left = old.file cells } }) where
@@ -144,20 +147,23 @@ module _ (s : TheSettings) (cells hp : List ℕ) (lp : Option (List ℕ)) (old m
 
   -- an output was not made
   pub unmade : (m' : Meaning) (refusal : Refusal) → Makes hp lp m m' (Err refusal) → Ran s cells (is_some lp) old m' (Err refusal)
-  unmade m' refusal p = inr (inl (ap (λ (r : Refusal). Err r) p.0, record {
-    attached = ap (λ (x : Meaning). x.cells.attached) p.1.others ∙ ap (λ (x : Meaning). x.cells.attached) attach;
-    untaken = ap (λ (x : Meaning). x.cells.left) p.1.others ∙ ap (λ (x : Meaning). x.cells.left) attach;
-    hp_shut = λ is. elim p.1.hp_shut [
-      | inl same ↦ absurd (true≢false (sym is ∙ same ∙ ap (λ (x : Meaning). x.hp_out.created) attach ∙ ready.hp_unmade))
-      | inr shut ↦ shut
-    ];
-    lp_behind = elim p.1.lp_asked [
-      | inl same ↦ inl (same ∙ ap (λ (x : Meaning). x.lp_out) attach)
-      | inr is ↦ inr is.1
-    ];
-    lp_unmade = p.1.lp_unmade ∙ ap (λ (x : Meaning). x.lp_out.created) attach ∙ ready.lp_unmade;
-    report = ap (λ (x : Meaning). x.report) p.1.others ∙ ap (λ (x : Meaning). x.report) attach;
-  }))
+  unmade m' refusal p = inr (inl (
+    ap (λ (r : Refusal). Err r) p.0,
+    record {
+      attached = ap (λ (x : Meaning). x.cells.attached) p.1.others ∙ ap (λ (x : Meaning). x.cells.attached) attach;
+      untaken = ap (λ (x : Meaning). x.cells.left) p.1.others ∙ ap (λ (x : Meaning). x.cells.left) attach;
+      hp_shut = λ is. elim p.1.hp_shut [
+        | inl same ↦ absurd (true≢false (sym is ∙ same ∙ ap (λ (x : Meaning). x.hp_out.created) attach ∙ ready.hp_unmade))
+        | inr shut ↦ shut
+      ];
+      lp_behind = elim p.1.lp_asked [
+        | inl same ↦ inl (same ∙ ap (λ (x : Meaning). x.lp_out) attach)
+        | inr is ↦ inr is.1
+      ];
+      lp_unmade = p.1.lp_unmade ∙ ap (λ (x : Meaning). x.lp_out.created) attach ∙ ready.lp_unmade;
+      report = ap (λ (x : Meaning). x.report) p.1.others ∙ ap (λ (x : Meaning). x.report) attach;
+    },
+  ))
 
   pub unmade_asks : (m' : Meaning) (refusal : Refusal) → Makes hp lp m m' (Err refusal) → AsksPorts cells hp lp old m'
   unmade_asks m' refusal p = record {

@@ -1,18 +1,13 @@
 -- The command `receive`: the files that it reads and writes, and what it comes to, from its settings and the
 -- file of cells alone.
-use Rattle.std.specs.Prelude.{◌≡◌, ◌⊎◌, ℕ, ◌+◌, ◌*◌, ◌<◌, ◌≤◌, nat_lt, if◌then◌else◌, List, [], ◌∷◌, ◌++◌, take, Option, None, Some, option_and_then}
+use Rattle.std.specs.Prelude.{◌≡◌, ℕ, ◌+◌, ◌*◌, List, [], ◌∷◌, Option, None, Some, option_and_then}
 use Rattle.station_core.specs.declared.ports.InPort.{InPort}
 use Rattle.station_core.specs.declared.ports.InPort.TheVariants as ins
 use Rattle.station_core.specs.declared.ports.OutPort.{OutPort}
 use Rattle.station_core.specs.declared.ports.OutPort.TheVariants as outs
-use Rattle.mode_set.specs.declared.modes.Stream.TheVariants.{Hp, Lp}
 use Rattle.mode_set.specs.declared.settings.Settings.{Settings}
-use Rattle.reception.specs.Cells.{symbol_length, symbols}
-use Rattle.reception.specs.Streams.{Reception, Live, Final}
-use Rattle.reception.specs.Lines.{event_lines, closing_lines}
-use Rattle.run_clauses.specs.declared.work.Refusal.{Refusal}
-use Rattle.run_clauses.specs.declared.work.Refusal.TheVariants.{Limit}
-use Rattle.run_clauses.specs.Command.{Command, Files, Unread}
+use Rattle.reception.specs.Cells.{symbol_length}
+use Rattle.run_clauses.specs.Command.{Command, Files}
 use Rattle.run_clauses.specs.SettingsFile.{most_settings}
 use Rattle.run_clauses.specs.StatedSettings.{settings_of}
 use Rattle.run_clauses.specs.StreamForm.{fitting_refusal}

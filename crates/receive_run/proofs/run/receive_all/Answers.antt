@@ -104,13 +104,23 @@ returns-in-Ok-receive_file-clause-later_report g c =
     let w : Meaning = g.S.Station.meaning c.receive_file.new.station in
     let new : Meaning = g.S.Station.meaning c.close_outputs.new.station in
     let with = closed_with c.is_some-two.result w new c.close_outputs.result c.close_outputs.ensures.closes in
-    omega (arith, ap (λ (x : Meaning). x.report_faults) c.in-Ok.ensures.ok, ap (λ (x : Meaning). x.report_faults) c.in-Ok-create_outputs.ensures.made,
-    c.in-Ok-receive_file.ensures.later_report, ap (λ (x : Meaning). x.report_faults) with.1)
+    omega (
+      arith,
+      ap (λ (x : Meaning). x.report_faults) c.in-Ok.ensures.ok,
+      ap (λ (x : Meaning). x.report_faults) c.in-Ok-create_outputs.ensures.made,
+      c.in-Ok-receive_file.ensures.later_report,
+      ap (λ (x : Meaning). x.report_faults) with.1,
+    )
 
 pub returns-in-Err-receive_file-clause-later_report : goal.returns-in-Err-receive_file-clause-later_report
 returns-in-Err-receive_file-clause-later_report g c =
     let w : Meaning = g.S.Station.meaning c.receive_file.new.station in
     let new : Meaning = g.S.Station.meaning c.close_outputs-in-Err-receive_file.new.station in
     let with = closed_with c.is_some-two.result w new c.close_outputs-in-Err-receive_file.result c.close_outputs-in-Err-receive_file.ensures.closes in
-    omega (arith, ap (λ (x : Meaning). x.report_faults) c.in-Ok.ensures.ok, ap (λ (x : Meaning). x.report_faults) c.in-Ok-create_outputs.ensures.made,
-    c.in-Err-receive_file.ensures.later_report, ap (λ (x : Meaning). x.report_faults) with.1)
+    omega (
+      arith,
+      ap (λ (x : Meaning). x.report_faults) c.in-Ok.ensures.ok,
+      ap (λ (x : Meaning). x.report_faults) c.in-Ok-create_outputs.ensures.made,
+      c.in-Err-receive_file.ensures.later_report,
+      ap (λ (x : Meaning). x.report_faults) with.1,
+    )
