@@ -10,7 +10,7 @@ use Rattle.rs204.proofs.Codewords.{one_near}
 abbrev differs : Bool → ℕ
 differs b = cond b 0 1
 
-pub distance_self : (w : List ℕ) → distance w w ≡ 0
+distance_self : (w : List ℕ) → distance w w ≡ 0
 distance_self [] = refl
 distance_self (a ∷ w) = omega (arith, ap differs (eq-eqb a a refl), distance_self w)
 
