@@ -60,10 +60,10 @@ module _ (word c erased : List ℕ) (long : length word ≡ 204) (bytes : AreByt
       omega (arith, weight_less outer (plus (reverse (blanked erased word)) (reverse (blanked erased c))) n outer_none, weight_reverse (blanked erased word) (blanked erased c) l, counted erased word c long code.long)
 
   -- the polynomial is 0 where the codeword differs
-  pub differ_at_roots : (values left outside product : List ℕ) → AreSyndromes word values → length erased ≡ 8
+  pub differ_at_roots : (most : ℕ) → most ≤ 4 → (values left outside product : List ℕ) → AreSyndromes word values → length erased ≡ 8
       → ((i : ℕ) → i < 8 → slice_index left i ≡ lowered roots (λ k. slice_index values k) i)
-      → IsLocator 4 left outside → IsProduct roots outside product → distance_outside erased word c ≤ 4 → DifferAtRoots product word c
-  differ_at_roots values left outside product found eight lefts loc times near k l n = go (cases_eq (get_or outer k 0) 0)
+      → IsLocator most left outside → IsProduct roots outside product → distance_outside erased word c ≤ most → DifferAtRoots product word c
+  differ_at_roots most four values left outside product found eight lefts loc times near k l n = go (cases_eq (get_or outer k 0) 0)
     where
       one : 0 < 1
       one = lit< tt

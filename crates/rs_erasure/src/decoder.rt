@@ -35,18 +35,19 @@ fn places_outside(a: &[u8; 204], b: &[u8; 204], erased: &[u8; 8]) -> u8
     places_apart(&blank(a, erased), &blank(b, erased))
 }
 
-/// The codeword that differs in at most four places outside the erased ones, where there is one,
+/// The codeword that differs in at most so many places outside the erased ones, where there is one,
 /// and else any word.
-fn nearest_outside(word: &[u8; 204], erased: &[u8; 8]) -> [u8; 204]
-    requires { All (λ e. e < 204) erased.now }
-    ensures is { (c : List ℕ) → IsCodeword c → distance_outside erased.now word.now c ≤ 4 → result ≡ c }
+fn nearest_outside(word: &[u8; 204], erased: &[u8; 8], most: u8) -> [u8; 204]
+    requires within { All (λ e. e < 204) erased.now }
+    requires few { most ≤ 4 }
+    ensures is { (c : List ℕ) → IsCodeword c → distance_outside erased.now word.now c ≤ most → result ≡ c }
     ensures size { length result ≡ 204 }
     ensures bytes { (i : ℕ) → slice_index result i < 256 }
 {
     let values = syndromes(word);
     let powers = place_powers(erased);
     let left = modified_syndromes(&values, &powers);
-    let outside = locator(&left, MOST as usize);
+    let outside = locator(&left, most as usize);
     let errata = errata_locator(&outside, &powers);
     repair(word, &values, errata.as_slice())
 }
@@ -57,7 +58,7 @@ fn put_right(word: &mut [u8; 204], erased: &[u8; 8]) -> Erased
     requires { All (λ e. e < 204) erased.now }
     ensures { DecodedOutside erased.now word.old word.new result }
 {
-    let fixed = nearest_outside(word, erased);
+    let fixed = nearest_outside(word, erased, MOST);
     let count = places_outside(word, &fixed, erased);
     if count > MOST || !is_codeword(&fixed) {
         return Erased::NoWord;
