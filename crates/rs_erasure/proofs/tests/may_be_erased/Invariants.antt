@@ -1,4 +1,4 @@
-use Rattle.std.proofs.Common.{◌≡◌, ◌+◌, ◌<◌, ℕ, get_or, length}
+use Rattle.std.proofs.Common.{◌+◌, ◌<◌, ℕ, get_or}
 use Rattle.rs_erasure.proofs.tests.may_be_erased.Given as goal
 
 abbrev pub invariant-loop-k : goal.invariant-loop-k
