@@ -143,11 +143,12 @@ fn solution(values: &[u8; 16], errors: usize) -> [u8; 9]
     vectors[0]
 }
 
-/// A locator of at most so many errors, 8 at the most, by the first values of the errors, two for
-/// each: where there are no more, it is 0 at the powers of λ that stand for their places.
+/// A locator of at most so many errors, 8 at the most, by their values at the first powers of λ, two
+/// for each error.
 ///
-/// Its coefficients stand from that of x^0 up. For `errors` 8 and a word's syndromes they locate the
-/// errors of a word. For fewer errors the values behind the first `2 * errors` are not used.
+/// Where there are no more errors, the locator is 0 at the power of λ that stands for the place of
+/// each. Its coefficients stand from that of x^0 up. The values behind the first `2 * errors` play no
+/// part.
 pub fn locator(values: &[u8; 16], errors: usize) -> [u8; 9]
     requires { errors ≤ 8 }
     ensures { IsLocator errors values.now result }

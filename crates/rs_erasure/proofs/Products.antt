@@ -44,6 +44,11 @@ set_bytes now k value l m h j = go (cases_eq j k)
     go (inl q) = subst (λ z. get_or (set now k value) z 0 < 256) (sym q) (subst (λ z. z < 256) (sym (get_or-set_same now k value 0 l)) m)
     go (inr q) = subst (λ z. z < 256) (sym (get_or-set_other now k j value 0 q)) (h j)
 
+front : (p : List ℕ) (k : ℕ) → k < length p → get_or (p ++ 0 ∷ []) k 0 ≡ get_or p k 0
+front [] k n = absurd (omega arith)
+front (b ∷ p) zero n = refl
+front (b ∷ p) (suc k) n = front p k (omega arith)
+
 -- thirteen coefficients, multiplied in place
 pub multiplied : (a : ℕ) (old new : List ℕ) → length old ≡ 13 → length new ≡ 13 → get_or old 12 0 ≡ 0 → ((k : ℕ) → k < 13 → get_or new k 0 ≡ bit_xor (mul a (get_or old k 0)) (get_or (0 ∷ old) k 0)) → with_root a old ≡ new ++ 0 ∷ []
 multiplied a old new l m z h =
@@ -59,11 +64,6 @@ multiplied a old new l m z h =
         last : (p : List ℕ) → get_or (p ++ 0 ∷ []) (length p) 0 ≡ 0
         last [] = refl
         last (b ∷ p) = last p
-
-    front : (p : List ℕ) (k : ℕ) → k < length p → get_or (p ++ 0 ∷ []) k 0 ≡ get_or p k 0
-    front [] k n = absurd (omega arith)
-    front (b ∷ p) zero n = refl
-    front (b ∷ p) (suc k) n = front p k (omega arith)
 
     go : (k : ℕ) → (k < 13) ⊎ (13 ≤ k) → k < 14 → bit_xor (mul a (get_or old k 0)) (get_or (0 ∷ old) k 0) ≡ get_or (new ++ 0 ∷ []) k 0
     go k (inl n) q = sym (h k n) ∙ sym (front new k (omega (arith, m)))
@@ -139,11 +139,6 @@ goes_on roots locator k old new root l m e s n b w h = record {
   some = λ z. h.some (root_zero root 0 old (subst AreZero (sym w) (zero_more new z))).1;
 }
   where
-    front : (p : List ℕ) (k : ℕ) → k < length p → get_or (p ++ 0 ∷ []) k 0 ≡ get_or p k 0
-    front [] k n = absurd (omega arith)
-    front (a ∷ p) zero n = refl
-    front (a ∷ p) (suc k) n = front p k (omega arith)
-
     before : (j : ℕ) → 5 + (k + 1) ≤ j → get_or (0 ∷ old) j 0 ≡ 0
     before zero o = absurd (omega arith)
     before (suc j) o = h.high j (omega arith)
