@@ -1,6 +1,7 @@
 #!/usr/bin/env bash
 # Figures of the outer code: builds the programs of this folder over the repository's crates in a
-# scratch repository, optimised by LLVM, and runs them. Usage: bench/outer/run.sh [rs204|chain]
+# scratch repository, optimised by LLVM, and runs them.
+# Usage: bench/outer/run.sh [rs204|chain|erasures]
 set -e
 here="$(cd "$(dirname "$0")" && pwd)"
 top="$(cd "$here/../.." && pwd)"
@@ -9,6 +10,7 @@ which="${1:-rs204}"
 case "$which" in
   rs204) below="gf256 rs204"; deps="anyhow rs204" ;;
   chain) below="spec_words ts_packet dispersal gf256 rs204 forney outer_chain"; deps="anyhow ts_packet rs204 outer_chain" ;;
+  erasures) below="gf256 rs204 rs_erasure"; deps="anyhow rs204 rs_erasure" ;;
 esac
 . "$top/bench/scratch.sh"
 # shellcheck disable=SC2086 # a list of names

@@ -24,7 +24,7 @@ get_or-plus (a ∷ p) [] (suc k) = sym (xor_zero_r (get_or p k 0))
 get_or-plus (a ∷ p) (b ∷ q) zero = refl
 get_or-plus (a ∷ p) (b ∷ q) (suc k) = get_or-plus p q k
 
-get_or-multiple : (f : ℕ) (q : List ℕ) (k : ℕ) → get_or (map (mul f) q) k 0 ≡ mul f (get_or q k 0)
+pub get_or-multiple : (f : ℕ) (q : List ℕ) (k : ℕ) → get_or (map (mul f) q) k 0 ≡ mul f (get_or q k 0)
 get_or-multiple f [] k = sym (mul_zero_right f)
 get_or-multiple f (b ∷ q) zero = refl
 get_or-multiple f (b ∷ q) (suc k) = get_or-multiple f q k
@@ -37,12 +37,12 @@ sum_end f to old other j l a b c h =
     let m : length (map (mul f) other) ≡ 9 = length-map other (mul f) ∙ c in
     ext_get_or 0 to (plus old (map (mul f) other)) (a ∙ sym (length-plus old (map (mul f) other) (b ∙ sym m) ∙ b)) (λ k w. h k (omega arith) ∙ sym (get_or-sum f old other k))
 
-pub value_down : (x k sum : ℕ) (p : List ℕ) (b : ℕ) → k < 9 → length p ≡ 9 → b ≡ get_or p (8 - k) 0 → sum ≡ value_at x (drop (9 - k) p) → bit_xor (mul x sum) b ≡ value_at x (drop (9 - (k + 1)) p)
-value_down x k sum p b l m e h =
-    let u : 9 - (k + 1) ≡ 8 - k = omega arith in
-    let v : 8 - k + 1 ≡ 9 - k = omega arith in
+pub value_down : (x n k sum : ℕ) (p : List ℕ) (b : ℕ) → k < n → length p ≡ n → b ≡ get_or p (n - 1 - k) 0 → sum ≡ value_at x (drop (n - k) p) → bit_xor (mul x sum) b ≡ value_at x (drop (n - (k + 1)) p)
+value_down x n k sum p b l m e h =
+    let u : n - (k + 1) ≡ n - 1 - k = omega arith in
+    let v : n - 1 - k + 1 ≡ n - k = omega arith in
     xor_comm (mul x sum) b ∙ ap₂ (λ y z. bit_xor y (mul x z)) e (h ∙ ap (λ n. value_at x (drop n p)) (sym v))
-    ∙ ap (value_at x) (sym (drop_more p (8 - k) 0 (omega arith))) ∙ ap (λ n. value_at x (drop n p)) (sym u)
+    ∙ ap (value_at x) (sym (drop_more p (n - 1 - k) 0 (omega arith))) ∙ ap (λ n. value_at x (drop n p)) (sym u)
 
 pub found_one : (test : ℕ → Bool) (count k : ℕ) (at : List ℕ) → count < length at → test k ≡ true → take count at ≡ chosen test k → take (count + 1) (set at count k) ≡ chosen test (k + 1)
 unfolding chosen
@@ -59,24 +59,28 @@ unfolding chosen
 chosen_longer test k zero = omega (arith, ap (λ z. length (chosen test z)) (add-zero k))
 chosen_longer test k (suc n) = omega (arith, chosen_longer test k n, length-append (chosen test (k + n)) (cond (test (k + n)) ((k + n) ∷ []) []), ap (λ z. length (chosen test z)) (add-suc k n))
 
-pub found_many : (test : ℕ → Bool) (count k : ℕ) (at : List ℕ) → count ≡ 8 → length at ≡ 8 → k < 204 → test k ≡ true → take count at ≡ chosen test k → 8 < length (chosen test 204)
+room_left : (test : ℕ → Bool) (count k : ℕ) (at : List ℕ) → length (chosen test 204) ≤ 16 → length at ≡ 16 → count ≤ 16 → k < 204 → test k ≡ true → take count at ≡ chosen test k → count < 16
 unfolding chosen
-found_many test count k at e m l t h =
+room_left test count k at few m c l t h =
     let a : length (chosen test (k + 1)) ≡ length (chosen test k) + 1 = ap (λ z. length (chosen test z)) (add-one k) ∙ length-append (chosen test k) (cond (test k) (k ∷ []) []) ∙ ap (λ b. length (chosen test k) + length (cond b (k ∷ []) [])) t in
-    let b : length (chosen test k) ≡ 8 = sym (ap length h) ∙ length-take count at ∙ omega (arith, e, m) in
-    omega (arith, a, b, chosen_longer test (k + 1) (203 - k), ap (λ z. length (chosen test z)) (k_204 k l))
+    let b : length (chosen test k) ≡ count = sym (ap length h) ∙ length-take count at ∙ omega (arith, c, m) in
+    omega (arith, a, b, few, chosen_longer test (k + 1) (203 - k), ap (λ z. length (chosen test z)) (k_204 k l))
   where
     k_204 : (k : ℕ) → k < 204 → k + 1 + (203 - k) ≡ 204
     k_204 k l = omega arith
+
+-- there is room for one more place
+pub found_room : (p at : List ℕ) (count k x value : ℕ) → x ≡ power k → value ≡ value_at x p → value ≡ 0 → length (chosen (is_root p) 204) ≤ 16 → length at ≡ 16 → count ≤ 16 → k < 204 → take count at ≡ chosen (is_root p) k → count < 16
+found_room p at count k x value e f z few m c l h = room_left (is_root p) count k at few m c l (eq-eqb _ 0 (ap (λ z. value_at z p) (sym e) ∙ sym f ∙ z)) h
 
 pub found_zero : (test : ℕ → Bool) (xs : List ℕ) → take 0 xs ≡ chosen test 0
 unfolding chosen
 found_zero test xs = refl
 
 -- one more place is looked at
-pub found_next : (p at at2 : List ℕ) (count count2 k : ℕ) (value x : ℕ) → x ≡ power k → value ≡ value_at x p → length at ≡ 8 → count ≤ 8
-    → ((value ≡ 0) × (count ≡ 8 → ⊥) × (at2 ≡ set at count k) × (count2 ≡ count + 1)) ⊎ ((value ≡ 0 → ⊥) × (at2 ≡ at) × (count2 ≡ count))
-    → take count at ≡ chosen (is_root p) k → (length at2 ≡ 8) × (count2 ≤ 8) × (take count2 at2 ≡ chosen (is_root p) (k + 1))
+pub found_next : (p at at2 : List ℕ) (count count2 k : ℕ) (value x : ℕ) → x ≡ power k → value ≡ value_at x p → length at ≡ 16 → count ≤ 16
+    → ((value ≡ 0) × (count < 16) × (at2 ≡ set at count k) × (count2 ≡ count + 1)) ⊎ ((value ≡ 0 → ⊥) × (at2 ≡ at) × (count2 ≡ count))
+    → take count at ≡ chosen (is_root p) k → (length at2 ≡ 16) × (count2 ≤ 16) × (take count2 at2 ≡ chosen (is_root p) (k + 1))
 found_next p at at2 count count2 k value x e f l m (inl h) t = (
   ap length h.2 ∙ length-set at count k ∙ l,
   omega (arith, h.1, h.3),

@@ -204,7 +204,7 @@ apart v w h k n = go (cases_lt 16 (distance v w))
     go (inl l) = l
     go (inr l) = absurd (n (codewords_apart v w h k l))
 
-between : (u v w : List ℕ) → length u ≡ length v → length u ≡ length w → distance v w ≤ distance u v + distance u w
+pub between : (u v w : List ℕ) → length u ≡ length v → length u ≡ length w → distance v w ≤ distance u v + distance u w
 between [] [] w l m = omega arith
 between [] (b ∷ v) w l m = absurd (omega arith)
 between (a ∷ u) [] w l m = absurd (omega arith)

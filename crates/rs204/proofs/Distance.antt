@@ -12,7 +12,7 @@ use Rattle.gf256.proofs.TableRules.{powers_differ as powers_apart}
 use Rattle.gf256.proofs.FieldLaws.{mul_comm, mul_assoc, mul_small, mul_zero_left, mul_zero_right, power_add, power_zero, mul_xor_right, xor_equal, power_small}
 use Rattle.rs204.proofs.Independent.{raise, Term, sum_at, Small, Distinct, Apart, AllZero, independent}
 use Rattle.rs204.specs.Codes.{plus, AreBytes, IsCodeword, distance}
-use Rattle.rs204.specs.Polynomials.{value_at}
+use Rattle.rs204.specs.Polynomials.{value_at, weight}
 use Rattle.rs204.proofs.Polynomials.{value_small, value_plus, codeword_root, plus_bytes}
 
 -- ---- the powers are different
@@ -31,11 +31,6 @@ powers_differ i j l m e = let d : j ≡ i = powers_apart j i m (omega arith) e i
 abbrev pub terms : ℕ → List ℕ → List Term
 terms k [] = []
 terms k (a ∷ p) = cond (eqb a 0) (terms (suc k) p) ((power k, a) ∷ terms (suc k) p)
-
--- how many coefficients are not 0
-abbrev pub weight : List ℕ → ℕ
-weight [] = 0
-weight (a ∷ p) = cond (eqb a 0) 0 1 + weight p
 
 pub terms_small : (k : ℕ) (p : List ℕ) → AreBytes p → Small (terms k p)
 terms_small k [] s = tt

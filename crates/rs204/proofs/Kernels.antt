@@ -8,7 +8,7 @@ use Rattle.rs204.proofs.Below.{all_below, all_below_at}
 use Rattle.std.proofs.lemmas.Bool.{cases_lt, cond_both, eqb-true, eqb-false, eq-eqb, ne_eqb, ltb-true, and_parts}
 use lib.Bits.{xor_self, xor_zero_r}
 use Rattle.gf256.specs.Field.{mul}
-use Rattle.std.proofs.lemmas.List.{length-map}
+use Rattle.std.proofs.lemmas.List.{length-map, get_or_past}
 use Rattle.rs204.specs.Codes.{plus, AreBytes}
 use Rattle.rs204.specs.Polynomials.{along}
 use Rattle.rs204.specs.Kernels.{vector, IsKernel}
@@ -31,10 +31,11 @@ along_sum f (a ∷ v) (d ∷ u) s i l e b c h =
     ∙ ap (bit_xor (along (a ∷ v) s i)) (sym (mul_xor_right f (mul d (s i)) (along u s (suc i)) l (mul_small d (s i) c.0 (h i)) (along_small u s (suc i) c.1 h)))
 
 -- the places of two vectors exchanged
-pub kernel_moved : (n m : ℕ) (values : List ℕ) (v w : ℕ → List ℕ) (to : ℕ → ℕ) → ((k : ℕ) → k < n → to k < n) → ((j k : ℕ) → j < n → k < n → to j ≡ to k → j ≡ k) → ((k : ℕ) → k < n → w k ≡ v (to k)) → IsKernel n m values v → IsKernel n m values w
-kernel_moved n m values v w to in_n one_to e h = record {
+pub kernel_moved : (wide n m : ℕ) (values : List ℕ) (v w : ℕ → List ℕ) (to : ℕ → ℕ) → ((k : ℕ) → k < n → to k < n) → ((j k : ℕ) → j < n → k < n → to j ≡ to k → j ≡ k) → ((k : ℕ) → k < n → w k ≡ v (to k)) → IsKernel wide n m values v → IsKernel wide n m values w
+kernel_moved wide n m values v w to in_n one_to e h = record {
   sized = λ k l. ap length (e k l) ∙ h.sized (to k) (in_n k l);
   bytes = λ k l. subst AreBytes (sym (e k l)) (h.bytes (to k) (in_n k l));
+  short = λ k j l p. ap (λ z. slice_index z j) (e k l) ∙ h.short (to k) j (in_n k l) p;
   meets = λ k i l p. ap (λ z. along z (λ j. slice_index values j) i) (e k l) ∙ h.meets (to k) i (in_n k l) p;
   place = λ k. h.place (to k);
   below = λ k l. h.below (to k) (in_n k l);
@@ -43,10 +44,11 @@ kernel_moved n m values v w to in_n one_to e h = record {
 }
 
 -- where all meet one more equation, the last one is left out
-pub kernel_drop : (n m : ℕ) (values : List ℕ) (v : ℕ → List ℕ) → IsKernel (n + 1) m values v → ((k : ℕ) → k < n → along (v k) (λ j. slice_index values j) m ≡ 0) → IsKernel n (m + 1) values v
-kernel_drop n m values v h z = record {
+pub kernel_drop : (wide n m : ℕ) (values : List ℕ) (v : ℕ → List ℕ) → IsKernel wide (n + 1) m values v → ((k : ℕ) → k < n → along (v k) (λ j. slice_index values j) m ≡ 0) → IsKernel wide n (m + 1) values v
+kernel_drop wide n m values v h z = record {
   sized = λ k l. h.sized k (omega arith);
   bytes = λ k l. h.bytes k (omega arith);
+  short = λ k j l p. h.short k j (omega arith) p;
   meets = λ k i l p. go k i l (cases_lt i m) p;
   place = h.place;
   below = λ k l. h.below k (omega arith);
@@ -59,12 +61,13 @@ kernel_drop n m values v h z = record {
     go k i l (inr p) q = let e : i ≡ m = omega arith in ap (λ y. along (v k) (λ j. slice_index values j) y) e ∙ z k l
 
 -- the last one clears the others
-pub kernel_clear : (n m inverse : ℕ) (values : List ℕ) (v w : ℕ → List ℕ) → IsKernel (n + 1) m values v → ((k : ℕ) → slice_index values k < 256) → inverse < 256
+pub kernel_clear : (wide n m inverse : ℕ) (values : List ℕ) (v w : ℕ → List ℕ) → IsKernel wide (n + 1) m values v → ((k : ℕ) → slice_index values k < 256) → inverse < 256
     → mul (along (v n) (λ j. slice_index values j) m) inverse ≡ 1
-    → ((k : ℕ) → k < n → w k ≡ plus (v k) (map (mul (mul (along (v k) (λ j. slice_index values j) m) inverse)) (v n))) → IsKernel n (m + 1) values w
-kernel_clear n m inverse values v w h small li unit e = record {
+    → ((k : ℕ) → k < n → w k ≡ plus (v k) (map (mul (mul (along (v k) (λ j. slice_index values j) m) inverse)) (v n))) → IsKernel wide n (m + 1) values w
+kernel_clear wide n m inverse values v w h small li unit e = record {
   sized = λ k l. ap length (e k l) ∙ length-plus (v k) _ (same k l) ∙ h.sized k (omega arith);
   bytes = λ k l. subst AreBytes (sym (e k l)) (plus_bytes (v k) _ (h.bytes k (omega arith)) (map_bytes (factor k) (v n) (factor_small k l) (h.bytes n (omega arith))));
+  short = λ k j l p. ap (λ z. slice_index z j) (e k l) ∙ get_or-sum (factor k) (v k) (v n) j ∙ ap₂ (λ y z. bit_xor y (mul (factor k) z)) (h.short k j (omega arith) p) (h.short n j (omega arith) p) ∙ ap (bit_xor 0) (mul_zero_right (factor k));
   meets = λ k i l p. ap (λ z. along z s i) (e k l) ∙ along_sum (factor k) (v k) (v n) s i (factor_small k l) (h.sized k (omega arith) ∙ sym (h.sized n (omega arith))) (h.bytes k (omega arith)) (h.bytes n (omega arith)) small ∙ go k i l (cases_lt i m) p;
   place = h.place;
   below = λ k l. h.below k (omega arith);
@@ -136,28 +139,28 @@ exchanged_read old new a b k s = go (exchanged_cases a b k)
     go (inr (inl h)) = ap (vector new) h.0 ∙ s.1 [] ∙ ap (vector old) (sym h.1)
     go (inr (inr h)) = s.2 k [] h.0 h.1 ∙ ap (vector old) (sym h.2)
 
-kernel_swap : (n m : ℕ) (values : List ℕ) (old new : List (List ℕ)) (a b : ℕ) → SwappedAt old new a b → a < n → b < n → IsKernel n m values (vector old) → IsKernel n m values (vector new)
-kernel_swap n m values old new a b s i j h =
-    kernel_moved n m values (vector old) (vector new) (exchanged a b) (λ k l. exchanged_below n a b k i j l) (λ j k l p e. exchanged_one a b j k e) (λ k l. exchanged_read old new a b k s) h
+kernel_swap : (wide n m : ℕ) (values : List ℕ) (old new : List (List ℕ)) (a b : ℕ) → SwappedAt old new a b → a < n → b < n → IsKernel wide n m values (vector old) → IsKernel wide n m values (vector new)
+kernel_swap wide n m values old new a b s i j h =
+    kernel_moved wide n m values (vector old) (vector new) (exchanged a b) (λ k l. exchanged_below n a b k i j l) (λ j k l p e. exchanged_one a b j k e) (λ k l. exchanged_read old new a b k s) h
 
 -- after the exchange the last one is cleared only where all are
 swapped_zero : (n at : ℕ) (old new : List (List ℕ)) (f : List ℕ → ℕ) → SwappedAt old new at n → at ≤ n → f (vector new n) ≡ 0 → (f (vector old at) ≡ 0 → (k : ℕ) → k ≤ n → f (vector old k) ≡ 0) → (k : ℕ) → k < n → f (vector new k) ≡ 0
 swapped_zero n at old new f s l z h k m =
     ap f (exchanged_read old new at n k s) ∙ h (ap f (sym (s.1 [])) ∙ z) (exchanged at n k) (omega (arith, exchanged_below (n + 1) at n k (omega arith) (omega arith) (omega arith)))
 
-pub reduced_drop : (n m at : ℕ) (values : List ℕ) (old new : List (List ℕ)) → SwappedAt old new at n → at ≤ n → along (vector new n) (λ j. slice_index values j) m ≡ 0
+pub reduced_drop : (wide n m at : ℕ) (values : List ℕ) (old new : List (List ℕ)) → SwappedAt old new at n → at ≤ n → along (vector new n) (λ j. slice_index values j) m ≡ 0
     → (along (vector old at) (λ j. slice_index values j) m ≡ 0 → (k : ℕ) → k ≤ n → along (vector old k) (λ j. slice_index values j) m ≡ 0)
-    → IsKernel (n + 1) m values (vector old) → IsKernel n (m + 1) values (vector new)
-reduced_drop n m at values old new s l z f h =
-    kernel_drop n m values (vector new) (kernel_swap (n + 1) m values old new at n s (omega arith) (omega arith) h)
+    → IsKernel wide (n + 1) m values (vector old) → IsKernel wide n (m + 1) values (vector new)
+reduced_drop wide n m at values old new s l z f h =
+    kernel_drop wide n m values (vector new) (kernel_swap wide (n + 1) m values old new at n s (omega arith) (omega arith) h)
     (swapped_zero n at old new (λ v. along v (λ j. slice_index values j) m) s l z f)
 
-pub reduced_clear : (n m at inverse k : ℕ) (values : List ℕ) (old mid new : List (List ℕ)) → SwappedAt old mid at n → at ≤ n → n ≤ k → ((j : ℕ) → slice_index values j < 256) → inverse < 256
+pub reduced_clear : (wide n m at inverse k : ℕ) (values : List ℕ) (old mid new : List (List ℕ)) → SwappedAt old mid at n → at ≤ n → n ≤ k → ((j : ℕ) → slice_index values j < 256) → inverse < 256
     → mul (along (vector mid n) (λ j. slice_index values j) m) inverse ≡ 1
     → ((j : ℕ) → j < k → vector new j ≡ plus (vector mid j) (map (mul (mul (along (vector mid j) (λ i. slice_index values i) m) inverse)) (vector mid n)))
-    → IsKernel (n + 1) m values (vector old) → IsKernel n (m + 1) values (vector new)
-reduced_clear n m at inverse k values old mid new s l w small li unit e h =
-    kernel_clear n m inverse values (vector mid) (vector new) (kernel_swap (n + 1) m values old mid at n s (omega arith) (omega arith) h) small li unit (λ j p. e j (omega arith))
+    → IsKernel wide (n + 1) m values (vector old) → IsKernel wide n (m + 1) values (vector new)
+reduced_clear wide n m at inverse k values old mid new s l w small li unit e h =
+    kernel_clear wide n m inverse values (vector mid) (vector new) (kernel_swap wide (n + 1) m values old mid at n s (omega arith) (omega arith) h) small li unit (λ j p. e j (omega arith))
 
 -- the unit vectors
 abbrev pub units : List (List ℕ)
@@ -178,13 +181,24 @@ units_read : (j k : ℕ) → j < 9 → k < 9 → slice_index (vector units j) k 
 unfolding unit_at
 units_read j k i l = eqb-true _ _ (all_below_at (unit_at j) 9 k (all_below_at (λ j. all_below (unit_at j) 9) 9 j refl i) l)
 
-pub kernel_units : (values : List ℕ) → IsKernel 9 0 values (vector units)
-kernel_units values = record {
-  sized = λ k l. eqb-true _ _ (all_below_at (λ k. eqb (length (vector units k)) 9) 9 k refl l);
-  bytes = λ k l. small_bytes (vector units k) (all_below_at (λ k. small_all (vector units k)) 9 k refl l);
+unit_size : (k : ℕ) → k < 9 → length (vector units k) ≡ 9
+unit_size k l = eqb-true _ _ (all_below_at (λ k. eqb (length (vector units k)) 9) 9 k refl l)
+
+unit_short : (k j : ℕ) → k < 9 → k < j → slice_index (vector units k) j ≡ 0
+unit_short k j l m = go (cases_lt j 9)
+  where
+    go : (j < 9) ⊎ (9 ≤ j) → slice_index (vector units k) j ≡ 0
+    go (inl p) = units_read k j l p ∙ ap (λ b. cond b 1 0) (ne_eqb k j (λ e. absurd (omega arith)))
+    go (inr p) = get_or_past (vector units k) j 0 (omega (arith, unit_size k l))
+
+pub kernel_units : (wide : ℕ) (values : List ℕ) → wide ≤ 9 → IsKernel wide wide 0 values (vector units)
+kernel_units wide values w = record {
+  sized = λ k l. unit_size k (omega arith);
+  bytes = λ k l. small_bytes (vector units k) (all_below_at (λ k. small_all (vector units k)) 9 k refl (omega arith));
+  short = λ k j l p. unit_short k j (omega arith) (omega arith);
   meets = λ k i l p. absurd (omega arith);
   place = λ k. k;
   below = λ k l. l;
-  one = λ k l. units_read k k l l ∙ ap (λ b. cond b 1 0) (eq-eqb k k refl);
-  none = λ j k l p q. units_read j k l p ∙ ap (λ b. cond b 1 0) (ne_eqb j k q);
+  one = λ k l. units_read k k (omega arith) (omega arith) ∙ ap (λ b. cond b 1 0) (eq-eqb k k refl);
+  none = λ j k l p q. units_read j k (omega arith) (omega arith) ∙ ap (λ b. cond b 1 0) (ne_eqb j k q);
 }

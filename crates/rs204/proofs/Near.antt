@@ -1,23 +1,22 @@
 -- A near codeword is found.
-use Rattle.std.proofs.Common.{◌≡◌, ◌≢◌, ℕ, zero, suc, ◌+◌, ◌-◌, ◌*◌, ◌<◌, ◌≤◌, ◌⊎◌, inl, inr, Bool, true, false, cond, List, [], ◌∷◌, ◌++◌, map, reverse, length, get_or, take, drop, set, refl, sym, ap, ap₂, ◌∙◌, subst, arith, get_or-set_same, get_or-set_other, ext_get_or, lit<, lit≤, add-one, add-zero, append-nil, length-set, eqb, length-take-le, true≢false, length-take, get_or-take}
+use Rattle.std.proofs.Common.{◌≡◌, ◌≢◌, ℕ, zero, suc, ◌+◌, ◌-◌, ◌*◌, ◌<◌, ◌≤◌, ◌⊎◌, inl, inr, Bool, true, false, cond, List, [], ◌∷◌, ◌++◌, map, reverse, length, get_or, take, set, refl, sym, ap, ap₂, ◌∙◌, subst, arith, get_or-set_same, get_or-set_other, ext_get_or, lit<, lit≤, add-one, add-zero, append-nil, length-set, eqb, length-take-le, true≢false, length-take, get_or-take}
 use Rattle.std.specs.Prelude.{bit_xor, slice_index}
 use Rattle.std.specs.List.{AllByRecursion}
 use Rattle.std.proofs.lemmas.Bool.{cases_eq, cases_lt, eqb-true, eqb-false, eq-eqb}
-use Rattle.std.proofs.lemmas.List.{take_more, take_all, take_at, map-append, length-map, get_or-reverse, length-reverse}
+use Rattle.std.proofs.lemmas.List.{take_more, take_all, take_at, map-append, length-map, get_or-reverse, length-reverse, get_or_past}
 use native.Mathlib.Nat.{mul_comm as times_comm}
+use Rattle.std.proofs.Math.Seq.{take-nil}
 use lib.Bits.{xor_assoc, xor_self, xor_zero_r}
 use Rattle.gf256.specs.Field.{mul, power}
 use Rattle.gf256.proofs.FieldLaws.{mul_comm, mul_small, mul_zero_left, mul_zero_right, mul_assoc, one_left, power_zero, mul_xor_right, one_right, xor_equal, power_small}
 use Rattle.rs204.proofs.Independent as terms
 use Rattle.rs204.proofs.Independent.{Term}
 use Rattle.rs204.specs.Codes.{plus, AreBytes, IsCodeword, distance}
-use Rattle.rs204.specs.Polynomials.{value_at}
-use Rattle.rs204.specs.Decoding.{Differ, AllDiffer, raise, moment, Solves, chosen, is_root, corrected, IsLocator}
+use Rattle.rs204.specs.Polynomials.{value_at, along, weight}
+use Rattle.rs204.specs.Decoding.{Differ, AllDiffer, raise, moment, Solves, chosen, is_root, corrected, IsLocator, IsSolution, AreSyndromes, DifferAtRoots}
 use Rattle.rs204.proofs.Polynomials.{value_small, value_plus, codeword_root, plus_bytes, AreRoots, AreZero, too_many}
-use Rattle.rs204.proofs.Distance.{powers_differ, power_times, terms, terms_small, length-terms, terms_distinct, sum_terms, weight, weight_reverse, reverse_bytes, length-plus, same_word}
+use Rattle.rs204.proofs.Distance.{powers_differ, power_times, terms, terms_small, length-terms, terms_distinct, sum_terms, weight_reverse, reverse_bytes, length-plus, same_word}
 use Rattle.rs204.proofs.Locate.{locator, Locates, codeword_from_roots}
-use Rattle.std.proofs.Common.{Some}
-use Rattle.std.specs.declared.option.Option.{Option}
 use Rattle.rs204.proofs.Solving.{raise_same}
 use Rattle.rs204.proofs.CodeSteps.{get_or-plus}
 
@@ -79,7 +78,7 @@ take_all_differ zero xs d = tt
 take_all_differ (suc k) [] d = tt
 take_all_differ (suc k) (x ∷ xs) d = (take_differ k x xs d.0, take_all_differ k xs d.1)
 
-take_bytes : (k : ℕ) (xs : List ℕ) → AreBytes xs → AreBytes (take k xs)
+pub take_bytes : (k : ℕ) (xs : List ℕ) → AreBytes xs → AreBytes (take k xs)
 take_bytes zero xs b = tt
 take_bytes (suc k) [] b = tt
 take_bytes (suc k) (x ∷ xs) b = (b.0, take_bytes k xs b.1)
@@ -88,24 +87,23 @@ powers_bytes : (xs : List ℕ) → AreBytes (map power xs)
 powers_bytes [] = tt
 powers_bytes (x ∷ xs) = (power_small x, powers_bytes xs)
 
-zero_at : (p : List ℕ) (k : ℕ) → AreZero p → get_or p k 0 ≡ 0
+pub zero_at : (p : List ℕ) (k : ℕ) → AreZero p → get_or p k 0 ≡ 0
 zero_at [] k z = refl
 zero_at (a ∷ p) zero z = z.0
 zero_at (a ∷ p) (suc k) z = zero_at p k z.1
 
--- a locator has at most eight roots
-pub few_roots : (values p : List ℕ) → IsLocator values p → length (chosen (is_root p) 204) ≤ 8
-few_roots values p h = go (cases_lt 8 (length (chosen (is_root p) 204)))
+-- a polynomial that is not 0 has fewer roots than coefficients
+pub fewer_roots : (p : List ℕ) → AreBytes p → (AreZero p → ⊥) → length (chosen (is_root p) 204) < length p
+fewer_roots p b some = go (cases_lt (length (chosen (is_root p) 204)) (length p))
   where
     xs : List ℕ
     xs = map power (chosen (is_root p) 204)
 
-    go : (8 < length (chosen (is_root p) 204)) ⊎ (length (chosen (is_root p) 204) ≤ 8) → length (chosen (is_root p) 204) ≤ 8
-    go (inr l) = l
-    go (inl l) =
-        let n : length (take 9 xs) ≡ 9 = length-take-le 9 xs (omega (arith, l, length-map (chosen (is_root p) 204) power)) in
-        let z = too_many (take 9 xs) p (take_bytes 9 xs (powers_bytes (chosen (is_root p) 204))) (h.bytes 0 (lit< tt)) (take_all_differ 9 xs (chosen_differ 204 (is_root p) (lit≤ tt))) (n ∙ sym (h.sized 0 (lit< tt))) (take_roots 9 xs p (chosen_roots 204 p)) in
-        absurd (omega (arith, sym (zero_at p (h.place 0) z) ∙ h.one 0 (lit< tt)))
+    go : (length (chosen (is_root p) 204) < length p) ⊎ (length p ≤ length (chosen (is_root p) 204)) → length (chosen (is_root p) 204) < length p
+    go (inl l) = l
+    go (inr l) =
+        let n : length (take (length p) xs) ≡ length p = length-take-le (length p) xs (omega (arith, l, length-map (chosen (is_root p) 204) power)) in
+        absurd (some (too_many (take (length p) xs) p (take_bytes (length p) xs (powers_bytes (chosen (is_root p) 204))) b (take_all_differ (length p) xs (chosen_differ 204 (is_root p) (lit≤ tt))) n (take_roots (length p) xs p (chosen_roots 204 p))))
 
 -- ---- the moments of an error
 
@@ -176,76 +174,75 @@ power_none = power_zero
 zero_times : (k : ℕ) → 0 * k ≡ 0
 zero_times k = omega arith
 
--- ---- a word and a near codeword
+-- ---- coefficients that are 0 may be left out
 
-module _ (word c values p : List ℕ) (long : length word ≡ 204) (bytes : AreBytes word) (code : IsCodeword c) (near : distance word c ≤ 8)
-    (found : (i : ℕ) → i < 16 → slice_index values i ≡ value_at (power i) (reverse word)) (loc : IsLocator values p) where
-  error : List ℕ
+value_take : (n x : ℕ) (p : List ℕ) → ((j : ℕ) → n ≤ j → get_or p j 0 ≡ 0) → value_at x (take n p) ≡ value_at x p
+value_take n x [] h = ap (value_at x) (take-nil n)
+value_take zero x (a ∷ p) h = sym (ap₂ (λ y z. bit_xor y (mul x z)) (h 0 (omega arith)) (sym (value_take 0 x p (λ j l. h (suc j) (omega arith)))) ∙ mul_zero_right x)
+value_take (suc n) x (a ∷ p) h = ap (λ z. bit_xor a (mul x z)) (value_take n x p (λ j l. h (suc j) (omega arith)))
+
+along_take : (n : ℕ) (p : List ℕ) (s : ℕ → ℕ) (i : ℕ) → ((j : ℕ) → n ≤ j → get_or p j 0 ≡ 0) → along (take n p) s i ≡ along p s i
+along_take n [] s i h = ap (λ z. along z s i) (take-nil n)
+along_take zero (a ∷ p) s i h = sym (ap₂ (λ y z. bit_xor (mul y (s i)) z) (h 0 (omega arith)) (sym (along_take 0 p s (suc i) (λ j l. h (suc j) (omega arith)))) ∙ ap (λ z. bit_xor z 0) (mul_zero_left (s i)))
+along_take (suc n) (a ∷ p) s i h = ap (bit_xor (mul a (s i))) (along_take n p s (suc i) (λ j l. h (suc j) (omega arith)))
+
+-- a locator is 0 at the places of few errors
+located_roots : (errors : ℕ) (e values p : List ℕ) → AreBytes e → length e ≤ 255 → weight e ≤ errors → errors ≤ 8 → ((i : ℕ) → i < errors + errors → slice_index values i ≡ value_at (power i) e) → IsSolution errors values p → (k : ℕ) → get_or e k 0 ≢ 0 → value_at (power k) p ≡ 0
+located_roots errors e values p b l w m f h k some =
+    let one : 0 < 1 = lit< tt in
+    let q = take (errors + 1) p in
+    let size : length q ≡ errors + 1 = length-take-le (errors + 1) p (omega (arith, h.sized 0 one)) in
+    sym (value_take (errors + 1) (power k) p (λ j n. h.short 0 j one n)) ∙ ap (λ z. value_at (power z) q) (sym (zero_plus k))
+    ∙ locates_at q 0 k e
+    (locator errors q (terms 0 e) (λ i. slice_index values i) (take_bytes (errors + 1) p (h.bytes 0 one)) size (terms_small 0 e b) (terms_distinct 0 e (omega arith)) (omega (arith, length-terms 0 e))
+    (λ i n. f i n ∙ sym (sum_terms i 0 e b ∙ zero_turn i))
+    (λ i n. along_take (errors + 1) p (λ j. slice_index values j) i (λ j o. h.short 0 j one o) ∙ h.meets 0 i one n))
+    some
+  where
+    zero_plus : (k : ℕ) → 0 + k ≡ k
+    zero_plus k = omega arith
+
+    zero_turn : (i : ℕ) → mul (power (0 * i)) (value_at (power i) e) ≡ value_at (power i) e
+    zero_turn i = ap (λ z. mul (power z) (value_at (power i) e)) (zero_times i) ∙ ap (λ z. mul z (value_at (power i) e)) power_none ∙ one_left (value_at (power i) e) (value_small (power i) e (power_small i) b)
+
+pub is_locator : (errors : ℕ) (values p : List ℕ) → errors ≤ 8 → IsSolution errors values p → IsLocator errors values p
+is_locator errors values p m h =
+    let one : 0 < 1 = lit< tt in
+    record {
+      roots = λ e b l w f k some. located_roots errors e values p b l w m f h k some;
+      size = h.sized 0 one;
+      bytes = h.bytes 0 one;
+      degree = λ j l. h.short 0 j one (omega arith);
+      some = λ z. absurd (omega (arith, sym (zero_at p (h.place 0) z) ∙ h.one 0 one));
+    }
+
+-- ---- a word and a codeword
+
+module _ (word c : List ℕ) (long : length word ≡ 204) (bytes : AreBytes word) (code : IsCodeword c) where
+  -- the polynomial of their difference
+  pub error : List ℕ
   error = plus (reverse word) (reverse c)
 
   same_long : length (reverse word) ≡ length (reverse c)
   same_long = omega (arith, length-reverse word, length-reverse c, long, code.long)
 
-  error_bytes : AreBytes error
+  pub error_bytes : AreBytes error
   unfolding error
   error_bytes = plus_bytes (reverse word) (reverse c) (reverse_bytes word [] bytes tt) (reverse_bytes c [] code.bytes tt)
 
-  error_long : length error ≡ 204
+  pub error_long : length error ≡ 204
   unfolding error
   error_long = length-plus (reverse word) (reverse c) same_long ∙ length-reverse word ∙ long
 
-  error_weight : weight error ≤ 8
+  pub error_weight : weight error ≡ distance word c
   unfolding error
-  error_weight = omega (arith, near, weight_reverse word c (long ∙ sym code.long))
+  error_weight = weight_reverse word c (long ∙ sym code.long)
 
-  error_value : (i : ℕ) → i < 16 → slice_index values i ≡ value_at (power i) error
+  pub error_value : (values : List ℕ) → AreSyndromes word values → (i : ℕ) → i < 16 → slice_index values i ≡ value_at (power i) error
   unfolding error
-  error_value i l = found i l ∙ sym (value_plus (power i) (reverse word) (reverse c) (power_small i) (reverse_bytes word [] bytes tt) (reverse_bytes c [] code.bytes tt) ∙ ap (bit_xor (value_at (power i) (reverse word))) (codeword_root c i code l) ∙ xor_zero_r (value_at (power i) (reverse word)))
+  error_value values found i l = found i l ∙ sym (value_plus (power i) (reverse word) (reverse c) (power_small i) (reverse_bytes word [] bytes tt) (reverse_bytes c [] code.bytes tt) ∙ ap (bit_xor (value_at (power i) (reverse word))) (codeword_root c i code l) ∙ xor_zero_r (value_at (power i) (reverse word)))
 
-  error_located : Locates p (terms 0 error)
-  error_located =
-      locator 8 p (terms 0 error) (λ k. slice_index values k) (loc.bytes 0 (lit< tt)) (loc.sized 0 (lit< tt)) (terms_small 0 error error_bytes) (terms_distinct 0 error (omega (arith, error_long)))
-      (omega (arith, length-terms 0 error, error_weight)) (λ k l. error_value k l ∙ sym (sum_terms k 0 error error_bytes ∙ zero_turn k)) (λ i l. loc.meets 0 i (lit< tt) l)
-    where
-      zero_turn : (k : ℕ) → mul (power (0 * k)) (value_at (power k) error) ≡ value_at (power k) error
-      zero_turn k = ap (λ z. mul (power z) (value_at (power k) error)) (zero_times k) ∙ ap (λ z. mul z (value_at (power k) error)) power_none ∙ one_left (value_at (power k) error) (value_small (power k) error (power_small k) error_bytes)
-
-  -- each place of an error is a root
-  error_root : (k : ℕ) → get_or error k 0 ≢ 0 → is_root p k ≡ true
-  error_root k n = eq-eqb _ 0 (ap (λ z. value_at (power z) p) (sym (zero_plus k)) ∙ locates_at p 0 k error error_located n)
-    where
-      zero_plus : (k : ℕ) → 0 + k ≡ k
-      zero_plus k = omega arith
-
-  -- the values of the error at the places
-  pub error_values : List ℕ
-  error_values = map (at error) (chosen (is_root p) 204)
-
-  at_bytes : (xs : List ℕ) → AreBytes (map (at error) xs)
-  unfolding at
-  at_bytes [] = tt
-  at_bytes (x ∷ xs) = (e_small error x error_bytes, at_bytes xs)
-
-  -- what solves the moments is the error
-  pub solved_error : (moments values2 : List ℕ) → ((i : ℕ) → i < length (chosen (is_root p) 204) → slice_index moments i ≡ slice_index values i) → Solves (map power (chosen (is_root p) 204)) moments values2 → values2 ≡ error_values
-  unfolding error_values
-  solved_error moments values2 m s =
-      s (map (at error) places) (length-map places (at error) ∙ sym (length-map places power)) (at_bytes places)
-      (λ i l.
-      let w : i < 8 = omega (arith, l, length-map places power, few_roots values p loc) in
-      m i (omega (arith, l, length-map places power)) ∙ error_value i (omega arith)
-      ∙ sym (moments_chosen i 204 (is_root p) error (omega (arith, error_long)) error_bytes (λ k l n. error_root k n) ∙ ap (value_at (power i)) (take_all 204 error (omega (arith, error_long)))))
-    where
-      places : List ℕ
-      places = chosen (is_root p) 204
-
-  -- the places below n are put right
-  record Right (n : ℕ) (fixed : List ℕ) : Type 0 where
-    size : length fixed ≡ 204
-    done : (j : ℕ) → j < 204 → 203 - j < n → get_or fixed j 0 ≡ get_or c j 0
-    left : (j : ℕ) → j < 204 → n ≤ 203 - j → get_or fixed j 0 ≡ get_or word j 0
-
-  error_at : (j : ℕ) → j < 204 → get_or error (203 - j) 0 ≡ bit_xor (get_or word j 0) (get_or c j 0)
+  pub error_at : (j : ℕ) → j < 204 → get_or error (203 - j) 0 ≡ bit_xor (get_or word j 0) (get_or c j 0)
   unfolding error
   error_at j l =
       get_or-plus (reverse word) (reverse c) (203 - j)
@@ -256,11 +253,64 @@ module _ (word c values p : List ℕ) (long : length word ≡ 204) (bytes : AreB
       turned : (w : List ℕ) → length w ≡ 204 → length w - 1 - (203 - j) ≡ j
       turned w e = omega (arith, e)
 
-  right_on : (n : ℕ) → n < 204 → (fixed : List ℕ) → Right n fixed → Right (n + 1) (set fixed (203 - n) (bit_xor (get_or fixed (203 - n) 0) (get_or error n 0)))
+  -- the same from the end
+  pub error_from_end : (k : ℕ) → k < 204 → get_or error k 0 ≡ bit_xor (get_or word (203 - k) 0) (get_or c (203 - k) 0)
+  error_from_end k l = let q : 203 - (203 - k) ≡ k = omega arith in ap (λ z. get_or error z 0) (sym q) ∙ error_at (203 - k) (omega arith)
+
+  -- a locator is 0 where a near codeword differs
+  pub near_differs : (values p : List ℕ) → AreSyndromes word values → IsLocator 8 values p → distance word c ≤ 8 → DifferAtRoots p word c
+  near_differs values p found loc near k l n =
+      loc.roots error error_bytes (omega (arith, error_long)) (omega (arith, error_weight)) (error_value values found) k
+      (λ z. n (xor_equal (get_or word (203 - k) 0) (get_or c (203 - k) 0) (sym (error_from_end k l) ∙ z)))
+
+-- ---- a word and a codeword that differ only at the roots of a polynomial
+
+module _ (word c values p : List ℕ) (long : length word ≡ 204) (bytes : AreBytes word) (code : IsCodeword c)
+    (found : AreSyndromes word values) (few : length (chosen (is_root p) 204) ≤ 16) (differ : DifferAtRoots p word c) where
+  abbrev fault : List ℕ
+  fault = error word c long bytes code
+
+  -- each place of an error is a root
+  error_root : (k : ℕ) → get_or fault k 0 ≢ 0 → is_root p k ≡ true
+  error_root k n = go (cases_lt k 204)
+    where
+      go : (k < 204) ⊎ (204 ≤ k) → is_root p k ≡ true
+      go (inl l) = eq-eqb _ 0 (differ k l (λ e. n (error_from_end word c long bytes code k l ∙ ap (λ z. bit_xor z (get_or c (203 - k) 0)) e ∙ xor_self (get_or c (203 - k) 0))))
+      go (inr l) = absurd (n (get_or_past (error word c long bytes code) k 0 (omega (arith, error_long word c long bytes code))))
+
+  -- the values of the error at the places
+  pub error_values : List ℕ
+  error_values = map (at fault) (chosen (is_root p) 204)
+
+  at_bytes : (xs : List ℕ) → AreBytes (map (at fault) xs)
+  unfolding at
+  at_bytes [] = tt
+  at_bytes (x ∷ xs) = (e_small fault x (error_bytes word c long bytes code), at_bytes xs)
+
+  -- what solves the moments is the error
+  pub solved_error : (moments values2 : List ℕ) → ((i : ℕ) → i < length (chosen (is_root p) 204) → slice_index moments i ≡ slice_index values i) → Solves (map power (chosen (is_root p) 204)) moments values2 → values2 ≡ error_values
+  unfolding error_values
+  solved_error moments values2 m s =
+      s (map (at fault) places) (length-map places (at fault) ∙ sym (length-map places power)) (at_bytes places)
+      (λ i l.
+      let w : i < 16 = omega (arith, l, length-map places power, few) in
+      m i (omega (arith, l, length-map places power)) ∙ error_value word c long bytes code values found i (omega arith)
+      ∙ sym (moments_chosen i 204 (is_root p) fault (omega (arith, (error_long word c long bytes code))) (error_bytes word c long bytes code) (λ k l n. error_root k n) ∙ ap (value_at (power i)) (take_all 204 fault (omega (arith, (error_long word c long bytes code))))))
+    where
+      places : List ℕ
+      places = chosen (is_root p) 204
+
+  -- the places below n are put right
+  record Right (n : ℕ) (fixed : List ℕ) : Type 0 where
+    size : length fixed ≡ 204
+    done : (j : ℕ) → j < 204 → 203 - j < n → get_or fixed j 0 ≡ get_or c j 0
+    left : (j : ℕ) → j < 204 → n ≤ 203 - j → get_or fixed j 0 ≡ get_or word j 0
+
+  right_on : (n : ℕ) → n < 204 → (fixed : List ℕ) → Right n fixed → Right (n + 1) (set fixed (203 - n) (bit_xor (get_or fixed (203 - n) 0) (get_or fault n 0)))
   right_on n l fixed r =
       let q : 203 - (203 - n) ≡ n = omega arith in
-      let here : bit_xor (get_or fixed (203 - n) 0) (get_or error n 0) ≡ get_or c (203 - n) 0 =
-      ap₂ bit_xor (r.left (203 - n) (omega arith) (omega arith)) (ap (λ z. get_or error z 0) (sym q) ∙ error_at (203 - n) (omega arith))
+      let here : bit_xor (get_or fixed (203 - n) 0) (get_or fault n 0) ≡ get_or c (203 - n) 0 =
+      ap₂ bit_xor (r.left (203 - n) (omega arith) (omega arith)) (ap (λ z. get_or fault z 0) (sym q) ∙ error_at word c long bytes code (203 - n) (omega arith))
       ∙ sym (xor_assoc (get_or word (203 - n) 0) (get_or word (203 - n) 0) (get_or c (203 - n) 0)) ∙ ap (λ z. bit_xor z (get_or c (203 - n) 0)) (xor_self (get_or word (203 - n) 0)) in
       record {
         size = length-set fixed (203 - n) _ ∙ r.size;
@@ -269,13 +319,13 @@ module _ (word c values p : List ℕ) (long : length word ≡ 204) (bytes : AreB
       }
     where
       v : ℕ
-      v = bit_xor (get_or fixed (203 - n) 0) (get_or error n 0)
+      v = bit_xor (get_or fixed (203 - n) 0) (get_or fault n 0)
 
       go : (j : ℕ) → j < 204 → 203 - j < n + 1 → v ≡ get_or c (203 - n) 0 → (j ≡ 203 - n) ⊎ (j ≡ 203 - n → ⊥) → get_or (set fixed (203 - n) v) j 0 ≡ get_or c j 0
       go j m k h (inl e) = ap (λ z. get_or (set fixed (203 - n) v) z 0) e ∙ get_or-set_same fixed (203 - n) v 0 (omega (arith, r.size)) ∙ h ∙ ap (λ z. get_or c z 0) (sym e)
       go j m k h (inr e) = get_or-set_other fixed (203 - n) j v 0 e ∙ r.done j m (omega (arith, e))
 
-  right_over : (n : ℕ) → n < 204 → (fixed : List ℕ) → get_or error n 0 ≡ 0 → Right n fixed → Right (n + 1) fixed
+  right_over : (n : ℕ) → n < 204 → (fixed : List ℕ) → get_or fault n 0 ≡ 0 → Right n fixed → Right (n + 1) fixed
   right_over n l fixed z r = record {
     size = r.size;
     done = λ j m k. go j m k (cases_lt (203 - j) n);
@@ -286,7 +336,7 @@ module _ (word c values p : List ℕ) (long : length word ≡ 204) (bytes : AreB
       go j m k (inl h) = r.done j m h
       go j m k (inr h) =
           let q : 203 - j ≡ n = omega arith in
-          r.left j m h ∙ xor_equal (get_or word j 0) (get_or c j 0) (sym (error_at j m) ∙ ap (λ y. get_or error y 0) q ∙ z)
+          r.left j m h ∙ xor_equal (get_or word j 0) (get_or c j 0) (sym (error_at word c long bytes code j m) ∙ ap (λ y. get_or fault y 0) q ∙ z)
 
   corrected_push : (w ps vs : List ℕ) (q v : ℕ) → length vs ≡ length ps → corrected w (ps ++ q ∷ []) (vs ++ v ∷ []) ≡ set (corrected w ps vs) (203 - q) (bit_xor (get_or (corrected w ps vs) (203 - q) 0) v)
   corrected_push w [] [] q v l = refl
@@ -294,22 +344,22 @@ module _ (word c values p : List ℕ) (long : length word ≡ 204) (bytes : AreB
   corrected_push w (o ∷ ps) [] q v l = absurd (omega arith)
   corrected_push w (o ∷ ps) (u ∷ vs) q v l = corrected_push (set w (203 - o) (bit_xor (get_or w (203 - o) 0) u)) ps vs q v (omega arith)
 
-  right_all : (n : ℕ) → n ≤ 204 → Right n (corrected word (chosen (is_root p) n) (map (at error) (chosen (is_root p) n)))
+  right_all : (n : ℕ) → n ≤ 204 → Right n (corrected word (chosen (is_root p) n) (map (at fault) (chosen (is_root p) n)))
   unfolding chosen at
   right_all zero l = record { size = long; done = λ j m k. absurd (omega arith); left = λ j m k. refl }
-  right_all (suc n) l = subst (λ z. Right z (corrected word (xs ++ cond (is_root p n) (n ∷ []) []) (map (at error) (xs ++ cond (is_root p n) (n ∷ []) [])))) (add-one n) (go (is_root p n) refl (right_all n (omega arith)))
+  right_all (suc n) l = subst (λ z. Right z (corrected word (xs ++ cond (is_root p n) (n ∷ []) []) (map (at fault) (xs ++ cond (is_root p n) (n ∷ []) [])))) (add-one n) (go (is_root p n) refl (right_all n (omega arith)))
     where
       xs : List ℕ
       xs = chosen (is_root p) n
 
-      go : (b : Bool) → is_root p n ≡ b → Right n (corrected word xs (map (at error) xs)) → Right (n + 1) (corrected word (xs ++ cond b (n ∷ []) []) (map (at error) (xs ++ cond b (n ∷ []) [])))
+      go : (b : Bool) → is_root p n ≡ b → Right n (corrected word xs (map (at fault) xs)) → Right (n + 1) (corrected word (xs ++ cond b (n ∷ []) []) (map (at fault) (xs ++ cond b (n ∷ []) [])))
       go true e r =
-          subst (Right (n + 1)) (sym (ap (corrected word (xs ++ n ∷ [])) (map-append (at error) xs (n ∷ [])) ∙ corrected_push word xs (map (at error) xs) n (get_or error n 0) (length-map xs (at error))))
-          (right_on n (omega arith) (corrected word xs (map (at error) xs)) r)
+          subst (Right (n + 1)) (sym (ap (corrected word (xs ++ n ∷ [])) (map-append (at fault) xs (n ∷ [])) ∙ corrected_push word xs (map (at fault) xs) n (get_or fault n 0) (length-map xs (at fault))))
+          (right_on n (omega arith) (corrected word xs (map (at fault) xs)) r)
       go false e r =
-          subst (λ z. Right (n + 1) (corrected word z (map (at error) z))) (sym (append-nil xs)) (right_over n (omega arith) (corrected word xs (map (at error) xs)) (none (cases_eq (get_or error n 0) 0)) r)
+          subst (λ z. Right (n + 1) (corrected word z (map (at fault) z))) (sym (append-nil xs)) (right_over n (omega arith) (corrected word xs (map (at fault) xs)) (none (cases_eq (get_or fault n 0) 0)) r)
         where
-          none : (get_or error n 0 ≡ 0) ⊎ (get_or error n 0 ≡ 0 → ⊥) → get_or error n 0 ≡ 0
+          none : (get_or fault n 0 ≡ 0) ⊎ (get_or fault n 0 ≡ 0 → ⊥) → get_or fault n 0 ≡ 0
           none (inl y) = y
           none (inr y) = absurd (true≢false (sym (error_root n y) ∙ e))
 
@@ -327,34 +377,25 @@ pub bytes_of : (xs : List ℕ) → ((i : ℕ) → get_or xs i 0 < 256) → AreBy
 bytes_of [] h = tt
 bytes_of (x ∷ xs) h = (h 0, bytes_of xs (λ i. h (suc i)))
 
--- what was solved and put right is the near codeword
-pub near_code : (word c values p xs moments solved places fixed : List ℕ) (count : ℕ) → length word ≡ 204 → ((i : ℕ) → get_or word i 0 < 256)
-    → ((i : ℕ) → i < 16 → slice_index values i ≡ value_at (power i) (reverse word)) → IsLocator values p
-    → places ≡ chosen (is_root p) 204 → xs ≡ map power places → ((i : ℕ) → i < length places → slice_index moments i ≡ slice_index values i)
-    → Solves xs moments solved → fixed ≡ corrected word places solved → IsCodeword c → distance word c ≤ 8 → fixed ≡ c
-near_code word c values p xs moments solved places fixed count l by found loc e f m s r code near =
+-- what was solved and put right is the codeword
+pub codeword_again : (word c values p xs moments solved places fixed : List ℕ) → length word ≡ 204 → ((i : ℕ) → get_or word i 0 < 256) → AreSyndromes word values
+    → places ≡ chosen (is_root p) 204 → xs ≡ map power places → length (chosen (is_root p) 204) ≤ 16 → ((i : ℕ) → i < length places → slice_index moments i ≡ slice_index values i)
+    → Solves xs moments solved → fixed ≡ corrected word places solved → IsCodeword c → DifferAtRoots p word c → fixed ≡ c
+codeword_again word c values p xs moments solved places fixed l by found e f few m s r code differ =
     let b = bytes_of word by in
-    let v : solved ≡ error_values word c values p l b code near found loc =
-    solved_error word c values p l b code near found loc moments solved (λ i k. m i (omega (arith, k, ap length e))) (subst (λ z. Solves z moments solved) (f ∙ ap (map power) e) s) in
-    r ∙ ap₂ (corrected word) e v ∙ corrected_is word c values p l b code near found loc
+    let v : solved ≡ error_values word c values p l b code found few differ =
+    solved_error word c values p l b code found few differ moments solved (λ i k. m i (omega (arith, k, ap length e))) (subst (λ z. Solves z moments solved) (f ∙ ap (map power) e) s) in
+    r ∙ ap₂ (corrected word) e v ∙ corrected_is word c values p l b code found few differ
 
 -- in the words of the code
-pub near_repaired : (word c values p found_powers moments solved at fixed : List ℕ) (count k : ℕ) → length word ≡ 204 → ((i : ℕ) → get_or word i 0 < 256)
-    → ((i : ℕ) → i < 16 → slice_index values i ≡ value_at (power i) (reverse word)) → IsLocator values p
-    → count ≤ 8 → take count at ≡ chosen (is_root p) 204 → take count found_powers ≡ map power (take count at) → length moments ≡ 8 → length values ≡ 16 → 8 ≤ k → k ≤ 8 → take k moments ≡ take k values
-    → length solved ≡ count → Solves (take count found_powers) (take count moments) solved → fixed ≡ corrected word (take count at) (take count (solved ++ drop count (0 ∷ 0 ∷ 0 ∷ 0 ∷ 0 ∷ 0 ∷ 0 ∷ 0 ∷ [])))
-    → IsCodeword c → distance word c ≤ 8 → fixed ≡ c
-near_repaired word c values p found_powers moments solved at fixed count k l by found loc few e f lm lv k8 k9 m ls s r code near =
-    near_code word c values p (take count found_powers) (take count moments) solved (take count at) fixed count l by found loc e f
-    (λ i q.
-    let w : i < count = omega (arith, q, length-take count at) in
-    let x : i < k = omega arith in
-    get_or-take count moments i 0 w ∙ sym (get_or-take k moments i 0 x) ∙ ap (λ z. get_or z i 0) m ∙ get_or-take k values i 0 x)
-    s (r ∙ ap (corrected word (take count at)) (take_at solved (drop count (0 ∷ 0 ∷ 0 ∷ 0 ∷ 0 ∷ 0 ∷ 0 ∷ 0 ∷ [])) count ls)) code near
-
--- where no more than eight places are found
-pub none_found : (values p : List ℕ) → IsLocator values p → 8 < length (chosen (is_root p) 204) → ⊥
-none_found values p h l = absurd (omega (arith, few_roots values p h, l))
+pub repaired : (word c values p found_powers solved at fixed zeros : List ℕ) (count : ℕ) → length word ≡ 204 → ((i : ℕ) → get_or word i 0 < 256) → AreSyndromes word values → length (chosen (is_root p) 204) ≤ 16
+    → take count at ≡ chosen (is_root p) 204 → take count found_powers ≡ map power (take count at)
+    → length solved ≡ count → Solves (take count found_powers) (take count values) solved → fixed ≡ corrected word (take count at) (take count (solved ++ zeros))
+    → IsCodeword c → DifferAtRoots p word c → fixed ≡ c
+repaired word c values p found_powers solved at fixed zeros count l by found few e f ls s r code differ =
+    codeword_again word c values p (take count found_powers) (take count values) solved (take count at) fixed l by found e f few
+    (λ i q. get_or-take count values i 0 (omega (arith, q, length-take count at)))
+    s (r ∙ ap (corrected word (take count at)) (take_at solved zeros count ls)) code differ
 
 -- ---- the whole
 
@@ -364,17 +405,14 @@ clean_code word slice values l by e f z = codeword_from_roots word l (bytes_of w
 pub code_clean : (word slice values : List ℕ) → IsCodeword word → slice ≡ word → ((i : ℕ) → i < 16 → slice_index values i ≡ value_at (power i) (reverse slice)) → (i : ℕ) → i < 16 → slice_index values i ≡ 0
 code_clean word slice values h e f i m = f i m ∙ ap (λ w. value_at (power i) (reverse w)) e ∙ codeword_root word i h m
 
-same_some : (a b : List ℕ) → Some a ≡ Some b → a ≡ b
-same_some a b e = cc
-
--- no codeword is near where the repaired word is refused
-pub none_near : (word fixed : List ℕ) (repaired : Option (List ℕ)) → length word ≡ 204 → length fixed ≡ 204 → ((c : List ℕ) → IsCodeword c → distance word c ≤ 8 → repaired ≡ Some c) → repaired ≡ Some fixed → (IsCodeword word → ⊥)
+-- no codeword is near where the word that would be is refused
+pub none_near : (word fixed : List ℕ) → length word ≡ 204 → length fixed ≡ 204 → ((c : List ℕ) → IsCodeword c → distance word c ≤ 8 → fixed ≡ c) → (IsCodeword word → ⊥)
     → (distance word fixed ≡ 0) ⊎ ((8 < distance word fixed) ⊎ (IsCodeword fixed → ⊥)) → (c : List ℕ) → IsCodeword c → 8 < distance word c
-none_near word fixed repaired l k near is bad why c h = go (cases_lt 8 (distance word c))
+none_near word fixed l k near bad why c h = go (cases_lt 8 (distance word c))
   where
     go : (8 < distance word c) ⊎ (distance word c ≤ 8) → 8 < distance word c
     go (inl m) = m
-    go (inr m) = absurd (no_way (same_some fixed c (sym is ∙ near c h m)) why)
+    go (inr m) = absurd (no_way (near c h m) why)
       where
         no_way : fixed ≡ c → (distance word fixed ≡ 0) ⊎ ((8 < distance word fixed) ⊎ (IsCodeword fixed → ⊥)) → ⊥
         no_way e (inl z) = bad (subst IsCodeword (sym (same_word word fixed (l ∙ sym k) z ∙ e)) h)

@@ -1,5 +1,6 @@
 -- Values of polynomials, by which a word is decoded. A polynomial is the list of its coefficients, that of x^0 first.
-use Rattle.std.specs.Prelude.{ℕ, suc, List, [], ◌∷◌, bit_xor}
+use Rattle.std.specs.Prelude.{◌≡◌, ℕ, suc, ◌+◌, ◌==◌, cond, List, [], ◌∷◌, bit_xor}
+use Rattle.std.specs.List.{AllByRecursion}
 use Rattle.gf256.specs.Field.{mul}
 
 -- the value of a polynomial
@@ -11,3 +12,12 @@ value_at x (a ∷ p) = bit_xor a (mul x (value_at x p))
 abbrev pub along : List ℕ → (ℕ → ℕ) → ℕ → ℕ
 along [] s i = 0
 along (c ∷ cs) s i = bit_xor (mul c (s i)) (along cs s (suc i))
+
+-- some coefficient is not 0
+abbrev pub IsNonzero : List ℕ → Type 0
+IsNonzero p = AllByRecursion (λ a. a ≡ 0) p → ⊥
+
+-- the number of coefficients that are not 0
+abbrev pub weight : List ℕ → ℕ
+weight [] = 0
+weight (a ∷ p) = cond (a == 0) 0 1 + weight p

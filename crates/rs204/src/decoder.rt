@@ -1,39 +1,15 @@
 // Decoding by what is left of a division, and by syndromes only where something is left.
 
-ghost use Rattle.std.specs.Prelude.{◌≡◌, ◌<◌, ℕ, List, map, reverse, slice_index, bit_xor};
-ghost use Rattle.gf256.specs.Field as field;
-ghost use Rattle.rs204.specs.Polynomials.{value_at};
+ghost use Rattle.std.specs.Prelude.{◌≡◌, ℕ, List};
 ghost use Rattle.rs204.specs.Codes.{IsCodeword};
 ghost use Rattle.rs204.specs.Decoded.{Decoded, IsFar, IsNearBy};
 
 use crate::division::rest;
 use crate::outcome::Outcome;
-use crate::plain::{places_apart, repair};
-use gf256::Elem;
+use crate::steps::{is_codeword, nearest, places_apart, syndromes_by_rest};
 
 /// The most places that are corrected.
 const MOST: u8 = 8;
-
-/// The values at the first sixteen powers of λ after one more coefficient.
-fn next_values(values: &mut [u8; 16], byte: u8)
-    ensures { (i : ℕ) → i < 16 → slice_index values.new i ≡ bit_xor (field.mul (slice_index values.old i) (field.power i)) byte }
-{
-    for i in 0..16u8 {
-        let value = Elem(values[i as usize]);
-        values[i as usize] = value.times_power(i).0 ^ byte;
-    }
-}
-
-/// The syndromes of a word, by the sixteen coefficients that are left of it.
-fn syndromes(rest: &[u8; 16]) -> [u8; 16]
-    ensures { (i : ℕ) → i < 16 → slice_index result i ≡ value_at (field.power i) (reverse rest.now) }
-{
-    let mut values = [0u8; 16];
-    for byte in rest {
-        next_values(&mut values, *byte);
-    }
-    values
-}
 
 /// Puts the codeword that is within eight places in the place of the word, where there is one.
 fn put_right(word: &mut [u8; 204]) -> Outcome
@@ -43,12 +19,10 @@ fn put_right(word: &mut [u8; 204]) -> Outcome
     if left == 0 {
         return Outcome::Clean;
     }
-    let values = syndromes(&left.to_le_bytes());
-    let Some(fixed) = repair(word, &values) else {
-        return Outcome::Bad;
-    };
+    let values = syndromes_by_rest(left);
+    let fixed = nearest(word, &values);
     let count = places_apart(word, &fixed);
-    if count == 0 || count > MOST || rest(&fixed) != 0 {
+    if count == 0 || count > MOST || !is_codeword(&fixed) {
         return Outcome::Bad;
     }
     *word = fixed;

@@ -15,6 +15,7 @@ mod multiples;
 mod multiples_ahead;
 mod outcome;
 pub mod plain;
+pub mod steps;
 
 pub use decoder::decode;
 pub use encoder::encode;

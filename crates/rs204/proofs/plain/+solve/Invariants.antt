@@ -1,5 +1,0 @@
-use Rattle.std.proofs.Common.{length}
-use Rattle.rs204.proofs.plain.+solve.Given as goal
-
-abbrev pub decreases-solve : goal.decreases-solve
-decreases-solve l = length l.places.now
