@@ -1,5 +1,5 @@
 pub mod Kept
-pub mod Spread
+pub mod Bounds
 pub mod Fresh
 pub mod Follow
 pub mod Shares

@@ -44,7 +44,7 @@ stands_same most sums f h waiting steps a c g e s = record {
   costs = s.costs;
   gave = s.gave;
   cut = s.cut;
-  tracks = record { less = s.tracks.less; path = s.tracks.path; long = s.tracks.long; least = s.tracks.least; cost = s.tracks.cost; bits = λ n l t. s.tracks.bits n l t ∙ ap (λ z. s.gave ++ z) (e n l); none = s.tracks.none };
+  tracks = record { less = s.tracks.less; path = s.tracks.path; long = s.tracks.long; least = s.tracks.least; cost = s.tracks.cost; bits = λ n l t. s.tracks.bits n l t ∙ ap (λ z. s.gave ++ z) (e n l); none = s.tracks.none; bounded = s.tracks.bounded };
   some = s.some;
   few = s.few;
   counts = s.counts;

@@ -16,6 +16,7 @@ use Rattle.inner_decoder.specs.Metrics.{IsBest}
 use Rattle.inner_decoder.proofs.Kept.{IsOnly, SteppedBy, GaveBy}
 use Rattle.survivor_ring.specs.Survivors.{IsPushed, IsAlike, GivesAway}
 use Rattle.inner_decoder.proofs.Follow.{tracks_step}
+use Rattle.inner_decoder.proofs.Bounds.{bounded_one, bounded_all}
 use Rattle.code_paths.proofs.Cuts.{cut_more, cut_end, cut_unique, quiet_none}
 use Rattle.code_paths.specs.Trial.{weight}
 use Rattle.inner_decoder.proofs.Fresh.{power_only}
@@ -42,7 +43,7 @@ pushed most old waits waiting steps a c g x new answer more h s p = record {
   costs = h.costs;
   gave = h.gave;
   cut = h.cut;
-  tracks = tracks_step h.start h.costs h.gave old waits waiting x new answer more h.tracks s p;
+  tracks = tracks_step h.start h.costs h.gave old waits waiting x new answer more h.some h.tracks s p;
   few = h.few;
   counts = h.counts;
   is = h.is;
@@ -116,6 +117,7 @@ tracks_one e sums waits l o z w = record {
   cost = λ n i t. zero_cost (slice_index sums.cost n) (ap (λ y. slice_index sums.cost y) (only n i t) ∙ z);
   bits = λ n i t. sym (ap waits (only n i t) ∙ w);
   none = λ n i t q k f. eqb-false n e (sym (o.lives n i) ∙ t) (same_register n e i l (sym f ∙ sym (take_all 6 q (omega (arith, k.long))) ∙ k.start));
+  bounded = bounded_one e sums l (λ r k. same_register e r l k) o.lives only;
 }
   where
     only : (n : ℕ) → n < 64 → IsTrue (alive sums n) → n ≡ e
@@ -130,6 +132,7 @@ tracks_all sums waits o z w = record {
   cost = λ n i t. zero_cost (slice_index sums.cost n) (z n i);
   bits = λ n i t. sym (w n i);
   none = λ n i t. absurd (true≢false (sym (o n i) ∙ t));
+  bounded = bounded_all sums o z;
 }
 
 alike_none : (live : ℕ) (waits : ℕ → List Bool) → IsAlike live waits 0 0

@@ -15,7 +15,7 @@ pub(crate) struct Metric {
 
 impl Model for Metric {
     ghost use Rattle.acs_plain.specs.declared.sums.Sums.{Sums};
-    ghost use Rattle.inner_decoder.specs.Metrics.{IsSpread};
+    ghost use Rattle.acs_plain.specs.Spread.{IsSpread};
 
     ghost Value = { Sums };
 
