@@ -13,6 +13,7 @@ use Rattle.acs_plain.specs.Steps.{alive, SomeAlive, IsStep}
 use Rattle.code_paths.specs.Streams.{IsCommon, IsOverdue, Part, IsCut, bits_of, ends_of, Reports, Given, Ended, end_of}
 use Rattle.inner_decoder.specs.Tracking.{Tracks, StandsBy, Finished}
 use Rattle.inner_decoder.specs.Metrics.{IsBest}
+use Rattle.inner_decoder.specs.Seen.{DecoderState}
 use Rattle.inner_decoder.proofs.Kept.{IsOnly, SteppedBy, GaveBy}
 use Rattle.survivor_ring.specs.Survivors.{IsPushed, IsAlike, GivesAway}
 use Rattle.inner_decoder.proofs.Follow.{tracks_step}
@@ -226,7 +227,7 @@ stands_given most sums waits waiting steps a c g k less s h i f =
       },
     )
 
-pub stands_ended : (most : ℕ) (sums : Sums) (waits : ℕ → List Bool) (waiting steps : ℕ) (a : Option (List Bool)) (c : List CostPair) (g : List Bool) (e : ℕ)
+abbrev pub stands_ended : (most : ℕ) (sums : Sums) (waits : ℕ → List Bool) (waiting steps : ℕ) (a : Option (List Bool)) (c : List CostPair) (g : List Bool) (e : ℕ)
     → StandsBy most sums waits waiting steps a c g → IsBest sums e → Ended most a c (g ++ waits e)
 stands_ended most sums waits waiting steps a c g e h k = record {
   parts = h.parts;
@@ -287,9 +288,21 @@ gave_all most sums waits waiting steps states k less states2 count2 to to2 q i f
       whole = r.0;
     }
 
-pub finished_all : (most : ℕ) (sums : Sums) (waits : ℕ → List Bool) (waiting steps : ℕ) (e : ℕ) (to to2 : List Bool) → IsBest sums e → to2 ≡ to ++ waits e
-    → (a : Option (List Bool)) (c : List CostPair) (g : List Bool) → StandsBy most sums waits waiting steps a c g → Finished most a c g to to2
-finished_all most sums waits waiting steps e to to2 b v a c g h = record { more = waits e; appended = v; whole = stands_ended most sums waits waiting steps a c g e h b }
+pub finished_all : (most : ℕ) (sums : Sums) (waits : ℕ → List Bool) (waiting steps : ℕ) (e : ℕ) (to to2 : List Bool) (d : DecoderState) → IsBest sums e → to2 ≡ to ++ waits e → d.steps ≡ steps → d.waiting ≡ 0 → d.sums.alive ≡ 2 ^ e
+    → (a : Option (List Bool)) (c : List CostPair) (g : List Bool) → StandsBy most sums waits waiting steps a c g → Finished most d a c g to to2
+finished_all most sums waits waiting steps e to to2 d b v n w o a c g h =
+    let only : IsOnly d.sums.alive e = subst (λ y. IsOnly y e) (sym o) (power_only e) in
+    let t = h.tracks.least e b.below b.lives in
+    record {
+      more = waits e;
+      appended = v;
+      stands = record {
+        bits = stands_ended most sums waits waiting steps a c g e h b;
+        steps = n ∙ h.counts;
+        waiting = w;
+        lives = λ k i. (λ u. ap register (eqb-true k e (sym (only.lives k i) ∙ u)) ∙ sym t.ends, λ u. only.lives k i ∙ eq-eqb k e (same_register k e i b.below (u ∙ t.ends)));
+      };
+    }
 
 pub new_zero : (most : ℕ) (sums : Sums) (waits : ℕ → List Bool) (count states : ℕ) → SomeAlive sums → sums.alive ≡ 2 ^ 0 → slice_index sums.cost 0 ≡ 0 → states ≡ sums.alive → ((n : ℕ) → n < 64 → IsTrue (is_set states n) → waits n ≡ []) → count ≡ 0
     → StandsBy most sums waits count 0 (Some (register 0)) [] []

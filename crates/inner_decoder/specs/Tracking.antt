@@ -1,5 +1,5 @@
 -- What a decoder has made of a stream of costs.
-use Rattle.std.specs.Prelude.{◌≡◌, ℕ, ◌+◌, ◌<◌, ◌≤◌, Bool, false, List, [], ◌∷◌, ◌++◌, length, drop, slice_index, IsTrue}
+use Rattle.std.specs.Prelude.{◌≡◌, ℕ, ◌+◌, ◌<◌, ◌≤◌, Bool, false, List, [], ◌∷◌, ◌++◌, length, drop, slice_index, IsTrue, ◌↔◌}
 use Rattle.std.specs.declared.option.Option.{Option}
 use Rattle.std.specs.Option.{option_to_list, IfSome}
 use Rattle.code_paths.specs.declared.costs.CostPair.{CostPair}
@@ -57,8 +57,16 @@ pub record Gave (most : ℕ) (d : DecoderState) (a : Option (List Bool)) (c : Li
   pub stands : Stands most d a c (g ++ more)
   pub whole : Given most a c (g ++ more)
 
--- what the last call makes of it: exactly the bits at the end
-pub record Finished (most : ℕ) (a : Option (List Bool)) (c : List CostPair) (g : List Bool) (old new : List Bool) : Type 0 where
+-- The decoder d has ended, and stands for the start a, the costs c that it took, and the bits g that it appended: exactly the
+-- bits at the end. No bit waits. One state is alive: the last six bits of the path.
+pub record StandsEnded (most : ℕ) (d : DecoderState) (a : Option (List Bool)) (c : List CostPair) (g : List Bool) : Type 0 where
+  pub bits : Ended most a c g
+  pub steps : d.steps ≡ length c
+  pub waiting : d.waiting ≡ 0
+  pub lives : (n : ℕ) → n < 64 → IsTrue (alive d.sums n) ↔ (register n ≡ drop (length bits.costs) bits.path)
+
+-- what the last call makes of it
+pub record Finished (most : ℕ) (d : DecoderState) (a : Option (List Bool)) (c : List CostPair) (g : List Bool) (old new : List Bool) : Type 0 where
   pub more : List Bool
   pub appended : new ≡ old ++ more
-  pub whole : Ended most a c (g ++ more)
+  pub stands : StandsEnded most d a c (g ++ more)

@@ -220,7 +220,7 @@ impl<A: Acs, V: Survivors<2048>> Branch<A, V> {
         ensures steps { self.new.decoder.steps ≡ self.old.decoder.steps }
         ensures rest { self.new ≡ record self.old { decoder = self.new.decoder; wait = self.new.wait } }
         ensures amount { length self.new.wait ≡ length self.old.wait + self.old.decoder.waiting }
-        ensures finished { (a : Option (List Bool)) (c : List CostPair) (g : List Bool) → Stands 2048 self.old.decoder a c g → Finished 2048 a c g self.old.wait self.new.wait }
+        ensures finished { (a : Option (List Bool)) (c : List CostPair) (g : List Bool) → Stands 2048 self.old.decoder a c g → Finished 2048 self.new.decoder a c g self.old.wait self.new.wait }
     {
         self.decoder.finish(&mut self.wait);
     }

@@ -142,7 +142,7 @@ impl<A: Acs, V: Survivors<L>, const L: usize> Decoder<A, V, L> {
         ensures steps { self.new.steps ≡ self.old.steps }
         ensures waiting { self.new.waiting ≡ 0 }
         ensures amount { length to.new ≡ length to.old + self.old.waiting }
-        ensures finished { (a : Option (List Bool)) (c : List CostPair) (g : List Bool) → Stands L self.old a c g → Finished L a c g to.old to.new }
+        ensures finished { (a : Option (List Bool)) (c : List CostPair) (g : List Bool) → Stands L self.old a c g → Finished L self.new a c g to.old to.new }
     {
         let last = self.metric.best();
         self.survivors.force(last, to);
