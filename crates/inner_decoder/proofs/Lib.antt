@@ -5,4 +5,5 @@ pub mod Follow
 pub mod Shares
 pub mod Stand
 pub mod Rows64
+pub mod Slices
 pub mod Runs

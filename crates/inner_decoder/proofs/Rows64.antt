@@ -5,7 +5,8 @@ use Rattle.std.specs.declared.option.Option.{Option}
 use Rattle.code_paths.specs.declared.costs.CostPair.{CostPair}
 use Rattle.acs_plain.specs.declared.sums.Sums.{Sums}
 use Rattle.inner_decoder.specs.Tracking.{StandsBy, Stepped, Gave}
-use Rattle.inner_decoder.proofs.Kept.{SteppedBy, GaveBy}
+use Rattle.inner_decoder.proofs.Kept.{GaveBy}
+use Rattle.inner_decoder.specs.Settling.{SteppedBy}
 use Rattle.inner_decoder.proofs.Stand.{gave_common}
 use Rattle.code_paths.specs.Streams.{IsPrefix, Shared, Given, bits_of}
 use Rattle.code_paths.proofs.Cuts.{cut_unique}

@@ -14,7 +14,8 @@ use Rattle.code_paths.specs.Streams.{IsCommon, IsOverdue, Part, IsCut, bits_of, 
 use Rattle.inner_decoder.specs.Tracking.{Tracks, StandsBy, Finished}
 use Rattle.inner_decoder.specs.Metrics.{IsBest}
 use Rattle.inner_decoder.specs.Seen.{DecoderState}
-use Rattle.inner_decoder.proofs.Kept.{IsOnly, SteppedBy, GaveBy}
+use Rattle.inner_decoder.proofs.Kept.{IsOnly, GaveBy}
+use Rattle.inner_decoder.specs.Settling.{SteppedBy, Settles}
 use Rattle.survivor_ring.specs.Survivors.{IsPushed, IsAlike, GivesAway}
 use Rattle.inner_decoder.proofs.Follow.{tracks_step}
 use Rattle.inner_decoder.proofs.Bounds.{bounded_one, bounded_all}
@@ -275,6 +276,30 @@ module _ (most : ℕ) (old : Sums) (waits : ℕ → List Bool) (waiting steps : 
       subst (λ n. SteppedBy most sums2 waits2 n (steps + 1) a c g x to to2 (Some (steps + 1))) (sym u)
       (stands_force most new more waiting steps a c g x made_pushed e sums2 waits2 to to2 (omega (arith, w, m.count_is))
       (subst (λ j. IsAlike new.alive more (waiting + 1) j) r (subst₂ (λ y z. IsAlike y more z k) q m.count_is i)) b v (subst (λ y. IsOnly y e) (sym o) (power_only e)) z y)
+
+-- what follows a step, whatever step it was
+pub settled_quiet : (most : ℕ) (sums : Sums) (pushed : ℕ → List Bool) (count states steps : ℕ) (to : List Bool) → states ≡ sums.alive → count ≤ most → Settles most sums pushed count sums pushed count steps to to None
+settled_quiet most sums pushed count states steps to t l = record {
+  each = λ old lists before n x answer s o p e q a c g h.
+      subst (λ z. SteppedBy most sums pushed count z a c g x to to None) (sym q)
+      (made_quiet most old lists before n x sums answer sums.alive pushed states count (record { step = s; some = o; live_is = refl; push = p; states_is = t; count_is = e }) a c g h to l);
+}
+
+pub settled_given : (most : ℕ) (sums : Sums) (pushed : ℕ → List Bool) (count states steps k : ℕ) (less : ℕ → List Bool) (count2 : ℕ) (to to2 : List Bool) → states ≡ sums.alive → 0 < k → IsAlike states pushed count k
+    → ((n : ℕ) → n < 64 → IsTrue (is_set states n) → less n ≡ drop k (pushed n)) → GivesAway states pushed k to to2 → count2 ≡ count - k → Settles most sums pushed count sums less count2 steps to to2 None
+settled_given most sums pushed count states steps k less count2 to to2 t w i f v u = record {
+  each = λ old lists before n x answer s o p e q a c g h.
+      subst (λ z. SteppedBy most sums less count2 z a c g x to to2 None) (sym q)
+      (made_given most old lists before n x sums answer sums.alive pushed states count (record { step = s; some = o; live_is = refl; push = p; states_is = t; count_is = e }) a c g h k less count2 to to2 w i f v u);
+}
+
+pub settled_forced : (most : ℕ) (sums : Sums) (pushed : ℕ → List Bool) (count states steps e : ℕ) (sums2 : Sums) (waits2 : ℕ → List Bool) (count2 k : ℕ) (to to2 : List Bool) → states ≡ sums.alive → most < count → k ≤ 0 → IsAlike states pushed count k → IsBest sums e → to2 ≡ to ++ pushed e
+    → sums2.alive ≡ 2 ^ e → slice_index sums2.cost e ≡ 0 → waits2 e ≡ [] → count2 ≡ 0 → Settles most sums pushed count sums2 waits2 count2 steps to to2 (Some steps)
+settled_forced most sums pushed count states steps e sums2 waits2 count2 k to to2 t w z i b v y u r d = record {
+  each = λ old lists before n x answer s o p f q a c g h.
+      subst (λ z. SteppedBy most sums2 waits2 count2 z a c g x to to2 (Some z)) (sym q)
+      (made_forced most old lists before n x sums answer sums.alive pushed states count (record { step = s; some = o; live_is = refl; push = p; states_is = t; count_is = f }) a c g h e sums2 waits2 count2 k to to2 w z i b v y u r d);
+}
 
 pub gave_all : (most : ℕ) (sums : Sums) (waits : ℕ → List Bool) (waiting steps : ℕ) (states k : ℕ) (less : ℕ → List Bool) (states2 count2 : ℕ) (to to2 : List Bool) → states ≡ sums.alive → IsAlike states waits waiting k
     → ((n : ℕ) → n < 64 → IsTrue (is_set states n) → less n ≡ drop k (waits n)) → GivesAway states waits k to to2 → count2 ≡ waiting - k

@@ -49,8 +49,11 @@ fn run<A: Acs, V: Survivors<2048>>(
     ensures amount { length to.new + decoder.new.waiting ≡ length to.old + decoder.old.waiting + length pairs.now }
     ensures ran { (a : Option (List Bool)) (c : List CostPair) (g : List Bool) → Stands 2048 decoder.old a c g → Ran 2048 decoder.new a c g pairs.now to.old to.new (ats events.new.items) }
 {
-    for k in 0..pairs.len() {
-        note(events, decoder.step(pairs[k], to));
+    let mut taken = 0;
+    while taken < pairs.len() {
+        let (count, report) = decoder.run_slice(&pairs[taken..], to);
+        note(events, report);
+        taken += count;
     }
 }
 
