@@ -3,10 +3,12 @@ ghost use Rattle.std.specs.Prelude.{◌≡◌, ◌≤◌, ◌<◌, ◌+◌, ◌*
 ghost use Rattle.std.specs.Bool.{nat_lt};
 ghost use Rattle.spec_words.specs.Bits.{is_set};
 ghost use Rattle.code_paths.specs.declared.costs.CostPair.{CostPair as Pair};
-ghost use Rattle.acs_plain.specs.Steps.{Close, IsStep, SomeAlive};
+ghost use Rattle.acs_plain.specs.Steps.{AreSteps, Close, IsStep, SomeAlive};
+ghost use Rattle.acs_plain.specs.Spread.{IsSpread};
 ghost use Rattle.acs_lanes.specs.Lanes.{AreLess, AreStepCosts, AreTaken, IsHalfStep, IsLaneStep, four};
 
 use crate::settle::{is_ready, settle};
+use crate::slices::run_alive;
 use acs_plain::{Acs, Sums};
 use conv_code::CostPair;
 use std::simd::cmp::{SimdOrd, SimdPartialEq};
@@ -21,7 +23,7 @@ fn read(costs: &[u32]) -> u32x16
 }
 
 /// Writes 16 costs.
-fn write(costs: &mut [u32], lanes: u32x16)
+pub(crate) fn write(costs: &mut [u32], lanes: u32x16)
     requires size { length costs.old ≡ 16 }
     requires lanes { length lanes ≡ 16 }
     ensures { costs.new ≡ lanes }
@@ -114,7 +116,7 @@ fn store(cost: &mut [u32; 64], from: usize, lanes: u32x16)
 }
 
 /// Two words of 16 bits, the first one's bits the lowest.
-fn joined(first: u64, last: u64) -> u64
+pub(crate) fn joined(first: u64, last: u64) -> u64
     requires first { first < 2 ^ 16 }
     requires last { last < 2 ^ 16 }
     ensures low { (k : ℕ) → k < 16 → is_set result k ≡ is_set first k }
@@ -183,16 +185,46 @@ fn step_settled(sums: &mut Sums, pair: CostPair) -> u64
     low | high << 32
 }
 
-/// The step over vectors of 16 lanes.
+/// A step.
+fn step_one(sums: &mut Sums, pair: CostPair) -> u64
+    requires some { SomeAlive sums.old }
+    requires close { Close 131072 sums.old }
+    ensures step { IsStep sums.old pair sums.new result }
+{
+    if !is_ready(sums) {
+        return step_settled(sums, pair);
+    }
+    let (low, high) = step_lanes(&mut sums.cost, pair);
+    low | high << 32
+}
+
+/// The steps on pairs, one after another.
+fn run_each(sums: &mut Sums, pairs: &[CostPair], words: &mut [u64])
+    requires spread { IsSpread sums.old }
+    requires room { length words.old ≡ length pairs.now }
+    ensures steps { AreSteps sums.old pairs.now sums.new words.new }
+    ensures spread { IsSpread sums.new }
+    ensures room { length words.new ≡ length pairs.now }
+{
+    for k in 0..pairs.len() {
+        words[k] = step_one(sums, pairs[k]);
+    }
+}
+
+/// The step over vectors of 16 lanes, and many steps over vectors of 16 lanes of 16 bits.
 #[derive(Debug, Drop)]
 pub struct LaneAcs;
 
 impl Acs for LaneAcs {
     fn step(sums: &mut Sums, pair: CostPair) -> u64 {
-        if !is_ready(sums) {
-            return step_settled(sums, pair);
+        step_one(sums, pair)
+    }
+
+    fn run(sums: &mut Sums, pairs: &[CostPair], words: &mut [u64]) {
+        if sums.alive == u64::MAX && !pairs.is_empty() {
+            run_alive(sums, pairs, words);
+        } else {
+            run_each(sums, pairs, words);
         }
-        let (low, high) = step_lanes(&mut sums.cost, pair);
-        low | high << 32
     }
 }

@@ -1,10 +1,16 @@
 //! One step of the Viterbi decoder in lanes: the new states i and i + 32 from the old states 2i and 2i + 1, sixteen
 //! at once.
 //!
+//! Many steps in a row keep the costs in lanes of 16 bits, all 64 in four vectors, which hold them since alive costs differ by
+//! at most 49,140: before a step that could leave 16 bits all of them are lowered by the greatest cost of a step.
+//!
 //! `LaneAcs` means what every step of `acs_plain` means.
 #![tactic(auto)]
 
 mod lanes;
+mod lanes16;
 mod settle;
+mod slices;
+mod step16;
 
 pub use lanes::LaneAcs;

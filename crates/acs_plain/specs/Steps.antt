@@ -1,5 +1,5 @@
 -- One step of add, compare and select over the 64 states.
-use Rattle.std.specs.Prelude.{◌≡◌, ℕ, ◌+◌, ◌<◌, ◌≤◌, Bool, cond, not, ◌&&◌, ◌||◌, [], ◌∷◌, ◌++◌, slice_index, IsTrue}
+use Rattle.std.specs.Prelude.{◌≡◌, ℕ, ◌+◌, ◌<◌, ◌≤◌, Bool, cond, not, ◌&&◌, ◌||◌, List, [], ◌∷◌, ◌++◌, slice_index, IsTrue}
 use Rattle.std.specs.Bool.{nat_lt}
 use Rattle.code_paths.specs.Paths.{step_cost}
 use Rattle.code_paths.specs.States.{even_of, odd_of}
@@ -44,3 +44,11 @@ pub record HasCost (sums : Sums) (cost : ℕ) : Type 0 where
   pub below : state < 64
   pub lives : IsTrue (alive sums state)
   pub is : slice_index sums.cost state ≡ cost
+
+-- Steps on the pairs in order, a word for each: there are sums between, and each pair's step leads from the sums before it to
+-- those after it.
+abbrev pub AreSteps : Sums → List CostPair → Sums → List ℕ → Type 0
+AreSteps old [] new [] = old ≡ new
+AreSteps old [] new (word ∷ words) = ⊥
+AreSteps old (pair ∷ pairs) new [] = ⊥
+AreSteps old (pair ∷ pairs) new (word ∷ words) = (next : Sums) × IsStep old pair next word × AreSteps next pairs new words

@@ -1,5 +1,7 @@
 // What a step of add, compare and select is.
-ghost use Rattle.acs_plain.specs.Steps.{IsStep, Close, SomeAlive};
+ghost use Rattle.std.specs.Prelude.{◌≡◌, length};
+ghost use Rattle.acs_plain.specs.Steps.{IsStep, AreSteps, Close, SomeAlive};
+ghost use Rattle.acs_plain.specs.Spread.{IsSpread};
 
 use crate::Sums;
 use conv_code::CostPair;
@@ -15,4 +17,19 @@ pub trait Acs {
         requires some { SomeAlive sums.old }
         requires close { Close 131072 sums.old }
         ensures step { IsStep sums.old pair sums.new result };
+
+    /// Takes a step on each of the pairs, in order; the words are the decision words, one for each pair.
+    ///
+    /// The sums must be as close together as the steps of a stream leave them, and they are so again.
+    fn run(sums: &mut Sums, pairs: &[CostPair], words: &mut [u64])
+        requires spread { IsSpread sums.old }
+        requires room { length words.old ≡ length pairs.now }
+        ensures steps { AreSteps sums.old pairs.now sums.new words.new }
+        ensures spread { IsSpread sums.new }
+        ensures room { length words.new ≡ length pairs.now }
+    {
+        for k in 0..pairs.len() {
+            words[k] = Self::step(sums, pairs[k]);
+        }
+    }
 }

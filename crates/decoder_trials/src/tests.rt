@@ -1,7 +1,9 @@
 // Tables of small cost lists.
 ghost use Rattle.std.specs.Prelude.{◌≡◌, ◌<◌, ◌≤◌, ℕ, length};
 
-use crate::trials::{decoded, defined, pairs_of, unmerged};
+use crate::trials::{
+    Outcome, by_steps, by_symbols, decoded, defined, long_stream, pairs_of, unmerged,
+};
 use acs_lanes::LaneAcs;
 use acs_plain::PlainAcs;
 use code_paths::CostPair;
@@ -277,5 +279,40 @@ fn unmerged_over_words(rt: HostRuntime) -> Result<(), Fail> {
     assert_eq!(rt; plain, UNMERGED);
     let lanes = unmerged::<LaneAcs, RingSurvivors<2048>>(&rt, rt.alloc())?;
     assert_eq!(rt; lanes, UNMERGED);
+    Ok(())
+}
+
+// Step by step and in slices, by the plain step and in lanes. The outcomes come from an independent program.
+#[test]
+fn slices_of_a_long_stream(rt: HostRuntime) -> Result<(), Fail> {
+    let costs = long_stream(rt.alloc())?;
+    let wanted = [
+        (
+            StartState::Zero,
+            Outcome {
+                reports: 1,
+                last: 3386,
+                sum: 16074011208124798040,
+            },
+        ),
+        (
+            StartState::Any,
+            Outcome {
+                reports: 1,
+                last: 3386,
+                sum: 16766549236494724491,
+            },
+        ),
+    ];
+    for (start, want) in wanted {
+        let plain = by_steps::<PlainAcs, RingSurvivors<2048>>(rt.alloc(), start, &costs)?;
+        assert_eq!(rt; plain, want);
+        let lanes = by_symbols::<LaneAcs, RingSurvivors<2048>>(&rt, rt.alloc(), start, &costs)?;
+        assert_eq!(rt; lanes, want);
+        let slices = by_symbols::<PlainAcs, RingSurvivors<2048>>(&rt, rt.alloc(), start, &costs)?;
+        assert_eq!(rt; slices, want);
+        let lists = by_symbols::<LaneAcs, ListSurvivors<2048>>(&rt, rt.alloc(), start, &costs)?;
+        assert_eq!(rt; lists, want);
+    }
     Ok(())
 }

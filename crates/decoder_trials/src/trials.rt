@@ -213,3 +213,135 @@ pub fn unmerged<A: Acs, V: Survivors<2048>>(
     assert!(rt; ones == 0 && branch.ended());
     Ok((at, first, second, last))
 }
+
+/// What a stream of 6,000 costs comes to.
+#[derive(Clone, Copy, Debug, Default, Drop, PartialEq, Eq)]
+pub struct Outcome {
+    /// The number of reports.
+    pub reports: u32,
+    /// The step of the last report.
+    pub last: u64,
+    /// The sum of all bytes, each times 31 for every byte behind it, modulo 2^64.
+    pub sum: u64,
+}
+
+/// A step of a register for random numbers.
+fn next(x: u64) -> u64 {
+    let y = x ^ x << 13;
+    let z = y ^ y >> 7;
+    z ^ z << 17
+}
+
+/// The costs of a step: random ones, or those of a step of which X is not known and Y is 0.
+fn costs_at(step: u32, x: u64) -> CostPair {
+    if step >= 1400 && step < 4300 {
+        CostPair {
+            x0: 511,
+            x1: 511,
+            y0: 0,
+            y1: 2047,
+        }
+    } else {
+        CostPair {
+            x0: (x & 4095) as u16,
+            x1: (x >> 12 & 4095) as u16,
+            y0: (x >> 24 & 4095) as u16,
+            y1: (x >> 36 & 4095) as u16,
+        }
+    }
+}
+
+/// The costs of 6,000 steps: random ones up to the greatest, then a long time of which the 64 paths never agree, and then
+/// random ones again.
+pub fn long_stream(alloc: Global) -> Result<Vec<CostPair>, AllocError>
+    ensures { IfOk result (λ v. length v.items ≡ 6000) }
+{
+    let mut pairs = Vec::new(alloc);
+    let mut x = 1234567u64;
+    for k in 0..6000u32 {
+        x = next(x);
+        pairs.push(costs_at(k, x))?;
+    }
+    Ok(pairs)
+}
+
+/// The bytes of a decoder behind a sum of bytes.
+fn sum_of(to: &mut WaitBuf) -> u64 {
+    let mut sum = 0u64;
+    for _k in 0..750u32 {
+        if let Some(byte) = to.take_byte() {
+            sum = sum.wrapping_mul(31).wrapping_add(byte as u64);
+        }
+    }
+    sum
+}
+
+/// What a decoder makes of the costs, step by step.
+pub fn by_steps<A: Acs, V: Survivors<2048>>(
+    alloc: Global,
+    start: StartState,
+    costs: &[CostPair],
+) -> Result<Outcome, AllocError>
+    requires { length costs.now ≤ 6000 }
+{
+    let mut decoder: Decoder<A, V, 2048> = Decoder::new(alloc, start)?;
+    let mut to = WaitBuf::new();
+    let mut reports = 0u32;
+    let mut last = 0u64;
+    for k in 0..costs.len() {
+        if let Some(report) = decoder.step(costs[k], &mut to) {
+            reports = reports.saturating_add(1);
+            last = report.at;
+        }
+    }
+    decoder.finish(&mut to);
+    Ok(Outcome {
+        reports,
+        last,
+        sum: sum_of(&mut to),
+    })
+}
+
+/// Takes the whole bytes that wait, of which there are at most 1,000, behind a sum of bytes.
+fn bytes_taken<A: Acs, V: Survivors<2048>>(branch: &mut Branch<A, V>, before: u64) -> u64
+    ensures decoder { branch.new.decoder ≡ branch.old.decoder }
+    ensures loaded { branch.new.loaded ≡ branch.old.loaded }
+    ensures most { branch.new.most ≡ branch.old.most }
+{
+    let mut sum = before;
+    for _k in 0..1000u32 {
+        if let Some(byte) = branch.take_byte() {
+            sum = sum.wrapping_mul(31).wrapping_add(byte as u64);
+        }
+    }
+    sum
+}
+
+/// What a branch makes of the costs, in four symbols of 1,500 steps.
+pub fn by_symbols<A: Acs, V: Survivors<2048>>(
+    rt: &impl Abort,
+    alloc: Global,
+    start: StartState,
+    costs: &[CostPair],
+) -> Result<Outcome, AllocError>
+    requires { length costs.now ≡ 6000 }
+{
+    let mut branch: Branch<A, V> = Branch::new(alloc, start, 1500)?;
+    let mut reports = 0u32;
+    let mut last = 0u64;
+    let mut sum = 0u64;
+    for k in 0..4usize {
+        assert!(rt; branch.waiting() < 8);
+        branch.load_all(&costs[1500 * k..1500 * k + 1500]);
+        branch.run_symbol();
+        for report in branch.events() {
+            reports = reports.saturating_add(1);
+            last = report.at;
+        }
+        sum = bytes_taken(&mut branch, sum);
+    }
+    assert!(rt; branch.waiting() < 8);
+    branch.finish();
+    sum = bytes_taken(&mut branch, sum);
+    Ok(Outcome { reports, last, sum })
+}

@@ -1,5 +1,5 @@
 -- A step follows the least paths.
-use Rattle.std.proofs.Common.{◌≡◌, ℕ, ◌+◌, ◌<◌, Bool, true, false, cond, not, ◌&&◌, ◌||◌, List, [], ◌∷◌, ◌++◌, drop, refl, sym, ap, ap₂, ◌∙◌, subst, arith, ltb, length-append, append_assoc, true≢false}
+use Rattle.std.proofs.Common.{◌≡◌, ℕ, ◌+◌, ◌<◌, Bool, true, false, cond, not, ◌&&◌, ◌||◌, List, [], ◌∷◌, ◌++◌, drop, length, refl, sym, ap, ap₂, ◌∙◌, subst, arith, ltb, length-append, append_assoc, true≢false}
 use Rattle.std.proofs.lemmas.Bool.{ltb-true, ltb-false, cond_both}
 use Rattle.std.proofs.lemmas.List.{drop-append-le}
 use Rattle.std.specs.Prelude.{slice_index, IsTrue}
@@ -9,14 +9,16 @@ use Rattle.acs_plain.specs.declared.sums.Sums.{Sums}
 use Rattle.code_paths.specs.Paths.{LeastTo, total, step_cost}
 use Rattle.code_paths.specs.States.{register}
 use Rattle.spec_words.specs.Bits.{is_set}
-use Rattle.acs_plain.specs.Steps.{alive, way, takes_odd, IsStep}
+use Rattle.acs_plain.specs.Steps.{alive, way, takes_odd, IsStep, SomeAlive}
 use Rattle.code_paths.specs.States.{even_of, odd_of}
 use Rattle.inner_decoder.specs.Tracking.{Tracks}
+use Rattle.inner_decoder.specs.Metrics.{NeverWrap}
+use Rattle.inner_decoder.proofs.Bounds.{begun, bounded_step}
 use Rattle.code_paths.specs.Paths.{Unreached}
 use Rattle.survivor_ring.specs.Survivors.{IsPushed, IsFollowed}
 use Rattle.code_paths.specs.Laws.{longer_total}
 use Rattle.code_paths.proofs.Extend.{even_wins, odd_wins, only_way, no_way, total_push}
-use Rattle.inner_decoder.proofs.Spread.{chosen_alive}
+use Rattle.acs_plain.proofs.Spread.{chosen_alive}
 use Rattle.code_paths.proofs.Registers.{older, even_register, odd_register}
 
 even_below : (n : ℕ) → even_of n < 64
@@ -69,8 +71,8 @@ module _ (b : Option (List Bool)) (d : List CostPair) (gave : List Bool) (old : 
 
 -- a step keeps the tracking
 pub tracks_step : (b : Option (List Bool)) (d : List CostPair) (gave : List Bool) (old : Sums) (waits : ℕ → List Bool) (waiting : ℕ) (x : CostPair) (new : Sums) (answer : ℕ) (more : ℕ → List Bool)
-    → Tracks b d gave old waits waiting → IsStep old x new answer → IsPushed waits answer new.alive more → Tracks b (d ++ x ∷ []) gave new more (waiting + 1)
-tracks_step b d gave old waits waiting x new answer more h s p = record {
+    → SomeAlive old → Tracks b d gave old waits waiting → IsStep old x new answer → IsPushed waits answer new.alive more → Tracks b (d ++ x ∷ []) gave new more (waiting + 1)
+tracks_step b d gave old waits waiting x new answer more some h s p = record {
   less = h.less + s.less;
   path = λ n. next_path old x h.path n;
   long = omega (arith, h.long, length-append d (x ∷ []));
@@ -78,6 +80,7 @@ tracks_step b d gave old waits waiting x new answer more h s p = record {
   cost = λ n l t. next_cost n l (alive old (even_of n)) (alive old (odd_of n)) refl refl (sym (s.lives n l) ∙ t) (s.cost n l t);
   bits = λ n l t. next_bits n l t;
   none = λ n l t. next_none b d gave old waits waiting x h n l _ _ refl refl (sym (s.lives n l) ∙ t);
+  bounded = subst (λ k. NeverWrap b k new) (sym (length-append d (x ∷ []))) (bounded_step b (length d) old h.bounded x new answer s (begun b d _ _ (h.least some.state some.below some.lives)));
 }
   where
     -- the state that the step chose

@@ -7,7 +7,7 @@ use Rattle.std.proofs.lemmas.Nat.Bits.{bit_at-pow_same, bit_at-pow_other}
 use Rattle.std.specs.Prelude.{slice_index, IsTrue}
 use Rattle.acs_plain.specs.declared.sums.Sums.{Sums}
 use Rattle.spec_words.specs.Bits.{is_set}
-use Rattle.inner_decoder.specs.Metrics.{IsSpread}
+use Rattle.acs_plain.specs.Spread.{IsSpread}
 use Rattle.acs_plain.specs.Steps.{alive}
 use Rattle.inner_decoder.specs.Metrics.{IsBest}
 use Rattle.inner_decoder.proofs.Kept.{IsOnly}

@@ -1,8 +1,9 @@
 pub mod Kept
-pub mod Spread
+pub mod Bounds
 pub mod Fresh
 pub mod Follow
 pub mod Shares
 pub mod Stand
 pub mod Rows64
+pub mod Slices
 pub mod Runs

@@ -5,7 +5,8 @@ use Rattle.std.specs.declared.option.Option.{Option}
 use Rattle.code_paths.specs.declared.costs.CostPair.{CostPair}
 use Rattle.acs_plain.specs.declared.sums.Sums.{Sums}
 use Rattle.inner_decoder.specs.Tracking.{StandsBy, Stepped, Gave}
-use Rattle.inner_decoder.proofs.Kept.{SteppedBy, GaveBy}
+use Rattle.inner_decoder.proofs.Kept.{GaveBy}
+use Rattle.inner_decoder.specs.Settling.{SteppedBy}
 use Rattle.inner_decoder.proofs.Stand.{gave_common}
 use Rattle.code_paths.specs.Streams.{IsPrefix, Shared, Given, bits_of}
 use Rattle.code_paths.proofs.Cuts.{cut_unique}
@@ -44,7 +45,7 @@ stands_same most sums f h waiting steps a c g e s = record {
   costs = s.costs;
   gave = s.gave;
   cut = s.cut;
-  tracks = record { less = s.tracks.less; path = s.tracks.path; long = s.tracks.long; least = s.tracks.least; cost = s.tracks.cost; bits = λ n l t. s.tracks.bits n l t ∙ ap (λ z. s.gave ++ z) (e n l); none = s.tracks.none };
+  tracks = record { less = s.tracks.less; path = s.tracks.path; long = s.tracks.long; least = s.tracks.least; cost = s.tracks.cost; bits = λ n l t. s.tracks.bits n l t ∙ ap (λ z. s.gave ++ z) (e n l); none = s.tracks.none; bounded = s.tracks.bounded };
   some = s.some;
   few = s.few;
   counts = s.counts;

@@ -43,14 +43,23 @@ runs_none most d to events e n l = record {
   };
 }
 
+-- one step alone
+pub step_ran : (most : ℕ) (d : DecoderState) (a : Option (List Bool)) (c : List CostPair) (g : List Bool) (x : CostPair) (xs : List CostPair) (old new : List Bool) (r : Option ℕ) → Stepped most d a c g x old new r → xs ≡ x ∷ [] → Ran most d a c g xs old new (option_to_list r)
+step_ran most d a c g x xs old new r s e = record {
+  more = s.more;
+  appended = s.appended;
+  stands = subst (λ z. Stands most d a (c ++ z) (g ++ s.more)) (sym e) s.stands;
+  reports = λ rs z. subst (λ y. Reports most a (c ++ y) (rs ++ option_to_list r)) (sym e) (s.reports rs z);
+}
+
 pub runs_more : (most : ℕ) (d0 : DecoderState) (to0 : List Bool) (d : DecoderState) (to : List Bool) (events : List ℕ) (xs : List CostPair) → RunsTo most d0 to0 d to events xs
-    → (x : CostPair) (d2 : DecoderState) (to2 : List Bool) (r : Option Unmerged) (events2 : List ℕ) (ys : List CostPair)
-    → d2.ended ≡ false → d2.steps ≡ d.steps + 1 → length to2 + d2.waiting ≡ length to + d.waiting + 1 → d2.waiting + (most + 1) * length (option_to_list r) ≤ d.waiting + 1 → d2.waiting ≤ most
-    → ((a : Option (List Bool)) (c : List CostPair) (g : List Bool) → Stands most d a c g → Stepped most d2 a c g x to to2 (at_of r))
-    → events2 ≡ events ++ option_to_list (at_of r) → ys ≡ xs ++ x ∷ []
-    → RunsTo most d0 to0 d2 to2 events2 ys
-runs_more most d0 to0 d to events xs h x d2 to2 r events2 ys e s m p few f v y =
-    let l : length ys ≡ length xs + 1 = ap length y ∙ length-append xs (x ∷ []) in
+    → (ys : List CostPair) (n : ℕ) (d2 : DecoderState) (to2 : List Bool) (r : Option Unmerged) (events2 : List ℕ) (zs : List CostPair) → length ys ≡ n
+    → d2.ended ≡ false → d2.steps ≡ d.steps + n → length to2 + d2.waiting ≡ length to + d.waiting + n → d2.waiting + (most + 1) * length (option_to_list r) ≤ d.waiting + n → d2.waiting ≤ most
+    → ((a : Option (List Bool)) (c : List CostPair) (g : List Bool) → Stands most d a c g → Ran most d2 a c g ys to to2 (option_to_list (at_of r)))
+    → events2 ≡ events ++ option_to_list (at_of r) → zs ≡ xs ++ ys
+    → RunsTo most d0 to0 d2 to2 events2 zs
+runs_more most d0 to0 d to events xs h ys n d2 to2 r events2 zs u e s m p few f v y =
+    let l : length zs ≡ length xs + n = ap length y ∙ length-append xs ys ∙ ap (λ z. length xs + z) u in
     let k : length events2 ≡ length events + length (option_to_list r) = ap length v ∙ length-append events (option_to_list (at_of r)) ∙ ap (λ z. length events + z) (same_number r) in
     record {
       going = e;
@@ -61,7 +70,7 @@ runs_more most d0 to0 d to events xs h x d2 to2 r events2 ys e s m p few f v y =
       ran = λ a c g b.
           let q = h.ran a c g b in
           let w = f a (c ++ xs) (g ++ q.more) q.stands in
-          let i : (c ++ xs) ++ x ∷ [] ≡ c ++ ys = append_assoc c xs (x ∷ []) ∙ ap (λ z. c ++ z) (sym y) in
+          let i : (c ++ xs) ++ ys ≡ c ++ zs = append_assoc c xs ys ∙ ap (λ z. c ++ z) (sym y) in
           record {
             more = q.more ++ w.more;
             appended = w.appended ∙ ap (λ z. z ++ w.more) q.appended ∙ append_assoc to0 q.more w.more;

@@ -88,6 +88,7 @@ module _ (b : Option (List Bool)) (d : List CostPair) (gave : List Bool) (sums :
     cost = h.cost;
     bits = λ n i u. h.bits n i u ∙ ap (λ z. gave ++ z) (sym (take-append-drop k (waits n)) ∙ ap₂ (λ y z. y ++ z) (a n m i l u t) (sym (f n i u))) ∙ sym (append_assoc gave (take k (waits m)) (less n));
     none = h.none;
+    bounded = h.bounded;
   }
 
   -- the path to a lower register is not after that to a higher one of the same cost

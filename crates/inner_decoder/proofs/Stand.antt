@@ -13,9 +13,12 @@ use Rattle.acs_plain.specs.Steps.{alive, SomeAlive, IsStep}
 use Rattle.code_paths.specs.Streams.{IsCommon, IsOverdue, Part, IsCut, bits_of, ends_of, Reports, Given, Ended, end_of}
 use Rattle.inner_decoder.specs.Tracking.{Tracks, StandsBy, Finished}
 use Rattle.inner_decoder.specs.Metrics.{IsBest}
-use Rattle.inner_decoder.proofs.Kept.{IsOnly, SteppedBy, GaveBy}
+use Rattle.inner_decoder.specs.Seen.{DecoderState}
+use Rattle.inner_decoder.proofs.Kept.{IsOnly, GaveBy}
+use Rattle.inner_decoder.specs.Settling.{SteppedBy, Settles}
 use Rattle.survivor_ring.specs.Survivors.{IsPushed, IsAlike, GivesAway}
 use Rattle.inner_decoder.proofs.Follow.{tracks_step}
+use Rattle.inner_decoder.proofs.Bounds.{bounded_one, bounded_all}
 use Rattle.code_paths.proofs.Cuts.{cut_more, cut_end, cut_unique, quiet_none}
 use Rattle.code_paths.specs.Trial.{weight}
 use Rattle.inner_decoder.proofs.Fresh.{power_only}
@@ -42,7 +45,7 @@ pushed most old waits waiting steps a c g x new answer more h s p = record {
   costs = h.costs;
   gave = h.gave;
   cut = h.cut;
-  tracks = tracks_step h.start h.costs h.gave old waits waiting x new answer more h.tracks s p;
+  tracks = tracks_step h.start h.costs h.gave old waits waiting x new answer more h.some h.tracks s p;
   few = h.few;
   counts = h.counts;
   is = h.is;
@@ -116,6 +119,7 @@ tracks_one e sums waits l o z w = record {
   cost = λ n i t. zero_cost (slice_index sums.cost n) (ap (λ y. slice_index sums.cost y) (only n i t) ∙ z);
   bits = λ n i t. sym (ap waits (only n i t) ∙ w);
   none = λ n i t q k f. eqb-false n e (sym (o.lives n i) ∙ t) (same_register n e i l (sym f ∙ sym (take_all 6 q (omega (arith, k.long))) ∙ k.start));
+  bounded = bounded_one e sums l (λ r k. same_register e r l k) o.lives only;
 }
   where
     only : (n : ℕ) → n < 64 → IsTrue (alive sums n) → n ≡ e
@@ -130,6 +134,7 @@ tracks_all sums waits o z w = record {
   cost = λ n i t. zero_cost (slice_index sums.cost n) (z n i);
   bits = λ n i t. sym (w n i);
   none = λ n i t. absurd (true≢false (sym (o n i) ∙ t));
+  bounded = bounded_all sums o z;
 }
 
 alike_none : (live : ℕ) (waits : ℕ → List Bool) → IsAlike live waits 0 0
@@ -223,7 +228,7 @@ stands_given most sums waits waiting steps a c g k less s h i f =
       },
     )
 
-pub stands_ended : (most : ℕ) (sums : Sums) (waits : ℕ → List Bool) (waiting steps : ℕ) (a : Option (List Bool)) (c : List CostPair) (g : List Bool) (e : ℕ)
+abbrev pub stands_ended : (most : ℕ) (sums : Sums) (waits : ℕ → List Bool) (waiting steps : ℕ) (a : Option (List Bool)) (c : List CostPair) (g : List Bool) (e : ℕ)
     → StandsBy most sums waits waiting steps a c g → IsBest sums e → Ended most a c (g ++ waits e)
 stands_ended most sums waits waiting steps a c g e h k = record {
   parts = h.parts;
@@ -272,6 +277,30 @@ module _ (most : ℕ) (old : Sums) (waits : ℕ → List Bool) (waiting steps : 
       (stands_force most new more waiting steps a c g x made_pushed e sums2 waits2 to to2 (omega (arith, w, m.count_is))
       (subst (λ j. IsAlike new.alive more (waiting + 1) j) r (subst₂ (λ y z. IsAlike y more z k) q m.count_is i)) b v (subst (λ y. IsOnly y e) (sym o) (power_only e)) z y)
 
+-- what follows a step, whatever step it was
+pub settled_quiet : (most : ℕ) (sums : Sums) (pushed : ℕ → List Bool) (count states steps : ℕ) (to : List Bool) → states ≡ sums.alive → count ≤ most → Settles most sums pushed count sums pushed count steps to to None
+settled_quiet most sums pushed count states steps to t l = record {
+  each = λ old lists before n x answer s o p e q a c g h.
+      subst (λ z. SteppedBy most sums pushed count z a c g x to to None) (sym q)
+      (made_quiet most old lists before n x sums answer sums.alive pushed states count (record { step = s; some = o; live_is = refl; push = p; states_is = t; count_is = e }) a c g h to l);
+}
+
+pub settled_given : (most : ℕ) (sums : Sums) (pushed : ℕ → List Bool) (count states steps k : ℕ) (less : ℕ → List Bool) (count2 : ℕ) (to to2 : List Bool) → states ≡ sums.alive → 0 < k → IsAlike states pushed count k
+    → ((n : ℕ) → n < 64 → IsTrue (is_set states n) → less n ≡ drop k (pushed n)) → GivesAway states pushed k to to2 → count2 ≡ count - k → Settles most sums pushed count sums less count2 steps to to2 None
+settled_given most sums pushed count states steps k less count2 to to2 t w i f v u = record {
+  each = λ old lists before n x answer s o p e q a c g h.
+      subst (λ z. SteppedBy most sums less count2 z a c g x to to2 None) (sym q)
+      (made_given most old lists before n x sums answer sums.alive pushed states count (record { step = s; some = o; live_is = refl; push = p; states_is = t; count_is = e }) a c g h k less count2 to to2 w i f v u);
+}
+
+pub settled_forced : (most : ℕ) (sums : Sums) (pushed : ℕ → List Bool) (count states steps e : ℕ) (sums2 : Sums) (waits2 : ℕ → List Bool) (count2 k : ℕ) (to to2 : List Bool) → states ≡ sums.alive → most < count → k ≤ 0 → IsAlike states pushed count k → IsBest sums e → to2 ≡ to ++ pushed e
+    → sums2.alive ≡ 2 ^ e → slice_index sums2.cost e ≡ 0 → waits2 e ≡ [] → count2 ≡ 0 → Settles most sums pushed count sums2 waits2 count2 steps to to2 (Some steps)
+settled_forced most sums pushed count states steps e sums2 waits2 count2 k to to2 t w z i b v y u r d = record {
+  each = λ old lists before n x answer s o p f q a c g h.
+      subst (λ z. SteppedBy most sums2 waits2 count2 z a c g x to to2 (Some z)) (sym q)
+      (made_forced most old lists before n x sums answer sums.alive pushed states count (record { step = s; some = o; live_is = refl; push = p; states_is = t; count_is = f }) a c g h e sums2 waits2 count2 k to to2 w z i b v y u r d);
+}
+
 pub gave_all : (most : ℕ) (sums : Sums) (waits : ℕ → List Bool) (waiting steps : ℕ) (states k : ℕ) (less : ℕ → List Bool) (states2 count2 : ℕ) (to to2 : List Bool) → states ≡ sums.alive → IsAlike states waits waiting k
     → ((n : ℕ) → n < 64 → IsTrue (is_set states n) → less n ≡ drop k (waits n)) → GivesAway states waits k to to2 → count2 ≡ waiting - k
     → (a : Option (List Bool)) (c : List CostPair) (g : List Bool) → StandsBy most sums waits waiting steps a c g → GaveBy most sums less count2 steps a c g to to2
@@ -284,9 +313,21 @@ gave_all most sums waits waiting steps states k less states2 count2 to to2 q i f
       whole = r.0;
     }
 
-pub finished_all : (most : ℕ) (sums : Sums) (waits : ℕ → List Bool) (waiting steps : ℕ) (e : ℕ) (to to2 : List Bool) → IsBest sums e → to2 ≡ to ++ waits e
-    → (a : Option (List Bool)) (c : List CostPair) (g : List Bool) → StandsBy most sums waits waiting steps a c g → Finished most a c g to to2
-finished_all most sums waits waiting steps e to to2 b v a c g h = record { more = waits e; appended = v; whole = stands_ended most sums waits waiting steps a c g e h b }
+pub finished_all : (most : ℕ) (sums : Sums) (waits : ℕ → List Bool) (waiting steps : ℕ) (e : ℕ) (to to2 : List Bool) (d : DecoderState) → IsBest sums e → to2 ≡ to ++ waits e → d.steps ≡ steps → d.waiting ≡ 0 → d.sums.alive ≡ 2 ^ e
+    → (a : Option (List Bool)) (c : List CostPair) (g : List Bool) → StandsBy most sums waits waiting steps a c g → Finished most d a c g to to2
+finished_all most sums waits waiting steps e to to2 d b v n w o a c g h =
+    let only : IsOnly d.sums.alive e = subst (λ y. IsOnly y e) (sym o) (power_only e) in
+    let t = h.tracks.least e b.below b.lives in
+    record {
+      more = waits e;
+      appended = v;
+      stands = record {
+        bits = stands_ended most sums waits waiting steps a c g e h b;
+        steps = n ∙ h.counts;
+        waiting = w;
+        lives = λ k i. (λ u. ap register (eqb-true k e (sym (only.lives k i) ∙ u)) ∙ sym t.ends, λ u. only.lives k i ∙ eq-eqb k e (same_register k e i b.below (u ∙ t.ends)));
+      };
+    }
 
 pub new_zero : (most : ℕ) (sums : Sums) (waits : ℕ → List Bool) (count states : ℕ) → SomeAlive sums → sums.alive ≡ 2 ^ 0 → slice_index sums.cost 0 ≡ 0 → states ≡ sums.alive → ((n : ℕ) → n < 64 → IsTrue (is_set states n) → waits n ≡ []) → count ≡ 0
     → StandsBy most sums waits count 0 (Some (register 0)) [] []

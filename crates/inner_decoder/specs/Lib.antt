@@ -4,3 +4,4 @@ pub mod Tracking
 pub mod Starts
 pub mod Events
 pub mod Running
+pub mod Settling

@@ -1,5 +1,5 @@
 -- What a decoder has made of a stream of costs.
-use Rattle.std.specs.Prelude.{◌≡◌, ℕ, ◌+◌, ◌<◌, ◌≤◌, Bool, false, List, [], ◌∷◌, ◌++◌, length, drop, slice_index, IsTrue}
+use Rattle.std.specs.Prelude.{◌≡◌, ℕ, ◌+◌, ◌<◌, ◌≤◌, Bool, false, List, [], ◌∷◌, ◌++◌, length, drop, slice_index, IsTrue, ◌↔◌}
 use Rattle.std.specs.declared.option.Option.{Option}
 use Rattle.std.specs.Option.{option_to_list, IfSome}
 use Rattle.code_paths.specs.declared.costs.CostPair.{CostPair}
@@ -9,9 +9,10 @@ use Rattle.code_paths.specs.States.{register}
 use Rattle.acs_plain.specs.Steps.{alive, SomeAlive}
 use Rattle.code_paths.specs.Streams.{Part, IsCut, IsPrefix, bits_of, Reports, Given, Ended}
 use Rattle.inner_decoder.specs.Seen.{DecoderState, row_of}
+use Rattle.inner_decoder.specs.Metrics.{NeverWrap}
 
 -- The alive states are those that a path of the open part reaches. The sums are the totals of the least paths, less one
--- number. The bits of these paths are those of the part that were given out, and those that wait.
+-- number, and never wrap. The bits of these paths are those of the part that were given out, and those that wait.
 pub record Tracks (b : Option (List Bool)) (d : List CostPair) (gave : List Bool) (sums : Sums) (waits : ℕ → List Bool) (waiting : ℕ) : Type 0 where
   pub less : ℕ
   pub path : ℕ → List Bool
@@ -20,6 +21,7 @@ pub record Tracks (b : Option (List Bool)) (d : List CostPair) (gave : List Bool
   pub cost : (n : ℕ) → n < 64 → IsTrue (alive sums n) → slice_index sums.cost n + less ≡ total d (path n)
   pub bits : (n : ℕ) → n < 64 → IsTrue (alive sums n) → drop 6 (path n) ≡ gave ++ waits n
   pub none : (n : ℕ) → n < 64 → alive sums n ≡ false → Unreached b d (register n)
+  pub bounded : NeverWrap b (length d) sums
 
 -- Sums, waiting bits and a number of steps are what comes of the costs c from the start a where the bits g were given out.
 pub record StandsBy (most : ℕ) (sums : Sums) (waits : ℕ → List Bool) (waiting steps : ℕ) (a : Option (List Bool)) (c : List CostPair) (g : List Bool) : Type 0 where
@@ -55,8 +57,16 @@ pub record Gave (most : ℕ) (d : DecoderState) (a : Option (List Bool)) (c : Li
   pub stands : Stands most d a c (g ++ more)
   pub whole : Given most a c (g ++ more)
 
--- what the last call makes of it: exactly the bits at the end
-pub record Finished (most : ℕ) (a : Option (List Bool)) (c : List CostPair) (g : List Bool) (old new : List Bool) : Type 0 where
+-- The decoder d has ended, and stands for the start a, the costs c that it took, and the bits g that it appended: exactly the
+-- bits at the end. No bit waits. One state is alive: the last six bits of the path.
+pub record StandsEnded (most : ℕ) (d : DecoderState) (a : Option (List Bool)) (c : List CostPair) (g : List Bool) : Type 0 where
+  pub bits : Ended most a c g
+  pub steps : d.steps ≡ length c
+  pub waiting : d.waiting ≡ 0
+  pub lives : (n : ℕ) → n < 64 → IsTrue (alive d.sums n) ↔ (register n ≡ drop (length bits.costs) bits.path)
+
+-- what the last call makes of it
+pub record Finished (most : ℕ) (d : DecoderState) (a : Option (List Bool)) (c : List CostPair) (g : List Bool) (old new : List Bool) : Type 0 where
   pub more : List Bool
   pub appended : new ≡ old ++ more
-  pub whole : Ended most a c (g ++ more)
+  pub stands : StandsEnded most d a c (g ++ more)

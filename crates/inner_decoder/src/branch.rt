@@ -49,8 +49,11 @@ fn run<A: Acs, V: Survivors<2048>>(
     ensures amount { length to.new + decoder.new.waiting ≡ length to.old + decoder.old.waiting + length pairs.now }
     ensures ran { (a : Option (List Bool)) (c : List CostPair) (g : List Bool) → Stands 2048 decoder.old a c g → Ran 2048 decoder.new a c g pairs.now to.old to.new (ats events.new.items) }
 {
-    for k in 0..pairs.len() {
-        note(events, decoder.step(pairs[k], to));
+    let mut taken = 0;
+    while taken < pairs.len() {
+        let (count, report) = decoder.run_slice(&pairs[taken..], to);
+        note(events, report);
+        taken += count;
     }
 }
 
@@ -220,7 +223,7 @@ impl<A: Acs, V: Survivors<2048>> Branch<A, V> {
         ensures steps { self.new.decoder.steps ≡ self.old.decoder.steps }
         ensures rest { self.new ≡ record self.old { decoder = self.new.decoder; wait = self.new.wait } }
         ensures amount { length self.new.wait ≡ length self.old.wait + self.old.decoder.waiting }
-        ensures finished { (a : Option (List Bool)) (c : List CostPair) (g : List Bool) → Stands 2048 self.old.decoder a c g → Finished 2048 a c g self.old.wait self.new.wait }
+        ensures finished { (a : Option (List Bool)) (c : List CostPair) (g : List Bool) → Stands 2048 self.old.decoder a c g → Finished 2048 self.new.decoder a c g self.old.wait self.new.wait }
     {
         self.decoder.finish(&mut self.wait);
     }

@@ -1,11 +1,13 @@
 // The decoder.
-ghost use Rattle.std.specs.Prelude.{◌≡◌, ◌+◌, ◌*◌, ◌<◌, ◌≤◌, ◌^◌, ℕ, Bool, List, [], false, true, length, IfOk};
+ghost use Rattle.std.specs.Prelude.{◌≡◌, ◌+◌, ◌-◌, ◌*◌, ◌<◌, ◌≤◌, ◌^◌, ℕ, Bool, List, [], false, true, length, take, IfOk};
 ghost use Rattle.std.specs.declared.option.Option.{Option};
 ghost use Rattle.std.specs.Option.{option_to_list};
 ghost use Rattle.code_paths.specs.declared.costs.CostPair.{CostPair};
 ghost use Rattle.code_paths.specs.Streams.{Reports};
 ghost use Rattle.inner_decoder.specs.Tracking.{Stands, Stepped, Gave, Finished};
 ghost use Rattle.inner_decoder.specs.Events.{at_of};
+ghost use Rattle.inner_decoder.specs.Running.{Ran};
+ghost use Rattle.inner_decoder.specs.Settling.{IsAdvanced, Settles};
 
 use crate::held::Held;
 use crate::metric::Metric;
@@ -33,10 +35,64 @@ pub struct Unmerged {
     pub at: u64,
 }
 
+/// How many steps a slice has at most.
+const SLICE: usize = 512;
+
+/// Steps on each of the pairs in order, where all states are alive; the words are the decision words.
+fn advance<A: Acs, V: Survivors<L>, const L: usize>(
+    metric: &mut Metric,
+    survivors: &mut Held<V, L>,
+    pairs: &[CostPair],
+    words: &mut [u64],
+)
+    requires all { metric.old.alive ≡ 2 ^ 64 - 1 }
+    requires tied { V.states survivors.old.inner.value ≡ metric.old.alive }
+    requires size { length words.old ≡ length pairs.now }
+    requires room { V.count survivors.old.inner.value + length pairs.now ≤ L + 1 }
+    ensures tied { V.states survivors.new.inner.value ≡ metric.new.alive }
+    ensures count { V.count survivors.new.inner.value ≡ V.count survivors.old.inner.value + length pairs.now }
+    ensures advanced { IsAdvanced metric.old (V.list survivors.old.inner.value) pairs.now metric.new (V.list survivors.new.inner.value) }
+{
+    metric.run::<A>(pairs, words);
+    survivors.push_all(words);
+}
+
+/// What follows a step, the one of this number: bits are given, or a report is made, where more than `L` bits wait.
+fn settle<V: Survivors<L>, const L: usize>(
+    metric: &mut Metric,
+    survivors: &mut Held<V, L>,
+    steps: u64,
+    to: &mut WaitBuf,
+) -> Option<Unmerged>
+    requires tied { V.states survivors.old.inner.value ≡ metric.old.alive }
+    requires few { V.count survivors.old.inner.value ≤ L + 1 }
+    requires room { length to.old + L < 36864 }
+    ensures tied { V.states survivors.new.inner.value ≡ metric.new.alive }
+    ensures few { V.count survivors.new.inner.value ≤ L }
+    ensures amount { length to.new + V.count survivors.new.inner.value ≡ length to.old + V.count survivors.old.inner.value }
+    ensures spaced { V.count survivors.new.inner.value + (L + 1) * length (option_to_list result) ≤ V.count survivors.old.inner.value }
+    ensures settles { Settles L metric.old (V.list survivors.old.inner.value) (V.count survivors.old.inner.value) metric.new (V.list survivors.new.inner.value) (V.count survivors.new.inner.value) steps to.old to.new (at_of result) }
+{
+    if (survivors.waiting() as usize) <= L {
+        return None;
+    }
+    let shared = survivors.shared();
+    if shared > 0 {
+        survivors.give(shared, to);
+        return None;
+    }
+    let end = metric.best();
+    survivors.force(end, to);
+    *metric = Metric::only(end);
+    Some(Unmerged { at: steps })
+}
+
 /// A decoder of a stream of cost pairs with a path memory of `L` steps, 1 to 2048.
 ///
 /// It stands for a start, the list of the cost pairs that it took, and the list of the bits that it appended. It gives a
-/// bit once the least paths to all alive registers agree on it. No call but `new` takes memory.
+/// bit once the least paths to all alive registers agree on it. Its sums never wrap, however long the stream is: no two of
+/// them differ by more than 49,140, and which states are alive follows from the start of the part and the steps since. No
+/// call but `new` takes memory.
 #[derive(Drop)]
 pub struct Decoder<A: Acs, V: Survivors<L>, const L: usize> {
     metric: Metric,
@@ -101,18 +157,42 @@ impl<A: Acs, V: Survivors<L>, const L: usize> Decoder<A, V, L> {
         let decisions = self.metric.step::<A>(pair);
         self.survivors.push(decisions, self.metric.alive());
         self.steps += 1;
-        if (self.survivors.waiting() as usize) <= L {
-            return None;
+        settle(&mut self.metric, &mut self.survivors, self.steps, to)
+    }
+
+    /// Takes the first of these pairs in order, as many as can come before the next look for a report, and answers how many
+    /// it took. Bits are appended and a report is answered as by `step` on each of them: only the last one can have a report.
+    ///
+    /// There must be a pair, room for `L + 1` bits, and fewer than 2^62 steps so far; the decoder has not ended.
+    pub fn run_slice(&mut self, pairs: &[CostPair], to: &mut WaitBuf) -> (usize, Option<Unmerged>)
+        requires some { 0 < length pairs.now }
+        requires going { self.old.ended ≡ false }
+        requires steps { self.old.steps < 2 ^ 62 }
+        requires room { length to.old + L < 36864 }
+        ensures some { 0 < result.0 }
+        ensures within { result.0 ≤ length pairs.now }
+        ensures going { self.new.ended ≡ false }
+        ensures steps { self.new.steps ≡ self.old.steps + result.0 }
+        ensures few { self.new.waiting ≤ L }
+        ensures amount { length to.new + self.new.waiting ≡ length to.old + self.old.waiting + result.0 }
+        ensures spaced { self.new.waiting + (L + 1) * length (option_to_list result.1) ≤ self.old.waiting + result.0 }
+        ensures ran { (a : Option (List Bool)) (c : List CostPair) (g : List Bool) → Stands L self.old a c g → Ran L self.new a c g (take result.0 pairs.now) to.old to.new (option_to_list (at_of result.1)) }
+    {
+        if self.metric.alive() != u64::MAX {
+            return (1, self.step(pairs[0], to));
         }
-        let shared = self.survivors.shared();
-        if shared > 0 {
-            self.survivors.give(shared, to);
-            return None;
-        }
-        let end = self.metric.best();
-        self.survivors.force(end, to);
-        self.metric = Metric::only(end);
-        Some(Unmerged { at: self.steps })
+        let before = self.survivors.waiting() as usize;
+        let count = pairs.len().min(L + 1 - before).min(SLICE);
+        let mut words = [0u64; SLICE];
+        advance::<A, V, L>(
+            &mut self.metric,
+            &mut self.survivors,
+            &pairs[..count],
+            &mut words[..count],
+        );
+        self.steps += count as u64;
+        let report = settle(&mut self.metric, &mut self.survivors, self.steps, to);
+        (count, report)
     }
 
     /// Appends the bits that all alive paths share: all bits appended are then exactly the bits given of the definition.
@@ -142,7 +222,7 @@ impl<A: Acs, V: Survivors<L>, const L: usize> Decoder<A, V, L> {
         ensures steps { self.new.steps ≡ self.old.steps }
         ensures waiting { self.new.waiting ≡ 0 }
         ensures amount { length to.new ≡ length to.old + self.old.waiting }
-        ensures finished { (a : Option (List Bool)) (c : List CostPair) (g : List Bool) → Stands L self.old a c g → Finished L a c g to.old to.new }
+        ensures finished { (a : Option (List Bool)) (c : List CostPair) (g : List Bool) → Stands L self.old a c g → Finished L self.new a c g to.old to.new }
     {
         let last = self.metric.best();
         self.survivors.force(last, to);

@@ -31,6 +31,10 @@ impl<V: Survivors<L>, const L: usize> Survivors<L> for Held<V, L> {
         self.inner.push(decisions, alive);
     }
 
+    fn push_all(&mut self, decisions: &[u64]) {
+        self.inner.push_all(decisions);
+    }
+
     fn shared(&self) -> u32 {
         self.inner.shared()
     }

@@ -1,6 +1,6 @@
 // Path metrics that never leave 32 bits.
-ghost use Rattle.std.specs.Prelude.{◌≡◌, ◌<◌, ◌≤◌, ◌^◌, ℕ, IsTrue, slice_index};
-ghost use Rattle.acs_plain.specs.Steps.{IsStep, SomeAlive, alive};
+ghost use Rattle.std.specs.Prelude.{◌≡◌, ◌<◌, ◌≤◌, ◌-◌, ◌^◌, ℕ, IsTrue, length, slice_index};
+ghost use Rattle.acs_plain.specs.Steps.{IsStep, AreSteps, SomeAlive, alive};
 ghost use Rattle.inner_decoder.specs.Metrics.{IsBest};
 
 use acs_plain::{Acs, Sums};
@@ -15,7 +15,7 @@ pub(crate) struct Metric {
 
 impl Model for Metric {
     ghost use Rattle.acs_plain.specs.declared.sums.Sums.{Sums};
-    ghost use Rattle.inner_decoder.specs.Metrics.{IsSpread};
+    ghost use Rattle.acs_plain.specs.Spread.{IsSpread};
 
     ghost Value = { Sums };
 
@@ -66,6 +66,20 @@ impl Metric {
         ensures some { SomeAlive self.new }
     {
         A::step(&mut self.sums, pair)
+    }
+
+    /// A step of the decoder on each of the pairs in order, where all states are alive; the words are the decision words.
+    pub(crate) fn run<A: Acs>(&mut self, pairs: &[CostPair], words: &mut [u64])
+        requires all { self.old.alive ≡ 2 ^ 64 - 1 }
+        requires size { length words.old ≡ length pairs.now }
+        ensures all { self.new.alive ≡ 2 ^ 64 - 1 }
+        ensures size { length words.new ≡ length pairs.now }
+        ensures steps { AreSteps self.old pairs.now self.new words.new }
+        ensures some { SomeAlive self.new }
+    {
+        A::run(&mut self.sums, pairs, words);
+        let is_full = self.alive() == u64::MAX;
+        prove!(is_full);
     }
 
     /// The alive state of least cost, the lowest one of several.

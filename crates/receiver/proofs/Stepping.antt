@@ -18,7 +18,7 @@ use Rattle.inner_decoder.specs.declared.decoder.StartState.{StartState}
 use Rattle.inner_decoder.specs.declared.decoder.StartState.TheVariants.{Zero, Any}
 use Rattle.reception.specs.Laws.{NothingGiven}
 use Rattle.inner_decoder.specs.Seen.{DecoderState}
-use Rattle.inner_decoder.specs.Tracking.{Stands}
+use Rattle.inner_decoder.specs.Tracking.{Stands, StandsEnded}
 use Rattle.inner_decoder.specs.Tracking as tracking
 use Rattle.inner_decoder.specs.Running.{BranchState, RanSymbol}
 use Rattle.outer_chain.specs.Bits.{bytes_of, ByteOfBits}
@@ -106,13 +106,13 @@ symbol_gave old loaded ran new outer next before between after xs events to more
 
 -- the end: what was left was decoded and given on
 pub finish_gave : (old ended new : BranchState) (outer next : Receiver) (before after : StreamCounts) (to more : List ℕ)
-    → ended ≡ record old { decoder = ended.decoder; wait = ended.wait } → ended.decoder.ended ≡ true → ended.decoder.steps ≡ old.decoder.steps
-    → ((a : Option (List Bool)) (c : List CostPair) (g : List Bool) → Stands memory old.decoder a c g → tracking.Finished memory a c g old.wait ended.wait)
+    → ended ≡ record old { decoder = ended.decoder; wait = ended.wait } → ended.decoder.ended ≡ true
+    → ((a : Option (List Bool)) (c : List CostPair) (g : List Bool) → Stands memory old.decoder a c g → tracking.Finished memory ended.decoder a c g old.wait ended.wait)
     → new ≡ record ended { wait = new.wait } → length new.wait < 8
     → ((bytes given : List ℕ) (tally : Tally) → Finished outer bytes given tally (word_count bytes) → Gives ended.wait new.wait next bytes given tally to more before after)
     → (a : Option (List Bool)) (c : List CostPair) (given : List ℕ) (tally : Tally) (steps : List ℕ) → StreamStands so_far (record { branch = old; outer = outer; counts = before }) a c given tally steps
     → StreamGave at_end (record { branch = new; outer = next; counts = after }) a c given steps to more
-finish_gave old ended new outer next before after to more kept is_ended steps_is finish rest few give a c given tally steps h =
+finish_gave old ended new outer next before after to more kept is_ended finish rest few give a c given tally steps h =
     let f = finish a c h.bits h.decoder.1 in
     let g = give h.bytes given tally h.finished in
     let same : new.decoder ≡ ended.decoder = ap (λ (z : BranchState). z.decoder) rest in
@@ -122,8 +122,8 @@ finish_gave old ended new outer next before after to more kept is_ended steps_is
       tally = g.now;
       stands = record {
         bits = h.bits ++ f.more;
-        decoder = (ap (λ (z : DecoderState). z.ended) same ∙ is_ended, ap (λ (z : DecoderState). z.steps) same ∙ steps_is ∙ h.decoder.1.counts);
-        decoded = f.whole;
+        decoder = (ap (λ (z : DecoderState). z.ended) same ∙ is_ended, subst (λ (z : DecoderState). StandsEnded memory z a c (h.bits ++ f.more)) (sym same) f.stands);
+        decoded = f.stands.bits;
         loaded = ap (λ (z : BranchState). z.loaded) rest ∙ ap (λ (z : BranchState). z.loaded) kept ∙ h.loaded;
         bytes = h.bytes ++ g.more;
         taken = rejoined h.bits h.bytes g.more old.wait f.more ended.wait new.wait h.taken f.appended g.bits;

@@ -6,7 +6,7 @@ use Rattle.bit_pack.specs.Queue.{bits_of_bytes}
 use Rattle.mode_set.specs.declared.modes.Stream.{Stream}
 use Rattle.inner_decoder.specs.Seen.{DecoderState}
 use Rattle.inner_decoder.specs.Running.{BranchState}
-use Rattle.inner_decoder.specs.Tracking.{Stands}
+use Rattle.inner_decoder.specs.Tracking.{Stands, StandsEnded}
 use Rattle.outer_chain.specs.Running.{Finished}
 use Rattle.outer_chain.specs.Words.{Tally, word_count}
 use Rattle.reception.specs.Cells.{symbols}
@@ -22,10 +22,11 @@ abbrev pub is_end : Moment → Bool
 is_end so_far = false
 is_end at_end = true
 
--- a decoder that goes on stands for the costs and the bits given; one that has ended has made a step for each of the costs
+-- A decoder that goes on stands for the costs and the bits given. One that has ended stands for the costs and the bits at the
+-- end: no bit waits, and the one state that is alive is the last six bits of the path.
 abbrev pub DecoderStands : Moment → DecoderState → Option (List Bool) → List CostPair → List Bool → Type 0
 DecoderStands so_far d a c bits = (d.ended ≡ false) × Stands memory d a c bits
-DecoderStands at_end d a c bits = (d.ended ≡ true) × (d.steps ≡ length c)
+DecoderStands at_end d a c bits = (d.ended ≡ true) × StandsEnded memory d a c bits
 
 -- A stream stands for a start, the costs that it was given, and what it gave: the bytes of packets, the counts of words and the
 -- reports. Its bits are those that the definitions give for these costs: whole bytes of them were taken, fewer than eight wait.

@@ -17,15 +17,16 @@ use crate::RxOut;
 use crate::frames::FrameReader;
 use crate::stream::StreamRx;
 use crate::symbol::SymbolRx;
-use crate::words::StreamBranch;
+use acs_lanes::LaneAcs;
 use frame_build::SymbolIn;
 use inner_chain::InnerRx;
-use inner_decoder::StartState;
+use inner_decoder::{Branch, StartState};
 use mode_set::{Carriers, Settings, Start, Stream};
 use rx_report::{Counts, StreamCounts};
 use std::alloc::{AllocError, Global};
 use std::marker::Model;
 use std::thread::Threads;
+use survivor_ring::RingSurvivors;
 use word_workers::{Gate, OpenGate};
 
 // The start of the decoders.
@@ -220,8 +221,9 @@ impl<M: Carriers> Receiver<M> {
         }
     }
 
-    /// The inner decoder of a stream that exists, also after `finish`.
-    pub fn branch(&self, stream: Stream) -> &StreamBranch
+    /// The inner decoder of a stream that exists. It stands for the costs of the whole symbols and the bits given of them, and
+    /// after `finish` for the bits at the end: no bit waits then, and one state is alive, the last six bits of the path.
+    pub fn branch(&self, stream: Stream) -> &Branch<LaneAcs, RingSurvivors<2048>>
         requires exists { IsTrue (has_stream self.now.settings.hierarchy stream) }
         ensures branch { result.now ≡ (stream_of self.now stream).branch }
         ensures loaded { (moment : Moment) (bytes : List ℕ) (r : Reception) → StandsFor moment self.now bytes r → result.now.loaded ≡ [] }

@@ -2,3 +2,4 @@ mod Bytes
 pub mod RowSteps
 mod Words
 mod Walks
+mod AllAlive

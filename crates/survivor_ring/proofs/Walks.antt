@@ -23,7 +23,7 @@ pub trace_length : (ws : List ℕ) (n : ℕ) → length (trace ws n) ≡ length 
 trace_length [] n = refl
 trace_length (d ∷ ws) n = ap suc (trace_length ws n)
 
-root_push : (ws : List ℕ) (d n : ℕ) → root (ws ++ d ∷ []) n ≡ root ws (before d n)
+pub root_push : (ws : List ℕ) (d n : ℕ) → root (ws ++ d ∷ []) n ≡ root ws (before d n)
 root_push [] d n = refl
 root_push (w ∷ ws) d n = ap (before w) (root_push ws d n)
 
@@ -37,7 +37,7 @@ root_append [] vs n = refl
 root_append (w ∷ ws) vs n = ap (before w) (root_append ws vs n)
 
 -- the bits of older words for the state before the newer ones, and the bits of these
-trace_append : (ws vs : List ℕ) (n : ℕ) → trace (ws ++ vs) n ≡ trace ws (root vs n) ++ trace vs n
+pub trace_append : (ws vs : List ℕ) (n : ℕ) → trace (ws ++ vs) n ≡ trace ws (root vs n) ++ trace vs n
 trace_append [] vs n = refl
 trace_append (w ∷ ws) vs n = ap₂ (λ x xs. is_set x 5 ∷ xs) (root_append ws vs n) (trace_append ws vs n)
 

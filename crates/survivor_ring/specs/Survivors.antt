@@ -2,6 +2,7 @@
 use Rattle.std.specs.Prelude.{◌≡◌, ℕ, ◌<◌, ◌≤◌, Bool, List, [], ◌∷◌, ◌++◌, ◌||◌, take, IsTrue}
 use Rattle.spec_words.specs.Bits.{is_set}
 use Rattle.code_paths.specs.States.{even_of, odd_of, before}
+use Rattle.survivor_ring.specs.Ring.{root, trace}
 
 -- after a step each alive state has the bits of the state before, and its own newest bit
 pub record IsPushed (old : ℕ → List Bool) (word : ℕ) (live : ℕ) (new : ℕ → List Bool) : Type 0 where
@@ -11,6 +12,11 @@ pub record IsPushed (old : ℕ → List Bool) (word : ℕ) (live : ℕ) (new : �
 pub record IsFollowed (old word live : ℕ) : Type 0 where
   pub lives : (n : ℕ) → n < 64 → is_set live n ≡ (is_set old (even_of n) || is_set old (odd_of n))
   pub chose : (n : ℕ) → n < 64 → IsTrue (is_set live n) → IsTrue (is_set old (before word n))
+
+-- after steps on the words in order each state has the bits of the state that the words lead back to, and those of the
+-- states on the way
+pub record AreAllPushed (old : ℕ → List Bool) (words : List ℕ) (new : ℕ → List Bool) : Type 0 where
+  pub each : (n : ℕ) → n < 64 → new n ≡ old (root words n) ++ trace words n
 
 -- the first k bits of all alive states are the same
 abbrev pub AreAlike : ℕ → (ℕ → List Bool) → ℕ → Type 0

@@ -143,6 +143,14 @@ fn push_word(words: &mut HeapCircularBuffer<u64>, word: u64)
     words.push_back(word);
 }
 
+fn push_words(words: &mut HeapCircularBuffer<u64>, more: &[u64])
+    requires { length words.old.items + length more.now ≤ words.old.capacity }
+    ensures items { words.new.items ≡ words.old.items ++ more.now }
+    ensures capacity { words.new.capacity ≡ words.old.capacity }
+{
+    words.extend_from_slice(more);
+}
+
 fn drop_words(words: &mut HeapCircularBuffer<u64>, number: usize)
     requires { number ≤ length words.old.items }
     ensures items { words.new.items ≡ drop number words.old.items }
@@ -202,6 +210,10 @@ impl<const L: usize> Survivors<L> for RingSurvivors<L> {
     fn push(&mut self, decisions: u64, alive: u64) {
         push_word(&mut self.words, decisions);
         self.states = alive;
+    }
+
+    fn push_all(&mut self, decisions: &[u64]) {
+        push_words(&mut self.words, decisions);
     }
 
     fn shared(&self) -> u32 {

@@ -1,7 +1,7 @@
 // What survivors are.
 ghost use Rattle.std.specs.Prelude.{◌≡◌, ◌≢◌, ◌+◌, ◌-◌, ◌<◌, ◌≤◌, ◌^◌, ℕ, Bool, List, [], ◌++◌, length, drop, IfOk, IsTrue};
 ghost use Rattle.spec_words.specs.Bits.{is_set};
-ghost use Rattle.survivor_ring.specs.Survivors.{IsPushed, IsFollowed, AreAlike, IsAlike, GivesAway};
+ghost use Rattle.survivor_ring.specs.Survivors.{IsPushed, IsFollowed, AreAllPushed, AreAlike, IsAlike, GivesAway};
 
 use bit_pack::WaitBuf;
 use std::alloc::{AllocError, Global};
@@ -40,6 +40,20 @@ pub trait Survivors<const L: usize>: Drop {
         ensures states { states self.new ≡ alive }
         ensures count { count self.new ≡ count self.old + 1 }
         ensures list { IsPushed (list self.old) decisions alive (list self.new) };
+
+    /// Takes a step on each of the decision words in order, where all states are alive; they are so after each. At most
+    /// `L + 1` bits may wait then.
+    fn push_all(&mut self, decisions: &[u64])
+        requires all { states self.old ≡ 2 ^ 64 - 1 }
+        requires room { count self.old + length decisions.now ≤ L + 1 }
+        ensures states { states self.new ≡ states self.old }
+        ensures count { count self.new ≡ count self.old + length decisions.now }
+        ensures list { AreAllPushed (list self.old) decisions.now (list self.new) }
+    {
+        for k in 0..decisions.len() {
+            self.push(decisions[k], u64::MAX);
+        }
+    }
 
     /// The length of the longest common prefix of the lists of all alive states.
     fn shared(&self) -> u32

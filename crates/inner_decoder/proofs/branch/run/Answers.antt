@@ -1,23 +1,28 @@
-use Rattle.std.proofs.Common.{◌≡◌, ◌∙◌, arith, sym, ap, subst, [], ◌∷◌, ◌++◌, length, take, length-take-le}
-use Rattle.std.proofs.lemmas.List.{take_all, take_more}
-use Rattle.code_paths.specs.declared.costs.CostPair.{CostPair}
+use Rattle.std.proofs.Common.{◌≡◌, ◌∙◌, ◌-◌, arith, sym, ap, subst, ◌++◌, length, take, drop, length-take-le, length-drop}
+use Rattle.std.proofs.Math.Seq.{take-add}
+use Rattle.std.proofs.lemmas.List.{take_all}
 use Rattle.inner_decoder.specs.Running.{Ran}
 use Rattle.inner_decoder.specs.Events.{ats}
 use Rattle.inner_decoder.proofs.Runs.{runs_none, runs_more}
 use Rattle.inner_decoder.proofs.branch.run.Goals as goal
 
-pub loop-k-init : goal.loop-k-init
-loop-k-init g c = runs_none 2048 _ _ _ c.requires.going (ap ats c.requires.none) c.requires.waiting
+pub loop-taken-init : goal.loop-taken-init
+loop-taken-init g c = (omega arith, runs_none 2048 _ _ _ c.requires.going (ap ats c.requires.none) c.requires.waiting)
 
-pub step-requires : goal.step-requires
-step-requires g c =
-    let l : length (take c.loop-k.k c.args.pairs.now) ≡ c.loop-k.k = length-take-le c.loop-k.k c.args.pairs.now (omega (arith, c.loop-k-test.true)) in
-    (omega arith, (c.loop-k.invariant.going, (omega (arith, c.loop-k.invariant.steps_is, l, c.requires.steps, c.requires.few, c.loop-k-test.true), omega (arith, c.loop-k.invariant.amount, l, c.requires.room, c.requires.few, c.loop-k-test.true, c.requires.waiting))))
-
-pub loop-k-preserved : goal.loop-k-preserved
-loop-k-preserved g c = runs_more 2048 _ _ _ _ _ _ c.loop-k.invariant c.index-pairs-k.result _ _ c.step.result _ _ c.step.ensures.going c.step.ensures.steps c.step.ensures.amount c.step.ensures.spaced c.step.ensures.few c.step.ensures.stepped c.note.ensures (take_more c.args.pairs.now c.loop-k.k c.index-pairs-k.result c.loop-k-test.true ∙ ap (λ (z : CostPair). take c.loop-k.k c.args.pairs.now ++ z ∷ []) (sym c.index-pairs-k.is))
+pub loop-taken-preserved : goal.loop-taken-preserved
+loop-taken-preserved g c =
+    let k = c.loop-taken.taken in
+    let n = c.run_slice-count.result.0 in
+    let xs = c.args.pairs.now in
+    let rest = take (length xs - k) (drop k xs) in
+    let e : rest ≡ drop k xs = take_all (length xs - k) (drop k xs) (omega (arith, length-drop k xs)) in
+    let l : length (take n rest) ≡ n = length-take-le n rest c.run_slice-count.ensures.within in (
+      omega (arith, ap length e, length-drop k xs, c.run_slice-count.ensures.within, c.loop-taken.invariant.0),
+      runs_more 2048 _ _ _ _ _ _ c.loop-taken.invariant.1 (take n rest) n _ _ c.run_slice-count.result.1 _ _ l c.run_slice-count.ensures.going c.run_slice-count.ensures.steps c.run_slice-count.ensures.amount c.run_slice-count.ensures.spaced c.run_slice-count.ensures.few c.run_slice-count.ensures.ran c.note.ensures
+          (take-add k n xs ∙ ap (λ z. take k xs ++ take n z) (sym e)),
+    )
 
 pub returns-clause-ran : goal.returns-clause-ran
 returns-clause-ran g c = λ a s b h.
-    let e : take c.loop-k.k c.args.pairs.now ≡ c.args.pairs.now = take_all c.loop-k.k c.args.pairs.now c.loop-k-test.false in
-    subst (λ z. Ran 2048 c.loop-k.decoder a s b z c.args.to.now c.loop-k.to (ats c.loop-k.events.items)) e (c.loop-k.invariant.ran a s b h)
+    let e : take c.loop-taken.taken c.args.pairs.now ≡ c.args.pairs.now = take_all c.loop-taken.taken c.args.pairs.now c.loop-taken-test.false in
+    subst (λ z. Ran 2048 c.loop-taken.decoder a s b z c.args.to.now c.loop-taken.to (ats c.loop-taken.events.items)) e (c.loop-taken.invariant.1.ran a s b h)

@@ -1,6 +1,6 @@
 use Rattle.std.proofs.Common.{subst}
 use Rattle.acs_plain.specs.Steps.{SomeAlive}
-use Rattle.inner_decoder.proofs.Spread.{spread_alive}
+use Rattle.acs_plain.proofs.Spread.{spread_alive}
 use Rattle.inner_decoder.proofs.metric.Metric.alive.Goals as goal
 
 pub returns-clause-some : goal.returns-clause-some

@@ -1,4 +1,4 @@
-use Rattle.inner_decoder.proofs.Spread.{spread_alive}
+use Rattle.acs_plain.proofs.Spread.{spread_alive}
 use Rattle.inner_decoder.proofs.metric.Metric.best.Goals as goal
 
 pub least-low-requires : goal.least-low-requires

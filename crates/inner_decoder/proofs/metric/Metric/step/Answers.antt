@@ -1,4 +1,4 @@
-use Rattle.inner_decoder.proofs.Spread.{spread_alive, spread_step}
+use Rattle.acs_plain.proofs.Spread.{spread_alive, spread_step}
 use Rattle.inner_decoder.proofs.metric.Metric.step.Goals as goal
 
 pub step-requires-clause-some : goal.step-requires-clause-some

@@ -9,7 +9,7 @@ use Rattle.acs_plain.specs.declared.sums.Sums.{Sums}
 use Rattle.code_paths.specs.Paths.{step_cost, parity_x, parity_y}
 use Rattle.code_paths.specs.States.{register}
 use Rattle.spec_words.specs.Bits.{is_set}
-use Rattle.inner_decoder.specs.Metrics.{IsSpread}
+use Rattle.acs_plain.specs.Spread.{IsSpread}
 use Rattle.acs_plain.specs.Steps.{alive, way, takes_odd, IsStep, SomeAlive, Close}
 use Rattle.code_paths.specs.States.{even_of, odd_of}
 use Rattle.code_paths.proofs.Registers.{all_below, all_below_at}
@@ -25,7 +25,7 @@ abbrev pub from : ℕ → ℕ → ℕ
 from z n = 2 * (n % 32) + z
 
 -- A state before n is alive where n lies in the next set, and its oldest bit is the fixed one.
-abbrev in_next : ℕ → ℕ → ℕ → Bool
+abbrev pub in_next : ℕ → ℕ → ℕ → Bool
 in_next f s n = eqb (n % 2 ^ (f - 1)) (s / 2)
 
 abbrev is_fixed : ℕ → ℕ → ℕ → Bool
@@ -116,7 +116,7 @@ module _ (old : Sums) (x : CostPair) (new : Sums) (answer : ℕ) (h : IsSpread o
   before_is : (z n : ℕ) → z < 2 → n < 64 → alive old (from z n) ≡ (in_next h.fixed h.start n && is_fixed h.fixed h.start z)
   before_is z n k l = h.lives (from z n) (from_small z n k) ∙ before_at h.fixed h.start z n h.few h.small k l
 
-  lives_next : (n : ℕ) → n < 64 → alive new n ≡ in_next h.fixed h.start n
+  pub lives_next : (n : ℕ) → n < 64 → alive new n ≡ in_next h.fixed h.start n
   lives_next n l =
       s.lives n l
       ∙ ap₂ (λ a b. a || b) (ap (alive old) (sym (from_even n)) ∙ before_is 0 n (lit< tt) l) (before_is 1 n (lit< tt) l)
@@ -149,7 +149,7 @@ module _ (old : Sums) (x : CostPair) (new : Sums) (answer : ℕ) (h : IsSpread o
   same_alive : (z m n : ℕ) → z < 2 → m < 64 → n < 64 → IsTrue (alive new m) → IsTrue (alive old (from z n)) → IsTrue (alive old (from z m))
   same_alive z m n k i l t u = before_is z m k i ∙ and_from _ _ (sym (lives_next m i) ∙ t) (and_parts _ _ (sym (before_is z n k l) ∙ u)).1
 
-  close_next : (k : ℕ) → k ≤ 6 → (m n : ℕ) → m < 64 → n < 64 → IsTrue (alive new m) → IsTrue (alive new n) → m % 2 ^ (6 - k) ≡ n % 2 ^ (6 - k) → slice_index new.cost m ≤ slice_index new.cost n + 8190 * k
+  pub close_next : (k : ℕ) → k ≤ 6 → (m n : ℕ) → m < 64 → n < 64 → IsTrue (alive new m) → IsTrue (alive new n) → m % 2 ^ (6 - k) ≡ n % 2 ^ (6 - k) → slice_index new.cost m ≤ slice_index new.cost n + 8190 * k
   close_next zero w m n i j t u e = let q : m ≡ n = omega arith in omega (arith, ap (λ z. slice_index new.cost z) q)
   close_next (suc k) w m n i j t u e =
       let z = taken n in

@@ -1,5 +1,5 @@
 use Rattle.acs_lanes.proofs.LaneLaws.{lanes_step, ready_settled, all_stay}
-use Rattle.acs_lanes.proofs.lanes.LaneAcsAcs.step.Goals as goal
+use Rattle.acs_lanes.proofs.lanes.step_one.Goals as goal
 
 pub returns : goal.returns
 returns c = record {

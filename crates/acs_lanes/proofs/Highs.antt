@@ -1,0 +1,144 @@
+-- The higher of two lanes, lanes that reach a number, and lanes less a number.
+use Rattle.std.proofs.Common.{◌≡◌, ℕ, zero, suc, ◌+◌, ◌-◌, ◌%◌, ◌^◌, ◌<◌, ◌≤◌, Bool, true, false, cond, not, List, [], ◌∷◌, map, length, get_or, replicate, ◌⊎◌, inl, inr, refl, sym, ap, ◌∙◌, arith, eqb, ltb, leb, true≢false, w16}
+use Rattle.std.proofs.lemmas.Simd.{tops_compared, get_or-zip2, get_or-sel_l, length-zip2, length-sel_l, mask_l-mod}
+use Rattle.std.proofs.lemmas.List.{get_or-replicate}
+use Rattle.std.proofs.lemmas.Bool.{cases_Bool, cases_lt, ltb-true, ltb-false, leb-true, leb-false, eq-eqb, eqb-true}
+use Rattle.std.specs.Simd.Lanes.{zip2, sel_l, mask_l, top}
+use Rattle.std.specs.Prelude.{slice_index, max, IsTrue, IsFalse}
+use Rattle.acs_lanes.specs.Lanes16.{AreLanes, AreLowered, HasHigh, joined}
+use Rattle.acs_lanes.proofs.Sums16.{less}
+use Rattle.acs_lanes.proofs.Quarters.{a_at, b_at, c_at, d_at, both_lanes}
+
+-- ---- the higher one
+
+abbrev higher : List ℕ → List ℕ → List ℕ
+higher xs ys = sel_l (less xs ys) ys xs
+
+module _ (xs ys : List ℕ) (lx : length xs ≡ 16) (ly : length ys ≡ 16) where
+  less_is : less xs ys ≡ zip2 ltb xs ys
+  less_is = tops_compared w16 ltb xs ys
+
+  less_len : length (less xs ys) ≡ 16
+  less_len = ap length less_is ∙ length-zip2 ltb xs ys (lx ∙ sym ly) ∙ lx
+
+  pub higher_len : length (higher xs ys) ≡ 16
+  higher_len = length-sel_l (less xs ys) ys xs (less_len ∙ sym ly) (less_len ∙ sym lx) ∙ less_len
+
+  higher_of : (x y : ℕ) → cond (ltb x y) y x ≡ max x y
+  higher_of x y = go (cases_Bool (ltb x y))
+    where
+      go : (ltb x y ≡ true) ⊎ (ltb x y ≡ false) → cond (ltb x y) y x ≡ max x y
+      go (inl h) = ap (λ b. cond b y x) h ∙ omega (arith, ltb-true x y h)
+      go (inr h) = ap (λ b. cond b y x) h ∙ omega (arith, ltb-false x y h)
+
+  pub higher_at : (k : ℕ) → k < 16 → get_or (higher xs ys) k 0 ≡ max (get_or xs k 0) (get_or ys k 0)
+  higher_at k l =
+      get_or-sel_l (less xs ys) ys xs k 0 (omega (arith, less_len)) (omega (arith, ly)) (omega (arith, lx))
+      ∙ ap (λ b. cond b (get_or ys k 0) (get_or xs k 0)) (ap (λ z. get_or z k false) less_is ∙ get_or-zip2 ltb xs ys k 0 0 false (omega (arith, lx)) (omega (arith, ly)))
+      ∙ higher_of (get_or xs k 0) (get_or ys k 0)
+
+-- ---- a lane that reaches a number
+
+some_set : (bs : List Bool) → (mask_l bs ≡ 0 → ⊥) → (k : ℕ) × (k < length bs) × (get_or bs k false ≡ true)
+some_set [] h = absurd (h refl)
+some_set (true ∷ bs) h = (0, omega arith, refl)
+some_set (false ∷ bs) h = let r = some_set bs (λ e. h (omega (arith, e))) in (suc r.0, omega (arith, r.1), r.2)
+
+none_set : (bs : List Bool) → mask_l bs ≡ 0 → (k : ℕ) → get_or bs k false ≡ false
+none_set [] h k = refl
+none_set (true ∷ bs) h k = absurd (omega (arith, h))
+none_set (false ∷ bs) h zero = refl
+none_set (false ∷ bs) h (suc k) = none_set bs (omega (arith, h)) k
+
+abbrev tops : List ℕ → List Bool
+tops xs = map (top 15) (zip2 (λ a b. cond (leb a b) 65535 0) (replicate 16 57330) xs)
+
+module _ (xs : List ℕ) (lx : length xs ≡ 16) where
+  tops_is : tops xs ≡ zip2 leb (replicate 16 57330) xs
+  tops_is = tops_compared w16 leb (replicate 16 57330) xs
+
+  tops_len : length (tops xs) ≡ 16
+  tops_len = ap length tops_is ∙ length-zip2 leb (replicate 16 57330) xs (sym lx) ∙ refl
+
+  tops_at : (k : ℕ) → k < 16 → get_or (tops xs) k false ≡ leb 57330 (get_or xs k 0)
+  tops_at k l =
+      ap (λ z. get_or z k false) tops_is ∙ get_or-zip2 leb (replicate 16 57330) xs k 0 0 false l (omega (arith, lx))
+      ∙ ap (λ z. leb z (get_or xs k 0)) (get_or-replicate 16 k 57330 0 l)
+
+  whole : mask_l (tops xs) % 2 ^ 64 ≡ mask_l (tops xs)
+  whole = mask_l-mod (tops xs) 64 (omega (arith, tops_len))
+
+  pub reaches_high : IsTrue (not (eqb (mask_l (tops xs) % 2 ^ 64) 0)) → (k : ℕ) × (k < 16) × (57330 ≤ slice_index xs k)
+  reaches_high t =
+      let r = some_set (tops xs) (λ e. true≢false (sym t ∙ ap not (eq-eqb (mask_l (tops xs) % 2 ^ 64) 0 (whole ∙ e)))) in
+      let l : r.0 < 16 = omega (arith, r.1, tops_len) in
+      (r.0, l, leb-true 57330 (get_or xs r.0 0) (sym (tops_at r.0 l) ∙ r.2))
+
+  is_zero : (n : ℕ) → not (eqb n 0) ≡ false → n ≡ 0
+  is_zero n t = go (eqb n 0) refl t
+    where
+      go : (b : Bool) → eqb n 0 ≡ b → not b ≡ false → n ≡ 0
+      go true e f = eqb-true n 0 e
+      go false e f = absurd (true≢false f)
+
+  pub reaches_low : IsFalse (not (eqb (mask_l (tops xs) % 2 ^ 64) 0)) → (k : ℕ) → k < 16 → slice_index xs k < 57330
+  reaches_low t k l = leb-false 57330 (get_or xs k 0) (sym (tops_at k l) ∙ none_set (tops xs) (sym whole ∙ is_zero (mask_l (tops xs) % 2 ^ 64) t) k)
+
+-- of four vectors
+
+module _ (a b c d p q m : List ℕ) (o : AreLanes a b c d) (fp : (k : ℕ) → k < 16 → slice_index p k ≡ max (slice_index a k) (slice_index b k)) (fq : (k : ℕ) → k < 16 → slice_index q k ≡ max (slice_index c k) (slice_index d k))
+    (fm : (k : ℕ) → k < 16 → slice_index m k ≡ max (slice_index p k) (slice_index q k)) where
+  pub some_high : (k : ℕ) × (k < 16) × (57330 ≤ slice_index m k) → HasHigh (joined a b c d)
+  some_high (k, l, h) = go (cases_lt (get_or a k 0) 57330) (cases_lt (get_or b k 0) 57330) (cases_lt (get_or c k 0) 57330)
+    where
+      go : (get_or a k 0 < 57330) ⊎ (57330 ≤ get_or a k 0) → (get_or b k 0 < 57330) ⊎ (57330 ≤ get_or b k 0) → (get_or c k 0 < 57330) ⊎ (57330 ≤ get_or c k 0) → HasHigh (joined a b c d)
+      go (inr x) y z = record { state = k; below = omega arith; is = omega (arith, x, a_at a b c d o.a_len o.b_len o.c_len o.d_len k l) }
+      go (inl x) (inr y) z = record { state = 16 + k; below = omega arith; is = omega (arith, y, b_at a b c d o.a_len o.b_len o.c_len o.d_len k l) }
+      go (inl x) (inl y) (inr z) = record { state = 32 + k; below = omega arith; is = omega (arith, z, c_at a b c d o.a_len o.b_len o.c_len o.d_len k l) }
+      go (inl x) (inl y) (inl z) = record { state = 48 + k; below = omega arith; is = omega (arith, x, y, z, h, fp k l, fq k l, fm k l, d_at a b c d o.a_len o.b_len o.c_len o.d_len k l) }
+
+  pub all_low : ((k : ℕ) → k < 16 → slice_index m k < 57330) → (n : ℕ) → n < 64 → slice_index (joined a b c d) n < 57330
+  all_low h =
+      both_lanes (λ x y. x < 57330) a b c d a b c d o.a_len o.b_len o.c_len o.d_len o.a_len o.b_len o.c_len o.d_len
+      (λ k l. omega (arith, h k l, fp k l, fm k l)) (λ k l. omega (arith, h k l, fp k l, fm k l)) (λ k l. omega (arith, h k l, fq k l, fm k l)) (λ k l. omega (arith, h k l, fq k l, fm k l))
+
+-- ---- less
+
+abbrev lower : List ℕ → List ℕ
+lower xs = zip2 (λ a b. (a + (65536 - b)) % 65536) xs (replicate 16 8190)
+
+module _ (xs : List ℕ) (lx : length xs ≡ 16) (hx : (k : ℕ) → k < 16 → 8190 ≤ slice_index xs k) (fx : (k : ℕ) → k < 16 → slice_index xs k < 2 ^ 16) where
+  pub lower_len : length (lower xs) ≡ 16
+  lower_len = length-zip2 (λ a b. (a + (65536 - b)) % 65536) xs (replicate 16 8190) lx ∙ lx
+
+  by_less : (x y : ℕ) → y ≡ 8190 → 8190 ≤ x → x < 2 ^ 16 → (x + (65536 - y)) % 65536 + 8190 ≡ x
+  by_less x y e h f = omega (arith, e, h, f)
+
+  pub lower_at : (k : ℕ) → k < 16 → get_or (lower xs) k 0 + 8190 ≡ get_or xs k 0
+  lower_at k l =
+      ap (λ z. z + 8190) (get_or-zip2 (λ a b. (a + (65536 - b)) % 65536) xs (replicate 16 8190) k 0 0 0 (omega (arith, lx)) l)
+      ∙ by_less (get_or xs k 0) (get_or (replicate 16 8190) k 0) (get_or-replicate 16 k 8190 0 l) (hx k l) (fx k l)
+
+-- of four vectors
+
+module _ (a b c d e f g h : List ℕ) (o : AreLanes a b c d) (le : length e ≡ 16) (lf : length f ≡ 16) (lg : length g ≡ 16) (lh : length h ≡ 16) (se : (k : ℕ) → k < 16 → slice_index e k + 8190 ≡ slice_index a k)
+    (sf : (k : ℕ) → k < 16 → slice_index f k + 8190 ≡ slice_index b k) (sg : (k : ℕ) → k < 16 → slice_index g k + 8190 ≡ slice_index c k) (sh : (k : ℕ) → k < 16 → slice_index h k + 8190 ≡ slice_index d k) where
+  pub lower_all : (n : ℕ) → n < 64 → slice_index (joined e f g h) n + 8190 ≡ slice_index (joined a b c d) n
+  lower_all = both_lanes (λ x y. x + 8190 ≡ y) e f g h a b c d le lf lg lh o.a_len o.b_len o.c_len o.d_len se sf sg sh
+
+  pub lower_lanes : AreLanes e f g h
+  lower_lanes = record { a_len = le; b_len = lf; c_len = lg; d_len = lh; fits = λ n l. omega (arith, lower_all n l, o.fits n l) }
+
+pub lowered_is : (old new : List ℕ) → ((n : ℕ) → n < 64 → slice_index old n < 2 ^ 16) → ((n : ℕ) → n < 64 → slice_index new n + 8190 ≡ slice_index old n) → AreLowered old new
+lowered_is old new f h = record { less = 8190; is = h; few = λ n l. omega (arith, f n l, h n l) }
+
+-- a part of lanes is as high as the whole
+module _ (a b c d : List ℕ) (o : AreLanes a b c d) (h : (n : ℕ) → n < 64 → 8190 ≤ slice_index (joined a b c d) n) where
+  pub b_high : (k : ℕ) → k < 16 → 8190 ≤ slice_index b k
+  b_high k l = omega (arith, h (16 + k) (omega arith), b_at a b c d o.a_len o.b_len o.c_len o.d_len k l)
+
+  pub c_high : (k : ℕ) → k < 16 → 8190 ≤ slice_index c k
+  c_high k l = omega (arith, h (32 + k) (omega arith), c_at a b c d o.a_len o.b_len o.c_len o.d_len k l)
+
+  pub d_high : (k : ℕ) → k < 16 → 8190 ≤ slice_index d k
+  d_high k l = omega (arith, h (48 + k) (omega arith), d_at a b c d o.a_len o.b_len o.c_len o.d_len k l)

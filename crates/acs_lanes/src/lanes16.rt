@@ -1,0 +1,148 @@
+// The 64 costs in lanes of 16 bits.
+ghost use Rattle.std.specs.Prelude.{◌≡◌, ◌≤◌, ◌<◌, ◌+◌, ◌^◌, ℕ, IsTrue, IsFalse, max, length, slice_index};
+ghost use Rattle.acs_lanes.specs.Lanes16.{AreLanes, AreLowered, AreClose, HasHigh, joined};
+
+use crate::lanes::write;
+use std::simd::cmp::{SimdOrd, SimdPartialOrd};
+use std::simd::{u16x16, u32x16};
+
+/// The costs of the 64 states: 16 of them in each vector.
+#[derive(Clone, Copy, Drop)]
+pub(crate) struct Lanes {
+    pub(crate) a: u16x16,
+    pub(crate) b: u16x16,
+    pub(crate) c: u16x16,
+    pub(crate) d: u16x16,
+    ghost lanes: { AreLanes a b c d },
+}
+
+/// The costs less a number, in lanes.
+fn narrowed(costs: &[u32; 64], low: u32) -> [u16; 64]
+    requires low { (n : ℕ) → n < 64 → low ≤ slice_index costs.now n }
+    requires high { (n : ℕ) → n < 64 → slice_index costs.now n ≤ low + 49140 }
+    ensures is { (n : ℕ) → n < 64 → slice_index result n + low ≡ slice_index costs.now n }
+    ensures few { (n : ℕ) → n < 64 → slice_index result n ≤ 49140 }
+    ensures long { length result ≡ 64 }
+{
+    let mut lanes = [0u16; 64];
+    for n in 0..64usize {
+        lanes[n] = (costs[n] - low) as u16;
+    }
+    lanes
+}
+
+/// Sixteen costs in a row.
+fn part(costs: &[u16; 64], from: usize) -> u16x16
+    requires { from ≤ 48 }
+    ensures long { length result ≡ 16 }
+    ensures is { (k : ℕ) → k < 16 → slice_index result k ≡ slice_index costs.now (from + k) }
+{
+    u16x16::from_slice(&costs[from..from + 16])
+}
+
+/// The costs less a number, in lanes.
+pub(crate) fn narrow(costs: &[u32; 64], low: u32) -> Lanes
+    requires low { (n : ℕ) → n < 64 → low ≤ slice_index costs.now n }
+    requires high { (n : ℕ) → n < 64 → slice_index costs.now n ≤ low + 49140 }
+    ensures is { (n : ℕ) → n < 64 → slice_index (joined result.a result.b result.c result.d) n + low ≡ slice_index costs.now n }
+{
+    let lanes = narrowed(costs, low);
+    Lanes {
+        a: part(&lanes, 0),
+        b: part(&lanes, 16),
+        c: part(&lanes, 32),
+        d: part(&lanes, 48),
+    }
+}
+
+/// The lanes in 32 bits.
+fn wide(lanes: u16x16) -> u32x16
+    ensures { result ≡ lanes }
+{
+    lanes.cast()
+}
+
+/// Writes the costs of 16 states in a row.
+fn store(cost: &mut [u32; 64], from: usize, lanes: u16x16)
+    requires from { from ≤ 48 }
+    requires lanes { length lanes ≡ 16 }
+    ensures here { (k : ℕ) → k < 16 → slice_index cost.new (from + k) ≡ slice_index lanes k }
+    ensures below { (k : ℕ) → k < from → slice_index cost.new k ≡ slice_index cost.old k }
+    ensures above { (k : ℕ) → from + 16 ≤ k → k < 64 → slice_index cost.new k ≡ slice_index cost.old k }
+{
+    write(&mut cost[from..from + 16], wide(lanes));
+}
+
+/// The costs in 32 bits.
+pub(crate) fn widen(lanes: Lanes, cost: &mut [u32; 64])
+    ensures { cost.new ≡ joined lanes.a lanes.b lanes.c lanes.d }
+{
+    store(cost, 0, lanes.a);
+    store(cost, 16, lanes.b);
+    store(cost, 32, lanes.c);
+    store(cost, 48, lanes.d);
+}
+
+/// The higher one of each two lanes.
+fn higher(x: u16x16, y: u16x16) -> u16x16
+    requires x { length x ≡ 16 }
+    requires y { length y ≡ 16 }
+    ensures long { length result ≡ 16 }
+    ensures is { (k : ℕ) → k < 16 → slice_index result k ≡ max (slice_index x k) (slice_index y k) }
+{
+    x.simd_max(y)
+}
+
+/// Is some lane at least 57,330?
+fn reaches(lanes: u16x16) -> bool
+    requires { length lanes ≡ 16 }
+    ensures high { IsTrue result → (k : ℕ) × (k < 16) × (57330 ≤ slice_index lanes k) }
+    ensures low { IsFalse result → (k : ℕ) → k < 16 → slice_index lanes k < 57330 }
+{
+    u16x16::splat(57330).simd_le(lanes).to_bitmask() != 0
+}
+
+/// Is some lane so high that each may be lowered by the greatest cost of a step?
+fn is_high(lanes: Lanes) -> bool
+    ensures high { IsTrue result → HasHigh (joined lanes.a lanes.b lanes.c lanes.d) }
+    ensures low { IsFalse result → (n : ℕ) → n < 64 → slice_index (joined lanes.a lanes.b lanes.c lanes.d) n < 57330 }
+{
+    reaches(higher(higher(lanes.a, lanes.b), higher(lanes.c, lanes.d)))
+}
+
+/// Sixteen lanes less the greatest cost of a step.
+fn less(lanes: u16x16) -> u16x16
+    requires long { length lanes ≡ 16 }
+    requires high { (k : ℕ) → k < 16 → 8190 ≤ slice_index lanes k }
+    requires fits { (k : ℕ) → k < 16 → slice_index lanes k < 2 ^ 16 }
+    ensures long { length result ≡ 16 }
+    ensures is { (k : ℕ) → k < 16 → slice_index result k + 8190 ≡ slice_index lanes k }
+{
+    lanes - u16x16::splat(8190)
+}
+
+/// The lanes less the greatest cost of a step.
+fn less_by_step(lanes: Lanes) -> Lanes
+    requires { (n : ℕ) → n < 64 → 8190 ≤ slice_index (joined lanes.a lanes.b lanes.c lanes.d) n }
+    ensures { (n : ℕ) → n < 64 → slice_index (joined result.a result.b result.c result.d) n + 8190 ≡ slice_index (joined lanes.a lanes.b lanes.c lanes.d) n }
+{
+    Lanes {
+        a: less(lanes.a),
+        b: less(lanes.b),
+        c: less(lanes.c),
+        d: less(lanes.d),
+    }
+}
+
+/// The lanes made such that a step's cost may be added.
+// Where one is at least 57,330 each is at least 8,190, since they are within 49,140; and 65,535 - 8,190 + 8,190 fits.
+pub(crate) fn lowered(lanes: Lanes) -> Lanes
+    requires { AreClose (joined lanes.a lanes.b lanes.c lanes.d) }
+    ensures { AreLowered (joined lanes.a lanes.b lanes.c lanes.d) (joined result.a result.b result.c result.d) }
+{
+    if is_high(lanes) {
+        less_by_step(lanes)
+    } else {
+        lanes
+    }
+}
