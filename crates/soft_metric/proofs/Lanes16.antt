@@ -1,7 +1,6 @@
 -- What the lanes hold are the costs of the definition.
-use Rattle.std.proofs.Common.{◌≡◌, ℕ, zero, suc, ◌+◌, ◌-◌, ◌*◌, ◌/◌, ◌%◌, ◌^◌, ◌<◌, ◌≤◌, min, Bool, true, false, cond, List, [], ◌∷◌, length, map, ◌⊎◌, inl, inr, refl, sym, ap, ap₂, ◌∙◌, subst, arith}
+use Rattle.std.proofs.Common.{◌≡◌, ℕ, zero, suc, ◌/◌, ◌^◌, ◌<◌, ◌≤◌, min, Bool, true, false, cond, List, [], ◌∷◌, length, map, ◌⊎◌, inl, inr, refl, sym, ap, ap₂, ◌∙◌, subst, arith}
 use Rattle.std.specs.Prelude.{ℤ, slice_index}
-use Rattle.std.specs.Int.{abs_diff}
 use Rattle.std.proofs.lemmas.Bool.{cases_lt}
 use Rattle.std.proofs.lemmas.List.{get_or-map}
 use Rattle.std.proofs.Math.Nat.{pow-le-pow_left}
@@ -11,7 +10,7 @@ use Rattle.mode_set.specs.declared.modes.Shape.{Shape}
 use Rattle.mode_set.specs.declared.modes.Shape.TheVariants.{Qpsk, Qam16, Qam64}
 use Rattle.mode_set.specs.declared.modes.Hierarchy.{Hierarchy}
 use Rattle.soft_metric.specs.Costs.{cost, four_levels}
-use Rattle.soft_metric.specs.Squares.{scaled, near, far, pair_at, IsSmallPair, AreAxisCosts, lane_magnitude, lane_positive, lane_value, near_two, near_four, far_one, lane_zero, lane_one, lane_pair}
+use Rattle.soft_metric.specs.Squares.{scaled, near, pair_at, IsSmallPair, AreAxisCosts, lane_magnitude, lane_positive, lane_value, near_two, near_four, far_one, lane_zero, lane_one, lane_pair}
 use Rattle.soft_metric.proofs.Sides.{axis_is, pairs_small}
 
 -- ---- the square of the lesser distance is the lesser square

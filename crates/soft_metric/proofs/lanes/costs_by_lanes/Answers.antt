@@ -1,6 +1,6 @@
-use Rattle.std.proofs.Common.{◌≡◌, ℕ, ◌/◌, ◌∙◌, sym, subst, length, rules}
+use Rattle.std.proofs.Common.{◌≡◌, ◌/◌, ◌∙◌, sym, subst, length, rules}
 use Rattle.std.specs.Prelude.{slice_index}
-use Rattle.soft_metric.specs.Squares.{IsSmallPair, lane_pair}
+use Rattle.soft_metric.specs.Squares.{IsSmallPair}
 use Rattle.soft_metric.proofs.Lanes16.{lane_at, lane_is, lane_small, three_places}
 use Rattle.soft_metric.proofs.lanes.costs_by_lanes.Goals as goal
 
