@@ -1,47 +1,20 @@
 -- The costs of cells.
-use Rattle.std.proofs.Common.{◌≡◌, ℕ, ◌+◌, ◌-◌, ◌*◌, ◌/◌, ◌%◌, ◌<◌, ◌≤◌, ◌⊎◌, inl, inr, Bool, true, false, cond, List, length, sym, ap, ◌∙◌, subst, arith}
-use Rattle.std.specs.Prelude.{slice_index, ◌==◌}
+use Rattle.std.proofs.Common.{◌≡◌, ℕ, ◌+◌, ◌-◌, ◌*◌, ◌/◌, ◌%◌, ◌<◌, ◌≤◌, ◌⊎◌, inl, inr, List, length, sym, ap, ◌∙◌, subst, arith}
+use Rattle.std.specs.Prelude.{slice_index, slice_index_or}
 use Rattle.std.proofs.lemmas.Bool.{cases_lt}
 use Rattle.std.proofs.Math.Nat.{mul-le-mul_right}
 use Rattle.mode_set.specs.StreamTable.{payload, label_bits}
 use Rattle.mode_set.specs.declared.modes.Mode.{Mode}
 use Rattle.mode_set.specs.declared.modes.Mode.TheVariants.{M2k, M8k}
 use Rattle.mode_set.specs.declared.modes.Shape.{Shape}
-use Rattle.mode_set.specs.declared.modes.Shape.TheVariants.{Qpsk, Qam16, Qam64}
 use Rattle.mode_set.specs.declared.modes.Hierarchy.{Hierarchy}
 use Rattle.mode_set.specs.declared.settings.Settings.{Settings}
 use Rattle.pilots.specs.Carriers.{payload_carriers}
-use Rattle.qam_map.specs.Points.{on_axis}
 use Rattle.qam_map.specs.declared.cell.Cell.{Cell}
-use Rattle.soft_metric.specs.Costs.{cost}
+use Rattle.soft_metric.specs.Costs.{costs_at_place}
 use Rattle.soft_metric.specs.Squares.{IsSmallPair}
 use Rattle.inner_chain.specs.CostPairs.{cell_of, costs_on}
-use Rattle.inner_chain.specs.CostTables.{pair_at, IsWritten, HasCellCosts, AreCosts, AreCarriers, IsRoom}
-
-three_places : (c : Shape) (e : ℕ) → e < label_bits c → e / 2 < 3
-three_places Qpsk e l = omega (arith, l)
-three_places Qam16 e l = omega (arith, l)
-three_places Qam64 e l = omega (arith, l)
-
-pub cell_written : (c : Shape) (h : Hierarchy) (cell : Cell) (first count : ℕ) (re im old new : List (ℕ × ℕ)) → IsWritten first count re im old new → count ≡ label_bits c
-    → ((e : ℕ) → e < label_bits c → pair_at re (e / 2) ≡ (cost c h cell.re e false, cost c h cell.re e true))
-    → ((e : ℕ) → e < label_bits c → pair_at im (e / 2) ≡ (cost c h cell.im e false, cost c h cell.im e true))
-    → ((k : ℕ) → k < 3 → IsSmallPair (pair_at re k)) → ((k : ℕ) → k < 3 → IsSmallPair (pair_at im k)) → HasCellCosts c h cell first old new
-cell_written c h cell first count re im old new w ec res ims rel iml = record { long = w.long; here = here; small = small; below = w.below; above = λ k l. w.above k (omega (arith, l, ec)) }
-  where
-    here : (e : ℕ) → e < label_bits c → pair_at new (first + e) ≡ (cost c h (on_axis cell e) e false, cost c h (on_axis cell e) e true)
-    here e l = w.here e (omega (arith, l, ec)) ∙ go (e % 2 == 0)
-      where
-        go : (b : Bool) → cond b (pair_at re (e / 2)) (pair_at im (e / 2)) ≡ (cost c h (cond b cell.re cell.im) e false, cost c h (cond b cell.re cell.im) e true)
-        go true = res e l
-        go false = ims e l
-
-    small : (e : ℕ) → e < label_bits c → IsSmallPair (pair_at new (first + e))
-    small e l = subst IsSmallPair (sym (w.here e (omega (arith, l, ec)))) (go (e % 2 == 0))
-      where
-        go : (b : Bool) → IsSmallPair (cond b (pair_at re (e / 2)) (pair_at im (e / 2)))
-        go true = rel (e / 2) (three_places c e l)
-        go false = iml (e / 2) (three_places c e l)
+use Rattle.inner_chain.specs.CostTables.{pair_at, ArePayloadCells, ArePlanes, PutsCosts, AreCosts, AreCarriers, IsRoom}
 
 -- ---- the carriers of a symbol
 row : (m : Mode) (a q : ℕ) → q < payload m → ((a * payload m + q) / payload m ≡ a) × ((a * payload m + q) % payload m ≡ q)
@@ -60,48 +33,84 @@ carrier_is m l q table a low repeat =
     ∙ ap (λ (z : ℕ). slice_index (payload_carriers m (l % 4)) z) r.1
     ∙ ap (λ (z : List ℕ). slice_index z q) (sym repeat)
 
--- ---- one payload place more
-here_is : (s : Settings) (cells : List Cell) (l q e : ℕ) (cell : Cell) → cell ≡ cell_of cells (slice_index (payload_carriers s.mode l) q) → (cost s.shape s.hierarchy (on_axis cell e) e false, cost s.shape s.hierarchy (on_axis cell e) e true) ≡ costs_on s cells l q e
-unfolding costs_on
-here_is s cells l q e cell is = ap (λ (z : Cell). (cost s.shape s.hierarchy (on_axis z e) e false, cost s.shape s.hierarchy (on_axis z e) e true)) is
+-- ---- costs more
+-- a place among the costs of all places: which label place and which payload place
+row_is : (m : Mode) (e p q k count : ℕ) → p < payload m → q + count ≤ payload m → k * payload m + q ≤ e * payload m + p → e * payload m + p < k * payload m + q + count → (e ≡ k) × (p ≡ q + (e * payload m + p - (k * payload m + q)))
+row_is M2k e p q k count a b l m = (omega (arith, a, b, l, m), omega (arith, a, b, l, m))
+row_is M8k e p q k count a b l m = (omega (arith, a, b, l, m), omega (arith, a, b, l, m))
 
-rows_apart : (v q n : ℕ) → q < n → q * v + v ≤ n * v
-rows_apart v q n l = let r : (q + 1) * v ≤ n * v = mul-le-mul_right v (omega (arith, l)) in omega (arith, r)
+in_room : (m : Mode) (v e q count : ℕ) → e < v → q + count ≤ payload m → e * payload m + q + count ≤ payload m * v
+in_room m v e q count l b = let r : (e + 1) * payload m ≤ v * payload m = mul-le-mul_right (payload m) (omega (arith, l)) in omega (arith, r, b)
 
-pub record HasMore (s : Settings) (cells : List Cell) (l q : ℕ) (new : List (ℕ × ℕ)) : Type 0 where
-  pub costs : AreCosts s cells l (q + 1) new
+pub record HasMore (s : Settings) (cells : List Cell) (n : ℕ) (new : List (ℕ × ℕ)) : Type 0 where
+  pub planes : ArePlanes s cells n new
   pub room : IsRoom s new
 
-pub costs_more : (s : Settings) (cells : List Cell) (l q first : ℕ) (cell : Cell) (old new : List (ℕ × ℕ)) → first ≡ q * label_bits s.shape → q < payload s.mode → AreCosts s cells l q old → IsRoom s old
-    → HasCellCosts s.shape s.hierarchy cell first old new → cell ≡ cell_of cells (slice_index (payload_carriers s.mode l) q) → HasMore s cells l q new
-costs_more s cells l q first cell old new ef low a r w is = record { costs = record { at = at }; room = record { long = w.long ∙ r.long; last = last; small = small } }
+pub costs_more : (s : Settings) (cells : List Cell) (e q count : ℕ) (old new : List (ℕ × ℕ)) → e < label_bits s.shape → q + count ≤ payload s.mode
+    → ArePlanes s cells (e * payload s.mode + q) old → IsRoom s old → PutsCosts s e q count cells old new → HasMore s cells (e * payload s.mode + (q + count)) new
+costs_more s cells e q count old new within fits a r w = record { planes = record { at = at }; room = record { long = w.long ∙ r.long; last = last; small = small } }
   where
-    v : ℕ
-    v = label_bits s.shape
+    n : ℕ
+    n = e * payload s.mode + q
 
-    at : (p e : ℕ) → p < q + 1 → e < v → pair_at new (p * v + e) ≡ costs_on s cells l p e
-    at p e m me = go (cases_lt p q)
+    at : (p f : ℕ) (d : Cell) → p < payload s.mode → f < label_bits s.shape → f * payload s.mode + p < e * payload s.mode + (q + count) → pair_at new (f * payload s.mode + p) ≡ costs_at_place s.shape s.hierarchy (slice_index_or cells p d) f
+    at p f d m l below = go (cases_lt (f * payload s.mode + p) (e * payload s.mode + q))
       where
-        go : (p < q) ⊎ (q ≤ p) → pair_at new (p * v + e) ≡ costs_on s cells l p e
-        go (inl less) = w.below (p * v + e) (omega (arith, rows_apart v p q less, me, ef)) ∙ a.at p e less me
+        go : (f * payload s.mode + p < e * payload s.mode + q) ⊎ (e * payload s.mode + q ≤ f * payload s.mode + p) → pair_at new (f * payload s.mode + p) ≡ costs_at_place s.shape s.hierarchy (slice_index_or cells p d) f
+        go (inl less) = w.below (f * payload s.mode + p) less ∙ a.at p f d m l less
         go (inr more) =
-            let same : q ≡ p = omega (arith, m, more) in
-            let here : pair_at new (q * v + e) ≡ costs_on s cells l q e = ap (λ (z : ℕ). pair_at new (z + e)) (sym ef) ∙ w.here e me ∙ here_is s cells l q e cell is in
-            subst (λ (z : ℕ). pair_at new (z * v + e) ≡ costs_on s cells l z e) same here
+            let j = f * payload s.mode + p - (e * payload s.mode + q) in
+            let r = row_is s.mode f p q e count m fits more (omega (arith, below)) in
+            let place : e * payload s.mode + q + j ≡ f * payload s.mode + p = omega (arith, more) in
+            ap (pair_at new) (sym place) ∙ w.here j d (omega (arith, below, more))
+            ∙ ap (λ z. costs_at_place s.shape s.hierarchy (slice_index_or cells z d) e) (sym r.1)
+            ∙ ap (λ z. costs_at_place s.shape s.hierarchy (slice_index_or cells p d) z) (sym r.0)
 
-    last : pair_at new (payload s.mode * v) ≡ (0, 0)
-    last = w.above (payload s.mode * v) (omega (arith, rows_apart v q (payload s.mode) low, ef)) ∙ r.last
+    top : e * payload s.mode + q + count ≤ payload s.mode * label_bits s.shape
+    top = in_room s.mode (label_bits s.shape) e q count within fits
+
+    last : pair_at new (payload s.mode * label_bits s.shape) ≡ (0, 0)
+    last = w.above (payload s.mode * label_bits s.shape) top ∙ r.last
 
     small : (k : ℕ) → k < length new → IsSmallPair (pair_at new k)
-    small k m = go (cases_lt k first) (cases_lt k (first + v))
+    small k m = go (cases_lt k (e * payload s.mode + q)) (cases_lt k (e * payload s.mode + q + count))
       where
         in_old : k < length old
         in_old = omega (arith, m, w.long)
 
-        go : (k < first) ⊎ (first ≤ k) → (k < first + v) ⊎ (first + v ≤ k) → IsSmallPair (pair_at new k)
+        go : (k < e * payload s.mode + q) ⊎ (e * payload s.mode + q ≤ k) → (k < e * payload s.mode + q + count) ⊎ (e * payload s.mode + q + count ≤ k) → IsSmallPair (pair_at new k)
         go (inl less) z = subst IsSmallPair (sym (w.below k less)) (r.small k in_old)
-        go (inr more) (inl less) = let place : first + (k - first) ≡ k = omega (arith, more) in subst (λ (z : ℕ). IsSmallPair (pair_at new z)) place (w.small (k - first) (omega (arith, more, less)))
+        go (inr more) (inl less) =
+            let place : e * payload s.mode + q + (k - (e * payload s.mode + q)) ≡ k = omega (arith, more) in
+            subst (λ z. IsSmallPair (pair_at new z)) place (w.small (k - (e * payload s.mode + q)) (omega (arith, more, less)))
         go (inr more) (inr past) = subst IsSmallPair (sym (w.above k past)) (r.small k in_old)
 
-pub at_metric : (m : Shape × Hierarchy) (c : Shape) (h : Hierarchy) (cell : Cell) (first : ℕ) (old new : List (ℕ × ℕ)) → m ≡ (c, h) → HasCellCosts m.0 m.1 cell first old new → HasCellCosts c h cell first old new
-at_metric m c h cell first old new e w = subst (λ (z : Shape × Hierarchy). HasCellCosts z.0 z.1 cell first old new) e w
+-- sixteen costs that are put into the others
+pub sixteen_put : (m : Shape × Hierarchy) (s : Settings) (e q first : ℕ) (cells block : List Cell) (pairs old new : List (ℕ × ℕ)) → m ≡ (s.shape, s.hierarchy) → first ≡ e * payload s.mode + q → length new ≡ length old
+    → ((j : ℕ) (d : Cell) → j < 16 → slice_index_or block j d ≡ slice_index_or cells (q + j) d)
+    → ((k : ℕ) (d : Cell) → k < 16 → pair_at pairs k ≡ costs_at_place m.0 m.1 (slice_index_or block k d) e) → ((k : ℕ) → k < 16 → IsSmallPair (pair_at pairs k))
+    → ((k : ℕ) → k < 16 → pair_at new (first + k) ≡ pair_at pairs k) → ((k : ℕ) → k < first → pair_at new k ≡ pair_at old k) → ((k : ℕ) → first + 16 ≤ k → pair_at new k ≡ pair_at old k) → PutsCosts s e q 16 cells old new
+sixteen_put m s e q first cells block pairs old new em ef long eb costs small put lower upper = record {
+  long = long;
+  here = λ j d l. put_at j l ∙ costs_here j d l ∙ ap (λ z. costs_at_place s.shape s.hierarchy z e) (eb j d l);
+  small = λ j l. subst IsSmallPair (sym (put_at j l)) (small j l);
+  below = λ k l. lower k (omega (arith, l, ef));
+  above = λ k l. upper k (omega (arith, l, ef));
+}
+  where
+    put_at : (j : ℕ) → j < 16 → pair_at new (e * payload s.mode + q + j) ≡ pair_at pairs j
+    put_at j l = ap (λ z. pair_at new (z + j)) (sym ef) ∙ put j l
+
+    costs_here : (j : ℕ) (d : Cell) → j < 16 → pair_at pairs j ≡ costs_at_place s.shape s.hierarchy (slice_index_or block j d) e
+    costs_here j d l = subst (λ z. pair_at pairs j ≡ costs_at_place z.0 z.1 (slice_index_or block j d) e) em (costs j d l)
+
+-- the costs of all places, by the cells of the carriers
+pub costs_all : (s : Settings) (cells list : List Cell) (l n : ℕ) (costs : List (ℕ × ℕ)) → ArePayloadCells s.mode cells l (payload s.mode) list → n ≡ label_bits s.shape → ArePlanes s list (n * payload s.mode) costs → AreCosts s cells l costs
+unfolding costs_on
+costs_all s cells list l n costs c en a = record { at = at }
+  where
+    at : (q e : ℕ) → q < payload s.mode → e < label_bits s.shape → pair_at costs (e * payload s.mode + q) ≡ costs_on s cells l q e
+    at q e m k =
+        let d : Cell = cell_of cells 0 in
+        let r : (e + 1) * payload s.mode ≤ n * payload s.mode = mul-le-mul_right (payload s.mode) (omega (arith, k, en)) in
+        a.at q e d m k (omega (arith, r, m)) ∙ ap (λ z. costs_at_place s.shape s.hierarchy z e) (c.at q d m)

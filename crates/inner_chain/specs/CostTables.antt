@@ -1,5 +1,5 @@
 -- What the tables of the receiving side hold.
-use Rattle.std.specs.Prelude.{◌≡◌, ℕ, ◌+◌, ◌*◌, ◌/◌, ◌%◌, ◌<◌, ◌≤◌, ◌==◌, Bool, true, false, if◌then◌else◌, List, ◌++◌, ◌∷◌, [], length, Option, Some, None, slice_index, slice_index_or, ⊤}
+use Rattle.std.specs.Prelude.{◌≡◌, ℕ, ◌+◌, ◌*◌, ◌/◌, ◌%◌, ◌<◌, ◌≤◌, Bool, true, false, if◌then◌else◌, List, ◌++◌, ◌∷◌, [], length, Option, Some, None, slice_index, slice_index_or, ⊤}
 use Rattle.mode_set.specs.StreamTable.{payload, label_bits, carriers, need, rate}
 use Rattle.mode_set.specs.declared.modes.Mode.{Mode}
 use Rattle.mode_set.specs.declared.modes.Shape.{Shape}
@@ -13,16 +13,15 @@ use Rattle.puncture.specs.Steps.{number_of}
 use Rattle.bit_interleave.specs.Place.{place_in_label, word_of_bit}
 use Rattle.symbol_interleave.specs.Carried.{place_of_word}
 use Rattle.pilots.specs.Carriers.{payload_carriers}
-use Rattle.qam_map.specs.Points.{on_axis}
-use Rattle.soft_metric.specs.Costs.{cost}
+use Rattle.soft_metric.specs.Costs.{costs_at_place}
 use Rattle.qam_map.specs.declared.cell.Cell.{Cell}
 use Rattle.soft_metric.specs.Squares.{IsSmallPair}
-use Rattle.inner_chain.specs.CostPairs.{costs_on}
+use Rattle.inner_chain.specs.CostPairs.{cell_of, costs_on}
 
 -- the number of the costs of a coded bit among those of all places of all labels, the last number for an unsent bit
 abbrev pub entry_at : Settings → Bool → Stream → Option ℕ → ℕ
 entry_at s odd σ None = payload s.mode * label_bits s.shape
-entry_at s odd σ (Some d) = place_of_word s.mode odd (word_of_bit s.shape s.hierarchy σ d) * label_bits s.shape + place_in_label s.shape s.hierarchy σ d
+entry_at s odd σ (Some d) = place_in_label s.shape s.hierarchy σ d * payload s.mode + place_of_word s.mode odd (word_of_bit s.shape s.hierarchy σ d)
 
 abbrev pub IsSmallEntry : Settings → ℕ → Type 0
 IsSmallEntry s n = n ≤ payload s.mode * label_bits s.shape
@@ -66,9 +65,9 @@ pub record AppendsTwo (s : Settings) (odd : Bool) (σ : Stream) (x y : Option �
 abbrev pub pair_at : List (ℕ × ℕ) → ℕ → ℕ × ℕ
 pair_at costs n = slice_index_or costs n (0, 0)
 
--- the costs of all places of the labels on the first n payload places of symbol l, and nothing behind those of all
-pub record AreCosts (s : Settings) (cells : List Cell) (l n : ℕ) (costs : List (ℕ × ℕ)) : Type 0 where
-  pub at : (q e : ℕ) → q < n → e < label_bits s.shape → pair_at costs (q * label_bits s.shape + e) ≡ costs_on s cells l q e
+-- the costs of all places of the labels on all payload places of symbol l: those of place 0 of the labels first
+pub record AreCosts (s : Settings) (cells : List Cell) (l : ℕ) (costs : List (ℕ × ℕ)) : Type 0 where
+  pub at : (q e : ℕ) → q < payload s.mode → e < label_bits s.shape → pair_at costs (e * payload s.mode + q) ≡ costs_on s cells l q e
 
 -- the room for them: its last pair is nothing, and no cost is above 4095
 pub record IsRoom (s : Settings) (costs : List (ℕ × ℕ)) : Type 0 where
@@ -76,12 +75,23 @@ pub record IsRoom (s : Settings) (costs : List (ℕ × ℕ)) : Type 0 where
   pub last : pair_at costs (payload s.mode * label_bits s.shape) ≡ (0, 0)
   pub small : (k : ℕ) → k < length costs → IsSmallPair (pair_at costs k)
 
--- the costs of one cell are written from place `first` on: those of even places are in `re`, of odd ones in `im`
-pub record IsWritten (first count : ℕ) (re im old new : List (ℕ × ℕ)) : Type 0 where
+-- the cells on the first n payload places of symbol l
+pub record ArePayloadCells (m : Mode) (cells : List Cell) (l n : ℕ) (list : List Cell) : Type 0 where
+  pub long : length list ≡ payload m
+  pub at : (q : ℕ) (d : Cell) → q < n → slice_index_or list q d ≡ cell_of cells (slice_index (payload_carriers m l) q)
+
+-- the first n of the costs of all places of these payload cells
+pub record ArePlanes (s : Settings) (cells : List Cell) (n : ℕ) (costs : List (ℕ × ℕ)) : Type 0 where
+  pub at : (q e : ℕ) (d : Cell) → q < payload s.mode → e < label_bits s.shape → e * payload s.mode + q < n
+      → pair_at costs (e * payload s.mode + q) ≡ costs_at_place s.shape s.hierarchy (slice_index_or cells q d) e
+
+-- the costs at place e of so many of these payload cells, from number q on, are written
+pub record PutsCosts (s : Settings) (e q count : ℕ) (cells : List Cell) (old new : List (ℕ × ℕ)) : Type 0 where
   pub long : length new ≡ length old
-  pub here : (e : ℕ) → e < count → pair_at new (first + e) ≡ (if e % 2 == 0 then pair_at re (e / 2) else pair_at im (e / 2))
-  pub below : (k : ℕ) → k < first → pair_at new k ≡ pair_at old k
-  pub above : (k : ℕ) → first + count ≤ k → pair_at new k ≡ pair_at old k
+  pub here : (j : ℕ) (d : Cell) → j < count → pair_at new (e * payload s.mode + q + j) ≡ costs_at_place s.shape s.hierarchy (slice_index_or cells (q + j) d) e
+  pub small : (j : ℕ) → j < count → IsSmallPair (pair_at new (e * payload s.mode + q + j))
+  pub below : (k : ℕ) → k < e * payload s.mode + q → pair_at new k ≡ pair_at old k
+  pub above : (k : ℕ) → e * payload s.mode + q + count ≤ k → pair_at new k ≡ pair_at old k
 
 -- a list is continued by cost pairs whose X and Y are the costs at two entries each
 pub record AppendsRead (costs : List (ℕ × ℕ)) (entries : List ℕ) (n : ℕ) (old new : List CostPair) : Type 0 where
@@ -91,16 +101,8 @@ pub record AppendsRead (costs : List (ℕ × ℕ)) (entries : List ℕ) (n : ℕ
   pub y : (t : ℕ) (d : CostPair) → t < n → ((slice_index_or pairs t d).y0, (slice_index_or pairs t d).y1) ≡ pair_at costs (slice_index entries (2 * t + 1))
   pub is : new ≡ old ++ pairs
 
--- the costs of a cell of this constellation are written from place `first` on
-pub record HasCellCosts (c : Shape) (h : Hierarchy) (cell : Cell) (first : ℕ) (old new : List (ℕ × ℕ)) : Type 0 where
-  pub long : length new ≡ length old
-  pub here : (e : ℕ) → e < label_bits c → pair_at new (first + e) ≡ (cost c h (on_axis cell e) e false, cost c h (on_axis cell e) e true)
-  pub small : (e : ℕ) → e < label_bits c → IsSmallPair (pair_at new (first + e))
-  pub below : (k : ℕ) → k < first → pair_at new k ≡ pair_at old k
-  pub above : (k : ℕ) → first + label_bits c ≤ k → pair_at new k ≡ pair_at old k
-
 -- what the receiving side of a mode keeps
-pub record IsRx (m : Mode) (s : Settings) (metric : Shape × Hierarchy) (carrier_table hp_even hp_odd lp_even lp_odd : List ℕ) (costs : List (ℕ × ℕ)) : Type 0 where
+pub record IsRx (m : Mode) (s : Settings) (metric : Shape × Hierarchy) (carrier_table hp_even hp_odd lp_even lp_odd : List ℕ) (costs : List (ℕ × ℕ)) (payload_cells : List Cell) : Type 0 where
   pub mode : s.mode ≡ m
   pub metric_is : metric ≡ (s.shape, s.hierarchy)
   pub are_carriers : AreCarriers s.mode (4 * payload s.mode) carrier_table
@@ -109,3 +111,4 @@ pub record IsRx (m : Mode) (s : Settings) (metric : Shape × Hierarchy) (carrier
   pub lp_in_even : AreCostEntries s false Lp (need s Lp) lp_even
   pub lp_in_odd : AreCostEntries s true Lp (need s Lp) lp_odd
   pub room : IsRoom s costs
+  pub cells_long : length payload_cells ≡ payload s.mode

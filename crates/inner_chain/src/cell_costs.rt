@@ -1,97 +1,132 @@
 // The costs of all places of the labels of a symbol.
-ghost use Rattle.std.specs.Prelude.{◌≡◌, ◌+◌, ◌*◌, ◌%◌, ◌<◌, ◌≤◌, ◌⊎◌, ℕ, List, length};
+ghost use Rattle.std.specs.Prelude.{◌≡◌, ◌+◌, ◌*◌, ◌%◌, ◌<◌, ◌≤◌, ℕ, length, slice_index_or};
 ghost use Rattle.mode_set.specs.StreamTable.{carriers, label_bits, payload};
-ghost use Rattle.inner_chain.specs.CostTables.{AreCarriers, AreCosts, HasCellCosts, IsRoom, IsWritten};
+ghost use Rattle.qam_map.specs.declared.cell.Cell.{Cell as AnyCell};
+ghost use Rattle.inner_chain.specs.CostTables.{AreCarriers, AreCosts, ArePayloadCells, ArePlanes, IsRoom, PutsCosts, pair_at};
 
-use mode_set::Settings;
+use mode_set::{Mode, Settings};
 use pilots::kinds_repeat;
 use qam_map::Cell;
-use soft_metric::AxisMetric;
+use soft_metric::{AxisMetric, costs};
 
-// Writes the costs of one axis number: that of the real axis at an even place and that of the imaginary
-// axis behind it.
-fn write_two(
-    costs: &mut [(u16, u16)],
-    first: usize,
-    axis: usize,
-    re: &[(u16, u16); 3],
-    im: &[(u16, u16); 3],
-)
-    requires axis { axis < 3 }
-    requires room { first + 2 * axis + 2 ≤ length costs.old }
-    ensures { (old : List (ℕ × ℕ)) → IsWritten first (2 * axis) re.now im.now old costs.old → IsWritten first (2 * axis + 2) re.now im.now old costs.new }
+// The cells on the payload places of symbol `l`.
+fn gather_cells(mode: Mode, carrier_table: &[u16], cells: &[Cell], l: u8, to: &mut [Cell])
+    requires carriers { AreCarriers mode (4 * payload mode) carrier_table.now }
+    requires cells { length cells.now ≡ carriers mode }
+    requires room { length to.old ≡ payload mode }
+    ensures { ArePayloadCells mode cells.now l (payload mode) to.new }
 {
-    let place = first + 2 * axis;
-    costs[place] = re[axis];
-    costs[place + 1] = im[axis];
+    kinds_repeat(mode, l);
+    let first = (l % 4) as usize * mode.payload() as usize;
+    for q in 0..mode.payload() as usize {
+        to[q] = cells[carrier_table[first + q] as usize];
+    }
 }
 
-// Writes the costs of a cell, those of the real axis at even places and of the imaginary axis at
-// odd ones.
-fn write_cell(
-    costs: &mut [(u16, u16)],
-    first: usize,
-    count: u8,
-    re: &[(u16, u16); 3],
-    im: &[(u16, u16); 3],
-)
-    requires count { (count ≡ 2) ⊎ ((count ≡ 4) ⊎ (count ≡ 6)) }
-    requires room { first + count ≤ length costs.old }
-    ensures { IsWritten first count re.now im.now costs.old costs.new }
+// Sixteen cells in a row.
+fn sixteen_of(cells: &[Cell], first: usize) -> [Cell; 16]
+    requires { first + 16 ≤ length cells.now }
+    ensures { (j : ℕ) (d : AnyCell) → j < 16 → slice_index_or result j d ≡ slice_index_or cells.now (first + j) d }
 {
-    write_two(costs, first, 0, re, im);
-    if count == 2 {
-        return;
-    }
-    write_two(costs, first, 1, re, im);
-    if count == 4 {
-        return;
-    }
-    write_two(costs, first, 2, re, im);
+    let mut block = [Cell { re: 0, im: 0 }; 16];
+    block.copy_from_slice(&cells[first..first + 16]);
+    block
 }
 
-// Writes the costs of a cell of the constellation of a metric.
-fn write_costs_of(
+// Puts sixteen pairs in place of those from number `first` on.
+fn put_sixteen(to: &mut [(u16, u16)], first: usize, pairs: &[(u16, u16); 16])
+    requires { first + 16 ≤ length to.old }
+    ensures long { length to.new ≡ length to.old }
+    ensures here { (k : ℕ) → k < 16 → pair_at to.new (first + k) ≡ pair_at pairs.now k }
+    ensures below { (k : ℕ) → k < first → pair_at to.new k ≡ pair_at to.old k }
+    ensures above { (k : ℕ) → first + 16 ≤ k → pair_at to.new k ≡ pair_at to.old k }
+{
+    to[first..first + 16].copy_from_slice(pairs);
+}
+
+// Writes the costs at a place of sixteen cells in a row.
+fn write_sixteen(
+    settings: &Settings,
     metric: &AxisMetric,
-    cell: Cell,
-    count: u8,
+    cells: &[Cell],
+    place: u8,
+    q: usize,
     costs: &mut [(u16, u16)],
-    first: usize,
 )
-    requires count { count ≡ label_bits metric.now.0 }
-    requires room { first + count ≤ length costs.old }
-    ensures { HasCellCosts metric.now.0 metric.now.1 cell first costs.old costs.new }
+    requires metric { metric.now ≡ (settings.now.shape, settings.now.hierarchy) }
+    requires place { place < label_bits settings.now.shape }
+    requires cells { length cells.now ≡ payload settings.now.mode }
+    requires within { q + 16 ≤ payload settings.now.mode }
+    requires room { IsRoom settings.now costs.old }
+    ensures { PutsCosts settings.now place q 16 cells.now costs.old costs.new }
 {
-    write_cell(
-        costs,
-        first,
-        count,
-        &metric.costs(cell.re),
-        &metric.costs(cell.im),
-    );
+    let block = sixteen_of(cells, q);
+    let first = place as usize * settings.mode.payload() as usize + q;
+    put_sixteen(costs, first, &metric.costs_lanes(&block, place));
 }
 
-// Writes the costs of all places of the labels of symbol `l`.
+// Writes the costs at a place of one cell.
+fn write_one(settings: &Settings, cells: &[Cell], place: u8, q: usize, to: &mut [(u16, u16)])
+    requires place { place < label_bits settings.now.shape }
+    requires cells { length cells.now ≡ payload settings.now.mode }
+    requires within { q < payload settings.now.mode }
+    requires room { IsRoom settings.now to.old }
+    ensures { PutsCosts settings.now place q 1 cells.now to.old to.new }
+{
+    let first = place as usize * settings.mode.payload() as usize + q;
+    to[first] = costs(settings.shape, settings.hierarchy, cells[q], place);
+}
+
+// Writes the costs at a place of all cells, sixteen at once and the rest one by one.
+fn write_plane(
+    settings: &Settings,
+    metric: &AxisMetric,
+    cells: &[Cell],
+    place: u8,
+    costs: &mut [(u16, u16)],
+)
+    requires metric { metric.now ≡ (settings.now.shape, settings.now.hierarchy) }
+    requires place { place < label_bits settings.now.shape }
+    requires cells { length cells.now ≡ payload settings.now.mode }
+    requires planes { ArePlanes settings.now cells.now (place * payload settings.now.mode) costs.old }
+    requires room { IsRoom settings.now costs.old }
+    ensures planes { ArePlanes settings.now cells.now ((place + 1) * payload settings.now.mode) costs.new }
+    ensures room { IsRoom settings.now costs.new }
+{
+    let payload = settings.mode.payload() as usize;
+    let mut q = 0;
+    while q + 16 <= payload {
+        write_sixteen(settings, metric, cells, place, q, costs);
+        q += 16;
+    }
+    while q < payload {
+        write_one(settings, cells, place, q, costs);
+        q += 1;
+    }
+}
+
+// Writes the costs of all places of the labels of symbol `l`, for which its payload cells are
+// gathered first.
 pub(crate) fn write_costs(
     settings: &Settings,
     metric: &AxisMetric,
     carrier_table: &[u16],
     cells: &[Cell],
     l: u8,
+    payload_cells: &mut [Cell],
     costs: &mut [(u16, u16)],
 )
     requires metric { metric.now ≡ (settings.now.shape, settings.now.hierarchy) }
     requires carriers { AreCarriers settings.now.mode (4 * payload settings.now.mode) carrier_table.now }
     requires cells { length cells.now ≡ carriers settings.now.mode }
+    requires payload_cells { length payload_cells.old ≡ payload settings.now.mode }
     requires room { IsRoom settings.now costs.old }
-    ensures costs { AreCosts settings.now cells.now l (payload settings.now.mode) costs.new }
+    ensures costs { AreCosts settings.now cells.now l costs.new }
     ensures room { IsRoom settings.now costs.new }
+    ensures payload_cells { length payload_cells.new ≡ payload settings.now.mode }
 {
-    kinds_repeat(settings.mode, l);
-    let count = settings.shape.label_bits();
-    let first = (l % 4) as usize * settings.mode.payload() as usize;
-    for q in 0..settings.mode.payload() as usize {
-        let carrier = carrier_table[first + q] as usize;
-        write_costs_of(metric, cells[carrier], count, costs, q * count as usize);
+    gather_cells(settings.mode, carrier_table, cells, l, payload_cells);
+    for place in 0..settings.shape.label_bits() {
+        write_plane(settings, metric, payload_cells, place, costs);
     }
 }

@@ -19,7 +19,7 @@ fn no_entry(settings: &Settings) -> u16
     (settings.mode.payload() * settings.shape.label_bits() as u32) as u16
 }
 
-// The entry of a coded bit: its payload place times the bits of a label, and its place in the label.
+// The entry of a coded bit: its place in the label times the payload places, and its payload place.
 fn bit_entry<M: Carriers>(
     settings: &Settings,
     permutation: &Permutation<M>,
@@ -35,7 +35,7 @@ fn bit_entry<M: Carriers>(
 {
     let (e, word) = place(settings.shape, settings.hierarchy, stream, bit);
     let q = permutation.target(odd, word);
-    (q * settings.shape.label_bits() as u32 + e as u32) as u16
+    (e as u32 * settings.mode.payload() + q) as u16
 }
 
 // Appends the entries of X and Y of a step whose first sent bit has the number `bit`, and answers

@@ -24,6 +24,7 @@ fn push_symbol_pairs(
     even: &[u16],
     odd: &[u16],
     costs: &mut [(u16, u16)],
+    payload_cells: &mut [Cell],
     cells: &[Cell],
     l: u8,
     stream: Stream,
@@ -35,12 +36,22 @@ fn push_symbol_pairs(
     requires odd { AreCostEntries settings.now true stream (need settings.now stream) odd.now }
     requires cells { length cells.now ≡ carriers settings.now.mode }
     requires room { IsRoom settings.now costs.old }
+    requires payload_cells { length payload_cells.old ≡ payload settings.now.mode }
     requires spare { vec_len to.old + need settings.now stream ≤ vec_capacity to.old }
     ensures pairs { AppendsPairs settings.now cells.now l stream to.old.items to.new.items }
     ensures room { IsRoom settings.now costs.new }
+    ensures payload_cells { length payload_cells.new ≡ payload settings.now.mode }
     ensures capacity { vec_capacity to.new ≡ vec_capacity to.old }
 {
-    write_costs(settings, metric, carrier_table, cells, l, costs);
+    write_costs(
+        settings,
+        metric,
+        carrier_table,
+        cells,
+        l,
+        payload_cells,
+        costs,
+    );
     let steps = settings.need(stream) as usize;
     if l % 2 == 1 {
         push_pairs(costs, odd, steps, to);
@@ -61,6 +72,7 @@ pub struct InnerRx<M: Carriers> {
     lp_even: Vec<u16>,
     lp_odd: Vec<u16>,
     costs: Vec<(u16, u16)>,
+    payload_cells: Vec<Cell>,
     of: PhantomData<M>,
 }
 
@@ -72,7 +84,7 @@ impl<M: Carriers> Model for InnerRx<M> {
 
     ghost view = { λ r. r.settings };
 
-    ghost invariant = { λ r. IsRx M.MODE r.settings r.metric r.carrier_table.items r.hp_even.items r.hp_odd.items r.lp_even.items r.lp_odd.items r.costs.items };
+    ghost invariant = { λ r. IsRx M.MODE r.settings r.metric r.carrier_table.items r.hp_even.items r.hp_odd.items r.lp_even.items r.lp_odd.items r.costs.items r.payload_cells.items };
 }
 
 impl<M: Carriers> InnerRx<M> {
@@ -89,6 +101,9 @@ impl<M: Carriers> InnerRx<M> {
         let lp_odd = cost_entries(alloc, settings, &permutation, true, Stream::Lp)?;
         let places = settings.mode.payload() as usize * settings.shape.label_bits() as usize;
         let costs = vec![in alloc; (0u16, 0u16); places + 1]?;
+        let payload_cells = vec![in alloc; Cell { re: 0, im: 0 }; settings
+            .mode
+            .payload() as usize]?;
         Ok(InnerRx {
             settings: *settings,
             metric: AxisMetric::new(settings.shape, settings.hierarchy),
@@ -98,6 +113,7 @@ impl<M: Carriers> InnerRx<M> {
             lp_even,
             lp_odd,
             costs,
+            payload_cells,
             of: PhantomData,
         })
     }
@@ -130,6 +146,7 @@ impl<M: Carriers> InnerRx<M> {
                 &self.hp_even,
                 &self.hp_odd,
                 &mut self.costs,
+                &mut self.payload_cells,
                 cells,
                 l,
                 stream,
@@ -142,6 +159,7 @@ impl<M: Carriers> InnerRx<M> {
                 &self.lp_even,
                 &self.lp_odd,
                 &mut self.costs,
+                &mut self.payload_cells,
                 cells,
                 l,
                 stream,

@@ -8,3 +8,4 @@ pub mod Runs
 pub mod CoderLaws
 pub mod Stepped
 pub mod Paths
+pub mod TwoBytes

@@ -1,3 +1,4 @@
 pub mod SentBits
 pub mod Steps
 pub mod Laws
+pub mod Periods

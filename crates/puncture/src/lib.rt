@@ -3,7 +3,9 @@
 
 mod coder;
 mod depuncturer;
+mod eight_steps;
 mod laws;
+mod periods;
 mod puncturer;
 mod rule;
 mod table;

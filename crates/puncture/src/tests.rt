@@ -1,4 +1,6 @@
 // Values from outside: the standard's table, and coded bytes of an independent program.
+use crate::eight_steps::punctured;
+use crate::periods::PeriodTable;
 use crate::{Depuncturer, PuncturedEncoder, Puncturer, Sent, sent};
 use bit_pack::BitBuf;
 use conv_code::Encoder;
@@ -142,5 +144,24 @@ fn costs_at_three_quarters(rt: HostRuntime) {
         assert_eq!(rt; depuncturer.needs(), needs);
         let pair = depuncturer.pair(first, b);
         assert_eq!(rt; ((pair.x0, pair.x1), (pair.y0, pair.y1)), (x, y));
+    }
+}
+
+// The table holds what the plain program computes step by step.
+#[test]
+fn table_is_the_plain_program(rt: HostRuntime) {
+    for rate in RATES {
+        let table = PeriodTable::new(rate);
+        for place in 0..rate.steps_in_period() {
+            for x in 0..=255u8 {
+                let y = x.wrapping_mul(91).wrapping_add(place);
+                let (plain, plain_next) = punctured(rate, place, x, y);
+                let (bits, next) = table.punctured(rate, place, x, y);
+                assert_eq!(rt;
+                    (bits.word, bits.count, next),
+                    (plain.word, plain.count, plain_next)
+                );
+            }
+        }
     }
 }

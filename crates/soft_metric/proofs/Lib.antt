@@ -1,3 +1,5 @@
+mod Lanes16
+mod Vectors
 mod Wrapping
 mod Sides
 pub mod Near

@@ -1,5 +1,5 @@
 -- What the two values of a coded bit cost, by the cell that carries it. The costs are this project's own.
-use Rattle.std.specs.Prelude.{◌≡◌, ℕ, ◌/◌, ◌^◌, ◌<◌, ◌≤◌, min, Bool, not, List, [], ◌∷◌, map, filter, ℤ}
+use Rattle.std.specs.Prelude.{◌≡◌, ℕ, ◌/◌, ◌^◌, ◌<◌, ◌≤◌, min, Bool, true, false, not, List, [], ◌∷◌, map, filter, ℤ}
 use Rattle.std.specs.Bool.{beq}
 use Rattle.spec_words.specs.Bits.{bit}
 use Rattle.spec_words.specs.Words.{least}
@@ -20,6 +20,10 @@ least_square x ps = least (map (λ p. distance x p.value ^ 2) ps)
 -- the cost of b at place e of the label, where the cell is x on that place's axis
 unfoldable pub cost : Shape → Hierarchy → ℤ → ℕ → Bool → ℕ
 cost s h x e b = min 4095 (least_square x (fitting s h e b) / 2 ^ 18)
+
+-- the costs of the values 0 and 1 at place e of the label that a cell carries
+abbrev pub costs_at_place : Shape → Hierarchy → Cell → ℕ → ℕ × ℕ
+costs_at_place s h cell e = (cost s h (on_axis cell e) e false, cost s h (on_axis cell e) e true)
 
 -- a cell is near a point on both axes
 pub record IsNear (s : Shape) (h : Hierarchy) (point cell : Cell) : Type 0 where

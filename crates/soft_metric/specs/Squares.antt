@@ -1,5 +1,5 @@
 -- The costs of an axis from the sign and the magnitude of its value.
-use Rattle.std.specs.Prelude.{◌≡◌, ℕ, ◌+◌, ◌/◌, ◌^◌, ◌≤◌, min, Bool, if◌then◌else◌, List, slice_index, slice_index_or}
+use Rattle.std.specs.Prelude.{◌≡◌, ℕ, zero, suc, ◌+◌, ◌-◌, ◌/◌, ◌%◌, ◌^◌, ◌≤◌, min, nat_lt, Bool, if◌then◌else◌, List, slice_index, slice_index_or, ℤ, pos, neg_ℤ}
 use Rattle.std.specs.Int.{abs_diff}
 
 -- the cost of a squared distance
@@ -29,3 +29,38 @@ pub record AreAxisCosts (levels : List ℕ) (positive : Bool) (m : ℕ) (cs : Li
   pub outer_one : (pair_at cs 1).1 ≡ scaled (min (near levels m 2) (near levels m 3))
   pub inner_zero : (pair_at cs 2).0 ≡ scaled (min (near levels m 0) (near levels m 3))
   pub inner_one : (pair_at cs 2).1 ≡ scaled (min (near levels m 1) (near levels m 2))
+
+-- a value of an axis, given modulo 2^16, in the lanes: its magnitude, and whether it is 0 or more
+abbrev pub lane_magnitude : ℕ → ℕ
+lane_magnitude u = min u ((65536 - u) % 65536)
+
+abbrev pub lane_positive : ℕ → Bool
+lane_positive u = nat_lt u 32768
+
+-- the value itself
+abbrev pub lane_value : ℕ → ℤ
+lane_value u = if lane_positive u then pos (lane_magnitude u) else neg_ℤ (pos (lane_magnitude u))
+
+-- the least distance to one of two levels on the value's side of 0
+abbrev pub near_two : List ℕ → ℕ → ℕ → ℕ → ℕ
+near_two levels u j k = min (abs_diff (lane_magnitude u) (slice_index levels j)) (abs_diff (lane_magnitude u) (slice_index levels k))
+
+abbrev pub near_four : List ℕ → ℕ → ℕ
+near_four levels u = min (near_two levels u 0 1) (near_two levels u 2 3)
+
+abbrev pub far_one : List ℕ → ℕ → ℕ
+far_one levels u = lane_magnitude u + slice_index levels 3
+
+-- the costs of the values 0 and 1 of the bit of axis number 0, 1 or 2, by distances
+abbrev pub lane_zero : List ℕ → ℕ → ℕ → ℕ
+lane_zero levels zero u = if lane_positive u then scaled (near_four levels u ^ 2) else scaled (far_one levels u ^ 2)
+lane_zero levels (suc zero) u = scaled (near_two levels u 0 1 ^ 2)
+lane_zero levels (suc (suc axis)) u = scaled (near_two levels u 0 3 ^ 2)
+
+abbrev pub lane_one : List ℕ → ℕ → ℕ → ℕ
+lane_one levels zero u = if lane_positive u then scaled (far_one levels u ^ 2) else scaled (near_four levels u ^ 2)
+lane_one levels (suc zero) u = scaled (near_two levels u 2 3 ^ 2)
+lane_one levels (suc (suc axis)) u = scaled (near_two levels u 1 2 ^ 2)
+
+abbrev pub lane_pair : List ℕ → ℕ → ℕ → ℕ × ℕ
+lane_pair levels axis u = (lane_zero levels axis u, lane_one levels axis u)

@@ -3,10 +3,13 @@ ghost use Rattle.std.specs.Prelude.{◌≡◌, ◌+◌, ◌/◌, ◌^◌, ◌<�
 ghost use Rattle.std.specs.Int.{abs_diff};
 ghost use Rattle.mode_set.specs.Levels.{levels};
 ghost use Rattle.mode_set.specs.StreamTable.{label_bits};
-ghost use Rattle.soft_metric.specs.Costs.{cost, four_levels};
+ghost use Rattle.soft_metric.specs.Costs.{cost, costs_at_place, four_levels};
+ghost use Rattle.qam_map.specs.declared.cell.Cell.{Cell as AnyCell};
 ghost use Rattle.soft_metric.specs.Squares.{AreAxisCosts, IsSmallPair};
 
+use crate::lanes::costs_by_lanes;
 use mode_set::{Hierarchy, Shape};
+use qam_map::Cell;
 use std::marker::Model;
 
 /// The metric of the axes of a constellation. It is seen as the constellation and its hierarchy.
@@ -15,7 +18,7 @@ pub struct AxisMetric {
     shape: Shape,
     hierarchy: Hierarchy,
     // from the outermost to the innermost
-    rings: [u32; 4],
+    rings: [u16; 4],
 }
 
 impl Model for AxisMetric {
@@ -32,7 +35,7 @@ impl Model for AxisMetric {
     ghost invariant = { λ m. m.rings ≡ four_levels (levels m.shape m.hierarchy) };
 }
 
-fn levels_of(shape: Shape, hierarchy: Hierarchy) -> [u32; 4]
+fn levels_of(shape: Shape, hierarchy: Hierarchy) -> [u16; 4]
     ensures { result ≡ four_levels (levels shape hierarchy) }
 {
     match shape {
@@ -83,19 +86,19 @@ fn in_order(positive: bool, near: u16, far: u16) -> (u16, u16)
 }
 
 // The costs of an axis with these four levels, from the outermost to the innermost.
-fn costs_of(levels: [u32; 4], positive: bool, magnitude: u32) -> [(u16, u16); 3]
+fn costs_of(levels: [u16; 4], positive: bool, magnitude: u32) -> [(u16, u16); 3]
     requires magnitude { magnitude ≤ 32768 }
     requires levels { (k : ℕ) → slice_index levels k ≤ 20000 }
     ensures { AreAxisCosts levels positive magnitude result }
 {
-    let first = near_square(magnitude, levels[0]);
-    let second = near_square(magnitude, levels[1]);
-    let third = near_square(magnitude, levels[2]);
-    let last = near_square(magnitude, levels[3]);
+    let first = near_square(magnitude, levels[0] as u32);
+    let second = near_square(magnitude, levels[1] as u32);
+    let third = near_square(magnitude, levels[2] as u32);
+    let last = near_square(magnitude, levels[3] as u32);
     let outer = first.min(second);
     let inner = third.min(last);
     let near = scaled(outer.min(inner));
-    let far = scaled(far_square(magnitude, levels[3]));
+    let far = scaled(far_square(magnitude, levels[3] as u32));
     [
         in_order(positive, near, far),
         (scaled(outer), scaled(inner)),
@@ -123,5 +126,13 @@ impl AxisMetric {
         ensures small { (k : ℕ) → k < 3 → IsSmallPair (slice_index_or result k (0, 0)) }
     {
         costs_of(self.rings, x >= 0, x.unsigned_abs() as u32)
+    }
+    /// The costs of the values 0 and 1 at a place of the label of each of sixteen cells.
+    pub fn costs_lanes(&self, cells: &[Cell; 16], place: u8) -> [(u16, u16); 16]
+        requires { place < label_bits self.now.0 }
+        ensures costs { (k : ℕ) (d : AnyCell) → k < 16 → slice_index_or result k (0, 0) ≡ costs_at_place self.now.0 self.now.1 (slice_index_or cells.now k d) place }
+        ensures small { (k : ℕ) → k < 16 → IsSmallPair (slice_index_or result k (0, 0)) }
+    {
+        costs_by_lanes(self.shape, self.hierarchy, self.rings, cells, place)
     }
 }

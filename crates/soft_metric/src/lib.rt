@@ -3,10 +3,11 @@
 #![tactic(auto)]
 
 mod axis;
+mod lanes;
 pub mod laws;
 mod metric;
 #[cfg(test)]
 mod tests;
 
 pub use axis::AxisMetric;
-pub use metric::costs;
+pub use metric::{costs, costs_lanes};

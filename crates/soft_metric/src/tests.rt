@@ -2,7 +2,7 @@
 ghost use Rattle.std.specs.Prelude.{◌<◌};
 ghost use Rattle.mode_set.specs.StreamTable.{label_bits};
 
-use crate::costs;
+use crate::{costs, costs_lanes};
 use mode_set::{Hierarchy, Shape};
 use qam_map::{Cell, map};
 use std::process::Abort;
@@ -87,24 +87,63 @@ fn edges_are_plain(rt: &impl Abort, shape: Shape, hierarchy: Hierarchy) {
     }
 }
 
+const CASES: [(Shape, Hierarchy); 9] = [
+    (Shape::Qpsk, Hierarchy::Flat),
+    (Shape::Qam16, Hierarchy::Flat),
+    (Shape::Qam16, Hierarchy::Alpha1),
+    (Shape::Qam16, Hierarchy::Alpha2),
+    (Shape::Qam16, Hierarchy::Alpha4),
+    (Shape::Qam64, Hierarchy::Flat),
+    (Shape::Qam64, Hierarchy::Alpha1),
+    (Shape::Qam64, Hierarchy::Alpha2),
+    (Shape::Qam64, Hierarchy::Alpha4),
+];
+
+// Value number `step` of 2000 that are spread over all.
+fn spread(step: u32) -> i16
+    requires { step < 2000 }
+{
+    ((step * 65535 / 1999) as i32 - 32768) as i16
+}
+
 #[test]
 fn costs_are_the_plain_least(rt: HostRuntime) {
-    let cases = [
-        (Shape::Qpsk, Hierarchy::Flat),
-        (Shape::Qam16, Hierarchy::Flat),
-        (Shape::Qam16, Hierarchy::Alpha1),
-        (Shape::Qam16, Hierarchy::Alpha2),
-        (Shape::Qam16, Hierarchy::Alpha4),
-        (Shape::Qam64, Hierarchy::Flat),
-        (Shape::Qam64, Hierarchy::Alpha1),
-        (Shape::Qam64, Hierarchy::Alpha2),
-        (Shape::Qam64, Hierarchy::Alpha4),
-    ];
-    for (shape, hierarchy) in cases {
+    for (shape, hierarchy) in CASES {
         edges_are_plain(&rt, shape, hierarchy);
         for step in 0..2000u32 {
-            let value = (step * 65535 / 1999) as i32 - 32768;
-            are_plain(&rt, shape, hierarchy, value as i16);
+            are_plain(&rt, shape, hierarchy, spread(step));
+        }
+    }
+}
+
+// Sixteen cells from number `first` of the spread ones on, forwards on the real axis and backwards
+// on the imaginary one.
+fn sixteen(first: u32) -> [Cell; 16]
+    requires { first < 1985 }
+{
+    let mut cells = [Cell { re: 0, im: 0 }; 16];
+    for k in 0..16u32 {
+        cells[k as usize] = Cell {
+            re: spread(first + k),
+            im: spread(1999 - first - k),
+        };
+    }
+    cells
+}
+
+#[test]
+fn lanes_are_single_costs(rt: HostRuntime) {
+    for (shape, hierarchy) in CASES {
+        for block in 0..125u32 {
+            let cells = sixteen(16 * block);
+            for place in 0..shape.label_bits() {
+                assert!(rt; place < shape.label_bits());
+                let lanes = costs_lanes(shape, hierarchy, &cells, place);
+                for (cell, pair) in cells.into_iter().zip(lanes) {
+                    assert!(rt; pair == costs(shape, hierarchy, cell, place));
+                    assert!(rt; pair == plain(&rt, shape, hierarchy, cell, place));
+                }
+            }
         }
     }
 }

@@ -1,5 +1,7 @@
-use Rattle.inner_chain.specs.CostTables.{AreCosts, IsRoom}
+use Rattle.std.proofs.Common.{◌*◌}
+use Rattle.mode_set.specs.StreamTable.{payload}
+use Rattle.inner_chain.specs.CostTables.{ArePlanes, IsRoom}
 use Rattle.inner_chain.proofs.cell_costs.write_costs.Given as goal
 
-abbrev pub invariant-loop-q : goal.invariant-loop-q
-invariant-loop-q l = record { costs : AreCosts l.settings l.cells l.l l.q l.costs; room : IsRoom l.settings l.costs }
+abbrev pub invariant-loop-place : goal.invariant-loop-place
+invariant-loop-place l = record { planes : ArePlanes l.settings l.payload_cells (l.place * payload l.settings.mode) l.costs; room : IsRoom l.settings l.costs }

@@ -4,7 +4,7 @@ use Rattle.spec_words.specs.Bits.{is_set, spelled}
 use Rattle.mode_set.specs.StreamTable.{steps_in_period}
 use Rattle.puncture.specs.Steps.{has_x, has_y}
 use Rattle.puncture.proofs.Eight.{step_moved, no_steps}
-use Rattle.puncture.proofs.coder.punctured.Goals as goal
+use Rattle.puncture.proofs.eight_steps.punctured.Goals as goal
 
 pub loop-step-preserved : goal.loop-step-preserved
 loop-step-preserved c = record {

@@ -2,7 +2,7 @@ use Rattle.std.proofs.Common.{◌≡◌, ◌+◌, ◌-◌, ◌*◌, ◌<◌, ◌
 use Rattle.spec_words.specs.Bits.{spelled}
 use Rattle.mode_set.specs.StreamTable.{steps_in_period}
 use Rattle.puncture.specs.Steps.{bits_of_steps}
-use Rattle.puncture.proofs.coder.punctured.Given as goal
+use Rattle.puncture.proofs.eight_steps.punctured.Given as goal
 
 abbrev pub invariant-loop-step : goal.invariant-loop-step
 invariant-loop-step l = record {
