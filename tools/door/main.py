@@ -1,0 +1,64 @@
+"""What bin/dvbt does with its words."""
+import os
+import signal
+import sys
+
+from door import words as forms
+
+
+def main(top, words):
+    """Runs the words; answers the exit status."""
+    is_quiet = words[:1] == ["-q"]
+    words = words[1:] if is_quiet else words
+    if words in (["--help"], ["-h"]):
+        print(forms.help_of_all())
+        return 0
+    if len(words) == 2 and words[0] in forms.FORMS and words[1] in ("--help", "-h"):
+        print(forms.help_of(words[0]))
+        return 0
+    from door import program
+
+    if words == ["--version"]:
+        print("\n".join(program.described(top)))
+        return 0
+    form = forms.form_of(words)
+    if form:
+        from door import explain
+
+        why = explain.named_twice(form)
+        if why:
+            explain.say(why)
+            return 64
+    file = program.found(top)
+    if file is None and form is None:
+        # what the program answers to words of no form; nothing has to be built for it
+        print("usage", flush=True)
+        if not is_quiet:
+            from door import explain
+
+            explain.of_usage(words)
+        return 2
+    if file is None:
+        from door import build
+
+        file = build.build(top, is_quiet)
+    if is_quiet:
+        signal.signal(signal.SIGPIPE, signal.SIG_DFL)
+        os.execv(file, ["dvbt", *words])
+    from door import watch
+
+    return watch.run(file, words, form)
+
+
+def start(top, words):
+    """As `main`, where the one who reads our output may go away."""
+    try:
+        status = main(top, words)
+        sys.stdout.flush()
+        return status
+    except BrokenPipeError:
+        os.dup2(os.open(os.devnull, os.O_WRONLY), 1)
+        return 1
+    except KeyboardInterrupt:
+        signal.signal(signal.SIGINT, signal.SIG_DFL)
+        os.kill(os.getpid(), signal.SIGINT)
