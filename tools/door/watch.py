@@ -31,14 +31,24 @@ def run(program, words, form):
             progress.show()
     progress.end()
     if status < 0:
-        signal.signal(-status, signal.SIG_DFL)
-        os.kill(os.getpid(), -status)
+        end_by(-status)
     if is_lost and status == 0:
         explain.say("standard output took no more, so the last lines are lost")
         return 6
     if status:
         explain.of_refusal(form, words, status, text, before)
     return status
+
+
+def end_by(number):
+    """Ends by the signal that ended the program, without a second core file."""
+    import resource
+
+    explain.say(f"the program was ended by signal {number}")
+    resource.setrlimit(resource.RLIMIT_CORE, (0, 0))
+    if number != signal.SIGKILL:
+        signal.signal(number, signal.SIG_DFL)
+    os.kill(os.getpid(), number)
 
 
 def is_standard_output(path):
