@@ -4,6 +4,7 @@
     tools/cells.py SETTINGS CELLS               symbols, TPS and powers; with --out a picture of the constellation
     tools/cells.py compare SETTINGS A B         where A differs from B: symbol, carrier, kind, label bit, clause
     tools/cells.py measure SETTINGS CELLS       MER, pilots, data cells beyond the tolerance, TPS words read
+    tools/cells.py disturb SETTINGS CELLS OUT   the same cells with noise, to try a receiver on
 
 Ends with 0 where all is as it should be, 1 where a check fails or a file can't be read, 2 where the words are wrong.
 
@@ -56,11 +57,12 @@ def kind_list(text):
 
 def arguments(words):
     """The command line."""
-    verb = words.pop(0) if words[:1] in (["look"], ["compare"], ["measure"]) else "look"
+    verb = words.pop(0) if words[:1] and words[0] in ("look", "compare", "measure", "disturb") else "look"
     about = {
-        "look": "Looks into a cell file: symbols, TPS, mean powers, and a picture of the constellation. Two more: cells.py compare --help, cells.py measure --help.",
+        "look": "Looks into a cell file: symbols, TPS, mean powers, and a picture of the constellation. Three more: cells.py compare --help, measure --help, disturb --help.",
         "compare": "Compares the cell file A with B and tells where they differ first: symbol, carrier, kind, label bit, clause of EN 300 744.",
         "measure": "Measures a cell file: MER over the data cells, pilots, cells beyond the tolerance, TPS words.",
+        "disturb": "Writes the cells with noise. The same seed gives the same noise everywhere.",
     }[verb]
     parser = argparse.ArgumentParser(prog=f"cells.py {verb}" if verb != "look" else "cells.py", description=about)
     add = parser.add_argument
@@ -75,6 +77,12 @@ def arguments(words):
         add("--sent", metavar="CELLS", help="measure against this file, what was sent, and not against the nearest points")
         add("--list", choices=["symbols", "carriers"], help="print the MER of each symbol or of each carrier too")
         add("--out", metavar="PNG", help="draw the MER over carriers and over symbols to this file")
+    if verb == "disturb":
+        add("out", metavar="OUT", help="the cell file to write")
+        noise = parser.add_mutually_exclusive_group(required=True)
+        noise.add_argument("--within", type=int, metavar="N", help="move each data cell evenly by at most N on each axis, pilots and TPS not at all")
+        noise.add_argument("--mer", type=float, metavar="DB", help="Gaussian noise on all cells, for this MER of the data cells")
+        add("--seed", type=int, default=1, help="the number that the noise is drawn from (default: 1)")
     if verb == "look":
         add("--frames", type=span, default=slice(None), metavar="A:B", help="the frames whose TPS is looked at, from 0 (default: all)")
         add("--verbose", action="store_true", help="three lines for each frame: where it is, s1 to s67, what they say")
@@ -107,6 +115,10 @@ def main(words):
         from cell_tools.measure import measure
 
         return measure(file, opened(words.sent, settings) if words.sent else None, words)
+    if verb == "disturb":
+        from cell_tools.disturb import disturb
+
+        return disturb(file, words)
     from cell_tools.look import look
 
     return look(file, words)

@@ -98,6 +98,8 @@ class Differences:
         """Where to look first, by the pattern of the data cells that differ."""
         if self.only_size == self.counts[DATA]:
             return "all labels agree: look at the levels of the constellation (4.3.5)"
+        if self.only_size > 0.9 * self.counts[DATA]:
+            return "nearly all labels agree: noise, or the levels of the constellation (4.3.5); cells.py measure says how much"
         if self.sorted_alike == self.symbols:
             return "each symbol has the same labels in another order: look at the symbol interleaver (4.3.4.2)"
         if np.count_nonzero(self.bits) < len(self.bits):

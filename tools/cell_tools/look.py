@@ -4,7 +4,7 @@ import numpy as np
 from cell_tools.files import Unfit
 from cell_tools.standard import (
     CONTINUAL_PILOT, DATA, FRAME, KINDS, SCATTERED_PILOT, SYNC, TPS_CARRIER, UNIT,
-    bch_rest, described, field, ideal_points, read_word, spaced,
+    bch_rest, described, field, ideal_points, spaced,
 )
 
 
@@ -32,7 +32,7 @@ def print_tps(file, frames, is_verbose):
         text = described(words[n], file.settings)
         sync, _, _, fields = text.split(", ", 3)
         is_placed = words[n][:16] not in SYNC or field(words[n], 23, 24) == n % 4
-        wrong += "DIFFERS" in text or read_word(words[n]) is None or not is_placed
+        wrong += "DIFFERS" in text or bch_rest(words[n]) != 0 or sync == "sync wrong" or not is_placed
         said.setdefault(f"{sync}, {fields}" if sync == "sync wrong" else fields, []).append(n)
         if is_verbose:
             print(f"frame {n % 4 + 1} of super-frame {n // 4 + 1}, symbols {FRAME * n} to {FRAME * n + 67}")

@@ -75,8 +75,9 @@ def measure(file, sent, words):
     print(f"symbols {file.symbols}, data cells {found.data}, {against}")
     print(f"MER {shown(found.whole())} (ETSI TR 101 290: ideal power over error power, all data cells)")
     by_symbol, (at, by_carrier) = found.symbols(), found.carriers()
-    print(f"  by symbol:  {spread(by_symbol)}, least in symbol {int(np.argmin(by_symbol))}")
-    print(f"  by carrier: {spread(by_carrier)}, least at carrier {at[int(np.argmin(by_carrier))]}")
+    if found.whole() != math.inf:
+        print(f"  by symbol:  {spread(by_symbol)}, least in symbol {int(np.argmin(by_symbol))}")
+        print(f"  by carrier: {spread(by_carrier)}, least at carrier {at[int(np.argmin(by_carrier))]}")
     for name, turned in zip(("continual", "scattered"), found.pilots):
         print(f"{name} pilots: {of_pilots(np.concatenate(turned))}")
     tolerance = found.points.tolerance
