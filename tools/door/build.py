@@ -61,18 +61,18 @@ def built(top, level, is_quiet=False):
 
 
 def prove(top, is_quiet):
-    """Proves every crate of the repository, as many at a time as processors and memory allow."""
-    with open(f"{top}/crates.txt", encoding="utf-8") as file:
-        total = sum(bool(line.partition("#")[0].strip()) for line in file)
+    """Proves the crates that the program stands on, as many at a time as processors and memory allow."""
+    total = len(program.crates_of(top))
     processors = len(os.sched_getaffinity(0))
-    at_once = max(1, min(processors + processors // 2, free_memory() // EACH))
+    at_once = max(1, min(processors, free_memory() // EACH))
     if not is_quiet:
         say(f"proving and building the program from its sources, {total} crates. {last_time(top, processors)}")
     began, done, current, sections = time.monotonic(), 0, None, {}
     is_terminal = sys.stderr.isatty() and not is_quiet
     with open(f"{top}/out/build.log", "w", encoding="utf-8") as log:
         words = ["rt", "all", "check", "--jobs", str(at_once)]
-        how = {"cwd": top, "stdin": subprocess.DEVNULL, "stdout": subprocess.PIPE, "stderr": subprocess.STDOUT}
+        # in the folder of a crate, rt all goes over that crate and those that it stands on
+        how = {"cwd": f"{top}/crates/dvbt", "stdin": subprocess.DEVNULL, "stdout": subprocess.PIPE, "stderr": subprocess.STDOUT}
         with subprocess.Popen(words, text=True, errors="replace", **how) as ran:
             for line in ran.stdout:
                 log.write(line)
