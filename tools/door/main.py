@@ -21,6 +21,11 @@ def main(top, words):
     if words == ["--version"]:
         print("\n".join(program.described(top)))
         return 0
+    if words == ["--program"]:
+        from door import build
+
+        print(program.found(top) or build.build(top, is_quiet))
+        return 0
     form = forms.form_of(words)
     if form:
         from door import explain

@@ -129,6 +129,7 @@ def help_of_all():
         out += [f"        {SHORT[command]}"]
     out += ["", "  bin/dvbt COMMAND --help     forms, files, an example and the statuses of a command"]
     out += ["  bin/dvbt --version          the sources, the toolchain and the program that would run"]
+    out += ["  bin/dvbt --program          the path of that program, which is built where it isn't yet"]
     out += ["  -q                          the program alone: no explanation and no progress on standard error", ""]
     out += ["There and back:"]
     out += [f"  {EXAMPLES[it][0]}" for it in ("modulate", "receive")]
