@@ -6,8 +6,8 @@ import sys
 from door import words as forms
 
 
-def main(top, words):
-    """Runs the words; answers the exit status."""
+def main(top, words, closed=()):
+    """Runs the words; answers the exit status. `closed` are the descriptors that the program is to find closed."""
     is_quiet = words[:1] == ["-q"]
     words = words[1:] if is_quiet else words
     if words in (["--help"], ["-h"]):
@@ -47,18 +47,40 @@ def main(top, words):
         from door import build
 
         file = build.build(top, is_quiet)
-    if is_quiet:
+    if is_quiet or closed:
         signal.signal(signal.SIGPIPE, signal.SIG_DFL)
+        for number in closed:
+            os.close(number)
         os.execv(file, ["dvbt", *words])
     from door import watch
 
     return watch.run(file, words, form)
 
 
+def closed_descriptors():
+    """Which of the descriptors 0 to 2 are closed. They are held open by /dev/null, so that no file of ours takes their place."""
+    closed = []
+    for number in range(3):
+        try:
+            os.fstat(number)
+        except OSError:
+            closed.append(number)
+    for number in closed:
+        # the lowest that is free, which is this one
+        held = os.open(os.devnull, os.O_RDWR)
+        os.set_inheritable(held, True)
+        if held != number:
+            os.dup2(held, number)
+            os.close(held)
+    return closed
+
+
 def start(top, words):
-    """As `main`, where the one who reads our output may go away."""
+    """As `main`, where the one who reads our output may go away, and where descriptors are closed: the program then finds
+    them closed too, and nothing is explained."""
+    closed = closed_descriptors()
     try:
-        status = main(top, words)
+        status = main(top, words, closed)
         sys.stdout.flush()
         return status
     except BrokenPipeError:
