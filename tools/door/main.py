@@ -81,7 +81,8 @@ def start(top, words):
     closed = closed_descriptors()
     try:
         status = main(top, words, closed)
-        sys.stdout.flush()
+        if sys.stdout:
+            sys.stdout.flush()
         return status
     except BrokenPipeError:
         os.dup2(os.open(os.devnull, os.O_WRONLY), 1)
