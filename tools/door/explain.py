@@ -100,11 +100,19 @@ def of_refusal(form, words, status, text, before):
     if form is None:
         of_usage(words)
         return
+    if status == 7 and not text and not all(is_utf8(word) for word in words):
+        say("the words could not be taken: they are not UTF-8")
+        return
     lines = {3: of_settings, 4: of_packet, 5: of_reading, 6: of_writing, 7: of_memory, 8: of_limit}.get(status)
     for line in lines(form, text) if lines else []:
         say(line)
     if status in (4, 5, 6, 8):
         say(what_stands(form, status, before))
+
+
+def is_utf8(word):
+    """Whether a word of the command line is UTF-8: what is not, Python keeps as surrogates."""
+    return not any(0xDC80 <= ord(it) <= 0xDCFF for it in word)
 
 
 def of_settings(form, text):
