@@ -40,7 +40,8 @@ def print_tps(file, frames, is_verbose):
             print(f"  {text}")
             if not is_placed:
                 print("  (a cell file begins with frame 1 of a super-frame; this one does not)")
-    print(f"frames {len(words)}, symbols behind the last whole one {file.symbols % FRAME}; looked at {len(numbers)}, not as they should be {wrong}")
+    print(f"frames {len(words)}, symbols behind the last whole one {file.symbols % FRAME}")
+    print(f"TPS words looked at {len(numbers)}, not as they should be {wrong}")
     if not is_verbose:
         for text, at in said.items():
             print(f"  {text} ({len(at)} frame{'s' * (len(at) > 1)}, number {listed(at)})")

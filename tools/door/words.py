@@ -130,7 +130,8 @@ def help_of_all():
     out += ["", "  bin/dvbt COMMAND --help     forms, files, an example and the statuses of a command"]
     out += ["  bin/dvbt --version          the sources, the toolchain and the program that would run"]
     out += ["  bin/dvbt --program          the path of that program, which is built where it isn't yet"]
-    out += ["  -q                          the program alone: no explanation and no progress on standard error", ""]
+    out += ["  -q                          the program alone: no explanation and no progress on standard error"]
+    out += ["  $DVBT_PROGRAM               names another program to run in its place", ""]
     out += ["There and back:"]
     out += [f"  {EXAMPLES[it][0]}" for it in ("modulate", "receive")]
     out += ["", "Statuses:"] + lines_of_statuses(None)
