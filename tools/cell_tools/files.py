@@ -1,0 +1,149 @@
+"""Settings and cell files, and what keeps them from being read."""
+import pathlib
+import sys
+import tomllib
+
+import numpy as np
+
+from cell_tools.standard import FRAME, KINDS, LEVELS, RATES, UNIT, VALUES, Carriers
+
+NUMBERS = {"cell_id": (0, 65535), "workers": (1, 16), "max_symbols": (1, 4294967295)}
+WORDS = VALUES | {"start": ["zero", "any"]}
+KEYS = ["mode", "constellation", "hierarchy", "rate_hp", "rate_lp", "guard", "cell_id", "start", "workers", "max_symbols"]
+ABSENT = {"hierarchy": "none", "start": "zero", "workers": 1, "max_symbols": 1000000}
+
+
+class Unfit(Exception):
+    """What keeps a file from being read, in words for its user."""
+
+
+def read_settings(path):
+    """The settings document as a dictionary. What `dvbt` refuses (docs/SETTINGS.md) is refused, with the line that it prints."""
+    try:
+        content = pathlib.Path(path).read_bytes()
+    except OSError as error:
+        raise Unfit(f"settings: {error}") from None
+    if len(content) > 65536:
+        raise Unfit(f"{path}: settings too long")
+    try:
+        found = tomllib.loads(content.decode())
+    except ValueError as error:
+        raise Unfit(f"{path}: settings not toml: {error}") from None
+    for place, key in enumerate(sorted(found, key=str.encode)):
+        if key not in KEYS:
+            raise Unfit(f"{path}: settings unknown {place}: {key}")
+    for key in KEYS:
+        if key not in found and key in ("mode", "constellation", "rate_hp", "guard"):
+            raise Unfit(f"{path}: settings missing {key}")
+        if key in found and not is_value(key, found[key]):
+            raise Unfit(f"{path}: settings value {key}: {found[key]!r}")
+    settings = ABSENT | found
+    if (settings["constellation"], settings["hierarchy"]) not in LEVELS:
+        raise Unfit(f"{path}: settings clash hierarchy: qpsk has none")
+    if ("rate_lp" in settings) == (settings["hierarchy"] == "none"):
+        raise Unfit(f"{path}: settings clash rate_lp: it stands exactly with a hierarchy")
+    return settings
+
+
+def is_value(key, value):
+    """Whether a key may have this value."""
+    if key in NUMBERS:
+        least, most = NUMBERS[key]
+        return type(value) is int and least <= value <= most
+    return type(value) is str and value in WORDS[key]
+
+
+class Plain:
+    """A cell file without a header: four bytes a cell (docs/FILES.md). Another version of the file is a class like this one."""
+
+    HEADER, WIDTH = 0, 4
+
+    @staticmethod
+    def is_of(head):
+        """Whether a file that begins so is of this version."""
+        return True
+
+    @classmethod
+    def cells(cls, path, symbols, carriers):
+        """Symbols by carriers by real and imaginary part, as they stand."""
+        shape = (symbols, carriers, 2)
+        return np.memmap(path, ">i2", "r", offset=cls.HEADER, shape=shape) if symbols else np.zeros(shape, ">i2")
+
+
+VERSIONS = [Plain]  # the first that fits
+
+
+class CellFile:
+    """A cell file: `cells` has the values as they stand, by symbol, carrier and part (real, imaginary)."""
+
+    def __init__(self, path, settings):
+        self.path = path
+        self.settings = settings
+        self.carriers = Carriers(settings["mode"])
+        try:
+            with open(path, "rb") as file:
+                head = file.read(8)
+            self.version = next(version for version in VERSIONS if version.is_of(head))
+            self.size = self.version.WIDTH * self.carriers.count
+            content = pathlib.Path(path).stat().st_size - self.version.HEADER
+            self.symbols, self.left_over = divmod(max(content, 0), self.size)
+            self.cells = self.version.cells(path, self.symbols, self.carriers.count)
+        except OSError as error:
+            raise Unfit(f"cells: {error}") from None
+
+    def array(self, symbols=slice(None)):
+        """Symbols by carriers as complex numbers of the standard's normalised constellation."""
+        parts = self.cells[symbols].astype(np.float32) / UNIT
+        return parts[..., 0] + 1j * parts[..., 1]
+
+    def tps_sums(self):
+        """For each symbol the sum over the TPS carriers of re re' + im im', with those of the symbol before."""
+        tps = self.cells[:, self.carriers.tps].astype(np.int64)
+        return np.concatenate([[0], np.sum(tps[1:] * tps[:-1], axis=(1, 2))])
+
+    def tps_words(self):
+        """s1 to s67 of each whole frame, by the votes of its symbols."""
+        sums = self.tps_sums()
+        ends = range(FRAME, self.symbols + 1, FRAME)
+        return ["".join("1" if x < 0 else "0" for x in sums[end - FRAME + 1 : end]) for end in ends]
+
+
+def wrong_guess(path, mode):
+    """Why the pilots of a file do not stand where those of this mode do: the first reason that fits, or None."""
+    data = np.fromfile(path, ">i2", count=4 * 2 * Carriers("8k").count)
+    other = "8k" if mode == "2k" else "2k"
+    little = "the two bytes of each value stand the wrong way round; a cell file has the high byte first"
+    guesses = [
+        (other, data, 0, f"it is of the {other} mode; the settings say {mode}"),
+        (mode, data.byteswap(), 0, little),
+        (other, data.byteswap(), 0, f"{little}; and it is of the {other} mode, where the settings say {mode}"),
+    ]
+    for l in range(1, 4):
+        text = f"its first symbol is number {l}, {l + 4}, .. of a frame; a cell file begins with number 0"
+        guesses.append((mode, data, l, text))
+    for guess, values, l, text in guesses:
+        carriers = Carriers(guess)
+        symbols = min(4, len(values) // (2 * carriers.count))
+        cells = values[: symbols * 2 * carriers.count].reshape(symbols, carriers.count, 2)
+        if symbols and carriers.fit(cells, l):
+            return text
+    return None
+
+
+def check(file):
+    """Refuses a file that is plainly another than its settings say; what is only strange is told on standard error."""
+    size = file.size
+    mode = file.settings["mode"]
+    if file.symbols == 0 or not file.carriers.fit(file.cells[:4], 0):
+        reason = wrong_guess(file.path, mode)
+        if reason:
+            raise Unfit(f"{file.path}: {reason}")
+        if file.symbols:
+            warn("the pilots are not where they should be: no cell file, or badly disturbed")
+    if file.left_over:
+        warn(f"the file is no whole number of symbols of {size} bytes ({mode})")
+
+
+def warn(text):
+    """A line on standard error."""
+    print(f"cells.py: {text}", file=sys.stderr)

@@ -1,0 +1,176 @@
+"""What is in a cell file: symbols, TPS, powers, and a picture of the constellation."""
+import numpy as np
+
+from cell_tools.files import Unfit
+from cell_tools.standard import (
+    CONTINUAL_PILOT, DATA, FRAME, KINDS, SCATTERED_PILOT, SYNC, TPS_CARRIER, UNIT,
+    bch_rest, described, field, ideal_points, spaced,
+)
+
+
+def look(file, words):
+    """Prints what is in the file and draws it; answers whether each TPS word is as the settings say."""
+    if words.out and not range(file.symbols)[words.symbols]:
+        raise Unfit(f"no symbol of the {file.symbols} in the file is in --symbols")
+    print(f"symbols {file.symbols} of {file.size} bytes, bytes left over {file.left_over}")
+    is_well = True
+    if file.symbols:
+        is_well = print_tps(file, words.frames, words.verbose)
+        print_powers(file)
+    if words.out:
+        draw(file, words.symbols, words.kinds, words.labels, words.out)
+        print(f"picture {words.out}")
+    return is_well
+
+
+def print_tps(file, frames, is_verbose):
+    """The TPS words of whole frames: a line for words that say the same, or with `is_verbose` three lines for each."""
+    words = file.tps_words()
+    numbers = range(len(words))[frames]
+    said, wrong = {}, 0
+    for n in numbers:
+        text = described(words[n], file.settings)
+        sync, _, _, fields = text.split(", ", 3)
+        is_placed = words[n][:16] not in SYNC or field(words[n], 23, 24) == n % 4
+        wrong += "DIFFERS" in text or bch_rest(words[n]) != 0 or sync == "sync wrong" or not is_placed
+        said.setdefault(f"{sync}, {fields}" if sync == "sync wrong" else fields, []).append(n)
+        if is_verbose:
+            print(f"frame {n % 4 + 1} of super-frame {n // 4 + 1}, symbols {FRAME * n} to {FRAME * n + 67}")
+            print(f"  s1..s67 {spaced(words[n])}")
+            print(f"  {text}")
+            if not is_placed:
+                print("  (a cell file begins with frame 1 of a super-frame; this one does not)")
+    print(f"frames {len(words)}, symbols behind the last whole one {file.symbols % FRAME}")
+    print(f"TPS words looked at {len(numbers)}, not as they should be {wrong}")
+    if not is_verbose:
+        for text, at in said.items():
+            print(f"  {text} ({len(at)} frame{'s' * (len(at) > 1)}, number {listed(at)})")
+    if words and not any(bits[:16] in SYNC for bits in words):
+        print_shifted("".join("1" if x < 0 else "0" for x in file.tps_sums()))
+    return wrong == 0
+
+
+def listed(numbers):
+    """The first numbers of a list, in words."""
+    return ", ".join(map(str, numbers[:4])) + (f" and {len(numbers) - 4} more" if len(numbers) > 4 else "")
+
+
+def print_shifted(votes):
+    """Says where frames begin in a file that does not begin with one."""
+    for m in range(len(votes) - FRAME + 1):
+        if votes[m + 1 : m + 17] in SYNC and bch_rest(votes[m + 1 : m + 68]) == 0:
+            print(f"  no frame begins where it should, but one at symbol {m}: a cell file begins with a frame")
+            return
+
+
+def print_powers(file):
+    """Counts and mean powers of the four kinds of carriers, over all symbols."""
+    totals, counts = np.zeros(4), np.zeros(4, int)
+    kinds = [file.carriers.kinds(l) for l in range(4)]
+    for m in range(file.symbols):
+        power = np.sum(file.cells[m].astype(float) ** 2, axis=1)
+        totals += np.bincount(kinds[m % 4], power, 4)
+        counts += np.bincount(kinds[m % 4], minlength=4)
+    names = ["data", "continual pilots", "scattered pilots", "TPS"]
+    print(f"mean power (1 is {UNIT}^2)")
+    for name, total, count in zip(names, totals, counts):
+        print(f"  {name:17} {total / count / UNIT**2:.4f}  of {count} cells")
+
+
+def chosen(file, symbols, names):
+    """For each kind that is wanted the distinct points that stand there, and how many cells."""
+    out = {}
+    numbers = range(file.symbols)[symbols]
+    for kind in sorted({kind for name in names for kind in KINDS[name]}):
+        parts = [file.cells[m][file.carriers.kinds(m % FRAME) == kind] for m in numbers]
+        cells = np.concatenate(parts) if parts else np.zeros((0, 2))
+        out[kind] = (np.unique(cells.astype(int), axis=0) / UNIT, len(cells))
+    return out
+
+
+def draw(file, symbols, names, labels, out):
+    """Draws the constellation to a PNG."""
+    try:
+        import matplotlib
+
+        matplotlib.use("Agg")
+        import matplotlib.pyplot as plt
+    except ImportError as error:
+        raise Unfit(f"{error}; --out needs matplotlib (Debian: python3-matplotlib)") from None
+
+    found = chosen(file, symbols, names)
+    if sum(count for _, count in found.values()) == 0:
+        raise Unfit("no symbol of the file is in --symbols")
+    figure, axes = plt.subplots(figsize=(8, 8.4), dpi=100)
+    frame_axes(axes, found)
+    for kind, (points, count) in found.items():
+        draw_kind(axes, kind, points, count)
+    if DATA in found:
+        draw_ideal(axes, file.settings, labels)
+    axes.set_title(title(file, symbols))
+    legend = axes.legend(loc="upper center", bbox_to_anchor=(0.5, -0.08), ncol=2, frameon=False)
+    handles = legend.legend_handles if hasattr(legend, "legend_handles") else legend.legendHandles
+    for handle in handles:
+        handle.set_sizes([40])
+        handle.set_alpha(1)
+    try:
+        figure.savefig(out, format="png", bbox_inches="tight")
+    except OSError as error:
+        raise Unfit(f"picture: {error}") from None
+
+
+def draw_kind(axes, kind, points, count):
+    """The cells of one kind: large marks where they stand on few points, small ones for clouds."""
+    colour, mark, name, large, small, height = {
+        DATA: ("#1f5fa8", "o", "data cells", 26, 4, 4),
+        SCATTERED_PILOT: ("#e67e22", "D", "scattered pilots", 90, 5, 5),
+        CONTINUAL_PILOT: ("#a01c12", "s", "continual pilots", 22, 8, 6),
+        TPS_CARRIER: ("#1e8449", "^", "TPS cells", 50, 14, 7),
+    }[kind]
+    shown = {"s": large} if len(points) <= 64 else {"s": small, "alpha": 0.6}
+    shown |= {"marker": mark, "color": colour, "linewidths": 0, "zorder": height}
+    axes.scatter(points[:, 0], points[:, 1], label=f"{count} {name}", **shown)
+
+
+def title(file, symbols):
+    """The title of a picture."""
+    settings = file.settings
+    words = [settings["mode"].upper(), settings["constellation"].upper().replace("QAM", "-QAM")]
+    if settings["hierarchy"] != "none":
+        words.append(f"hierarchical, α = {settings['hierarchy']}")
+    numbers = range(file.symbols)[symbols]
+    first, last = numbers[0], numbers[-1]
+    words.append(f"symbol {first}" if first == last else f"symbols {first} to {last}")
+    return ", ".join(words)
+
+
+def frame_axes(axes, found):
+    """The frame of a picture: the same scale both ways, wide enough for all points."""
+    reach = max([1.5] + [abs(points).max() + 0.1 for points, count in found.values() if count])
+    axes.set(xlim=(-reach, reach), ylim=(-reach, reach), aspect="equal")
+    axes.set(xlabel=f"real part, 1 is {UNIT}", ylabel=f"imaginary part, 1 is {UNIT}")
+    axes.axhline(0, color="#888888", linewidth=0.8, zorder=1)
+    axes.axvline(0, color="#888888", linewidth=0.8, zorder=1)
+    axes.grid(color="#e8e8e8")
+    axes.set_axisbelow(True)
+
+
+def draw_ideal(axes, settings, labels):
+    """Rings round the points of the standard; their labels, and with a hierarchy the HP bits of the quadrants."""
+    points = ideal_points(settings)
+    places = [p[0] for p in points], [p[1] for p in points]
+    ring = {"s": 70, "facecolors": "none", "edgecolors": "black", "linewidths": 0.9, "zorder": 9}
+    axes.scatter(*places, label="points of the standard", **ring)
+    is_flat = settings["hierarchy"] == "none"
+    if labels:
+        paper = {"facecolor": "white", "edgecolor": "none", "alpha": 0.7, "pad": 0.5}
+        for x, y, label in points:
+            text = label if is_flat else f"{label[:2]} {label[2:]}"
+            shown = {"ha": "center", "fontsize": 7, "family": "monospace", "bbox": paper, "zorder": 8}
+            axes.annotate(text, (x, y), xytext=(0, 7), textcoords="offset points", **shown)
+    if not is_flat:
+        for re, x in (("0", 0.985), ("1", 0.015)):
+            for im, y in (("0", 0.985), ("1", 0.015)):
+                shown = {"ha": "right" if re == "0" else "left", "va": "top" if im == "0" else "bottom"}
+                shown |= {"fontsize": 11, "weight": "bold", "color": "#666666"}
+                axes.text(x, y, f"HP {re}{im}", transform=axes.transAxes, **shown)

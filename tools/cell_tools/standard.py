@@ -1,0 +1,238 @@
+"""What the standard (EN 300 744) says of a symbol's cells: carriers, levels, labels and the words of TPS."""
+import numpy as np
+
+UNIT = 16384  # the fixed-point value of 1 in the standard's normalised constellation
+BOOSTED = 21845  # 4/3 of it (EN 300 744, 4.5.5)
+FRAME = 68  # symbols of a frame (4.4)
+
+# Carriers of the 2K mode; the 8K mode has them four times, 1704 apart (4.5.4, 4.6).
+CONTINUAL = [
+    0, 48, 54, 87, 141, 156, 192, 201, 255, 279, 282, 333, 432, 450, 483, 525, 531, 618, 636, 714, 759, 765, 780,
+    804, 873, 888, 918, 939, 942, 969, 984, 1050, 1101, 1107, 1110, 1137, 1140, 1146, 1206, 1269, 1323, 1377, 1491,
+    1683, 1704,
+]
+TPS = [34, 50, 209, 346, 413, 569, 595, 688, 790, 901, 1073, 1219, 1262, 1286, 1469, 1594, 1687]
+
+DATA, CONTINUAL_PILOT, SCATTERED_PILOT, TPS_CARRIER = range(4)
+NAMES = ["data", "continual", "scattered", "tps"]
+KINDS = {
+    "data": [DATA],
+    "pilot": [CONTINUAL_PILOT, SCATTERED_PILOT],
+    "continual": [CONTINUAL_PILOT],
+    "scattered": [SCATTERED_PILOT],
+    "tps": [TPS_CARRIER],
+}
+
+SYNC = ["0011010111101110", "1100101000010001"]  # frames 1 and 3, frames 2 and 4 (4.6)
+RATES = ["1/2", "2/3", "3/4", "5/6", "7/8"]
+VALUES = {  # of the settings, in the order of their numbers in TPS
+    "constellation": ["qpsk", "16qam", "64qam"],
+    "hierarchy": ["none", "1", "2", "4"],
+    "rate_hp": RATES,
+    "rate_lp": RATES,
+    "guard": ["1/32", "1/16", "1/8", "1/4"],
+    "mode": ["2k", "8k"],
+}
+PLACES = {  # the first and the last bit of each field
+    "constellation": (25, 26),
+    "hierarchy": (27, 29),
+    "rate_hp": (30, 32),
+    "rate_lp": (33, 35),
+    "guard": (36, 37),
+    "mode": (38, 39),
+}
+# The first and the last bit of each row of the table of TPS bits (4.6.2), by its name.
+ROWS = [
+    (0, 0, "s0: the reference sequence"),
+    (1, 16, "synchronisation word"),
+    (17, 22, "length indicator"),
+    (23, 24, "frame number"),
+    (25, 26, "constellation"),
+    (27, 29, "hierarchy"),
+    (30, 32, "rate of HP"),
+    (33, 35, "rate of LP"),
+    (36, 37, "guard interval"),
+    (38, 39, "transmission mode"),
+    (40, 47, "cell identifier"),
+    (48, 53, "reserved bits"),
+    (54, 67, "parity"),
+]
+
+# Magnitudes on an axis from the innermost to the outermost, before the division by the root (4.3.5).
+LEVELS = {
+    ("qpsk", "none"): ([1], 2),
+    ("16qam", "none"): ([1, 3], 10),
+    ("16qam", "1"): ([1, 3], 10),
+    ("16qam", "2"): ([2, 4], 20),
+    ("16qam", "4"): ([4, 6], 52),
+    ("64qam", "none"): ([1, 3, 5, 7], 42),
+    ("64qam", "1"): ([1, 3, 5, 7], 42),
+    ("64qam", "2"): ([2, 4, 6, 8], 60),
+    ("64qam", "4"): ([4, 6, 8, 10], 108),
+}
+# Bits of an axis behind the sign, for the same magnitudes.
+AXIS_BITS = {"qpsk": [""], "16qam": ["1", "0"], "64qam": ["10", "11", "01", "00"]}
+
+class Carriers:
+    """What each carrier of a mode is for."""
+
+    def __init__(self, mode):
+        self.mode = mode
+        shifts = range(1) if mode == "2k" else range(4)
+        self.count = 1 + 1704 * len(shifts)
+        self.tps = np.array([k + 1704 * j for j in shifts for k in TPS])
+        self.continual = np.unique([k + 1704 * j for j in shifts for k in CONTINUAL])
+        bits = [1] * 11  # the reference sequence (4.5.2)
+        while len(bits) < self.count:
+            bits.append(bits[-9] ^ bits[-11])
+        self.signs = 1 - 2 * np.array(bits)
+
+    def kinds(self, l):
+        """The kind of each carrier in symbol l of a frame; both kinds of pilot at once count as continual."""
+        kinds = np.full(self.count, DATA)
+        kinds[3 * (l % 4) :: 12] = SCATTERED_PILOT  # 4.5.3
+        kinds[self.continual] = CONTINUAL_PILOT
+        kinds[self.tps] = TPS_CARRIER
+        return kinds
+
+    def fit(self, cells, l):
+        """Whether cells by symbol, carrier and part can be symbols l, l + 1 .. of a frame: most pilots have the sign
+        that they should have (of other cells a quarter would) and the TPS cells are about as strong (the two bytes
+        of a pilot are alike, so with bytes swapped the pilots alone would fit)."""
+        right, total = 0, 0
+        strength = {True: [], False: []}
+        for number, symbol in enumerate(cells.astype(int)):
+            kinds = self.kinds(l + number)
+            pilots = np.isin(kinds, KINDS["pilot"])
+            re, im = symbol[pilots].T
+            right += np.sum((re * self.signs[pilots] > 0) & (abs(re) > abs(im)))
+            total += len(re)
+            strength[True].append(np.mean(abs(re)))
+            strength[False].append(np.mean(abs(symbol[kinds == TPS_CARRIER, 0])))
+        return right > 0.65 * total and np.mean(strength[False]) > 0.4 * np.mean(strength[True])
+
+
+def ideal_points(settings):
+    """The points of the constellation with their labels y0 y1 .. (4.3.5)."""
+    levels, norm = LEVELS[settings["constellation"], settings["hierarchy"]]
+    ends = AXIS_BITS[settings["constellation"]]
+    axis = [(sign * a / norm**0.5, bit + end) for sign, bit in ((1, "0"), (-1, "1")) for a, end in zip(levels, ends)]
+    return [(x, y, "".join(map("".join, zip(re, im)))) for x, re in axis for y, im in axis]
+
+
+class Points:
+    """The nearest points of a constellation, axis by axis, and their labels."""
+
+    def __init__(self, settings):
+        levels, norm = LEVELS[settings["constellation"], settings["hierarchy"]]
+        magnitudes = [round(UNIT * a / norm**0.5) for a in levels]
+        ends = AXIS_BITS[settings["constellation"]]
+        rows = sorted((s * n, b + end) for s, b in ((1, "0"), (-1, "1")) for n, end in zip(magnitudes, ends))
+        self.levels = np.array([n for n, _ in rows])
+        self.axis_bits = np.array([[int(bit) for bit in label] for _, label in rows])
+        self.edges = (self.levels[1:] + self.levels[:-1]) / 2
+        self.tolerance = int(np.min(np.diff(self.levels))) // 4
+        self.width = 2 * self.axis_bits.shape[1]
+
+    def nearest(self, parts):
+        """The nearest value of each part."""
+        return self.levels[np.searchsorted(self.edges, parts)]
+
+    def labels(self, parts):
+        """The bits y0 y1 .. of the nearest points; real and imaginary part stand in the last axis."""
+        bits = self.axis_bits[np.searchsorted(self.edges, parts)]  # .., part, bit of the axis
+        return np.moveaxis(bits, -2, -1).reshape(*parts.shape[:-1], self.width)
+
+
+def bch_rest(bits):
+    """What is left of the word, s1 the highest coefficient, after division by the generator of the TPS code (4.6)."""
+    rest = int(bits, 2)
+    for degree in range(66, 13, -1):
+        if rest >> degree & 1:
+            rest ^= 0b100001101110111 << degree - 14
+    return rest
+
+
+def field(bits, first, last):
+    """Bits s_first to s_last as a number."""
+    return int(bits[first - 1 : last], 2)
+
+
+def fields_of(bits):
+    """The fields of s1 to s67 as a dictionary of texts, `?` and the number where a value is reserved."""
+    found = {}
+    for key, (first, last) in PLACES.items():
+        number, values = field(bits, first, last), VALUES[key]
+        found[key] = values[number] if number < len(values) else f"?{number}"
+    return found
+
+
+def described(bits, settings):
+    """A line that tells the fields of s1 to s67, and whether they are those of the settings."""
+    frame = field(bits, 23, 24) + 1
+    sync = {SYNC[0]: "of frames 1 and 3", SYNC[1]: "of frames 2 and 4"}.get(bits[:16], "wrong")
+    length = field(bits, 17, 22)
+    found = fields_of(bits)
+    is_flat = found["hierarchy"] == "none"
+    words = [f"sync {sync}", f"length {length}", f"frame {frame}", found["constellation"]]
+    words.append("no hierarchy" if is_flat else f"hierarchy {found['hierarchy']}")
+    words.append(f"rate {found['rate_hp']}" if is_flat else f"rates {found['rate_hp']} and {found['rate_lp']}")
+    words += [f"guard {found['guard']}", found["mode"]]
+    if length == 31:
+        words.append(f"cell identifier, {'high' if frame % 2 else 'low'} byte {field(bits, 40, 47):02X}")
+    elif length == 23:
+        words.append("no cell identifier")
+    words.append("parity holds" if bch_rest(bits) == 0 else "PARITY FAILS")
+    wrong = differences(bits, found, settings)
+    words.append("DIFFERS from the settings in " + ", ".join(wrong) if wrong else "as the settings say")
+    return ", ".join(words)
+
+
+def differences(bits, found, settings):
+    """The keys of the settings that the fields contradict."""
+    told = dict(settings)
+    if settings["hierarchy"] == "none":
+        told["rate_lp"] = "1/2"  # sent as 000
+    wrong = [key for key in PLACES if found[key] != told[key]]
+    cell = settings.get("cell_id")
+    length = 23 if cell is None else 31
+    byte = 0 if cell is None else cell >> 8 if field(bits, 23, 24) % 2 == 0 else cell & 255
+    if field(bits, 17, 22) != length or field(bits, 40, 47) != byte:
+        wrong.append("cell_id")
+    return wrong
+
+
+def spaced(bits):
+    """The bits of a TPS word, field by field."""
+    ends = [0, 16, 22, 24, 26, 29, 32, 35, 37, 39, 47, 53, 67]
+    return " ".join(bits[a:b] for a, b in zip(ends, ends[1:]))
+
+
+# What is left of a word in which one bit or two are wrong: which bits these are.
+def one_or_two():
+    alone = {place: bch_rest("".join("1" if i == place else "0" for i in range(67))) for place in range(67)}
+    found = {0: ()} | {rest: (place,) for place, rest in alone.items()}
+    return found | {alone[a] ^ alone[b]: (a, b) for a in range(67) for b in range(a)}
+
+
+ERRORS = one_or_two()
+
+
+def read_word(bits):
+    """The word of the code within two bits of s1 to s67 and how many were wrong, or None; its fields are ones that can be sent."""
+    places = ERRORS.get(bch_rest(bits))
+    if places is None:
+        return None
+    word = "".join("10"[int(bit)] if place in places else bit for place, bit in enumerate(bits))
+    found, length = fields_of(word), field(word, 17, 22)
+    is_flat = found["hierarchy"] == "none"
+    is_valid = (
+        word[:16] == SYNC[field(word, 23, 24) % 2]
+        and length in (23, 31)
+        and not any(value.startswith("?") for value in found.values())
+        and (is_flat or found["constellation"] != "qpsk")
+        and (not is_flat or word[32:35] == "000")
+        and (length == 31 or word[39:47] == "00000000")
+        and word[47:53] == "000000"
+    )
+    return (word, len(places)) if is_valid else None

@@ -1,0 +1,154 @@
+"""Proves and builds the program from the sources: out/dvbt.
+
+`rt all check` proves the crates side by side, lowest first, and `rt run` compiles and links the program over that work.
+The old program goes first, so that a failed proof leaves none.
+"""
+import fcntl
+import os
+import re
+import shutil
+import subprocess
+import sys
+import time
+
+from door import program
+from door.explain import clock, fail, say, spoken
+
+# Seconds that the proof and build of the program took when it was measured, from nothing, by processors.
+MEASURED = {}
+# Memory that one check takes at most, in bytes.
+EACH = 2_000_000_000
+
+
+def build(top, is_quiet):
+    """Builds out/dvbt and answers its path; ends with 126 or 127 where that can't be."""
+    if not shutil.which("rt"):
+        fail(127, "the program is not built from these sources, and the toolchain's command rt is not on the PATH")
+    os.makedirs(f"{top}/out", exist_ok=True)
+    with open(f"{top}/out/lock", "w") as lock:
+        try:
+            fcntl.flock(lock, fcntl.LOCK_EX | fcntl.LOCK_NB)
+        except BlockingIOError:
+            say("waiting for another build of the program to end")
+            fcntl.flock(lock, fcntl.LOCK_EX)
+            file = program.built_here(top, program.sums_of(top))
+            if file:
+                return file
+        return built(top, program.level_of_processor(), is_quiet)
+
+
+def built(top, level, is_quiet=False):
+    """The same under the lock, for processors of this level."""
+    for name in ("dvbt", "dvbt.sources", "dvbt.by"):
+        remove(f"{top}/out/{name}")
+    toolchain, sums = program.toolchain_of(), program.sums_of(top)
+    began = time.monotonic()
+    prove(top, is_quiet)
+    made = link(top, level)
+    if program.sums_of(top) != sums:
+        fail(126, "the sources changed while the program was built; run the command again")
+    seconds = round(time.monotonic() - began)
+    target = f"{top}/out/dvbt"
+    shutil.copyfile(made, f"{target}.new")
+    os.chmod(f"{target}.new", 0o755)
+    os.replace(f"{target}.new", target)
+    write(f"{top}/out/dvbt.sources", program.written(sums, toolchain))
+    write(f"{top}/out/dvbt.by", f"{program.sum_of(target)}\n{program.stat_of_rt()}\n")
+    write(f"{top}/out/seconds", f"{seconds}\n")
+    if not is_quiet:
+        say(f"proved and built in {clock(seconds)}")
+    return target
+
+
+def prove(top, is_quiet):
+    """Proves the crates that the program stands on, as many at a time as processors and memory allow."""
+    total = len(program.crates_of(top))
+    processors = len(os.sched_getaffinity(0))
+    at_once = max(1, min(processors, free_memory() // EACH))
+    if not is_quiet:
+        say(f"proving and building the program from its sources, {total} crates. {last_time(top, processors)}")
+    began, done, current, sections = time.monotonic(), 0, None, {}
+    is_terminal = sys.stderr.isatty() and not is_quiet
+    with open(f"{top}/out/build.log", "w", encoding="utf-8") as log:
+        words = ["rt", "all", "check", "--jobs", str(at_once)]
+        # in the folder of a crate, rt all goes over that crate and those that it stands on
+        how = {"cwd": f"{top}/crates/dvbt", "stdin": subprocess.DEVNULL, "stdout": subprocess.PIPE, "stderr": subprocess.STDOUT}
+        with subprocess.Popen(words, text=True, errors="replace", **how) as ran:
+            for line in ran.stdout:
+                log.write(line)
+                log.flush()
+                header = re.fullmatch(r"== (\w+)\n", line)
+                if header:
+                    current = header[1]
+                    done += current != "summary"
+                    if current != "summary" and not is_quiet:
+                        shown = f"{done} of {total} crates, {current} done, after {clock(time.monotonic() - began)}"
+                        sys.stderr.write(f"\rdvbt: {shown}\033[K" if is_terminal else f"dvbt: {shown}\n")
+                        sys.stderr.flush()
+                sections.setdefault(current, []).append(line)
+    if is_terminal:
+        sys.stderr.write("\r\033[K")
+    if ran.returncode:
+        show_failure(sections)
+        fail(126, "the program could not be built: its proof failed. The whole log is out/build.log")
+
+
+def show_failure(sections):
+    """Prints what is said of the first crate that failed, or the end of all where none is named."""
+    failed = re.search(r"(?m)^(\w+): failed", "".join(sections.get("summary", [])))
+    lines = sections.get(failed[1] if failed else list(sections)[-1] if sections else None, [])
+    kept = [line for line in lines if not line.startswith(("rt: chose", "progress"))]
+    sys.stderr.write("".join(kept[-40:]))
+
+
+def link(top, level):
+    """Compiles and links the program over what was proved; answers its path."""
+    made = f"{top}/crates/dvbt/out/dvbt"
+    for path in (made, f"{made}.stamp", f"{made}.o"):
+        remove(path)
+    cpu = [f"--cpu={level}"] if level == "x86-64-v3" else []
+    with open(f"{top}/out/build.log", "ab") as log:
+        # rt run ends with the program's own status, which is 2 without words: whether there is a program says if it was built
+        how = {"cwd": f"{top}/crates/dvbt", "stdin": subprocess.DEVNULL, "stdout": log, "stderr": subprocess.STDOUT}
+        at = log.tell()
+        status = subprocess.run(["rt", "run", *cpu], **how).returncode
+    if not os.access(made, os.X_OK) or status != 2:
+        with open(f"{top}/out/build.log", "rb") as log:
+            log.seek(at)
+            sys.stderr.write("".join(log.read().decode(errors="replace").splitlines(True)[-40:]))
+        remove(made)
+        fail(126, "the program could not be built. The whole log is out/build.log")
+    return made
+
+
+def last_time(top, processors):
+    """How long it took the last time, here or where it was measured."""
+    try:
+        with open(f"{top}/out/seconds", encoding="utf-8") as file:
+            return f"The last time it took {spoken(int(file.read()))}; what did not change is not proved again."
+    except (OSError, ValueError):
+        pass
+    if processors in MEASURED:
+        return f"On another machine of {processors} processors it took {spoken(MEASURED[processors])}."
+    return "That is about an hour of one processor's work, less where several share it."
+
+
+def free_memory():
+    try:
+        with open("/proc/meminfo", encoding="utf-8") as file:
+            line = next(line for line in file if line.startswith("MemAvailable"))
+        return 1024 * int(line.split()[1])
+    except (OSError, StopIteration, ValueError):
+        return EACH
+
+
+def remove(path):
+    try:
+        os.remove(path)
+    except FileNotFoundError:
+        pass
+
+
+def write(path, text):
+    with open(path, "w", encoding="utf-8") as file:
+        file.write(text)

@@ -1,0 +1,181 @@
+"""The program for the sources as they stand: found by checksums, never by times.
+
+A program is of a tree where the checksums of all that it is built from are those beside it: each file of src, specs and
+proofs of the crates that `dvbt` stands on, crates.txt and HANDLES. `out/dvbt` was proved and built here, and is of the
+toolchain whose line (`rt version`) stands with its sums. `dist/` has programs that come with the repository.
+"""
+import hashlib
+import os
+import shutil
+import subprocess
+
+from door.explain import fail, say
+
+# The flags of /proc/cpuinfo that tell x86-64-v3, the instructions of processors since about 2013.
+V3 = {"avx2", "bmi1", "bmi2", "fma", "movbe", "f16c", "abm"}
+LEVELS = ("x86-64-v3", "x86-64-v2")
+
+
+def crates_of(top):
+    """The crates that `dvbt` stands on and itself, lowest first, by crates.txt."""
+    uses = {}
+    with open(f"{top}/crates.txt", encoding="utf-8") as file:
+        for line in file:
+            name, _, used = line.partition("#")[0].partition(":")
+            if name.strip():
+                uses[name.split()[0]] = used.split()
+    found = []
+
+    def add(name):
+        for used in uses.get(name, []):
+            if used in uses:
+                add(used)
+        if name not in found:
+            found.append(name)
+
+    add("dvbt")
+    return found
+
+
+def sums_of(top):
+    """The checksum of each file that the program is built from, by its path from the top."""
+    files = ["crates.txt", "HANDLES"]
+    for crate in crates_of(top):
+        for part in ("src", "specs", "proofs"):
+            for at, _, names in os.walk(f"{top}/crates/{crate}/{part}"):
+                files += [os.path.relpath(f"{at}/{name}", top) for name in names if name.endswith((".rt", ".antt"))]
+    sums = {}
+    for path in sorted(files):
+        with open(f"{top}/{path}", "rb") as file:
+            sums[path] = hashlib.sha256(file.read()).hexdigest()
+    return sums
+
+
+def written(sums, toolchain):
+    """Sums as a file for `sha256sum -c`, with the toolchain's line."""
+    return f"# {toolchain}\n" + "".join(f"{value}  {path}\n" for path, value in sums.items())
+
+
+def read_sums(path):
+    """The toolchain's line and the sums of such a file, or None."""
+    try:
+        with open(path, encoding="utf-8") as file:
+            lines = file.read().splitlines()
+    except (OSError, UnicodeDecodeError):
+        return None
+    head = lines[0][2:] if lines and lines[0].startswith("# ") else ""
+    sums = {}
+    for line in lines:
+        value, gap, path = line.partition("  ")
+        if gap and not line.startswith("#"):
+            sums[path] = value
+    return head, sums
+
+
+def sum_of(path):
+    try:
+        with open(path, "rb") as file:
+            return hashlib.sha256(file.read()).hexdigest()
+    except OSError:
+        return None
+
+
+def toolchain_of():
+    """The line of `rt version`, or None where there is no rt on the PATH."""
+    if not shutil.which("rt"):
+        return None
+    ran = subprocess.run(["rt", "version"], stdin=subprocess.DEVNULL, stdout=subprocess.PIPE, stderr=subprocess.DEVNULL, text=True)
+    return ran.stdout.strip() or None
+
+
+def stat_of_rt():
+    """What tells that rt is the one whose line was asked: where it is, its time and size. Asking it takes 0.2 s."""
+    rt = shutil.which("rt")
+    if not rt:
+        return None
+    seen = os.stat(rt)
+    return f"{os.path.realpath(rt)} {seen.st_mtime_ns} {seen.st_size}"
+
+
+def level_of_processor():
+    """x86-64-v3 where this processor has its instructions, else x86-64-v2, or None for another processor."""
+    if os.uname().machine != "x86_64":
+        return None
+    try:
+        with open("/proc/cpuinfo", encoding="utf-8", errors="replace") as file:
+            flags = next((line for line in file if line.startswith("flags")), "")
+    except OSError:
+        flags = ""
+    return LEVELS[0] if V3 <= set(flags.split()) else LEVELS[1]
+
+
+def built_here(top, sums):
+    """out/dvbt, where it was built from these sources by the toolchain on the PATH (or where none is there)."""
+    kept = read_sums(f"{top}/out/dvbt.sources")
+    if not kept or kept[1] != sums or not os.access(f"{top}/out/dvbt", os.X_OK):
+        return None
+    try:
+        with open(f"{top}/out/dvbt.by", encoding="utf-8") as file:
+            by = file.read().split("\n")
+    except OSError:
+        return None
+    if by[0] != sum_of(f"{top}/out/dvbt"):
+        return None
+    now = stat_of_rt()
+    if now and now != by[1]:
+        toolchain = toolchain_of()
+        if toolchain != kept[0]:
+            return None
+    return f"{top}/out/dvbt"
+
+
+def of_dist(top, sums):
+    """The program of dist/ for this processor, where dist/ is of these sources and its file is whole."""
+    kept, level = read_sums(f"{top}/dist/SOURCES.sha256"), level_of_processor()
+    if not kept or kept[1] != sums or not level:
+        return None
+    name = f"dvbt-{level}"
+    listed = read_sums(f"{top}/dist/SHA256SUMS")
+    if not listed or sum_of(f"{top}/dist/{name}") != listed[1].get(name):
+        say(f"dist/{name} is not the file that dist/SHA256SUMS lists, so it is not run")
+        return None
+    if not os.access(f"{top}/dist/{name}", os.X_OK):
+        say(f"dist/{name} may not be run here (its mode, or a file system without programs)")
+        return None
+    return f"{top}/dist/{name}"
+
+
+def given():
+    """The program that $DVBT_PROGRAM names, which is run as it is."""
+    file = os.environ.get("DVBT_PROGRAM")
+    if file and not (os.path.isfile(file) and os.access(file, os.X_OK)):
+        fail(126, f"$DVBT_PROGRAM is {file}, and no program that can be run")
+    return os.path.abspath(file) if file else None
+
+
+def found(top):
+    """The program to run, or None where it has to be built."""
+    file = given()
+    if file:
+        return file
+    sums = sums_of(top)
+    return built_here(top, sums) or of_dist(top, sums)
+
+
+def described(top):
+    """The lines of --version."""
+    sums = sums_of(top)
+    whole = hashlib.sha256("".join(f"{value}  {path}\n" for path, value in sums.items()).encode()).hexdigest()
+    lines = [f"dvbt, sources {whole[:16]} ({len(sums)} files)"]
+    file = given() or built_here(top, sums) or of_dist(top, sums)
+    if not file:
+        lines.append("program: none of these sources is built yet; the first command builds it")
+        lines.append(f"toolchain: {toolchain_of() or 'rt is not on the PATH'}")
+        return lines
+    lines.append(f"program: {os.path.relpath(file, top) if file.startswith(top + os.sep) else file}")
+    if os.environ.get("DVBT_PROGRAM"):
+        lines.append("named by $DVBT_PROGRAM: its sources are not known")
+    else:
+        kept = read_sums(f"{top}/out/dvbt.sources" if file == f"{top}/out/dvbt" else f"{top}/dist/SOURCES.sha256")
+        lines.append(f"proved and built by {kept[0]}")
+    return lines

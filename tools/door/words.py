@@ -1,0 +1,156 @@
+"""The commands of dvbt, their forms and what --help says of them."""
+
+# Each word of a form is a kind and the name that the help gives it. Kinds: `settings`, inputs `hp`, `lp` and `cells`,
+# outputs `out` (of one stream or of cells), `out-hp` and `out-lp`, and `number`.
+SETTINGS, HP, LP, CELLS = ("settings", "SETTINGS"), ("hp", "HP"), ("lp", "LP"), ("cells", "CELLS")
+TS, OUT, TO_CELLS = ("hp", "TS"), ("out", "OUT"), ("out", "CELLS")
+TO_HP, TO_LP, NUMBER = ("out-hp", "HP"), ("out-lp", "LP"), ("number", "NUMBER")
+
+FORMS = {
+    "modulate": [(SETTINGS, HP, TO_CELLS), (SETTINGS, HP, LP, TO_CELLS)],
+    "receive": [(SETTINGS, CELLS, TO_HP), (SETTINGS, CELLS, TO_HP, TO_LP)],
+    "trial": [(SETTINGS, NUMBER)],
+    "disperse": [(TS, OUT)],
+    "outer": [(TS, OUT)],
+    "inner": [(SETTINGS, TS, OUT)],
+}
+
+SHORT = {
+    "modulate": "transport packets to the cells of the OFDM carriers",
+    "receive": "cells, noisy ones too, back to transport packets",
+    "trial": "packets drawn from a number, there and back over disturbed cells",
+    "disperse": "energy dispersal alone, 188 bytes a packet",
+    "outer": "dispersal, Reed-Solomon code and outer interleaver, 204 bytes a packet",
+    "inner": "those bytes, convolutionally coded and punctured",
+}
+
+FILES = {
+    "SETTINGS": "a TOML document of the transmission (docs/SETTINGS.md; examples/settings/)",
+    "HP": "a transport file, packets of 188 bytes: the only stream, or the sturdier of two",
+    "LP": "a transport file: the second stream, with a hierarchy",
+    "TS": "a transport file, packets of 188 bytes",
+    "CELLS": "a cell file: four bytes a carrier, symbol after symbol (docs/FILES.md)",
+    "OUT": "the file to write",
+    "NUMBER": "one to ten digits, at most 4294967295; the same number gives the same lines everywhere",
+}
+
+MORE = {
+    "modulate": """Writes whole super-frames, at least one: the fewest that carry all packets and let a receiver have them
+back. Null packets fill the rest. LP is given exactly where the settings have a hierarchy.""",
+    "receive": """Reads cells from the first symbol of a super-frame on and writes packets as they are decided. A
+packet that could not be corrected is written with transport_error_indicator set. LP is given exactly where the
+settings have a hierarchy. Set start = "any" where the cells do not begin at the start of a transmission.""",
+    "trial": "Writes no file: the lines count what was sent and what came back.",
+    "disperse": "EN 300 744, 4.3.1.",
+    "outer": "EN 300 744, 4.3.1 and 4.3.2.",
+    "inner": "EN 300 744, 4.3.1 to 4.3.3, at rate_hp of the settings. Zero bits fill the last byte.",
+}
+
+EXAMPLES = {
+    "modulate": ["bin/dvbt modulate examples/settings/64qam.toml examples/sample.ts out.cells"],
+    "receive": ["bin/dvbt receive examples/settings/64qam.toml out.cells back.ts"],
+    "trial": ["bin/dvbt trial examples/settings/qpsk.toml 7"],
+    "disperse": ["bin/dvbt disperse examples/sample.ts out.ts"],
+    "outer": ["bin/dvbt outer examples/sample.ts out.bin"],
+    "inner": ["bin/dvbt inner examples/settings/qpsk.toml examples/sample.ts out.bin"],
+}
+
+# The statuses, in one line each, and which commands have them.
+STATUSES = [
+    (0, "the work was done whole; the lines say what was counted", FORMS),
+    (2, "the words are of no form: `usage`", FORMS),
+    (3, "the settings are refused: `settings ..` says why", ("modulate", "receive", "trial", "inner")),
+    (4, "a packet does not begin with the sync byte 47: `hp packet N`, `lp packet N`, counted from 0",
+     ("modulate", "disperse", "outer", "inner")),
+    (5, "a file can't be opened or read: `read fault`", FORMS),
+    (6, "a file can't be made, written or closed: `write fault`", FORMS),
+    (7, "memory is wanting: `memory`", ("modulate", "receive", "trial", "outer", "inner")),
+    (8, "more packets or symbols than the limit: `limit N`", FORMS),
+]
+OF_THE_DOOR = [
+    (64, "bin/dvbt itself refused: one file is named twice, and would be destroyed"),
+    (126, "the program could not be built, or its proof failed"),
+    (127, "the program is not built, and the toolchain's command rt is not on the PATH"),
+]
+
+
+class Form:
+    """The words of one call, matched to a form: each file by its kind."""
+
+    def __init__(self, command, kinds, words):
+        self.command = command
+        self.files = [(kind, name, word) for (kind, name), word in zip(kinds, words) if kind != "number"]
+
+    def of(self, *kinds):
+        """The paths of these kinds."""
+        return [word for kind, _, word in self.files if kind in kinds]
+
+    @property
+    def settings(self):
+        return (self.of("settings") or [None])[0]
+
+    @property
+    def inputs(self):
+        """Kind and path of each file that is read beside the settings."""
+        return [(kind, word) for kind, _, word in self.files if kind in ("hp", "lp", "cells")]
+
+    @property
+    def outputs(self):
+        return self.of("out", "out-hp", "out-lp")
+
+
+def form_of(words):
+    """The form that these words have, or None."""
+    if not words:
+        return None
+    for kinds in FORMS.get(words[0], ()):
+        if len(kinds) != len(words) - 1:
+            continue
+        if ("number", "NUMBER") in kinds and not is_number(words[-1]):
+            continue
+        return Form(words[0], kinds, words[1:])
+    return None
+
+
+def is_number(word):
+    return word.isascii() and word.isdigit() and len(word) <= 10 and int(word) <= 4294967295
+
+
+def lines_of_forms(command):
+    return [" ".join(["dvbt", command, *(name for _, name in kinds)]) for kinds in FORMS[command]]
+
+
+def help_of_all():
+    """What `bin/dvbt --help` prints."""
+    out = ["dvbt: a DVB-T modulator and streaming soft receiver (EN 300 744, between transport packets and OFDM cells)", ""]
+    out += ["usage: bin/dvbt [-q] COMMAND WORDS..", ""]
+    for command in FORMS:
+        out += [f"  {line}" for line in lines_of_forms(command)]
+        out += [f"        {SHORT[command]}"]
+    out += ["", "  bin/dvbt COMMAND --help     forms, files, an example and the statuses of a command"]
+    out += ["  bin/dvbt --version          the sources, the toolchain and the program that would run"]
+    out += ["  bin/dvbt --program          the path of that program, which is built where it isn't yet"]
+    out += ["  -q                          the program alone: no explanation and no progress on standard error"]
+    out += ["  $DVBT_PROGRAM               names another program to run in its place", ""]
+    out += ["There and back:"]
+    out += [f"  {EXAMPLES[it][0]}" for it in ("modulate", "receive")]
+    out += ["", "Statuses:"] + lines_of_statuses(None)
+    out += ["", "docs/SETTINGS.md lists the settings, docs/FILES.md describes the files."]
+    return "\n".join(out)
+
+
+def help_of(command):
+    """What `bin/dvbt COMMAND --help` prints."""
+    out = [f"dvbt {command}: {SHORT[command]}", ""]
+    out += [f"  {line}" for line in lines_of_forms(command)] + [""]
+    names = dict.fromkeys(name for kinds in FORMS[command] for _, name in kinds)
+    width = max(map(len, names))
+    out += [f"  {name:{width}}  {FILES[name]}" for name in names]
+    out += ["", MORE[command], "", "Example:"] + [f"  {line}" for line in EXAMPLES[command]]
+    out += ["", "Statuses:"] + lines_of_statuses(command)
+    return "\n".join(out)
+
+
+def lines_of_statuses(command):
+    shown = [(number, text) for number, text, of in STATUSES if command is None or command in of]
+    return [f"  {number:3}  {text}" for number, text in shown + OF_THE_DOOR]
