@@ -2,13 +2,10 @@
 use Rattle.std.specs.Prelude.{ℕ, List, [], ◌∷◌, ◌++◌, Option, None, Some, codes, decimal}
 use Rattle.mode_set.specs.declared.modes.Stream.{Stream}
 use Rattle.mode_set.specs.declared.modes.Stream.TheVariants.{Hp, Lp}
+use Rattle.report_line.specs.Streams.{stream_text}
 use Rattle.rx_report.specs.declared.counts.Counts.{Counts}
 use Rattle.rx_report.specs.declared.counts.Event.{Event}
 use Rattle.rx_report.specs.declared.counts.StreamCounts.{StreamCounts}
-
-abbrev pub stream_text : Stream → List ℕ
-stream_text Hp = codes "hp"
-stream_text Lp = codes "lp"
 
 abbrev pub symbols_line : Counts → List ℕ
 symbols_line c = codes "symbols " ++ decimal c.symbols ++ codes " tail " ++ decimal c.tail ++ codes "\n"

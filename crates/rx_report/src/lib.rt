@@ -5,7 +5,7 @@ mod counts;
 mod text;
 
 pub use counts::{Counts, Event, StreamCounts};
-pub use text::Line;
+pub use report_line::Line;
 
 #[cfg(test)]
 mod tests;

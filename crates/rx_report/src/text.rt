@@ -1,37 +1,11 @@
 // The lines of a reception's report.
 ghost use Rattle.std.specs.Prelude.{◌≡◌, ◌≤◌, ◌<◌, ◌+◌, ◌++◌, ◌↔◌, Some, IsNone, IfSome, codes, decimal, length, slice_get};
 ghost use Rattle.arrayvec.specs.ArrayString.{array_string_len};
-ghost use Rattle.rx_report.specs.Text.{stream_text, symbols_line, tps_line, stream_line, lp_lines, closing_lines, event_line};
+ghost use Rattle.rx_report.specs.Text.{symbols_line, tps_line, stream_line, lp_lines, closing_lines, event_line};
 
 use crate::{Counts, Event, StreamCounts};
-use arrayvec::ArrayString;
-use itoa::Buffer;
 use mode_set::Stream;
-
-/// A line of the report, its line feed included.
-pub type Line = ArrayString<256>;
-
-// Adds a text and the decimal digits of a number.
-fn push_count(line: &mut Line, text: &str, number: u64)
-    requires { array_string_len line.old + length text.now ≤ 236 }
-    ensures bytes { line.new.bytes ≡ line.old.bytes ++ text.now ++ decimal number }
-    ensures len { array_string_len line.new ≤ array_string_len line.old + length text.now + 20 }
-{
-    let mut buffer = Buffer::new();
-    line.push_str(text);
-    line.push_str(buffer.format(number));
-}
-
-// The name of a stream, as the report prints it.
-fn name_of(stream: Stream) -> &'static str
-    ensures name { result.now ≡ stream_text stream }
-    ensures short { length result.now ≤ 2 }
-{
-    match stream {
-        Stream::Hp => "hp",
-        Stream::Lp => "lp",
-    }
-}
+use report_line::{Line, name_of, push_count};
 
 fn symbols_line_of(counts: &Counts) -> Line
     ensures { result.bytes ≡ symbols_line counts.now }
