@@ -76,11 +76,12 @@ abbrev pub modulation_lines : TheSettings → ℕ → Bool → (Stream → List 
 modulation_lines s limit two files = lines_before (modulation_refusal s limit (inputs_of files)) (transmission_lines two (transmission_counts s files))
 
 -- ---- after a failed read
--- the port at which the file of a stream is read, and what is left of the files
+-- the port at which the file of a stream is read
 abbrev pub port_of : Stream → InPort
 port_of Hp = ins.Hp
 port_of Lp = ins.Lp
 
+-- what is left unread of the file of a stream
 abbrev pub left_unread : Unread → Stream → List ℕ
 left_unread unread σ = unread (port_of σ)
 
@@ -131,11 +132,12 @@ ModulateComes settings hp lp limit file outs.Cells bytes =
     (s : TheSettings) × (settings_of (file settings) ≡ Some s) × (bytes ≡ cells_sent s limit (inputs_of (files_of file hp lp)))
 ModulateComes settings hp lp limit file port bytes = bytes ≡ []
 
+-- Report comes to the lines of the modulation by those settings.
 abbrev pub ModulatePrints : List ℕ → List ℕ → Option (List ℕ) → ℕ → Files → List ℕ → Type 0
 ModulatePrints settings hp lp limit file lines =
     (s : TheSettings) × (settings_of (file settings) ≡ Some s) × (lines ≡ modulation_lines s limit (is_some lp) (files_of file hp lp))
 
--- after a failed read Cells holds the symbols of the packets taken, and no line was printed
+-- After a failed read Cells holds the symbols of the packets taken, by the settings that the file states.
 abbrev pub ModulateComesSoFar : List ℕ → List ℕ → Option (List ℕ) → ℕ → Files → Unread → OutPort → List ℕ → Type 0
 ModulateComesSoFar settings hp lp limit file unread outs.Cells bytes =
     (s : TheSettings) × (settings_of (file settings) ≡ Some s) × HoldsSymbolsSoFar s limit (files_of file hp lp) (left_unread unread) bytes
