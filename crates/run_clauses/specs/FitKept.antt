@@ -35,4 +35,3 @@ kept_if shape hierarchy rate_lp workers most e =
       few_workers = leb-true workers 16 d.0;
       some_symbol = leb-true 1 most d.1;
     }
-

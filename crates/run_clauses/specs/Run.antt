@@ -42,7 +42,6 @@ pub record Run (c : Command) (limit : ℕ) (old new : Meaning) (status : ℕ) : 
   -- Where they come to no refusal and nothing fails, the run is done, or has no memory.
   pub complete : old.tells ≡ true → refusal_of limit old.file c ≡ None
       → (Rose old.read_faults new.read_faults → ⊥) → (Rose old.write_faults new.write_faults → ⊥) → (status ≡ 0) ⊎ (status ≡ 7)
-
   -- FILES, AND THE ORDER IN WHICH THEY ARE ASKED FOR
   -- Only the files of the command are asked for, each at its port.
   pub sources : (port : InPort) → ((source_at port new).asked ≡ None) ⊎ ((source_at port new).asked ≡ c.reads port)
@@ -71,7 +70,6 @@ pub record Run (c : Command) (limit : ℕ) (old new : Meaning) (status : ℕ) : 
   pub same_telling : new.tells ≡ old.tells
   pub same_files : new.file ≡ old.file
   pub report_open : new.report.closed ≡ old.report.closed
-
   -- WHAT STANDS AT STATUS 0
   -- Each output holds all that the command comes to there, and Report holds its lines.
   pub done : old.tells ≡ true → status ≡ 0 → (out : OutPort) → IsOutput c out → c.Comes limit old.file out (sink_at out new).written
@@ -98,7 +96,6 @@ pub record Run (c : Command) (limit : ℕ) (old new : Meaning) (status : ℕ) : 
       → (bytes : List ℕ) × c.Comes limit old.file out bytes × ((k : ℕ) × ((sink_at out new).written ≡ take k bytes))
   pub front_report : old.tells ≡ true → status ≡ 6
       → (lines : List ℕ) × c.Prints limit old.file lines × ((k : ℕ) × Reports old new (take k lines) (text_at c limit old.file status))
-
   -- OF ITS OWN
   -- What the command comes to obeys the laws that its definition names.
   pub own : c.Own limit old.file

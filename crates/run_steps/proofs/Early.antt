@@ -109,9 +109,9 @@ module _ (c : Command) (limit : ℕ) (name : List ℕ) (old mid : Meaning) (no_r
   sources_asked ins.Settings = elim reads [
     | inl same ↦ inl (ap (λ (s : Source). s.asked) same ∙ fresh.settings.asked)
     | inr it ↦ elim asks.asked [
-        | inl same ↦ inl (ap (λ (s : Source). s.asked) same ∙ fresh.settings.asked)
-        | inr is ↦ inr (is ∙ sym it.0)
-      ]
+      | inl same ↦ inl (ap (λ (s : Source). s.asked) same ∙ fresh.settings.asked)
+      | inr is ↦ inr (is ∙ sym it.0)
+    ]
   ]
   sources_asked ins.Hp = inl (alone.sources ins.Hp (λ is. cc))
   sources_asked ins.Lp = inl (alone.sources ins.Lp (λ is. cc))

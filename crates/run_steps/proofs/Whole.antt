@@ -159,16 +159,21 @@ module _ (c : Command) (limit : ℕ) (old mid new : Meaning) (text : List ℕ) (
       early = λ is. alone_same (nothing is).asks;
       early_report = λ t is. told_after t e.same_telling e.later_report [] ((nothing is).report t) (text_at c limit old.file status) (named t);
       refused = λ t is out output. subst (λ (s : Sink). c.Comes limit old.file out s.written) (sym (sink_same e.no_report out output)) ((work is).outputs t out output);
-      refused_report = λ t is. (mid.report.written, (work is).report t,
-          told_after t e.same_telling e.later_report mid.report.written refl (text_at c limit old.file status) (named t));
+      refused_report = λ t is. (
+        mid.report.written,
+        (work is).report t,
+        told_after t e.same_telling e.later_report mid.report.written refl (text_at c limit old.file status) (named t),
+      );
       stopped = λ t is out output made.
           let same = sink_same e.no_report out output in
           subst (λ (s : Sink). c.ComesSoFar limit old.file (unread c new) out s.written) (sym same)
           (subst (λ (u : Unread). c.ComesSoFar limit old.file u out (sink_at out mid).written) (sym unread_same)
           ((stopped is).outputs t out output (ap (λ (s : Sink). s.created) (sym same) ∙ made)));
-      stopped_report = λ t is. (mid.report.written,
-          subst (λ (u : Unread). c.PrintsSoFar limit old.file u mid.report.written) (sym unread_same) ((stopped is).report t),
-          told_after t e.same_telling e.later_report mid.report.written refl (text_at c limit old.file status) (named t));
+      stopped_report = λ t is. (
+        mid.report.written,
+        subst (λ (u : Unread). c.PrintsSoFar limit old.file u mid.report.written) (sym unread_same) ((stopped is).report t),
+        told_after t e.same_telling e.later_report mid.report.written refl (text_at c limit old.file status) (named t),
+      );
       front = λ t is out output made.
           let same = sink_same e.no_report out output in
           let f = (fronts is).outputs t out output (ap (λ (s : Sink). s.created) (sym same) ∙ made) in

@@ -193,8 +193,12 @@ module _ (limit : ℕ) (name : List ℕ) (number : ℕ) (start mid : Meaning) (f
           (record {
             made = λ out is. absurd (true≢false (sym is));
             outputs = λ t out is. absurd (true≢false (sym is));
-            report = λ t. (s, stated_is t, prints ran.enough end.report.written
-                (ran.given, ran.gives, ran.writes.written (telling ∙ t) ∙ empty t (trial_lines (trial_counts (at_zero s) number ran.given))));
+            report = λ t. (
+              s,
+              stated_is t,
+              prints ran.enough end.report.written
+                  (ran.given, ran.gives, ran.writes.written (telling ∙ t) ∙ empty t (trial_lines (trial_counts (at_zero s) number ran.given))),
+            );
           })
       by_outcome (Err Usage) cause ran = absurd ran
       by_outcome (Err (Settings reason)) cause ran = absurd ran
@@ -216,11 +220,14 @@ module _ (limit : ℕ) (name : List ℕ) (number : ℕ) (start mid : Meaning) (f
           (record {
             made = λ out is. absurd (true≢false (sym is));
             outputs = λ t out is. absurd (true≢false (sym is));
-            report = λ t. (s, stated_is t,
-                record {
-                  enough = λ enough. absurd (omega (arith, enough, ran.1));
-                  few = λ few. ap (λ (x : Meaning). x.report.written) ran.2 ∙ ap (λ (x : Meaning). x.report.written) asks.others ∙ fresh.report_empty t;
-                });
+            report = λ t. (
+              s,
+              stated_is t,
+              record {
+                enough = λ enough. absurd (omega (arith, enough, ran.1));
+                few = λ few. ap (λ (x : Meaning). x.report.written) ran.2 ∙ ap (λ (x : Meaning). x.report.written) asks.others ∙ fresh.report_empty t;
+              },
+            );
           })
 
     told : (new end : Meaning) (o : Result (Unit {0}) Refusal) → Ended c limit start end (refusal_in o) → Tells end new o → Run c limit start new (outcome_status o)
