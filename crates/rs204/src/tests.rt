@@ -28,6 +28,12 @@ fn outcomes_of_words(rt: HostRuntime) -> Result<(), Fail> {
     let zeros = [0u8; 204];
     let mut word = zeros;
     assert_eq!(rt; decode(&mut word), Outcome::Clean);
+    assert_eq!(rt; word.as_slice(), zeros.as_slice());
+    for i in 0..8usize {
+        word[i] = 1;
+    }
+    assert_eq!(rt; decode(&mut word), Outcome::Corrected(8));
+    assert_eq!(rt; word.as_slice(), zeros.as_slice());
     for i in 0..8usize {
         word[20 * i + 7] ^= 91;
     }
