@@ -19,8 +19,8 @@ pub(crate) const SYMBOL: usize = 6820;
 pub(crate) enum File {
     /// So many null packets, and so many bytes of one more.
     Nulls(usize, usize),
-    /// So many null packets, and a packet that begins with 00.
-    Unsynced(usize),
+    /// So many null packets, a packet that begins with 00, and so many null packets.
+    Unsynced(usize, usize),
     /// So many packets whose payloads count on, and so many null packets.
     Counted(u32, usize),
 }
@@ -36,9 +36,10 @@ impl File {
                     bytes.push(*byte)?;
                 }
             }
-            File::Unsynced(count) => {
-                add_nulls(count, &mut bytes)?;
+            File::Unsynced(before, behind) => {
+                add_nulls(before, &mut bytes)?;
                 bytes.extend_from_slice([0u8; 188].as_slice())?;
+                add_nulls(behind, &mut bytes)?;
             }
             File::Counted(count, nulls) => {
                 for number in 0..count {

@@ -97,16 +97,17 @@ fn whole_runs(rt: HostRuntime) -> Result<(), Fail> {
     Ok(())
 }
 
-// A packet without its sync byte, which HP is asked for before LP, and the limits.
+// A packet without its sync byte, the fourth of five among them, which HP is asked for before LP, and the
+// limits.
 #[test]
 fn refused_packets_and_limits(rt: HostRuntime) -> Result<(), Fail> {
     let alloc = rt.alloc();
     let limited = "max_symbols = 271\n";
-    let bad = File::Unsynced(0);
+    let bad = File::Unsynced(0, 0);
     let cases = [
         (
             "",
-            (File::Unsynced(3), NONE),
+            (File::Unsynced(3, 1), NONE),
             (4, "hp packet 3\n", 20_460, 547_083_398),
         ),
         (
@@ -125,7 +126,7 @@ fn refused_packets_and_limits(rt: HostRuntime) -> Result<(), Fail> {
     }
     let cases = [
         (
-            (NONE, File::Unsynced(2)),
+            (NONE, File::Unsynced(2, 0)),
             (4, "lp packet 2\n", 6_820, 3_248_578_444),
         ),
         ((bad, bad), (4, "hp packet 0\n", 0, 0)),

@@ -31,20 +31,24 @@ const EIGHT: &str =
 const EIGHT_LAYERED: &str =
     "mode = \"8k\"\nconstellation = \"64qam\"\nhierarchy = \"2\"\nrate_hp = \"2/3\"\nrate_lp = \"3/4\"\nguard = \"1/32\"\n";
 
-// The cells that these packets give.
+// The cells that these packets give, where `modulate` reports this.
 fn sent<R: Abort + Threads + Sync>(
     rt: &R,
     alloc: Global,
     text: &str,
     settings: &str,
     packets: (u32, u32),
+    report: &str,
     room: u32,
 ) -> Result<Vec<u8>, AllocError> {
     let settings = text_bytes(alloc, settings, "")?;
     let hp = File::Counted(packets.0, 0).bytes(alloc)?;
     let lp = File::Counted(packets.1, 0).bytes(alloc)?;
     let ran = run_files(rt, alloc, text, settings, (hp, lp), 10_000, ample(room))?;
-    assert!(rt; ran.status == 0);
+    assert!(rt;
+        ran.status == 0 && ran.report.as_slice() == report.as_bytes(),
+        "{report}"
+    );
     Ok(ran.cells)
 }
 
@@ -88,6 +92,8 @@ fn move_data(rt: &impl Abort, cells: &mut [u8], symbol: usize) {
     }
 }
 
+const SEND_ONE: &str = "modulate s a cells";
+
 const SEND: &str = "modulate s a b cells";
 
 const BOTH: &str = "receive s a hp lp";
@@ -97,7 +103,8 @@ const BOTH: &str = "receive s a hp lp";
 fn two_streams_and_noise(rt: HostRuntime) -> Result<(), Fail> {
     let alloc = rt.alloc();
     let room = 1_855_040;
-    let cells = sent(&rt, alloc, SEND, LAYERED, (100, 200), room)?;
+    let made = "hp packets 100 tail 0\nlp packets 200 tail 0\nsuperframes 1\n";
+    let cells = sent(&rt, alloc, SEND, LAYERED, (100, 200), made, room)?;
     assert_eq!(rt; checksum(&cells), 239_879_247);
     let mut moved = cells.clone()?;
     let packets = (File::Counted(100, 141), File::Counted(200, 167));
@@ -106,7 +113,8 @@ fn two_streams_and_noise(rt: HostRuntime) -> Result<(), Fail> {
         move_data(&rt, &mut moved, symbol);
     }
     comes_back(&rt, alloc, BOTH, LAYERED, moved, REPORT, packets)?;
-    let cells = sent(&rt, alloc, SEND, LAYERED_64, (150, 250), room)?;
+    let made = "hp packets 150 tail 0\nlp packets 250 tail 0\nsuperframes 1\n";
+    let cells = sent(&rt, alloc, SEND, LAYERED_64, (150, 250), made, room)?;
     assert_eq!(rt; checksum(&cells), 3_304_704_654);
     let packets = (File::Counted(150, 259), File::Counted(250, 411));
     comes_back(&rt, alloc, BOTH, LAYERED_64, cells, REPORT_64, packets)?;
@@ -118,7 +126,8 @@ fn two_streams_and_noise(rt: HostRuntime) -> Result<(), Fail> {
 #[test]
 fn start_in_the_second_super_frame(rt: HostRuntime) -> Result<(), Fail> {
     let alloc = rt.alloc();
-    let cells = sent(&rt, alloc, "modulate s a cells", BASE, (300, 0), 3_710_080)?;
+    let made = "hp packets 300 tail 0\nsuperframes 2\n";
+    let cells = sent(&rt, alloc, SEND_ONE, BASE, (300, 0), made, 3_710_080)?;
     assert_eq!(rt; checksum(&cells), 2_448_572_138);
     assert_eq!(rt; cells.len(), 3_710_080);
     let settings = text_bytes(alloc, BASE, "start = \"any\"\n")?;
@@ -147,14 +156,8 @@ fn start_in_the_second_super_frame(rt: HostRuntime) -> Result<(), Fail> {
 #[test]
 fn ten_thousand_packets(rt: HostRuntime) -> Result<(), Fail> {
     let alloc = rt.alloc();
-    let cells = sent(
-        &rt,
-        alloc,
-        "modulate s a cells",
-        EIGHT,
-        (10_000, 0),
-        22_250_688,
-    )?;
+    let made = "hp packets 10000 tail 0\nsuperframes 3\n";
+    let cells = sent(&rt, alloc, SEND_ONE, EIGHT, (10_000, 0), made, 22_250_688)?;
     assert_eq!(rt;
         (cells.len(), checksum(&cells)),
         (22_250_688, 3_149_843_153)
@@ -176,7 +179,9 @@ fn ten_thousand_packets(rt: HostRuntime) -> Result<(), Fail> {
 #[test]
 fn two_streams_of_the_8k_mode(rt: HostRuntime) -> Result<(), Fail> {
     let alloc = rt.alloc();
-    let cells = sent(&rt, alloc, SEND, EIGHT_LAYERED, (1_000, 4_000), 14_833_792)?;
+    let made = "hp packets 1000 tail 0\nlp packets 4000 tail 0\nsuperframes 2\n";
+    let packets = (1_000, 4_000);
+    let cells = sent(&rt, alloc, SEND, EIGHT_LAYERED, packets, made, 14_833_792)?;
     assert_eq!(rt;
         (cells.len(), checksum(&cells)),
         (14_833_792, 3_394_882_015)
