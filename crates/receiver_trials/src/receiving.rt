@@ -124,13 +124,14 @@ fn feed_and_note<R: Abort + Threads + Sync>(
     Ok(count)
 }
 
-/// The packets that each symbol of the bytes gives, where they are fed in pieces of this size.
+/// The packets that each symbol of the bytes gives, where they are fed in pieces of this size, and the receiver
+/// that then stands.
 pub(crate) fn fed_in_pieces<R: Abort + Threads + Sync>(
     rt: &R,
     alloc: Global,
     bytes: &[u8],
     size: usize,
-) -> Result<Vec<Vec<u8>>, AllocError> {
+) -> Result<(Vec<Vec<u8>>, Reception<Mode2k>), AllocError> {
     let mut reception = begin(alloc, Start::Zero)?;
     let mut seen = Vec::new(alloc);
     let mut at = 0usize;
@@ -141,5 +142,5 @@ pub(crate) fn fed_in_pieces<R: Abort + Threads + Sync>(
             at = at.saturating_add(count);
         }
     }
-    Ok(seen)
+    Ok((seen, reception))
 }

@@ -9,6 +9,7 @@ use rx_report::{Counts, StreamCounts};
 use std::alloc::{AllocError, Global};
 use std::rt::HostRuntime;
 use std::test::Fail;
+use ts_packet::Packet;
 
 fn total(packets: &[Vec<u8>]) -> usize {
     let mut sum = 0usize;
@@ -25,13 +26,66 @@ fn pieces_of_any_size(rt: HostRuntime) -> Result<(), Fail> {
     let alloc = rt.alloc();
     let mut bytes = null_symbols(&rt, alloc, 16)?;
     bytes.extend_from_slice(&[1, 2, 3])?;
-    let whole = fed_in_pieces(&rt, alloc, &bytes, SYMBOL)?;
+    let (whole, _) = fed_in_pieces(&rt, alloc, &bytes, SYMBOL)?;
     assert_eq!(rt; (whole.len(), total(&whole)), (16, 3 * 188));
     for size in [1usize, 997, 6819, 6821, 20000] {
-        let other = fed_in_pieces(&rt, alloc, &bytes, size)?;
+        let (other, _) = fed_in_pieces(&rt, alloc, &bytes, size)?;
         assert!(rt; other == whole, "pieces of {size} bytes");
     }
     Ok(())
+}
+
+// The super-frame of null packets, byte by byte and by whole symbols: after each of its 272 symbols the same is
+// given, 240 packets in all, and at the end the last one.
+#[test]
+fn null_super_frame_byte_by_byte(rt: HostRuntime) -> Result<(), Fail> {
+    let alloc = rt.alloc();
+    let bytes = null_symbols(&rt, alloc, 272)?;
+    assert_eq!(rt; bytes.len(), 1_855_040);
+    let (whole, mut by_symbols) = fed_in_pieces(&rt, alloc, &bytes, SYMBOL)?;
+    let (narrow, mut by_bytes) = fed_in_pieces(&rt, alloc, &bytes, 1)?;
+    assert_eq!(rt; (whole.len(), total(&whole)), (272, 240 * 188));
+    assert!(rt; narrow == whole);
+    for symbol in &whole {
+        assert!(rt; are_nulls(symbol));
+    }
+    finish(&rt, &mut by_symbols);
+    finish(&rt, &mut by_bytes);
+    for reception in [&by_symbols, &by_bytes] {
+        assert_eq!(rt; packets_of(reception), Packet::null().bytes().as_slice());
+        assert_eq!(rt; what_stands(reception), (272, 188, 0));
+        assert!(rt; counts_of(reception) == clean_counts());
+    }
+    Ok(())
+}
+
+// Are these whole null packets?
+fn are_nulls(packets: &[u8]) -> bool {
+    for packet in packets.chunks(188) {
+        if packet != Packet::null().bytes().as_slice() {
+            return false;
+        }
+    }
+    true
+}
+
+// The counts of the super-frame of null packets: 241 words, of which none needed a correction.
+fn clean_counts() -> Counts {
+    Counts {
+        symbols: 272,
+        tail: 0,
+        tps_read: 4,
+        tps_bad: 0,
+        hp: StreamCounts {
+            words: 241,
+            clean: 241,
+            corrected: 0,
+            bad: 0,
+            unphased: 0,
+            unmerged: 0,
+        },
+        lp: None,
+    }
 }
 
 // A symbol of the 2K mode whose cells are all (0, 11585).
