@@ -7,7 +7,7 @@ use Rattle.reception.specs.Cells.{symbols}
 use Rattle.reception.specs.Streams.{Reception, Live, Final}
 use Rattle.reception.specs.Lines.{event_lines, closing_lines}
 use Rattle.reception.specs.Laws.{NoEvents, NothingLive}
-use Rattle.own_cells.specs.Laws.{NoiseLaw, CleanLaw}
+use Rattle.own_cell_laws.specs.Laws.{NoiseLaw, CleanLaw}
 use Rattle.worker_laws.specs.Alike.{DifferInWorkers, SameLive, SameFinal, SameLines}
 use Rattle.receive_run.specs.Received.{IsAll, IsCutOff, IsSoFar, within_limit}
 use Rattle.receive_run.specs.OwnLaws.{AreAlike, ReceiveLaws}

@@ -5,7 +5,7 @@ use Rattle.mode_set.specs.declared.modes.Start.TheVariants.{Zero}
 use Rattle.mode_set.specs.declared.settings.Settings.{Settings}
 use Rattle.transmission.specs.Transmission.{Inputs}
 use Rattle.transmission.specs.SuperFrames.{tx}
-use Rattle.own_cells.specs.Returned.{HavePackets, IsReturned, IsWithin}
+use Rattle.own_cell_laws.specs.Returned.{HavePackets, IsReturned, IsWithin}
 use Rattle.reception.specs.Streams.{Reception}
 use Rattle.worker_laws.specs.Alike.{DifferInWorkers}
 use Rattle.receive_run.specs.Received.{IsAll, LinesCome, LinesSoFar, OutputComes, OutputSoFar}

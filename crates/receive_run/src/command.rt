@@ -133,13 +133,13 @@ pub fn receive<'a, R: Threads + Sync, G: Gate, S: Station<'a>>(
     ensures { Run (receive_command settings.now cells.now hp.now (option_copied lp.entry)) limits.now.packets (S.meaning station.old) (S.meaning station.new) result }
 {
     worker_laws::laws::workers();
-    own_cells::laws::noise();
+    own_cell_laws::laws::noise();
     reception::laws::symbols();
     reception::laws::events();
     reception::laws::nothing();
     reception_laws::laws::existence();
     reception_laws::laws::beginnings();
-    own_cells::laws::own_cells();
+    own_cell_laws::laws::own_cells();
     match read_fitting(alloc, settings, lp, station) {
         Ok(accepted) => {
             let names = Names { cells, hp, lp };

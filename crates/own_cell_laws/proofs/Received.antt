@@ -1,0 +1,203 @@
+-- Costs that speak for the path that was sent give its bytes, and these the packets.
+use Rattle.std.proofs.Common.{◌≡◌, ℕ, zero, suc, ◌+◌, ◌-◌, ◌*◌, ◌/◌, ◌%◌, ◌<◌, List, [], ◌∷◌, ◌++◌, length, get_or, take, drop, map, refl, sym, ap, ◌∙◌, subst, arith, Bool, false, cond}
+use Rattle.std.specs.Prelude.{IsTrue, Some, replicate, slice_index, nat_lt}
+use Rattle.std.proofs.lemmas.Bool.{le-ltb}
+use Rattle.std.proofs.lemmas.List.{length-map}
+use Rattle.std.proofs.lemmas.List.FromFn.{get_or-map-range_with_len}
+use Rattle.spec_words.specs.Bits.{bit, is_set}
+use Rattle.spec_words.specs.Words.{numbers}
+use Rattle.spec_words.proofs.Counting.{length-numbers}
+use Rattle.mode_set.specs.StreamTable.{need, has_stream, words_per_super_frame}
+use Rattle.mode_set.specs.Laws.{SuperFramesHaveWholeWords}
+use Rattle.mode_set.specs.declared.modes.Start.{Start}
+use Rattle.mode_set.specs.declared.modes.Start.TheVariants.{Zero}
+use Rattle.mode_set.specs.declared.modes.Stream.{Stream}
+use Rattle.mode_set.specs.declared.settings.Settings.{Settings}
+use Rattle.code_paths.specs.declared.costs.CostPair.{CostPair}
+use Rattle.code_paths.specs.Paths.{parity_x, parity_y}
+use Rattle.code_paths.specs.Streams.{Ended}
+use Rattle.code_paths.specs.Favoured.{SpeaksFor, SpeakFor, IsShown, KeepsSent}
+use Rattle.puncture.specs.SentBits.{path_of, window}
+use Rattle.puncture.specs.Laws.{ListsArePaths}
+use Rattle.rs204.specs.Codes.{AreBytes}
+use Rattle.outer_chain.specs.Bits.{bytes_of, bit_of_stream, FirstBits}
+use Rattle.outer_chain.specs.Words.{Packets, Tally, Tallies}
+use Rattle.outer_chain.specs.Sent.{ArePackets, outer_byte, outer_bytes, first_packets}
+use Rattle.outer_chain.specs.SendingLaws.{ByteAfterByte}
+use Rattle.outer_chain.specs.Laws.{OuterAreBytes, OwnBytes, OwnTally}
+use Rattle.inner_chain.specs.PairLists.{pair_of}
+use Rattle.transmission.specs.Transmission.{Inputs, paths_of}
+use Rattle.transmission.specs.SuperFrames.{super_frames, counts_of, symbols_of}
+use Rattle.reception.specs.Cells.{symbols}
+use Rattle.reception.specs.Costs.{costs}
+use Rattle.reception.specs.Laws.{CostsAreSteps, CostOfStep}
+use Rattle.reception.specs.Streams.{memory, start_of, Reception, Final}
+use Rattle.own_cell_laws.specs.Returned.{words_of, HavePackets, IsWithin}
+use Rattle.own_cell_laws.specs.Laws.{NoiseLaw, NoiseIsClean}
+use Rattle.own_cell_laws.proofs.Favoured.{AreKnown, step_speaks}
+
+-- ---- all steps
+dropped : {A : Type 0} (t : ℕ) (p : List A) → drop t (drop 1 p) ≡ drop (suc t) p
+dropped zero [] = refl
+dropped (suc t) [] = refl
+dropped t (x ∷ p) = refl
+
+speak_all : (d : CostPair) (c : List CostPair) (p : List Bool) → ((t : ℕ) → t < length c → SpeaksFor (get_or c t d) (drop t p)) → SpeakFor c p
+speak_all d [] p h = tt
+speak_all d (x ∷ c) p h = (h 0 (omega arith), speak_all d c (drop 1 p) (λ t l. subst (SpeaksFor (get_or c t d)) (sym (dropped t p)) (h (suc t) (omega (arith, l)))))
+
+-- ---- the path that was sent
+-- six zeros, and the first n bits of a stream of bytes
+unfoldable sent_path : (ℕ → ℕ) → ℕ → List Bool
+sent_path bytes n = replicate 6 false ++ map (bit_of_stream bytes) (numbers n)
+
+sent_long : (bytes : ℕ → ℕ) (n : ℕ) → length (sent_path bytes n) ≡ 6 + n
+unfolding sent_path
+sent_long bytes n = let e : length (map (bit_of_stream bytes) (numbers n)) ≡ n = length-map (numbers n) (bit_of_stream bytes) ∙ length-numbers n in omega (arith, e)
+
+sent_starts : (bytes : ℕ → ℕ) (n : ℕ) → take 6 (sent_path bytes n) ≡ replicate 6 false
+unfolding sent_path
+sent_starts bytes n = refl
+
+sent_rest : (bytes : ℕ → ℕ) (n : ℕ) → drop 6 (sent_path bytes n) ≡ map (bit_of_stream bytes) (numbers n)
+unfolding sent_path
+sent_rest bytes n = refl
+
+behind : (bytes : ℕ → ℕ) (j : ℕ) → path_of bytes (6 + j) ≡ bit_of_stream bytes j
+behind bytes j =
+    let test : nat_lt (6 + j) 6 ≡ false = le-ltb (6 + j) 6 (omega arith) in
+    let same : 6 + j - 6 ≡ j = omega arith in
+    ap (λ (b : Bool). cond b false (is_set (bytes ((6 + j - 6) / 8)) (7 - (6 + j - 6) % 8))) test ∙ ap (bit_of_stream bytes) same
+
+sent_bits : (bytes : ℕ → ℕ) (n k : ℕ) → k < 6 + n → bit (sent_path bytes n) k ≡ path_of bytes k
+unfolding sent_path numbers
+sent_bits bytes n zero l = refl
+sent_bits bytes n (suc zero) l = refl
+sent_bits bytes n (suc (suc zero)) l = refl
+sent_bits bytes n (suc (suc (suc zero))) l = refl
+sent_bits bytes n (suc (suc (suc (suc zero)))) l = refl
+sent_bits bytes n (suc (suc (suc (suc (suc zero))))) l = refl
+sent_bits bytes n (suc (suc (suc (suc (suc (suc j)))))) l =
+    let place : 0 + j ≡ j = omega arith in
+    let next : 6 + j ≡ suc (suc (suc (suc (suc (suc j))))) = omega arith in
+    get_or-map-range_with_len (bit_of_stream bytes) 0 n j j false (omega (arith, l)) place ∙ sym (behind bytes j) ∙ ap (path_of bytes) next
+
+seven : (a b c d e f g a' b' c' d' e' f' g' : Bool) → a ≡ a' → b ≡ b' → c ≡ c' → d ≡ d' → e ≡ e' → f ≡ f' → g ≡ g' → ◌≡◌ {A = List Bool} (a ∷ b ∷ c ∷ d ∷ e ∷ f ∷ g ∷ []) (a' ∷ b' ∷ c' ∷ d' ∷ e' ∷ f' ∷ g' ∷ [])
+seven a b c d e f g a' b' c' d' e' f' g' pa pb pc pd pe pf pg = cc
+
+sent_window : (bytes : ℕ → ℕ) (n t : ℕ) → t < n → window (bit (sent_path bytes n)) t ≡ window (path_of bytes) t
+sent_window bytes n t l =
+    seven _ _ _ _ _ _ _ _ _ _ _ _ _ _ (at t (omega (arith, l))) (at (t + 1) (omega (arith, l))) (at (t + 2) (omega (arith, l))) (at (t + 3) (omega (arith, l))) (at (t + 4) (omega (arith, l))) (at (t + 5) (omega (arith, l))) (at (t + 6) (omega (arith, l)))
+  where
+    at : (k : ℕ) → k < 6 + n → bit (sent_path bytes n) k ≡ path_of bytes k
+    at k m = sent_bits bytes n k m
+
+-- ---- the costs of all steps
+-- what is known of the costs of bytes
+pub record AreListed : Type 0 where
+  pub long : CostsAreSteps
+  pub step : CostOfStep
+
+row_of : (t q n : ℕ) → t < n * q → (t / q < n) × (t % q < q) × (t / q * q + t % q ≡ t)
+row_of t zero n l = absurd (omega (arith, l))
+row_of t (suc q) n l = (row (t / suc q) (t % suc q) whole, omega arith, whole)
+  where
+    whole : t / suc q * suc q + t % suc q ≡ t
+    whole = omega arith
+
+    row : (a b : ℕ) → a * suc q + b ≡ t → a < n
+    row a b e = grind arith
+
+all_speak : AreKnown → AreListed → ListsArePaths → (s : Settings) (inputs : Inputs) (bytes : List ℕ) (σ : Stream) → IsWithin s inputs bytes → IsTrue (has_stream s.hierarchy σ)
+    → IsShown (replicate 6 false) (costs s bytes σ) (sent_path (outer_byte (inputs σ)) (symbols s bytes * need s σ))
+all_speak known listed lists s inputs bytes σ w exists = record {
+  path = record { long = sent_long (outer_byte (inputs σ)) n ∙ ap (λ (z : ℕ). 6 + z) (sym long); start = sent_starts (outer_byte (inputs σ)) n };
+  speak = speak_all d (costs s bytes σ) p each;
+}
+  where
+    n : ℕ
+    n = symbols s bytes * need s σ
+
+    p : List Bool
+    p = sent_path (outer_byte (inputs σ)) n
+
+    d : CostPair
+    d = pair_of s [] 0 σ 0
+
+    long : length (costs s bytes σ) ≡ n
+    long = listed.long s bytes σ
+
+    each : (t : ℕ) → t < length (costs s bytes σ) → SpeaksFor (get_or (costs s bytes σ) t d) (drop t p)
+    each t l =
+        let few : t < n = omega (arith, l, long) in
+        let row = row_of t (need s σ) (symbols s bytes) few in
+        let same : window (bit p) t ≡ window (paths_of inputs σ) (t / need s σ * need s σ + t % need s σ) = sent_window (outer_byte (inputs σ)) n t few ∙ ap (window (paths_of inputs σ)) (sym row.2) in
+        subst (λ (z : CostPair). SpeaksFor z (drop t p)) (sym (listed.step s bytes σ t d few))
+        (step_speaks known s inputs bytes (t / need s σ) (t % need s σ) σ (drop t p) w (subst (λ (z : ℕ). t / need s σ < z) w.all row.0) exists row.1 ((lists p t).x ∙ ap parity_x same) ((lists p t).y ∙ ap parity_y same))
+
+-- ---- the bytes
+byte_small : (xs : List ℕ) (p : ℕ) → AreBytes xs → slice_index xs p < 256
+byte_small [] p h = omega arith
+byte_small (x ∷ xs) zero h = h.0
+byte_small (x ∷ xs) (suc p) h = byte_small xs p h.1
+
+outer_small : OuterAreBytes → ByteAfterByte → (packets : List (List ℕ)) → ArePackets packets → (p : ℕ) → outer_byte packets p < 256
+outer_small are after packets h p =
+    let l : p < p + 1 = omega arith in
+    let b : slice_index (outer_bytes packets (p + 1)) p < 256 = byte_small (outer_bytes packets (p + 1)) p (are packets (p + 1) h) in
+    subst (λ (z : ℕ). z < 256) (after packets (p + 1) p l) b
+
+-- what is known of bits and packets
+pub record AreOwn : Type 0 where
+  pub keeps : (most : ℕ) → KeepsSent most
+  pub first : FirstBits
+  pub bytes : OuterAreBytes
+  pub after : ByteAfterByte
+  pub packets : OwnBytes
+  pub tally : OwnTally
+  pub whole : SuperFramesHaveWholeWords
+
+sent_bytes_of : AreOwn → (packets : List (List ℕ)) (n : ℕ) → ArePackets packets → bytes_of (drop 6 (sent_path (outer_byte packets) n)) ≡ outer_bytes packets (n / 8)
+unfolding outer_bytes
+sent_bytes_of own packets n h = ap bytes_of (sent_rest (outer_byte packets) n) ∙ own.first (outer_byte packets) n (outer_small own.bytes own.after packets h)
+
+-- as many words as the super-frames have
+words_are : (f need words symbols : ℕ) → symbols ≡ 272 * f → 1632 * words ≡ 272 * need → symbols * need / 8 / 204 ≡ f * words
+words_are f need words symbols e w =
+    let rows : symbols * need ≡ 272 * f * need = ap (λ (z : ℕ). z * need) e in
+    let whole : f * (1632 * words) ≡ f * (272 * need) = ap (λ (z : ℕ). f * z) w in
+    let all : symbols * need ≡ 1632 * (f * words) = omega (arith, rows, whole) in
+    eight (symbols * need) (f * words) all
+  where
+    eight : (a b : ℕ) → a ≡ 1632 * b → a / 8 / 204 ≡ b
+    eight a b h = omega (arith, h)
+
+symbols_are : (s : Settings) (inputs : Inputs) → symbols_of s inputs ≡ 272 * super_frames s (counts_of inputs)
+unfolding symbols_of
+symbols_are s inputs = refl
+
+-- the bits at the end are those that were sent
+ended_bytes : AreKnown → AreListed → ListsArePaths → AreOwn → (s : Settings) (inputs : Inputs) (bytes : List ℕ) (r : Reception) (σ : Stream) (e : s.start ≡ Zero) → HavePackets s inputs → IsWithin s inputs bytes → (f : Final s bytes r)
+    → IsTrue (has_stream s.hierarchy σ) → bytes_of (f.bits σ) ≡ outer_bytes (inputs σ) (symbols s bytes * need s σ / 8)
+ended_bytes known listed lists own s inputs bytes r σ e have w f exists =
+    let ended : Ended memory (Some (replicate 6 false)) (costs s bytes σ) (f.bits σ) = subst (λ (z : Start). Ended memory (start_of z) (costs s bytes σ) (f.bits σ)) e (f.decoded σ) in
+    let n : ℕ = symbols s bytes * need s σ in
+    ap bytes_of ((own.keeps memory).ended (replicate 6 false) (sent_path (outer_byte (inputs σ)) n) (f.bits σ) (costs s bytes σ) (all_speak known listed lists s inputs bytes σ w exists) ended) ∙ sent_bytes_of own (inputs σ) n (have σ exists)
+
+word_count_is : AreOwn → (s : Settings) (inputs : Inputs) (bytes : List ℕ) (σ : Stream) → IsWithin s inputs bytes → symbols s bytes * need s σ / 8 / 204 - 11 ≡ words_of s inputs σ
+word_count_is own s inputs bytes σ w =
+    ap (λ (z : ℕ). z - 11) (words_are (super_frames s (counts_of inputs)) (need s σ) (words_per_super_frame s σ) (symbols s bytes) (w.all ∙ symbols_are s inputs) (own.whole s σ))
+
+pub noise_law : AreKnown → AreListed → ListsArePaths → AreOwn → NoiseLaw
+noise_law known listed lists own s inputs bytes r e have w f σ exists =
+    own.packets (inputs σ) (symbols s bytes * need s σ / 8) (r.packets σ) (have σ exists) (subst (λ (z : List ℕ). Packets z (r.packets σ)) (ended_bytes known listed lists own s inputs bytes r σ e have w f exists) (f.packets σ))
+    ∙ ap (first_packets (inputs σ)) (word_count_is own s inputs bytes σ w)
+
+all_clean : ℕ → Tally
+all_clean n = record { words = n; clean = n; corrected = 0; bad = 0; unphased = 0 }
+
+pub noise_is_clean : AreKnown → AreListed → ListsArePaths → AreOwn → NoiseIsClean
+unfolding all_clean
+noise_is_clean known listed lists own s inputs bytes r e have w f σ exists =
+    own.tally (inputs σ) (symbols s bytes * need s σ / 8) (r.tally σ) (have σ exists) (subst (λ (z : List ℕ). Tallies z (r.tally σ)) (ended_bytes known listed lists own s inputs bytes r σ e have w f exists) (f.tally σ))
+    ∙ ap all_clean (word_count_is own s inputs bytes σ w)

@@ -1,0 +1,68 @@
+-- How many packets come back of some transmissions, computed.
+use Rattle.std.proofs.Common.{◌≡◌, ℕ, ◌-◌, [], refl, arith}
+use Rattle.std.specs.Prelude.{Some, None, replicate}
+use Rattle.mode_set.specs.Kept.{IsKept}
+use Rattle.mode_set.specs.declared.modes.Mode.TheVariants.{M2k, M8k}
+use Rattle.mode_set.specs.declared.modes.Shape.TheVariants.{Qpsk, Qam16, Qam64}
+use Rattle.mode_set.specs.declared.modes.Hierarchy.TheVariants.{Flat, Alpha2, Alpha4}
+use Rattle.mode_set.specs.declared.modes.Rate.TheVariants.{R1of2, R2of3, R3of4}
+use Rattle.mode_set.specs.declared.modes.Guard.TheVariants.{G1of32}
+use Rattle.mode_set.specs.declared.modes.Start.TheVariants.{Zero}
+use Rattle.mode_set.specs.declared.modes.Stream.TheVariants.{Hp, Lp}
+use Rattle.mode_set.specs.declared.settings.Settings.{Settings}
+use Rattle.qam_map.specs.Points.{tolerance}
+use Rattle.transmission.specs.Transmission.{Inputs, by_stream}
+use Rattle.own_cell_laws.specs.Returned.{words_of}
+
+-- so many packets of each stream; what they hold does not matter here
+abbrev counted : ℕ → ℕ → Inputs
+counted hp lp = by_stream (replicate hp []) (replicate lp [])
+
+kept_qpsk : IsKept Qpsk Flat None 1 1000000
+kept_qpsk = record { qpsk = λ _. refl; lp = refl; some_worker = omega arith; few_workers = omega arith; some_symbol = omega arith }
+
+kept_64 : IsKept Qam64 Flat None 1 1000000
+kept_64 = record { qpsk = λ _. refl; lp = refl; some_worker = omega arith; few_workers = omega arith; some_symbol = omega arith }
+
+kept_two_64 : IsKept Qam64 Alpha2 (Some R3of4) 1 1000000
+kept_two_64 = record { qpsk = λ q. q; lp = refl; some_worker = omega arith; few_workers = omega arith; some_symbol = omega arith }
+
+kept_two_16 : IsKept Qam16 Alpha4 (Some R3of4) 1 1000000
+kept_two_16 = record { qpsk = λ q. q; lp = refl; some_worker = omega arith; few_workers = omega arith; some_symbol = omega arith }
+
+abbrev base : Settings
+base = record { mode = M2k; shape = Qpsk; hierarchy = Flat; rate_hp = R1of2; rate_lp = None; guard = G1of32; cell_id = None; start = Zero; workers = 1; max_symbols = 1000000; kept = kept_qpsk }
+
+abbrev fast : Settings
+fast = record { mode = M8k; shape = Qam64; hierarchy = Flat; rate_hp = R2of3; rate_lp = None; guard = G1of32; cell_id = None; start = Zero; workers = 1; max_symbols = 1000000; kept = kept_64 }
+
+abbrev two_64 : Settings
+two_64 = record { mode = M8k; shape = Qam64; hierarchy = Alpha2; rate_hp = R2of3; rate_lp = Some R3of4; guard = G1of32; cell_id = None; start = Zero; workers = 1; max_symbols = 1000000; kept = kept_two_64 }
+
+abbrev two_16 : Settings
+two_16 = record { mode = M2k; shape = Qam16; hierarchy = Alpha4; rate_hp = R1of2; rate_lp = Some R3of4; guard = G1of32; cell_id = None; start = Zero; workers = 1; max_symbols = 1000000; kept = kept_two_16 }
+
+-- a super-frame without packets: 241 null packets
+nothing_sent : words_of base (counted 0 0) Hp ≡ 241
+nothing_sent = refl
+
+-- 8K, 64-QAM, 2/3, ten thousand packets: three super-frames
+ten_thousand : words_of fast (counted 10000 0) Hp ≡ 12085
+ten_thousand = refl
+
+-- 8K, 64-QAM, α = 2, 2/3 and 3/4, 1000 and 4000 packets: two super-frames
+hp_of_two : words_of two_64 (counted 1000 4000) Hp ≡ 2677
+hp_of_two = refl
+
+lp_of_two : words_of two_64 (counted 1000 4000) Lp ≡ 6037
+lp_of_two = refl
+
+-- 2K, 16-QAM, α = 4, 1/2 and 3/4, 100 and 200 packets: one super-frame, with 141 and 167 null packets, for cells moved by at most 1136
+hp_nulls : words_of two_16 (counted 100 200) Hp - 100 ≡ 141
+hp_nulls = refl
+
+lp_nulls : words_of two_16 (counted 100 200) Lp - 200 ≡ 167
+lp_nulls = refl
+
+moved : tolerance Qam16 Alpha4 ≡ 1136
+moved = refl

@@ -1,0 +1,36 @@
+use Rattle.std.proofs.Common.{ℕ}
+use Rattle.mode_set.specs.declared.modes.Mode.{Mode}
+use Rattle.mode_set.specs.declared.modes.Mode.TheVariants.{M2k, M8k}
+use Rattle.own_cell_laws.specs.Counted.{AreCounted}
+use Rattle.own_cell_laws.proofs.Favoured.{AreKnown}
+use Rattle.own_cell_laws.proofs.Received.{AreListed, AreOwn, noise_law, noise_is_clean}
+use Rattle.own_cell_laws.proofs.laws.noise.Goals as goal
+
+both : ((l : ℕ) → AreCounted M2k l) → ((l : ℕ) → AreCounted M8k l) → (m : Mode) (l : ℕ) → AreCounted m l
+both f g M2k l = f l
+both f g M8k l = g l
+
+pub returns : goal.returns
+returns c =
+    let known : AreKnown = record {
+      counts = both c.counted.ensures c.counted-2.ensures;
+      permutation = c.h_is_a_permutation.ensures;
+      agree = c.places_and_words_agree.ensures;
+      found = c.each_bit_is_found.ensures;
+      favour = c.near_points_favour_their_bits.ensures;
+      order = c.steps_send_in_order.ensures;
+      numbers = c.steps_are_numbered.ensures;
+      shift = c.periods_shift.ensures;
+      periods = c.symbols_have_whole_periods.ensures;
+    } in
+    let listed : AreListed = record { long = c.costs.ensures.long; step = c.costs.ensures.step } in
+    let own : AreOwn = record {
+      keeps = c.keeps_sent.ensures.law;
+      first = c.bits.ensures.first;
+      bytes = c.own_bytes.ensures.are_bytes;
+      after = c.sending.ensures.bytes;
+      packets = c.own_bytes.ensures.packets;
+      tally = c.own_bytes.ensures.tally;
+      whole = c.super_frames_have_whole_words.ensures;
+    } in
+    record { packets = noise_law known listed c.lists_are_paths.ensures own; clean = noise_is_clean known listed c.lists_are_paths.ensures own }
