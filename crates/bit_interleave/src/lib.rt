@@ -7,4 +7,4 @@ mod places;
 #[cfg(test)]
 mod tests;
 
-pub use places::{bit_at, place};
+pub use places::{MOST_WORDS, bit_at, place};

@@ -5,7 +5,13 @@ ghost use Rattle.mode_set.specs.StreamTable.{has_stream, label_bits, payload, wi
 ghost use Rattle.mode_set.specs.declared.modes.Mode.{Mode};
 ghost use Rattle.bit_interleave.specs.Place.{first_place, offset, place_in_label, stream_at, word_of_bit};
 
-use mode_set::{Hierarchy, Shape, Stream, stream_width};
+use mode_set::{Carriers, Hierarchy, Mode8k, Shape, Stream, stream_width};
+
+// The bits of a block of each bit interleaver (EN 300 744, 4.3.4.1).
+const BLOCK: u32 = 126;
+
+/// The words of a symbol of the larger mode: whole blocks of the bit interleavers.
+pub const MOST_WORDS: u32 = BLOCK * Mode8k::BLOCKS;
 
 // The offsets of the bit interleavers I0 to I5 (EN 300 744, 4.3.4.1).
 fn offset_of(e: u32) -> u32
@@ -40,7 +46,7 @@ fn first_of(hierarchy: Hierarchy, stream: Stream) -> u32
 pub fn place(shape: Shape, hierarchy: Hierarchy, stream: Stream, bit: u32) -> (u8, u32)
     requires qpsk_is_flat { IsTrue (is_qpsk shape) → IsTrue (is_flat hierarchy) }
     requires exists { IsTrue (has_stream hierarchy stream) }
-    requires within { bit < 6048 * width shape hierarchy stream }
+    requires within { bit < MOST_WORDS * width shape hierarchy stream }
 
     ensures place { result.0 ≡ place_in_label shape hierarchy stream bit }
     ensures word { result.1 ≡ word_of_bit shape hierarchy stream bit }
@@ -54,7 +60,7 @@ pub fn place(shape: Shape, hierarchy: Hierarchy, stream: Stream, bit: u32) -> (u
     let number = bit % width;
     let e = number / half + 2 * (number % half) + first_of(hierarchy, stream);
     let index = bit / width;
-    let word = 126 * (index / 126) + (index + 126 - offset_of(e)) % 126;
+    let word = BLOCK * (index / BLOCK) + (index + BLOCK - offset_of(e)) % BLOCK;
     (e as u8, word)
 }
 
@@ -63,7 +69,7 @@ pub fn place(shape: Shape, hierarchy: Hierarchy, stream: Stream, bit: u32) -> (u
 pub fn bit_at(shape: Shape, hierarchy: Hierarchy, e: u8, word: u32) -> (Stream, u32)
     requires qpsk_is_flat { IsTrue (is_qpsk shape) → IsTrue (is_flat hierarchy) }
     requires in_label { e < label_bits shape }
-    requires in_symbol { word < 6048 }
+    requires in_symbol { word < MOST_WORDS }
 
     ensures stream { result.0 ≡ stream_at hierarchy e }
     ensures exists { IsTrue (has_stream hierarchy result.0) }
@@ -80,7 +86,7 @@ pub fn bit_at(shape: Shape, hierarchy: Hierarchy, e: u8, word: u32) -> (Stream, 
         Stream::Lp
     };
     let half = stream_width(shape, hierarchy, stream) as u32 / 2;
-    let index = 126 * (word / 126) + (word + offset_of(e)) % 126;
+    let index = BLOCK * (word / BLOCK) + (word + offset_of(e)) % BLOCK;
     let e = e - first_of(hierarchy, stream);
     (stream, 2 * half * index + half * (e % 2) + e / 2)
 }

@@ -4,7 +4,7 @@ ghost use Rattle.mode_set.specs.Kept.{is_flat, is_qpsk};
 ghost use Rattle.mode_set.specs.StreamTable.{has_stream, width};
 
 use crate::{bit_at, place};
-use mode_set::{Hierarchy, Shape, Stream};
+use mode_set::{Carriers, Hierarchy, Mode8k, Shape, Stream};
 use std::process::Abort;
 use std::rt::HostRuntime;
 
@@ -19,7 +19,7 @@ fn agrees(rt: &impl Abort, shape: Shape, hierarchy: Hierarchy, stream: Stream, o
 {
     for (turn, e) in order.iter().enumerate() {
         assert!(rt; *e < 6);
-        for block in 0..48u32 {
+        for block in 0..Mode8k::BLOCKS {
             for w in 0..126u32 {
                 let index = 126 * block + (w + OFFSETS[*e as usize]) % 126;
                 let bit = order.len() as u32 * index + turn as u32;

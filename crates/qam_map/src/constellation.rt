@@ -1,29 +1,35 @@
 // From labels to cells.
 ghost use Rattle.std.specs.Prelude.{◌≡◌, ◌/◌, ◌<◌, ◌≤◌, ◌^◌, ℕ, ◌∷◌, [], length, slice_index, take};
 ghost use Rattle.spec_words.specs.Bits.{is_set};
-ghost use Rattle.mode_set.specs.Levels.{levels};
+ghost use Rattle.mode_set.specs.Levels.{levels as levels_of};
 ghost use Rattle.mode_set.specs.StreamTable.{label_bits};
+ghost use Rattle.mode_set.specs.declared.modes.Hierarchy.{Hierarchy as AnyHierarchy};
 ghost use Rattle.qam_map.specs.Points.{map_cell, ring_of, spacing as spacing_of, tolerance as tolerance_of, value_of};
 
 use crate::Cell;
-use mode_set::{Hierarchy, Shape};
+use mode_set::{
+    Constellation, Hierarchy, Qam16A1, Qam16A2, Qam16A4, Qam64A1, Qam64A2, Qam64A4, Qpsk, Shape,
+};
 
-// The levels of an axis, from the outermost to the innermost.
-fn levels_of(shape: Shape, hierarchy: Hierarchy) -> [u16; 4]
-    ensures is { (k : ℕ) → k < length (levels shape hierarchy) → slice_index result k ≡ slice_index (levels shape hierarchy) k }
-    ensures small { (k : ℕ) → slice_index result k < 32768 }
+/// The levels of an axis, from the outermost to the innermost, as 16384 times the standard's
+/// normalised values (EN 300 744, 4.3.5): those of the constellation's type in `mode_set`.
+///
+/// QPSK has one level, 16-QAM two and 64-QAM four. Without a hierarchy they are those of α = 1.
+pub fn levels(shape: Shape, hierarchy: Hierarchy) -> &'static [u16]
+    ensures levels { result.now ≡ levels_of shape hierarchy }
+    ensures small { (k : ℕ) → slice_index result.now k < 20000 }
 {
     match shape {
-        Shape::Qpsk => [11585, 0, 0, 0],
+        Shape::Qpsk => Qpsk::levels(),
         Shape::Qam16 => match hierarchy {
-            Hierarchy::Flat | Hierarchy::Alpha1 => [15543, 5181, 0, 0],
-            Hierarchy::Alpha2 => [14654, 7327, 0, 0],
-            Hierarchy::Alpha4 => [13632, 9088, 0, 0],
+            Hierarchy::Flat | Hierarchy::Alpha1 => Qam16A1::levels(),
+            Hierarchy::Alpha2 => Qam16A2::levels(),
+            Hierarchy::Alpha4 => Qam16A4::levels(),
         },
         Shape::Qam64 => match hierarchy {
-            Hierarchy::Flat | Hierarchy::Alpha1 => [17697, 12641, 7584, 2528],
-            Hierarchy::Alpha2 => [16921, 12691, 8461, 4230],
-            Hierarchy::Alpha4 => [15766, 12612, 9459, 6306],
+            Hierarchy::Flat | Hierarchy::Alpha1 => Qam64A1::levels(),
+            Hierarchy::Alpha2 => Qam64A2::levels(),
+            Hierarchy::Alpha4 => Qam64A4::levels(),
         },
     }
 }
@@ -31,7 +37,7 @@ fn levels_of(shape: Shape, hierarchy: Hierarchy) -> [u16; 4]
 // The number of a level, from the outermost on, which the bits after the sign choose.
 fn ring(shape: Shape, outer: bool, inner: bool) -> u8
     ensures is { result ≡ ring_of shape outer inner }
-    ensures small { result < 4 }
+    ensures small { (hierarchy : AnyHierarchy) → result < length (levels_of shape hierarchy) }
 {
     match shape {
         Shape::Qpsk => 0,
@@ -49,7 +55,7 @@ fn ring(shape: Shape, outer: bool, inner: bool) -> u8
 fn axis_value(shape: Shape, hierarchy: Hierarchy, sign: bool, outer: bool, inner: bool) -> i16
     ensures { result ≡ value_of shape hierarchy (take (label_bits shape / 2) (sign ∷ outer ∷ inner ∷ [])) }
 {
-    let level = levels_of(shape, hierarchy)[ring(shape, outer, inner) as usize] as i16;
+    let level = levels(shape, hierarchy)[ring(shape, outer, inner) as usize] as i16;
     if sign { -level } else { level }
 }
 
@@ -84,23 +90,20 @@ pub fn map(shape: Shape, hierarchy: Hierarchy, label: u8) -> Cell
     }
 }
 
-/// The least distance of two values of an axis.
+/// The least distance of two values of an axis: of two levels side by side, or of the innermost one
+/// and its opposite.
 pub fn spacing(shape: Shape, hierarchy: Hierarchy) -> u16
     ensures spacing { result ≡ spacing_of shape hierarchy }
     ensures some { 3153 ≤ result }
 {
+    let levels = levels(shape, hierarchy);
     match shape {
-        Shape::Qpsk => 23170,
-        Shape::Qam16 => match hierarchy {
-            Hierarchy::Flat | Hierarchy::Alpha1 => 10362,
-            Hierarchy::Alpha2 => 7327,
-            Hierarchy::Alpha4 => 4544,
-        },
-        Shape::Qam64 => match hierarchy {
-            Hierarchy::Flat | Hierarchy::Alpha1 => 5056,
-            Hierarchy::Alpha2 => 4230,
-            Hierarchy::Alpha4 => 3153,
-        },
+        Shape::Qpsk => 2 * levels[0],
+        Shape::Qam16 => (2 * levels[1]).min(levels[0] - levels[1]),
+        Shape::Qam64 => (levels[0] - levels[1])
+            .min(levels[1] - levels[2])
+            .min(levels[2] - levels[3])
+            .min(2 * levels[3]),
     }
 }
 

@@ -8,4 +8,4 @@ pub mod laws;
 mod tests;
 
 pub use cell::Cell;
-pub use constellation::{map, spacing, tolerance};
+pub use constellation::{levels, map, spacing, tolerance};

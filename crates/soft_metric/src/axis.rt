@@ -1,7 +1,7 @@
 // The costs of all bits of one axis.
 ghost use Rattle.std.specs.Prelude.{◌≡◌, ◌+◌, ◌/◌, ◌^◌, ◌<◌, ◌≤◌, ℕ, min, if◌then◌else◌, slice_index, slice_index_or, true, false};
 ghost use Rattle.std.specs.Int.{abs_diff};
-ghost use Rattle.mode_set.specs.Levels.{levels};
+ghost use Rattle.mode_set.specs.Levels.{levels as levels_of};
 ghost use Rattle.mode_set.specs.StreamTable.{label_bits};
 ghost use Rattle.soft_metric.specs.Costs.{cost, costs_at_place, four_levels};
 ghost use Rattle.qam_map.specs.declared.cell.Cell.{Cell as AnyCell};
@@ -9,7 +9,7 @@ ghost use Rattle.soft_metric.specs.Squares.{AreAxisCosts, IsSmallPair};
 
 use crate::lanes::costs_by_lanes;
 use mode_set::{Hierarchy, Shape};
-use qam_map::Cell;
+use qam_map::{Cell, levels};
 use std::marker::Model;
 
 /// The metric of the axes of a constellation. It is seen as the constellation and its hierarchy.
@@ -35,22 +35,18 @@ impl Model for AxisMetric {
     ghost invariant = { λ m. m.rings ≡ four_levels (levels m.shape m.hierarchy) };
 }
 
-fn levels_of(shape: Shape, hierarchy: Hierarchy) -> [u16; 4]
-    ensures { result ≡ four_levels (levels shape hierarchy) }
+// Four levels: each of one or two levels again for the bits that choose none.
+fn rings_of(shape: Shape, hierarchy: Hierarchy) -> [u16; 4]
+    ensures { result ≡ four_levels (levels_of shape hierarchy) }
 {
-    match shape {
-        Shape::Qpsk => [11585; 4],
-        Shape::Qam16 => match hierarchy {
-            Hierarchy::Flat | Hierarchy::Alpha1 => [15543, 15543, 5181, 5181],
-            Hierarchy::Alpha2 => [14654, 14654, 7327, 7327],
-            Hierarchy::Alpha4 => [13632, 13632, 9088, 9088],
-        },
-        Shape::Qam64 => match hierarchy {
-            Hierarchy::Flat | Hierarchy::Alpha1 => [17697, 12641, 7584, 2528],
-            Hierarchy::Alpha2 => [16921, 12691, 8461, 4230],
-            Hierarchy::Alpha4 => [15766, 12612, 9459, 6306],
-        },
-    }
+    let levels = levels(shape, hierarchy);
+    let number = levels.len();
+    [
+        levels[0],
+        levels[number / 4],
+        levels[number / 2],
+        levels[number - 1],
+    ]
 }
 
 fn near_square(magnitude: u32, level: u32) -> u32
@@ -114,7 +110,7 @@ impl AxisMetric {
         AxisMetric {
             shape,
             hierarchy,
-            rings: levels_of(shape, hierarchy),
+            rings: rings_of(shape, hierarchy),
         }
     }
 

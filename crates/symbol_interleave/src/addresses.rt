@@ -4,7 +4,7 @@ ghost use Rattle.std.specs.Int.{bit_at};
 ghost use Rattle.mode_set.specs.StreamTable.{payload};
 ghost use Rattle.symbol_interleave.specs.Carried.{IsInverse, IsPermutationBelow, address, bits, feedback, h as list_h, moved, next_word, wiring};
 
-use mode_set::Mode;
+use mode_set::{Carriers, Mode};
 use std::alloc::{AllocError, Global};
 
 // The places to which the bits of a word go, from bit 0 on (EN 300 744, 4.3.4.2, tables of the bit
@@ -31,17 +31,20 @@ fn new_top_bit(mode: Mode, word: u32) -> u32
     }
 }
 
-// The next word of Nr - 1 bits.
-fn next(mode: Mode, word: u32) -> u32
-    requires { word < 2 ^ (bits mode - 1) }
-    ensures is { result ≡ next_word mode word }
-    ensures small { result < 2 ^ (bits mode - 1) }
+// The top bit of an address of Nr bits.
+fn top_bit<M: Carriers>() -> u32
+    ensures { result ≡ 2 ^ (bits M.MODE - 1) }
 {
-    let top = match mode {
-        Mode::M2k => 512,
-        Mode::M8k => 2048,
-    };
-    word / 2 + top * new_top_bit(mode, word)
+    1 << (M::NR - 1)
+}
+
+// The next word of Nr - 1 bits.
+fn next<M: Carriers>(word: u32) -> u32
+    requires { word < 2 ^ (bits M.MODE - 1) }
+    ensures is { result ≡ next_word M.MODE word }
+    ensures small { result < 2 ^ (bits M.MODE - 1) }
+{
+    word / 2 + top_bit::<M>() / 2 * new_top_bit(M::MODE, word)
 }
 
 fn bit_to(word: u32, from: u32, to: u32) -> u32
@@ -67,15 +70,6 @@ fn rewired(word: u32, places: &[u32]) -> u32
     wired
 }
 
-fn top_bit(mode: Mode) -> u32
-    ensures { result ≡ 2 ^ (bits mode - 1) }
-{
-    match mode {
-        Mode::M2k => 1024,
-        Mode::M8k => 4096,
-    }
-}
-
 fn wired(mode: Mode, word: u32) -> u32
     ensures is { result ≡ moved word (wiring mode) }
     ensures small { result < 65536 }
@@ -87,10 +81,10 @@ fn wired(mode: Mode, word: u32) -> u32
 }
 
 // The address of a word and its number.
-fn address_of(mode: Mode, index: u32, word: u32) -> u32
-    ensures { result ≡ address mode (index, word) }
+fn address_of<M: Carriers>(index: u32, word: u32) -> u32
+    ensures { result ≡ address M.MODE (index, word) }
 {
-    index % 2 * top_bit(mode) + wired(mode, word)
+    index % 2 * top_bit::<M>() + wired(M::MODE, word)
 }
 
 fn push_below(list: &mut Vec<u16>, address: u32, limit: u32) -> Result<(), AllocError>
@@ -104,16 +98,16 @@ fn push_below(list: &mut Vec<u16>, address: u32, limit: u32) -> Result<(), Alloc
 }
 
 /// The list H.
-pub fn places(alloc: Global, mode: Mode) -> Result<Vec<u16>, AllocError>
-    ensures { IfOk result (λ list. list.items ≡ list_h mode) }
+pub fn places<M: Carriers>(alloc: Global) -> Result<Vec<u16>, AllocError>
+    ensures { IfOk result (λ list. list.items ≡ list_h M.MODE) }
 {
-    let mut list = Vec::with_capacity(alloc, mode.payload() as usize)?;
+    let mut list = Vec::with_capacity(alloc, M::NMAX as usize)?;
     list.push(0)?;
-    list.push(top_bit(mode) as u16)?;
+    list.push(top_bit::<M>() as u16)?;
     let mut word = 1;
-    for index in 2..2 * top_bit(mode) {
-        push_below(&mut list, address_of(mode, index, word), mode.payload())?;
-        word = next(mode, word);
+    for index in 2..2 * top_bit::<M>() {
+        push_below(&mut list, address_of::<M>(index, word), M::NMAX)?;
+        word = next::<M>(word);
     }
     Ok(list)
 }

@@ -32,7 +32,7 @@ impl<M: Carriers> Permutation<M> {
     pub fn new(alloc: Global) -> Result<Self, AllocError>
         ensures { IfOk result (λ permutation. permutation ≡ M.MODE) }
     {
-        let places = places(alloc, M::MODE)?;
+        let places = places::<M>(alloc)?;
         let words = inverse(alloc, &places)?;
         Ok(Permutation {
             places,

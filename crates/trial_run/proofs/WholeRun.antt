@@ -25,6 +25,7 @@ use Rattle.run_steps.specs.Ended.{Ended, IsCaused, IsExact, Leaves}
 use Rattle.run_steps.proofs.Early.{RefusedEarly, refused_early, early_ended}
 use Rattle.run_steps.proofs.Whole.{run_done, run_refused}
 use Rattle.trial_run.specs.Steps.{IsReady, Ran, ReportOnly, RunsTrial, RunsOrLacks, Tells, outcome_status}
+use Rattle.trial_run.proofs.Laws.{Laws, own_laws}
 use Rattle.trial_run.specs.TrialCommand.{trial_command, trial_lines, trial_refusal, trial_symbols, TrialPrints, AreTrialLines}
 
 -- why a run was refused, if it was
@@ -32,13 +33,13 @@ abbrev refusal_in : Result (Unit {0}) Refusal → Option Refusal
 refusal_in (Ok u) = None
 refusal_in (Err r) = Some r
 
-module _ (limit : ℕ) (name : List ℕ) (number : ℕ) (start mid : Meaning) (fresh : IsFresh start) (asks : AsksSettings name start mid) where
+module _ (limit : ℕ) (name : List ℕ) (number : ℕ) (start mid : Meaning) (laws : Laws) (fresh : IsFresh start) (asks : AsksSettings name start mid) where
   abbrev c : Command
   c = trial_command name number
 
   -- ---- refused before the work
   early : (r : Refusal) → RefusedEarly c limit start mid r → is_among (status_of (Some r)) c.statuses ≡ true → Ended c limit start mid (Some r)
-  early = early_ended c limit name start mid refl (inr (refl, refl)) (λ u whole. refl) tt fresh asks
+  early = early_ended c limit name start mid refl (inr (refl, refl)) (λ u whole. refl) (own_laws laws (settings_of (start.file name)) number) fresh asks
 
   known_early : (r : Refusal) → ReadsSettings name start mid (Err r) → is_among (status_of (Some r)) c.statuses ≡ true
   known_early Usage reads = absurd reads
@@ -161,7 +162,7 @@ module _ (limit : ℕ) (name : List ℕ) (number : ℕ) (start mid : Meaning) (f
         same_files = ap (λ (x : Meaning). x.file) others ∙ ap (λ (x : Meaning). x.file) asks.others;
         report_open = ap (λ (x : Meaning). x.report.closed) others ∙ ap (λ (x : Meaning). x.report.closed) asks.others;
         leaves = leaves;
-        own = tt;
+        own = own_laws laws (settings_of (start.file name)) number;
       }
 
     -- ---- what stands by the outcome

@@ -1,5 +1,5 @@
 -- The command `trial SETTINGS NUMBER`: what it comes to, from its settings and its number alone.
-use Rattle.std.specs.Prelude.{◌≡◌, ◌<◌, ◌≤◌, ◌+◌, ⊤, ℕ, nat_lt, if◌then◌else◌, List, [], ◌∷◌, ◌++◌, codes, decimal, Option, Some, None, option_and_then}
+use Rattle.std.specs.Prelude.{◌≡◌, ◌<◌, ◌≤◌, ◌+◌, ℕ, nat_lt, if◌then◌else◌, List, [], ◌∷◌, ◌++◌, codes, decimal, Option, Some, None, option_and_then}
 use Rattle.station_core.specs.declared.ports.InPort.{InPort}
 use Rattle.station_core.specs.declared.ports.InPort.TheVariants as ins
 use Rattle.mode_set.specs.declared.modes.Stream.{Stream}
@@ -10,6 +10,7 @@ use Rattle.report_line.specs.Streams.{stream_text}
 use Rattle.trial.specs.declared.counts.StreamReturn.{StreamReturn}
 use Rattle.trial.specs.declared.counts.TrialCounts.{TrialCounts}
 use Rattle.trial.specs.Outcome.{TrialGives, at_zero, trial_counts}
+use Rattle.worker_laws.specs.Alike.{DifferInWorkers}
 use Rattle.run_clauses.specs.Command.{Command, Files}
 use Rattle.run_clauses.specs.SettingsFile.{most_settings, settings_refusal}
 use Rattle.run_clauses.specs.StatedSettings.{settings_of}
@@ -48,6 +49,11 @@ pub record TrialPrints (s : Settings) (number : ℕ) (lines : List ℕ) : Type 0
   pub enough : trial_symbols ≤ s.max_symbols → AreTrialLines s number lines
   pub few : s.max_symbols < trial_symbols → lines ≡ []
 
+-- The law of what `trial` prints, by the settings that are stated, if any are.
+pub record TrialLaws (stated : Option Settings) (number : ℕ) : Type 0 where
+  -- By settings that differ from the stated ones in the number of workers alone, it prints the same.
+  pub alike : (s t : Settings) → stated ≡ Some s → DifferInWorkers s t → (lines : List ℕ) → TrialPrints s number lines → TrialPrints t number lines
+
 -- the most bytes that are taken of the settings; no other file is read
 abbrev pub trial_takes : InPort → ℕ
 trial_takes ins.Settings = most_settings + 1
@@ -74,5 +80,5 @@ trial_command settings number = record {
   Prints = λ limit file lines. (s : Settings) × (settings_of (file settings) ≡ Some s) × TrialPrints s number lines;
   ComesSoFar = λ limit file unread port bytes. bytes ≡ [];
   PrintsSoFar = λ limit file unread lines. lines ≡ [];
-  Own = λ limit file. ⊤;
+  Own = λ limit file. TrialLaws (settings_of (file settings)) number;
 }

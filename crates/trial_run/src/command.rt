@@ -80,6 +80,7 @@ pub fn trial<'a, R: Threads + Sync, G: Gate, S: Station<'a>>(
     requires fresh { IsFresh (S.meaning station.old) }
     ensures { Run (trial_command settings.now number) limits.now.packets (S.meaning station.old) (S.meaning station.new) result }
 {
+    trial_laws::laws::workers();
     match read_settings(alloc, settings, station) {
         Ok(accepted) => trial_accepted(rt, alloc, gate, &accepted, number, station),
         Err(refusal) => refuse(&refusal, station),

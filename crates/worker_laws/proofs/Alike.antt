@@ -26,7 +26,7 @@ use Rattle.reception.specs.Streams.{memory, start_of, Moment, so_far, at_end, Is
 use Rattle.worker_laws.specs.Alike.{DifferInWorkers, SameLive, SameFinal, SameLines}
 
 -- the same settings with another number of workers
-abbrev with_workers : (s : Settings) (w : ℕ) → IsKept s.shape s.hierarchy s.rate_lp w s.max_symbols → Settings
+abbrev pub with_workers : (s : Settings) (w : ℕ) → IsKept s.shape s.hierarchy s.rate_lp w s.max_symbols → Settings
 with_workers s w k = record s { workers = w; kept = k }
 
 -- a fact of the settings of these fields, whatever keeps them
@@ -35,7 +35,7 @@ Of Fact w mode shape hierarchy rate_hp rate_lp guard cell_id start most =
     (k : IsKept shape hierarchy rate_lp w most) → Fact (record { mode = mode; shape = shape; hierarchy = hierarchy; rate_hp = rate_hp; rate_lp = rate_lp; guard = guard; cell_id = cell_id; start = start; workers = w; max_symbols = most; kept = k })
 
 -- what is so with another number of workers is so of settings that differ in it alone
-over : (Fact : Settings → Type 0) (s t : Settings) → DifferInWorkers s t → ((k : IsKept s.shape s.hierarchy s.rate_lp t.workers s.max_symbols) → Fact (with_workers s t.workers k)) → Fact t
+pub over : (Fact : Settings → Type 0) (s t : Settings) → DifferInWorkers s t → ((k : IsKept s.shape s.hierarchy s.rate_lp t.workers s.max_symbols) → Fact (with_workers s t.workers k)) → Fact t
 over Fact s t d base =
     let a = subst (λ (x : Mode). Of Fact t.workers x s.shape s.hierarchy s.rate_hp s.rate_lp s.guard s.cell_id s.start s.max_symbols) (sym d.mode) base in
     let b = subst (λ (x : Shape). Of Fact t.workers t.mode x s.hierarchy s.rate_hp s.rate_lp s.guard s.cell_id s.start s.max_symbols) (sym d.shape) a in

@@ -1,5 +1,6 @@
 use Rattle.std.proofs.Common.{refl}
 use Rattle.station_core.specs.Meaning.{Meaning}
+use Rattle.trial_run.proofs.Laws.{Laws}
 use Rattle.trial_run.proofs.WholeRun.{ready, run_of, refused}
 use Rattle.trial_run.proofs.command.trial.Goals as goal
 
@@ -8,7 +9,8 @@ returns-in-Ok g c =
     let old : Meaning = g.S.Station.meaning c.args.station.now in
     let mid : Meaning = g.S.Station.meaning c.read_settings.new.station in
     let new : Meaning = g.S.Station.meaning c.trial_accepted.new.station in
-    run_of c.args.limits.now.packets c.args.settings.now c.args.number old mid c.requires.fresh c.in-Ok.ensures.asks
+    let laws : Laws = record { given = c.workers.ensures.given; counts = c.workers.ensures.counts } in
+    run_of c.args.limits.now.packets c.args.settings.now c.args.number old mid laws c.requires.fresh c.in-Ok.ensures.asks
     c.in-Ok.accepted c.in-Ok.ensures.reads c.trial_accepted.result new c.trial_accepted.ensures
 
 pub returns-in-Err : goal.returns-in-Err
@@ -16,17 +18,19 @@ returns-in-Err g c =
     let old : Meaning = g.S.Station.meaning c.args.station.now in
     let mid : Meaning = g.S.Station.meaning c.read_settings.new.station in
     let new : Meaning = g.S.Station.meaning c.refuse.new.station in
-    refused c.args.limits.now.packets c.args.settings.now c.args.number old mid c.requires.fresh c.in-Err.ensures.asks
+    let laws : Laws = record { given = c.workers.ensures.given; counts = c.workers.ensures.counts } in
+    refused c.args.limits.now.packets c.args.settings.now c.args.number old mid laws c.requires.fresh c.in-Err.ensures.asks
     c.in-Err.refusal c.in-Err.ensures.asks.later c.in-Err.ensures.reads c.refuse.result new c.refuse.ensures.status c.refuse.ensures.text
 
 pub trial_accepted-requires : goal.trial_accepted-requires
 trial_accepted-requires g c =
     let old : Meaning = g.S.Station.meaning c.args.station.now in
     let mid : Meaning = g.S.Station.meaning c.read_settings.new.station in
+    let laws : Laws = record { given = c.workers.ensures.given; counts = c.workers.ensures.counts } in
     λ k. (
       record { shared = c.type_bounds.sync-R.shared },
       (
         record { shared = c.type_bounds.sync-G.shared },
-        ((refl, tt), ready c.args.limits.now.packets c.args.settings.now c.args.number old mid c.requires.fresh c.in-Ok.ensures.asks c.in-Ok.accepted c.in-Ok.ensures.reads),
+        ((refl, tt), ready c.args.limits.now.packets c.args.settings.now c.args.number old mid laws c.requires.fresh c.in-Ok.ensures.asks c.in-Ok.accepted c.in-Ok.ensures.reads),
       ),
     )
