@@ -22,7 +22,7 @@ use Rattle.trial.specs.Drawn.{before, drawn, drawn_for, lp_from, packets_of_symb
 use Rattle.trial.specs.Fed.{byte_sum, disturbed, fed, fed_cell, fed_symbol, negated}
 use Rattle.trial.specs.Outcome.{trial_counts}
 use Rattle.trial.specs.declared.counts.TrialCounts.{TrialCounts}
-use Rattle.worker_laws.specs.Alike.{DifferInWorkers, SameFinal}
+use Rattle.worker_laws.specs.Alike.{SameFinal}
 use Rattle.worker_laws.proofs.Alike.{with_workers, over}
 use Rattle.trial_laws.specs.TrialsAlike.{SameFed, SameGiven, SameCounts}
 
@@ -72,7 +72,6 @@ module _ (s : Settings) (w : ℕ) (k : IsKept s.shape s.hierarchy s.rate_lp w s.
   disturbed_alike m cell Scattered = refl
   disturbed_alike m cell Tps = refl
   disturbed_alike m cell (Payload q) = ap (by_shifts m cell q) (shifts_alike m)
-
 
   fed_cells_alike : (m c : ℕ) → fed_cell s number m c ≡ fed_cell t number m c
   unfolding fed_cell
