@@ -8,3 +8,4 @@ mod Lanes
 mod Best
 mod Once
 mod Trying
+mod Vectors
