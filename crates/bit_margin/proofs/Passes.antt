@@ -1,8 +1,8 @@
 -- The loops over the steps of a window.
-use Rattle.std.proofs.Common.{◌≡◌, ℕ, ◌+◌, ◌-◌, ◌*◌, ◌^◌, ◌<◌, ◌≤◌, Bool, true, false, List, [], ◌∷◌, ◌++◌, length, take, drop, ◌⊎◌, inl, inr, refl, sym, ap, ap₂, ◌∙◌, subst, arith, append-nil, append_assoc, length-take, below_more, length-drop, length-take-le, take-append-drop, slice_index, slice_index_or, get_or-set_other, get_or-set_same}
+use Rattle.std.proofs.Common.{min, ◌≡◌, ℕ, ◌+◌, ◌-◌, ◌*◌, ◌^◌, ◌<◌, ◌≤◌, Bool, true, false, List, [], ◌∷◌, ◌++◌, length, take, drop, ◌⊎◌, inl, inr, refl, sym, ap, ap₂, ◌∙◌, subst, arith, append-nil, append_assoc, length-take, below_more, length-drop, length-take-le, take-append-drop, slice_index, slice_index_or, get_or-set_other, get_or-set_same}
 use Rattle.std.specs.Prelude.{slice_set}
 use Rattle.std.specs.Int.{abs_diff}
-use Rattle.std.proofs.lemmas.List.{drop_more, drop_all, take_more, get_or_push, get_or_append_left, length_push, take_rest}
+use Rattle.std.proofs.lemmas.List.{drop-drop, drop_more, drop_all, take_more, get_or_push, get_or_append_left, length_push, take_rest}
 use Rattle.std.proofs.lemmas.Bool.{cases_eq}
 use Rattle.std.specs.declared.option.Option.{Option}
 use Rattle.code_paths.specs.declared.costs.CostPair.{CostPair}
@@ -11,9 +11,9 @@ use Rattle.inner_decoder.specs.declared.decoder.StartState.TheVariants.{Zero, An
 use Rattle.inner_decoder.specs.Starts.{start_of}
 use Rattle.bit_margin.specs.Margin.{LeastWith, IsMargin}
 use Rattle.acs_lanes.specs.Totals.{IsBackward, IsForward}
-use Rattle.bit_margin.specs.Sums.{row, AreBackward, AreForward, AreStartCosts, IsLeastOf, Appended, far}
+use Rattle.bit_margin.specs.Sums.{row, AreBackward, AreForward, AreRows, AreStartCosts, HavePassed, IsLeastOf, Appended, Passed, far}
 use Rattle.bit_margin.proofs.Backward.{backward_none, backward_more, backward_small}
-use Rattle.bit_margin.proofs.Forward.{forward_more, forward_small}
+use Rattle.bit_margin.proofs.Forward.{forward_more, forward_none, forward_small}
 use Rattle.bit_margin.proofs.Through.{through, settled, from_on}
 
 -- the sums over no steps
@@ -32,6 +32,9 @@ backward_at c i j p x old new l k q d e h s =
     let g : drop i c ≡ x ∷ drop j c = drop_more c i d l ∙ ap₂ (λ (u : CostPair) (m : ℕ). u ∷ drop m c) (ap (λ (m : ℕ). slice_index_or c m d) (sym q) ∙ sym e) (sym k) in
     subst (λ (z : List CostPair). AreBackward z new) (sym g) (backward_more x (drop j c) old new h s)
 
+pub backward_same : (c : List CostPair) (i j : ℕ) (sums : List ℕ) → i ≡ j → AreBackward (drop i c) sums → AreBackward (drop j c) sums
+backward_same c i j sums e h = subst (λ (m : ℕ). AreBackward (drop m c) sums) e h
+
 pub rest_backward : (c : List CostPair) (i j : ℕ) (sums : List ℕ) → j ≡ i → AreBackward (take (length c - i) (drop i c)) sums → AreBackward (drop j c) sums
 rest_backward c i j sums e h = subst (λ (z : List CostPair). AreBackward z sums) (take_rest c i ∙ ap (λ (m : ℕ). drop m c) (sym e)) h
 
@@ -47,6 +50,35 @@ rows_more c rows block i j p sums e q w h f t l m = go (cases_eq t p)
         let place : j ≡ t + 1 = omega arith in
         subst (λ (z : List ℕ). AreBackward (drop (t + 1) c) z) (sym same) (subst (λ (k : ℕ). AreBackward (drop k c) sums) place h)
     go (inr g) = subst (λ (z : List ℕ). AreBackward (drop (t + 1) c) z) (sym (get_or-set_other rows p t sums [] g)) (f t (omega (arith, g)) m)
+
+-- ---- parts of a block
+
+-- the sums behind a part, seen from its beginning
+pub behind_part : (c : List CostPair) (from n until : ℕ) (sums : List ℕ) → from + n ≡ until → AreBackward (drop until c) sums → AreBackward (drop n (take (length c - from) (drop from c))) sums
+behind_part c from n until sums e h = subst (λ (z : List CostPair). AreBackward z sums) same h
+  where
+    same : drop until c ≡ drop n (take (length c - from) (drop from c))
+    same = ap (λ (m : ℕ). drop m c) (sym e) ∙ sym (drop-drop n from c) ∙ ap (drop n) (sym (take_rest c from))
+
+-- its rows, seen from the window's beginning
+pub rows_of_part : (c : List CostPair) (from n : ℕ) (rows : List (List ℕ)) → AreRows (take (length c - from) (drop from c)) n rows → (t : ℕ) → t < n → AreBackward (drop (from + t + 1) c) (row rows t)
+rows_of_part c from n rows h t l = subst (λ (z : List CostPair). AreBackward z (row rows t)) same (h t l)
+  where
+    same : drop (t + 1) (take (length c - from) (drop from c)) ≡ drop (from + t + 1) c
+    same = ap (drop (t + 1)) (take_rest c from) ∙ drop-drop (t + 1) from c ∙ ap (λ (m : ℕ). drop m c) (omega arith)
+
+-- the marks from j on and one more before them
+pub marks_more : (c : List CostPair) (marks : List (List ℕ)) (n i j p : ℕ) (sums : List ℕ) → j ≡ i + 1 → p ≡ i → i < length marks → AreBackward (drop (min (32 * j) n) c) sums
+    → ((t : ℕ) → j ≤ t → t < 32 → AreBackward (drop (min (32 * (t + 1)) n) c) (row marks t))
+    → (t : ℕ) → i ≤ t → t < 32 → AreBackward (drop (min (32 * (t + 1)) n) c) (row (slice_set marks p sums) t)
+marks_more c marks n i j p sums e q w h f t l m = go (cases_eq t p)
+  where
+    go : (t ≡ p) ⊎ (t ≡ p → ⊥) → AreBackward (drop (min (32 * (t + 1)) n) c) (row (slice_set marks p sums) t)
+    go (inl g) =
+        let same : row (slice_set marks p sums) t ≡ sums = ap (row (slice_set marks p sums)) g ∙ get_or-set_same marks p sums [] (omega arith) in
+        let place : j ≡ t + 1 = omega arith in
+        subst (λ (z : List ℕ). AreBackward (drop (min (32 * (t + 1)) n) c) z) (sym same) (subst (λ (k : ℕ). AreBackward (drop (min (32 * k) n) c) sums) place h)
+    go (inr g) = subst (λ (z : List ℕ). AreBackward (drop (min (32 * (t + 1)) n) c) z) (sym (get_or-set_other marks p t sums [] g)) (f t (omega (arith, g)) m)
 
 -- ---- the margins
 
@@ -101,3 +133,38 @@ appended_more a c n m old mid new h e k = record {
       (λ t l. subst (IsMargin a c t) (sym (get_or_append_left h.more (m ∷ []) 0 t (omega (arith, h.long)))) (h.each t l))
       (subst (IsMargin a c n) (sym (get_or_push h.more m 0 n h.long)) k);
 }
+
+-- ---- steps that are passed
+
+pub passed_none : (s : StartState) (c : List CostPair) (first old : List ℕ) (n : ℕ) → n ≡ 0 → AreStartCosts s first → Passed s c n first old old
+passed_none s c first old n e f = subst (λ (m : ℕ). Passed s c m first old old) (sym e) (record { first = first; starts = f; forward = forward_none first; appended = appended_none (start_of s) c old })
+
+pub have_passed : (s : StartState) (c : List CostPair) (n : ℕ) (before old new : List ℕ) → Passed s c n before old new → HavePassed c n before new
+have_passed s c n before old new h = record { start = s; old = old; passed = h }
+
+pub passed_fits : (c : List CostPair) (n : ℕ) (before new : List ℕ) → length c ≤ 1280 → HavePassed c n before new → (k : ℕ) → k < 64 → slice_index before k + 8190 < 2 ^ 32
+passed_fits c n before new l h = forward_fits h.start h.passed.first c n before h.passed.starts l h.passed.forward
+
+pub passed_far : (c : List CostPair) (n : ℕ) (before new : List ℕ) (x d : CostPair) (after : List ℕ) → length c ≤ 1280 → n < length c → x ≡ slice_index_or c n d → HavePassed c n before new → IsForward x before after → (k : ℕ) → k < 64 → slice_index after k ≤ 2 ^ 31
+passed_far c n before new x d after l m e h f = forward_far h.start h.passed.first c (n + 1) after h.passed.starts l (forward_at h.passed.first c n x d before after m e h.passed.forward f)
+
+-- one step more
+pub passed_more : (s : StartState) (c : List CostPair) (n j : ℕ) (x d : CostPair) (before after behind old mid new : List ℕ) (u v w : ℕ) → j ≡ n + 1 → length c ≤ 1280 → n < length c → x ≡ slice_index_or c n d
+    → IsForward x before after → AreBackward (drop (n + 1) c) behind
+    → IsLeastOf (λ k. slice_index after (k + 0) + slice_index behind (k + 0)) 32 u → IsLeastOf (λ k. slice_index after (k + 32) + slice_index behind (k + 32)) 32 v
+    → w ≡ abs_diff u v → new ≡ mid ++ w ∷ [] → Passed s c n before old mid → Passed s c j after old new
+passed_more s c n j x d before after behind old mid new u v w g l m e f b iz io q a h = subst (λ (k : ℕ). Passed s c k after old new) (sym g) (record {
+  first = h.first;
+  starts = h.starts;
+  forward = ahead;
+  appended = appended_more (start_of s) c n w old mid new h.appended a (subst (IsMargin (start_of s) c n) (sym q) (margin_at s h.first c n after behind u v h.starts l m ahead b iz io));
+})
+  where
+    ahead : AreForward h.first (take (n + 1) c) after
+    ahead = forward_at h.first c n x d before after m e h.forward f
+
+pub passed_at : (s : StartState) (c : List CostPair) (n j : ℕ) (before old new : List ℕ) → n ≡ j → Passed s c n before old new → Passed s c j before old new
+passed_at s c n j before old new e h = subst (λ (k : ℕ). Passed s c k before old new) e h
+
+pub passed_same : (s : StartState) (c : List CostPair) (n : ℕ) (before old mid new : List ℕ) → mid ≡ new → Passed s c n before old mid → Passed s c n before old new
+passed_same s c n before old mid new e h = subst (λ (z : List ℕ). Passed s c n before old z) e h

@@ -8,6 +8,7 @@ use Rattle.code_paths.specs.States.{register}
 use Rattle.code_paths.specs.Trial.{weight}
 use Rattle.inner_decoder.specs.declared.decoder.StartState.{StartState}
 use Rattle.inner_decoder.specs.declared.decoder.StartState.TheVariants.{Zero, Any}
+use Rattle.inner_decoder.specs.Starts.{start_of}
 use Rattle.bit_margin.specs.Margin.{IsMargin}
 
 -- m is the least total of the paths over the steps d that start in the state n
@@ -67,3 +68,20 @@ pub record Appended (a : Option (List Bool)) (c : List CostPair) (n : ℕ) (old 
   pub is : new ≡ old ++ more
   pub long : length more ≡ n
   pub each : (t : ℕ) → t < n → IsMargin a c t (slice_index more t)
+
+-- the rows are the sums backward from the end of the window to the end of each part of 32 steps of the block of n steps
+abbrev pub AreMarks : List CostPair → ℕ → List (List ℕ) → Type 0
+AreMarks c n marks = (i : ℕ) → i < 32 → AreBackward (drop (min (32 * (i + 1)) n) c) (row marks i)
+
+-- the first n steps of the window c were passed: these are the sums before the next step, and the margins are appended
+pub record Passed (s : StartState) (c : List CostPair) (n : ℕ) (before old new : List ℕ) : Type 0 where
+  pub first : List ℕ
+  pub starts : AreStartCosts s first
+  pub forward : AreForward first (take n c) before
+  pub appended : Appended (start_of s) c n old new
+
+-- they were passed from some start
+pub record HavePassed (c : List CostPair) (n : ℕ) (before new : List ℕ) : Type 0 where
+  pub start : StartState
+  pub old : List ℕ
+  pub passed : Passed start c n before old new
