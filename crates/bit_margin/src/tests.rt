@@ -12,16 +12,17 @@ fn register_of(start: StartState) -> Option<[bool; 6]> {
     }
 }
 
-/// A drawn pair of costs, each below a number, and where to go on drawing.
-fn drawn(seed: u32, below: u32) -> (CostPair, u32)
-    requires some { 0 < below }
-    requires few { below ≤ 4096 }
-{
+/// A drawn pair of costs, 0 to 2 each where they are small, and where to go on drawing.
+fn drawn(seed: u32, small: bool) -> (CostPair, u32) {
     let mut x = seed;
     let mut costs = [0u16; 4];
     for k in 0..4usize {
         x = x.wrapping_mul(1664525).wrapping_add(1013904223);
-        costs[k] = ((x >> 16) % below) as u16;
+        costs[k] = if small {
+            ((x >> 16) % 3) as u16
+        } else {
+            ((x >> 16) % 4096) as u16
+        };
     }
     (
         CostPair {
@@ -59,15 +60,12 @@ fn tried(start: StartState, pairs: &[CostPair; 10]) -> [u32; 10] {
 }
 
 /// Ten drawn pairs.
-fn ten_drawn(seed: u32, below: u32) -> [CostPair; 10]
-    requires some { 0 < below }
-    requires few { below ≤ 4096 }
-{
-    let (first, _seed) = drawn(seed, below);
+fn ten_drawn(small: bool) -> [CostPair; 10] {
+    let (first, _seed) = drawn(99, small);
     let mut pairs = [first; 10];
-    let mut next = seed;
+    let mut next = 99;
     for k in 0..10usize {
-        let (pair, seed) = drawn(next, below);
+        let (pair, seed) = drawn(next, small);
         pairs[k] = pair;
         next = seed;
     }
@@ -99,8 +97,8 @@ fn one_pair(rt: HostRuntime) -> Result<(), Fail> {
 #[test]
 fn all_paths_tried(rt: HostRuntime) -> Result<(), Fail> {
     // costs over the whole range, and small ones with many ties
-    for below in [4096u32, 3] {
-        let pairs = ten_drawn(99, below);
+    for small in [false, true] {
+        let pairs = ten_drawn(small);
         for start in [StartState::Zero, StartState::Any] {
             let margins = margins_of(&rt, start, &pairs)?;
             assert_eq!(rt; margins.as_slice(), tried(start, &pairs).as_slice());
@@ -125,7 +123,7 @@ fn hash_of_drawn(rt: &HostRuntime, start: StartState, pairs: u32) -> Result<u64,
     let mut seed = 12345;
     let mut sum = 0;
     for _k in 0..pairs {
-        let (pair, next) = drawn(seed, 4096);
+        let (pair, next) = drawn(seed, false);
         seed = next;
         if margins.push(pair) {
             margins.take(&mut to);
