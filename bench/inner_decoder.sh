@@ -1,27 +1,28 @@
 #!/usr/bin/env bash
-# Times the inner decoder with a path memory of 2048 steps over decision words: the plain step and the one in lanes, on the
-# same clean and noisy costs of the rate 1/2 code. Makes a scratch repository of the crates, proves and builds a program
-# there, and runs it. Prints picoseconds a decoded bit and Mbit/s, of the fastest of many symbols of 30,000 steps, without
-# the loading of a symbol's costs and the taking of its bytes.
+# Times the inner decoder with a path memory of 2048 steps over decision words: the plain step and the one in lanes, and
+# beside them the margins of bits, on the same clean and noisy costs of the rate 1/2 code. Makes a scratch repository of the
+# crates, proves and builds a program there, and runs it. Prints picoseconds a decoded bit and Mbit/s, of the fastest of many
+# symbols of 30,000 steps, without the loading of a symbol's costs and the taking of its bytes.
 # usage: bench/inner_decoder.sh [FOLDER] [flags of rt run, as --cpu x86-64-v3]
 set -eu
 top=$(cd "$(dirname "$0")/.." && pwd)
 to=${1:-$(mktemp -d)}
 [ $# -gt 0 ] && shift
 . "$top/bench/scratch.sh"
-copy_crates "$top" "$to" spec_words code_paths conv_code bit_pack acs_plain acs_lanes survivor_ring inner_decoder
+copy_crates "$top" "$to" spec_words code_paths conv_code bit_pack acs_plain acs_lanes survivor_ring inner_decoder bit_margin
 mkdir -p "$to/crates/bench_inner"
-echo 'bench_inner: acs_plain acs_lanes survivor_ring conv_code code_paths bit_pack inner_decoder spec_words anyhow' >> "$to/crates.txt"
+echo 'bench_inner: bit_margin acs_plain acs_lanes survivor_ring conv_code code_paths bit_pack inner_decoder spec_words anyhow' >> "$to/crates.txt"
 cd "$to/crates/bench_inner"
-mkdir -p src proofs/load proofs/drain proofs/run
+mkdir -p src proofs/load proofs/drain proofs/run proofs/push_all proofs/run_margins
 cat > src/main.rt <<'END'
 // Times the inner decoder.
 #![tactic(auto)]
 
-ghost use Rattle.std.specs.Prelude.{◌≡◌, ◌+◌, ◌*◌, ◌<◌, ◌≤◌, ◌^◌, ℕ, false, [], length, OnSome, OnOk};
+ghost use Rattle.std.specs.Prelude.{◌≡◌, ◌+◌, ◌*◌, ◌<◌, ◌≤◌, ◌^◌, ℕ, false, [], length, vec_len, vec_capacity, OnSome, OnOk};
 
 use acs_lanes::LaneAcs;
 use acs_plain::{Acs, PlainAcs};
+use bit_margin::Margins;
 use conv_code::{CostPair, Encoder};
 use inner_decoder::{Branch, StartState};
 use std::time::Instant;
@@ -140,6 +141,56 @@ fn run<A: Acs, V: Survivors<2048>>(
     Ok(least)
 }
 
+/// The sum of numbers.
+fn summed(numbers: &[u32]) -> u64 {
+    let mut sum = 0u64;
+    for number in numbers {
+        sum = sum.wrapping_mul(31).wrapping_add(*number as u64);
+    }
+    sum
+}
+
+/// Pushes pairs, and takes the margins of each window that is full.
+fn push_all(margins: &mut Margins, pairs: &[CostPair], to: &mut Vec<u32>) -> u64
+    requires going { margins.old.ended ≡ false }
+    requires room { length margins.old.waiting < 1280 }
+    requires empty { vec_len to.old ≡ 0 }
+    requires spare { vec_capacity to.old ≡ 1024 }
+    ensures going { margins.new.ended ≡ false }
+    ensures room { length margins.new.waiting < 1280 }
+    ensures empty { vec_len to.new ≡ 0 }
+    ensures spare { vec_capacity to.new ≡ 1024 }
+{
+    let mut sum = 0;
+    for k in 0..pairs.len() {
+        if margins.push(pairs[k]) {
+            margins.take(to);
+            sum = summed(to);
+            to.clear();
+        }
+    }
+    sum
+}
+
+/// The least time that the margins of so many pairs take, in nanoseconds, of so many times.
+fn run_margins(rt: &HostRuntime, pairs: &[CostPair], times: u32) -> anyhow::Result<u64> {
+    let mut margins = Margins::new(rt.alloc(), StartState::Any)?;
+    let mut to = Vec::with_capacity(rt.alloc(), 1024)?;
+    let mut sum = 0u64;
+    let mut least = u64::MAX;
+    for _k in 0..times {
+        let begun = Instant::now(rt);
+        let last = push_all(&mut margins, pairs, &mut to);
+        let spent = begun?.elapsed(rt)?.as_nanos();
+        sum = sum.wrapping_mul(3).wrapping_add(last);
+        if spent < 1_000_000_000_000 {
+            least = least.min(spent as u64);
+        }
+    }
+    println!(rt; "sum {sum}")?;
+    Ok(least)
+}
+
 fn main(rt: HostRuntime) -> anyhow::Result<()> {
     let none = CostPair {
         x0: 0,
@@ -154,8 +205,9 @@ fn main(rt: HostRuntime) -> anyhow::Result<()> {
         if pairs.len() <= 30000 {
             let plain = run::<PlainAcs, RingSurvivors<2048>>(&rt, &pairs, 60)?;
             let lanes = run::<LaneAcs, RingSurvivors<2048>>(&rt, &pairs, 400)?;
-            let (plain, lanes) = (plain.max(1), lanes.max(1));
-            println!(rt; "noisy {is_noisy}: plain {} ps a bit, {} kbit/s; lanes {} ps a bit, {} Mbit/s; ratio {}", plain / 30, 30_000_000_000 / plain, lanes / 30, 30_000_000 / lanes, plain / lanes)?;
+            let margins = run_margins(&rt, &pairs, 400)?;
+            let (plain, lanes, margins) = (plain.max(1), lanes.max(1), margins.max(1));
+            println!(rt; "noisy {is_noisy}: plain {} ps a bit, {} kbit/s; lanes {} ps a bit, {} Mbit/s; ratio {}; margins {} ps a bit, {} Mbit/s", plain / 30, 30_000_000_000 / plain, lanes / 30, 30_000_000 / lanes, plain / lanes, margins / 30, 30_000_000 / margins)?;
         }
     }
     Ok(())
@@ -182,6 +234,32 @@ use Rattle.bench_inner.proofs.run.Given as goal
 
 abbrev pub invariant-loop-k : goal.invariant-loop-k
 invariant-loop-k g l = (l.branch.most ≡ 30000) × (l.branch.loaded ≡ []) × (l.branch.decoder.ended ≡ false) × (l.branch.decoder.steps ≤ 30000 * l._k)
+END
+cat > proofs/push_all/Invariants.antt <<'END'
+use Rattle.std.proofs.Common.{◌≡◌, ◌<◌, length}
+use Rattle.std.specs.Prelude.{false, vec_len, vec_capacity}
+use Rattle.bench_inner.proofs.push_all.Given as goal
+
+abbrev pub invariant-loop-k : goal.invariant-loop-k
+invariant-loop-k l = record {
+  going : l.margins.ended ≡ false;
+  room : length l.margins.waiting < 1280;
+  empty : vec_len l.to ≡ 0;
+  spare : vec_capacity l.to ≡ 1024;
+}
+END
+cat > proofs/run_margins/Invariants.antt <<'END'
+use Rattle.std.proofs.Common.{◌≡◌, ◌<◌, length}
+use Rattle.std.specs.Prelude.{false, vec_len, vec_capacity}
+use Rattle.bench_inner.proofs.run_margins.Given as goal
+
+abbrev pub invariant-loop-k : goal.invariant-loop-k
+invariant-loop-k l = record {
+  going : l.margins.ended ≡ false;
+  room : length l.margins.waiting < 1280;
+  empty : vec_len l.to ≡ 0;
+  spare : vec_capacity l.to ≡ 1024;
+}
 END
 cat > proofs/Lib.antt <<'END'
 

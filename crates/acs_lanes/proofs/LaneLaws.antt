@@ -194,7 +194,7 @@ at_map f [] k l = absurd (omega arith)
 at_map f (x ∷ xs) zero l = refl
 at_map f (x ∷ xs) (suc k) l = at_map f xs k (omega arith)
 
-same_number : (f g : ℕ → ℕ) (k : ℕ) → k < 16 → all_below (λ k. eqb (f k) (g k)) 16 ≡ true → f k ≡ g k
+pub same_number : (f g : ℕ → ℕ) (k : ℕ) → k < 16 → all_below (λ k. eqb (f k) (g k)) 16 ≡ true → f k ≡ g k
 same_number f g k l t = eqb-true (f k) (g k) (all_below_at (λ k. eqb (f k) (g k)) 16 k t l)
 
 pub even_lanes : (w : List ℕ) (k : ℕ) → k < 16 → get_or (map (λ j. get_or w j 0) evens) k 0 ≡ get_or w (2 * k) 0

@@ -6,3 +6,4 @@ pub mod Halves
 pub mod Highs
 pub mod Shifts
 pub mod Costs16
+mod Back

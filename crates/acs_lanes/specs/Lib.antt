@@ -1,2 +1,3 @@
 pub mod Lanes
 pub mod Lanes16
+pub mod Totals

@@ -15,7 +15,7 @@ use std::simd::cmp::{SimdOrd, SimdPartialEq};
 use std::simd::{u16x4, u32x4, u32x16};
 
 /// A vector of 16 costs.
-fn read(costs: &[u32]) -> u32x16
+pub(crate) fn read(costs: &[u32]) -> u32x16
     requires { length costs.now ≡ 16 }
     ensures { result ≡ costs.now }
 {
@@ -43,7 +43,7 @@ fn halves(costs: &[u32]) -> (u32x16, u32x16)
 }
 
 /// The costs of the four pairs of an X and a Y, by 2X + Y.
-fn four_costs(pair: CostPair) -> u32x4
+pub(crate) fn four_costs(pair: CostPair) -> u32x4
     ensures { result ≡ four pair }
 {
     let costs: u32x4 = u16x4::from_array([pair.x0, pair.x1, pair.y0, pair.y1]).cast();
@@ -52,7 +52,7 @@ fn four_costs(pair: CostPair) -> u32x4
 
 /// The costs of the steps from the even states below 32 on 0, which are those from the odd states on 1, and the others: X
 /// and Y of two steps both differ where the oldest bit alone or the input alone does.
-fn first_costs(costs: u32x4) -> (u32x16, u32x16)
+pub(crate) fn first_costs(costs: u32x4) -> (u32x16, u32x16)
     ensures { (pair : Pair) → costs ≡ four pair → AreStepCosts pair 0 result.0 result.1 }
 {
     // 2X + Y of the even states on 0, and on 1
@@ -63,7 +63,7 @@ fn first_costs(costs: u32x4) -> (u32x16, u32x16)
 }
 
 /// The same from the states from 32 on.
-fn last_costs(costs: u32x4) -> (u32x16, u32x16)
+pub(crate) fn last_costs(costs: u32x4) -> (u32x16, u32x16)
     ensures { (pair : Pair) → costs ≡ four pair → AreStepCosts pair 16 result.0 result.1 }
 {
     (
@@ -73,7 +73,7 @@ fn last_costs(costs: u32x4) -> (u32x16, u32x16)
 }
 
 /// The lesser sum of each lane, and a word that says where it is that of the odd state alone.
-fn pick(even: u32x16, even_step: u32x16, odd: u32x16, odd_step: u32x16) -> (u32x16, u64)
+pub(crate) fn pick(even: u32x16, even_step: u32x16, odd: u32x16, odd_step: u32x16) -> (u32x16, u64)
     requires lens { AreLess even even_step }
     requires odd_lens { AreLess odd odd_step }
     ensures len { length result.0 ≡ 16 }
@@ -105,7 +105,7 @@ fn sixteen(old: &[u32], zero: u32x16, one: u32x16) -> (u32x16, u64, u32x16, u64)
 }
 
 /// Writes the costs of 16 states in a row.
-fn store(cost: &mut [u32; 64], from: usize, lanes: u32x16)
+pub(crate) fn store(cost: &mut [u32; 64], from: usize, lanes: u32x16)
     requires from { from ≤ 48 }
     requires lanes { length lanes ≡ 16 }
     ensures here { (k : ℕ) → k < 16 → slice_index cost.new (from + k) ≡ slice_index lanes k }
@@ -156,10 +156,8 @@ fn first_half(cost: &mut [u32; 64], costs: u32x4) -> (u64, u64)
 }
 
 /// The step over all states, where each may be compared with each: the words of the states below 32 and of the others.
-// It is a call of its own, so that the words are computed where their vectors are, and not behind the branches of the
-// caller.
-#[inline(never)]
-fn step_lanes(cost: &mut [u32; 64], pair: CostPair) -> (u64, u64)
+#[inline(always)]
+pub(crate) fn step_all(cost: &mut [u32; 64], pair: CostPair) -> (u64, u64)
     requires fit { (j : ℕ) → j < 64 → slice_index cost.old j + 8190 < 2 ^ 32 }
     ensures step { IsLaneStep pair cost.old cost.new result.0 result.1 }
 {
@@ -169,6 +167,17 @@ fn step_lanes(cost: &mut [u32; 64], pair: CostPair) -> (u64, u64)
     let (low, high) = first_half(cost, costs);
     store(cost, 16, read(&waiting));
     (joined(low, last_low), joined(high, last_high))
+}
+
+/// The same.
+// It is a call of its own, so that the words are computed where their vectors are, and not behind the branches of the
+// caller.
+#[inline(never)]
+fn step_lanes(cost: &mut [u32; 64], pair: CostPair) -> (u64, u64)
+    requires fit { (j : ℕ) → j < 64 → slice_index cost.old j + 8190 < 2 ^ 32 }
+    ensures step { IsLaneStep pair cost.old cost.new result.0 result.1 }
+{
+    step_all(cost, pair)
 }
 
 /// The step from sums that are large, or of which some are not alive.

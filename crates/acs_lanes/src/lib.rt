@@ -4,7 +4,8 @@
 //! Many steps in a row keep the costs in lanes of 16 bits, all 64 in four vectors, which hold them since alive costs differ by
 //! at most 49,140: before a step that could leave 16 bits all of them are lowered by the greatest cost of a step.
 //!
-//! `LaneAcs` means what every step of `acs_plain` means.
+//! `LaneAcs` means what every step of `acs_plain` means. [`forward`] and [`backward`] take one step more of the least totals
+//! to and from each state, for whoever needs these themselves.
 #![tactic(auto)]
 
 mod lanes;
@@ -12,5 +13,7 @@ mod lanes16;
 mod settle;
 mod slices;
 mod step16;
+mod totals;
 
 pub use lanes::LaneAcs;
+pub use totals::{backward, forward};

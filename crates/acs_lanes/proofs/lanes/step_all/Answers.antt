@@ -1,7 +1,7 @@
 use Rattle.std.proofs.Common.{◌∙◌, ap, get_or, take, drop}
 use Rattle.acs_lanes.proofs.Vectors.{last_part, same_part}
 use Rattle.acs_lanes.proofs.LaneLaws.{lanes_joined}
-use Rattle.acs_lanes.proofs.lanes.step_lanes.Goals as goal
+use Rattle.acs_lanes.proofs.lanes.step_all.Goals as goal
 
 pub joined-requires-clause-last : goal.joined-requires-clause-last
 joined-requires-clause-last c = (c.last_half-last_low.ensures.half c.args.pair c.four_costs-costs.ensures).low_taken.small

@@ -1,0 +1,11 @@
+mod Backward
+mod Forward
+mod Through
+mod Passes
+mod Stand
+mod Loops
+mod Lanes
+mod Best
+mod Once
+mod Trying
+mod Vectors

@@ -1,0 +1,9 @@
+use Rattle.std.proofs.Common.{◌≡◌, length}
+use Rattle.std.specs.Prelude.{false, vec_len, vec_capacity}
+use Rattle.bit_margin.proofs.tests.margins_of.Given as goal
+
+abbrev pub invariant-loop-k : goal.invariant-loop-k
+invariant-loop-k l = record {
+  going : l.margins.ended ≡ false;
+  waiting : length l.margins.waiting ≡ l.k;
+}
