@@ -9,3 +9,4 @@ pub mod Filling
 pub mod Taking
 pub mod DecodedWords
 pub mod Finishing
+pub mod BurstWords

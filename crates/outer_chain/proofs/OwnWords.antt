@@ -126,13 +126,16 @@ phases near packets (suc m) h e =
     go true e = ap (λ (x : ℕ). Some x) (sym (eqb-true _ _ e))
     go false e = ap (λ (x : ℕ). Some x) (omega arith)
 
+pub packet_back : (packets : List (List ℕ)) (k : ℕ) → ArePackets packets → undone (k % 8) (take 188 (code_at packets k)) ≡ packet_at packets k
+packet_back packets k h = ap (undone (k % 8)) (code_of packets k h).begins ∙ undone_dispersed (k % 8) (packet_at packets k) (is_packet packets k h)
+
 pub own_packets : (near : ℕ → Option (List ℕ)) (word : ℕ → List ℕ) (packets : List (List ℕ)) (m : ℕ) → ArePackets packets → ((k : ℕ) → k < m → near k ≡ Some (code_at packets k)) → packets_to near word m ≡ first_packets packets m
 unfolding packets_to joined
 own_packets near word packets zero h e = refl
 own_packets near word packets (suc m) h e =
     let here : written (phase_before near (suc m)) (word m) (near m) ≡ packet_at packets m =
     ap₂ (λ f o. written f (word m) o) (phases near packets m h (λ k i. e k (omega arith))) (e m (omega arith))
-    ∙ ap (undone (m % 8)) (code_of packets m h).begins ∙ undone_dispersed (m % 8) (packet_at packets m) (is_packet packets m h) in
+    ∙ packet_back packets m h in
     ap₂ (λ (a b : List ℕ). a ++ b) (own_packets near word packets m h (λ k i. e k (omega arith))) here
 
 -- ---- bursts

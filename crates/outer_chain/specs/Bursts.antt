@@ -1,5 +1,11 @@
 -- What bursts may do to the bytes that are sent.
 use Rattle.std.specs.Prelude.{◌≡◌, ◌≢◌, ℕ, ◌+◌, ◌<◌, ◌≤◌, ◌⊎◌, List, [], ◌∷◌, length, slice_index}
+use Rattle.rs204.specs.Decoded.{Decoded}
+use Rattle.rs204.specs.declared.outcome.Outcome.{Outcome}
+use Rattle.outer_chain.specs.Words.{word_at, word_count, Tally}
+use Rattle.outer_chain.specs.Sent.{ArePackets, outer_bytes}
+use Rattle.outer_chain.specs.Receiving.{Receiver}
+use Rattle.outer_chain.specs.Running.{Finished}
 
 -- a run of bytes
 pub record Run : Type 0 where
@@ -22,3 +28,18 @@ pub record Bursts (sent received : List ℕ) : Type 0 where
   pub runs : List Run
   pub apart : AreRuns 0 runs
   pub only : (p : ℕ) → p < length sent → slice_index received p ≢ slice_index sent p → InRuns p runs
+
+-- bytes of these packets with bursts
+pub record BurstsOf (packets : List (List ℕ)) (received : List ℕ) : Type 0 where
+  pub are_packets : ArePackets packets
+  pub bursts : Bursts (outer_bytes packets (length received)) received
+
+-- a receiver of such bytes that has finished the first words, and the next one, decoded
+pub record NextOfBursts (receiver : Receiver) (packets : List (List ℕ)) (done : ℕ) (word : List ℕ) (outcome : Outcome) : Type 0 where
+  pub bytes : List ℕ
+  pub bursts : BurstsOf packets bytes
+  pub out : List ℕ
+  pub tally : Tally
+  pub finished : Finished receiver bytes out tally done
+  pub waits : done < word_count bytes
+  pub decoded : Decoded (word_at bytes done) word outcome

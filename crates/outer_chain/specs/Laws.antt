@@ -1,5 +1,5 @@
 -- The laws of received words, each the clause of a public function of the module laws.
-use Rattle.std.specs.Prelude.{◌≡◌, ℕ, ◌+◌, ◌-◌, ◌/◌, ◌%◌, ◌<◌, Option, Some, List, ◌++◌, length, take}
+use Rattle.std.specs.Prelude.{◌≡◌, ℕ, ◌+◌, ◌-◌, ◌/◌, ◌%◌, ◌<◌, ◌≤◌, Option, Some, List, ◌++◌, length, take}
 use Rattle.rs204.specs.Codes.{AreBytes}
 use Rattle.outer_chain.specs.Words.{word_at, IsNear, phase_before, Packets, Tally, Tallies}
 use Rattle.outer_chain.specs.Sent.{ArePackets, code_at, outer_bytes, first_packets}
@@ -22,6 +22,15 @@ OwnTally = (packets : List (List ℕ)) (n : ℕ) (tally : Tally) → ArePackets 
 abbrev pub BurstNear : Type 0
 BurstNear = (packets : List (List ℕ)) (n : ℕ) (received : List ℕ) → ArePackets packets → Bursts (outer_bytes packets n) received
     → (k : ℕ) (near : Option (List ℕ)) → k < n / 204 - 11 → IsNear (word_at received k) near → near ≡ Some (code_at packets k)
+
+-- each word has the nearest codeword that it has without them
+abbrev pub BurstSameNear : Type 0
+BurstSameNear = (packets : List (List ℕ)) (n : ℕ) (received : List ℕ) → ArePackets packets → Bursts (outer_bytes packets n) received
+    → (k : ℕ) (near : Option (List ℕ)) → k < n / 204 - 11 → IsNear (word_at (outer_bytes packets n) k) near → IsNear (word_at received k) near
+
+-- bursts in many bytes are bursts in the first of them
+abbrev pub BurstBeginning : Type 0
+BurstBeginning = (packets : List (List ℕ)) (n m : ℕ) (received : List ℕ) → m ≤ n → Bursts (outer_bytes packets n) received → Bursts (outer_bytes packets m) (take m received)
 
 -- nor a phase
 abbrev pub BurstPhases : Type 0

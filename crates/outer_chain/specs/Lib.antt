@@ -4,7 +4,7 @@ pub mod SendingLaws
 pub mod Bits
 pub mod Words
 pub mod Nears
-pub mod Bursts
 pub mod Receiving
 pub mod Running
+pub mod Bursts
 pub mod Laws

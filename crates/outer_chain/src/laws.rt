@@ -4,7 +4,7 @@ ghost use Rattle.outer_chain.specs.SendingLaws.{SameBeginning, MorePacketsSent, 
 ghost use Rattle.outer_chain.specs.Bits.{ByteOfBits, FirstBits, MoreBits};
 ghost use Rattle.outer_chain.specs.Nears.{CleanIsCodeword, DecodedIsNear, DecodedPacket};
 ghost use Rattle.outer_chain.specs.Running.{NothingFinished, TookByte, FinishedWord, AllFinished, WordStays};
-ghost use Rattle.outer_chain.specs.Laws.{OuterAreBytes, OwnBytes, OwnTally, BurstNear, BurstPhases, BurstPackets, OneNear, OnePackets, OneTally, MorePackets};
+ghost use Rattle.outer_chain.specs.Laws.{OuterAreBytes, OwnBytes, OwnTally, BurstNear, BurstSameNear, BurstBeginning, BurstPhases, BurstPackets, OneNear, OnePackets, OneTally, MorePackets};
 
 /// What is sent for the first packets does not depend on later ones.
 pub fn sending()
@@ -32,6 +32,8 @@ pub fn own_bytes()
 /// codeword, no phase and no packet.
 pub fn bursts()
     ensures near { BurstNear }
+    ensures same_near { BurstSameNear }
+    ensures beginning { BurstBeginning }
     ensures phases { BurstPhases }
     ensures packets { BurstPackets }
 {}

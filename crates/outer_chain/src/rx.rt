@@ -1,9 +1,11 @@
 // The receiver of the outer code.
 
-ghost use Rattle.std.specs.Prelude.{◌≡◌, ◌<◌, ◌≤◌, ◌+◌, ◌-◌, ◌*◌, ◌%◌, ◌↔◌, ℕ, List, [], ◌∷◌, ◌++◌, length, take, IfOk, IfSome, IsSome, IsTrue};
-ghost use Rattle.outer_chain.specs.Words.{word_at, word_count, phase_of, given_packet, packet_of, has};
+ghost use Rattle.std.specs.Prelude.{◌≡◌, ◌<◌, ◌≤◌, ◌+◌, ◌-◌, ◌*◌, ◌%◌, ◌↔◌, ℕ, List, [], ◌∷◌, ◌++◌, length, take, Some, IfOk, IfSome, IsSome, IsTrue};
+ghost use Rattle.outer_chain.specs.Words.{word_at, word_count, phase_of, given_packet, packet_of, has, IsNear};
 ghost use Rattle.outer_chain.specs.Nears.{near_of};
 ghost use Rattle.outer_chain.specs.Receiving.{EndsWord, Receives};
+ghost use Rattle.outer_chain.specs.Sent.{packet_at, code_at};
+ghost use Rattle.outer_chain.specs.Bursts.{BurstsOf, NextOfBursts};
 
 use crate::slot::WordSlot;
 use dispersal::undo;
@@ -104,12 +106,14 @@ impl OuterRx {
     }
 
     /// Takes the next interleaved byte. Gives the word that ends with it, still to be decoded, exactly
-    /// where a word behind the eleven of the start-up ends with it.
+    /// where a word behind the eleven of the start-up ends with it. Where the bytes are those of packets
+    /// with bursts, the word's nearest codeword is that of its packet, as without them.
     pub fn take_byte(&mut self, byte: u8) -> Option<WordSlot>
         ensures stands { (bytes : List ℕ) → Receives self.old bytes → Receives self.new (bytes ++ byte ∷ []) }
         ensures ends { (bytes : List ℕ) → Receives self.old bytes → IsSome result ↔ EndsWord (bytes ++ byte ∷ []) }
         ensures word { (bytes : List ℕ) → Receives self.old bytes → IfSome result (λ slot. slot.word ≡ word_at (bytes ++ byte ∷ []) (word_count (bytes ++ byte ∷ []) - 1)) }
         ensures undecoded { IfSome result (λ slot. slot.outcome ≡ Outcome.Bad) }
+        ensures bursts { (bytes : List ℕ) (packets : List (List ℕ)) → Receives self.old bytes → BurstsOf packets (bytes ++ byte ∷ []) → IfSome result (λ slot. IsNear slot.word (Some (code_at packets (word_count (bytes ++ byte ∷ []) - 1)))) }
         ensures phase { self.new.phase ≡ self.old.phase }
     {
         self.word[self.filled] = self.deinterleaver.step(byte);
@@ -130,11 +134,14 @@ impl OuterRx {
 
     /// The packet of a decoded word, meant for each word in order: none exactly where the word has no
     /// phase, and marked where the word has no nearest codeword. A nearest codeword that begins with
-    /// the inverted sync byte has phase 0, another word the phase behind that of the word before.
+    /// the inverted sync byte has phase 0, another word the phase behind that of the word before. Of
+    /// bytes of packets with bursts each word gives its packet, at the phase that it was sent with.
     pub fn finish_word(&mut self, slot: &WordSlot) -> Option<Packet>
         ensures phase { self.new.phase ≡ phase_of (near_of slot.now.outcome slot.now.word) self.old.phase }
         ensures packet { result ≡ given_packet self.new.phase slot.now.word (near_of slot.now.outcome slot.now.word) }
         ensures stands { (bytes : List ℕ) → Receives self.old bytes → Receives self.new bytes }
+        ensures burst_phase { (packets : List (List ℕ)) (done : ℕ) → NextOfBursts self.old packets done slot.now.word slot.now.outcome → self.new.phase ≡ Some (done % 8) }
+        ensures burst_packet { (packets : List (List ℕ)) (done : ℕ) → NextOfBursts self.old packets done slot.now.word slot.now.outcome → result ≡ Some (packet_at packets done) }
     {
         let phase = phase_after(slot, self.phase);
         self.phase = phase;

@@ -1,6 +1,8 @@
 // Received words.
 
+ghost use Rattle.std.specs.Prelude.{◌≡◌, ◌≢◌, ℕ, List, Some};
 ghost use Rattle.rs204.specs.Decoded.{Decoded};
+ghost use Rattle.outer_chain.specs.Words.{IsNear};
 
 use rs204::{Outcome, decode};
 
@@ -17,6 +19,8 @@ impl WordSlot {
     /// Puts the nearest codeword in the place of the word, where there is one, and tells which.
     pub fn decode(&mut self)
         ensures decoded { Decoded self.old.word self.new.word self.new.outcome }
+        ensures nearest { (near : List ℕ) → IsNear self.old.word (Some near) → self.new.word ≡ near }
+        ensures not_bad { (near : List ℕ) → IsNear self.old.word (Some near) → self.new.outcome ≢ Outcome.Bad }
     {
         self.outcome = decode(&mut self.word);
     }

@@ -38,33 +38,6 @@ fn back(rx: &mut OuterRx, byte: u8) -> Option<Packet> {
     }
 }
 
-// Thirty packets, of whose bytes 96 are inverted from byte 2400 on: nineteen come back, unchanged.
-#[test]
-fn burst_of_96(rt: HostRuntime) -> Result<(), Fail> {
-    let mut tx = OuterTx::new(rt.alloc())?;
-    let mut rx = OuterRx::new(rt.alloc())?;
-    let mut found = 0u8;
-    for number in 0..30u8 {
-        let word = tx.take(&numbered(number));
-        for k in 0..204u16 {
-            let place = 204 * number as u16 + k;
-            let byte = word[k as usize];
-            let byte = if 2400 <= place && place < 2496 {
-                !byte
-            } else {
-                byte
-            };
-            if let Some(packet) = back(&mut rx, byte) {
-                let sent = numbered(found);
-                assert_eq!(rt; packet.bytes().as_slice(), sent.bytes().as_slice());
-                found = found.wrapping_add(1);
-            }
-        }
-    }
-    assert_eq!(rt; found, 19);
-    Ok(())
-}
-
 // A word with nine errors that no codeword is near to comes after a word of phase 0: its null packet
 // comes back marked, and the phase goes on.
 #[test]

@@ -1,6 +1,10 @@
-use Rattle.std.proofs.Common.{◌≡◌, ◌-◌, ◌++◌, ◌∷◌, [], sym, subst, refl, true≢false, arith}
+use Rattle.std.proofs.Common.{◌≡◌, ◌-◌, ◌++◌, ◌∷◌, [], length, sym, subst, refl, true≢false, arith}
+use Rattle.std.specs.Prelude.{Some}
+use Rattle.outer_chain.specs.Words.{IsNear, word_count}
+use Rattle.outer_chain.specs.Sent.{code_at}
 use Rattle.outer_chain.specs.Receiving.{Receives}
 use Rattle.outer_chain.proofs.Taking.{made_of, goes_on, no_word_yet, begins_anew, still_starting, word_ends, word_is}
+use Rattle.outer_chain.proofs.BurstWords.{is_near}
 use Rattle.outer_chain.proofs.rx.OuterRx.take_byte.Goals as goal
 
 pub returns-then-self-lt-LAST-clause-stands : goal.returns-then-self-lt-LAST-clause-stands
@@ -46,3 +50,13 @@ returns-clause-word c = λ bytes h.
     let r = c.self.inside in
     let g = subst (λ x. Receives x bytes) (sym c.self.view_is) h in
     word_is r.deinterleaver r.word r.filled r.start c.step.result c.args.byte r.phase bytes c.self.told c.self.invariant.0 c.if-self-lt-LAST.false c.if-self-gt0.false g (c.step.ensures.given bytes g.delays)
+
+pub returns-clause-bursts : goal.returns-clause-bursts
+returns-clause-bursts c = λ bytes packets h b.
+    let r = c.self.inside in
+    let g = subst (λ x. Receives x bytes) (sym c.self.view_is) h in
+    let longer = bytes ++ c.args.byte ∷ [] in
+    let ends = word_ends r.deinterleaver r.word r.filled r.start c.args.byte r.phase bytes c.self.told c.self.invariant.0 c.if-self-lt-LAST.false c.if-self-gt0.false g in
+    let word = word_is r.deinterleaver r.word r.filled r.start c.step.result c.args.byte r.phase bytes c.self.told c.self.invariant.0 c.if-self-lt-LAST.false c.if-self-gt0.false g (c.step.ensures.given bytes g.delays) in
+    subst (λ w. IsNear w (Some (code_at packets (word_count longer - 1)))) (sym word)
+    (is_near packets (length longer) (word_count longer - 1) longer b.are_packets b.bursts (omega (arith, ends.1)))

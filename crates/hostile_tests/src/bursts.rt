@@ -1,0 +1,133 @@
+// Bursts in the interleaved bytes of packets.
+use load_gen::{Burst, Load};
+use outer_chain::{OuterRx, OuterTx};
+use rs204::Outcome;
+use std::alloc::{AllocError, Global};
+use std::process::Abort;
+use std::test::Fail;
+
+/// The unchanged bytes between two bursts that the law asks for.
+const APART: usize = 2448;
+
+// Packets that are drawn from this number, and their interleaved bytes.
+fn sent(alloc: Global, number: u32, count: usize) -> Result<(Vec<u8>, Vec<u8>), AllocError> {
+    let mut load = Load::start(number);
+    let mut tx = OuterTx::new(alloc)?;
+    let mut packets = Vec::new(alloc);
+    let mut bytes = Vec::new(alloc);
+    for _ in 0..count {
+        let packet = load.packet();
+        packets.extend_from_slice(packet.bytes().as_slice())?;
+        bytes.extend_from_slice(tx.take(&packet).as_slice())?;
+    }
+    Ok((packets, bytes))
+}
+
+// Lays the mask on so many bytes from a place on.
+fn lay(bytes: &mut [u8], first: usize, len: usize, mask: u8) {
+    let end = first.saturating_add(len);
+    for (place, byte) in bytes.iter_mut().enumerate() {
+        if first <= place && place < end {
+            *byte ^= mask;
+        }
+    }
+}
+
+// What comes back of interleaved bytes: the packets, and the numbers of the words without a codeword near.
+fn back(alloc: Global, bytes: &[u8]) -> Result<(Vec<u8>, Vec<u64>), AllocError> {
+    let mut rx = OuterRx::new(alloc)?;
+    let mut packets = Vec::new(alloc);
+    let mut bad = Vec::new(alloc);
+    let mut number = 0u64;
+    for byte in bytes {
+        if let Some(slot) = rx.take_byte(*byte) {
+            let mut slot = slot;
+            slot.decode();
+            if matches!(slot.outcome, Outcome::Bad) {
+                bad.push(number)?;
+            }
+            number = number.saturating_add(1);
+            if let Some(packet) = rx.finish_word(&slot) {
+                packets.extend_from_slice(packet.bytes().as_slice())?;
+            }
+        }
+    }
+    Ok((packets, bad))
+}
+
+// The first packets.
+fn front<'b>(rt: &impl Abort, packets: &'b [u8], count: usize) -> &'b [u8] {
+    assert!(rt; count < 1000 && 188 * count <= packets.len());
+    &packets[..188 * count]
+}
+
+// Puts in a packet's place what a word gives that came with its places 0, 12 and so on to 96 inverted: the sync byte is set anew, and
+// the packet is marked.
+fn lose(packets: &mut [u8], number: u64) {
+    let first = (number as usize).wrapping_mul(188);
+    for (place, byte) in packets.iter_mut().enumerate() {
+        let within = place.wrapping_sub(first);
+        if 12 <= within && within <= 96 && within % 12 == 0 {
+            *byte ^= 0xFF;
+        }
+        if within == 1 {
+            *byte |= 0x80;
+        }
+    }
+}
+
+// Thirty packets, of whose interleaved bytes a run is inverted. Place p belongs to word p / 204 less p mod 12, so 97 bytes
+// that lie in two words of places hit no word in more than eight places, and 97 in one hit one in nine: only the
+// second word is lost. Nineteen packets come back.
+#[test]
+fn runs_of_96_and_97(rt: HostRuntime) -> Result<(), Fail> {
+    let alloc = rt.alloc();
+    let (packets, bytes) = sent(alloc, 15, 30)?;
+    let cases = [
+        (2400, 96, [].as_slice()),
+        (2448, 96, [].as_slice()),
+        (2400, 97, [].as_slice()),
+        (2448, 97, [12u64].as_slice()),
+    ];
+    for (first, len, lost) in cases {
+        let mut received = bytes.clone()?;
+        lay(&mut received, first, len, 0xFF);
+        let (found, bad) = back(alloc, &received)?;
+        let mut expected = Vec::from_slice(alloc, front(&rt, &packets, 19))?;
+        for number in lost {
+            lose(&mut expected, *number);
+        }
+        assert!(rt; bad.as_slice() == lost, "{len} bytes from {first} on");
+        assert!(rt; found == expected, "{len} bytes from {first} on");
+    }
+    Ok(())
+}
+
+// The place behind a burst and the unchanged bytes that follow it.
+fn behind(place: usize, burst: Burst) -> usize {
+    place
+        .saturating_add(usize::from(burst.len))
+        .saturating_add(APART)
+}
+
+// Drawn bursts, as near to one another as the law lets them be and from a drawn place on, change no packet.
+#[test]
+fn drawn_bursts(rt: HostRuntime) -> Result<(), Fail> {
+    let alloc = rt.alloc();
+    for number in 0..12u32 {
+        let (packets, bytes) = sent(alloc, number, 80)?;
+        let mut load = Load::start(number);
+        let mut received = bytes.clone()?;
+        let mut place = load.piece(APART as u32) as usize;
+        for _ in 0..8u32 {
+            let burst = load.burst();
+            lay(&mut received, place, usize::from(burst.len), burst.mask);
+            place = behind(place, burst);
+        }
+        let (found, bad) = back(alloc, &received)?;
+        assert!(rt; received != bytes && bad.is_empty(), "number {number}");
+        let expected = front(&rt, &packets, 69);
+        assert!(rt; found.as_slice() == expected, "number {number}");
+    }
+    Ok(())
+}
