@@ -1,13 +1,13 @@
 // The trial of a number beside `receive` of a file of the cells that it feeds, which are made here once more.
 ghost use Rattle.std.specs.Prelude.{◌≡◌};
 
-use crate::files::{BASE, SYMBOL, number_at, put_number, text_bytes};
-use crate::runs::{Ran, ample, run_files};
+use crate::cells::{SYMBOL, number_at, put_number};
 use load_gen::Load;
 use mode_set::{Guard, Hierarchy, Mode, Mode2k, Rate, Settings, Shape, Start};
 use modulator::{Modulator, Want};
 use pilots::CarrierKind::Payload;
 use pilots::kind;
+use run_tools::{BASE, Ran, ample, run_files, text_bytes};
 use std::alloc::{AllocError, Global};
 use std::process::Abort;
 use std::test::Fail;

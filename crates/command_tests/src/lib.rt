@@ -1,15 +1,15 @@
 //! The commands `modulate` and `receive` over a station in memory: whole runs with known outcomes, among
 //! them the null super-frame both ways, refusals, faults and limits with what stands after them, both
-//! streams of a hierarchy, noise, turned TPS bits, a transmission that is entered late, and a trial beside
-//! `receive` of its cells.
+//! streams of a hierarchy, noise, turned TPS bits, a transmission that is entered late, and trials,
+//! and one of them beside `receive` of its cells.
 //!
 //! The crate has tests alone.
 #![tactic(auto)]
 
 #[cfg(test)]
-mod drawn;
+mod cells;
 #[cfg(test)]
-mod files;
+mod drawn;
 #[cfg(test)]
 mod modulated;
 #[cfg(test)]
@@ -17,4 +17,4 @@ mod received;
 #[cfg(test)]
 mod returned;
 #[cfg(test)]
-mod runs;
+mod trials;

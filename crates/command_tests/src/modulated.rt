@@ -1,6 +1,6 @@
 // The command `modulate`. The expected reports and sums are those of an independent program.
-use crate::files::{BASE, File, LAYERED, checksum, text_bytes};
-use crate::runs::{Conditions, ample, run_files};
+use crate::cells::SUPER_FRAME;
+use run_tools::{BASE, Conditions, File, LAYERED, ample, checksum, run_files, text_bytes};
 use station_core::{Failing, InPort, OutPort};
 use std::alloc::{AllocError, Global};
 use std::process::Abort;
@@ -9,9 +9,6 @@ use std::thread::Threads;
 
 /// No packet.
 const NONE: File = File::Nulls(0, 0);
-
-/// The bytes of a super-frame of the 2K mode, and the room at each output.
-const SUPER_FRAME: usize = 1_855_040;
 
 const NULLS: &str = "hp packets 0 tail 0\nsuperframes 1\n";
 

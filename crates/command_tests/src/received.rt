@@ -1,21 +1,17 @@
 // The command `receive` of one stream. The expected reports and lengths are those of an independent program.
-use crate::files::{BASE, File, LAYERED, SYMBOL, checksum, number_at, put_number, text_bytes};
-use crate::runs::{Conditions, ample, run_files};
+use crate::cells::{SUPER_FRAME, SYMBOL, number_at, put_number};
 use mode_set::Mode;
 use pilots::tps_carriers;
+use run_tools::{
+    BASE, Conditions, File, LAYERED, WHOLE_NULLS, ample, checksum, run_files, text_bytes,
+};
 use station_core::{Failing, InPort, OutPort};
 use std::alloc::{AllocError, Global};
 use std::process::Abort;
 use std::test::Fail;
 use std::thread::Threads;
 
-/// The bytes of a super-frame of the 2K mode.
-const SUPER_FRAME: usize = 1_855_040;
-
 const ONE: &str = "receive s a hp";
-
-const WHOLE: &str =
-    "symbols 272 tail 0\ntps read 4 bad 0\nhp words 241 clean 241 corrected 0 bad 0 unphased 0 unmerged 0\n";
 
 const ONE_BAD: &str =
     "symbols 272 tail 0\ntps read 3 bad 1\nhp words 241 clean 241 corrected 0 bad 0 unphased 0 unmerged 0\n";
@@ -33,6 +29,7 @@ fn expect<R: Abort + Threads + Sync>(
     conditions: Conditions,
     found: Found<'_>,
 ) -> Result<(), AllocError> {
+    assert!(rt; 1 <= conditions.most);
     let settings = text_bytes(alloc, settings.0, settings.1)?;
     let files = (Vec::from_slice(alloc, cells)?, Vec::new(alloc));
     let ran = run_files(rt, alloc, text, settings, files, 1, conditions)?;
@@ -93,9 +90,9 @@ fn null_super_frame(rt: HostRuntime) -> Result<(), Fail> {
     let narrow = Conditions { most: 1, ..wide };
     let limit = "max_symbols = 272\n";
     let cases = [
-        ("", &cells[..], wide, (0, WHOLE, 45_308)),
-        ("", &cells[..], narrow, (0, WHOLE, 45_308)),
-        (limit, &cells[..], wide, (0, WHOLE, 45_308)),
+        ("", &cells[..], wide, (0, WHOLE_NULLS, 45_308)),
+        ("", &cells[..], narrow, (0, WHOLE_NULLS, 45_308)),
+        (limit, &cells[..], wide, (0, WHOLE_NULLS, 45_308)),
         (limit, &more[..], wide, (8, "limit 272\n", 45_120)),
     ];
     for (lines, bytes, conditions, found) in cases {
@@ -197,7 +194,7 @@ fn turned_tps_bits(rt: HostRuntime) -> Result<(), Fail> {
         (BASE, ""),
         &cells,
         ample(50_000),
-        (0, WHOLE, 45_308),
+        (0, WHOLE_NULLS, 45_308),
     )?;
     let mut cells = null_cells(&rt, alloc)?;
     for symbol in [60usize, 61, 62, 63, 67] {

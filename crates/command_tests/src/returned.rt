@@ -1,10 +1,10 @@
 // Packets that are modulated and received again. The expected sums of cells, counts and reports are those of an
 // independent program.
-use crate::files::{BASE, File, LAYERED, SYMBOL, checksum, number_at, put_number, text_bytes};
-use crate::runs::{ample, run_files};
+use crate::cells::{SYMBOL, number_at, put_number};
 use mode_set::Mode;
 use pilots::CarrierKind::Payload;
 use pilots::kind;
+use run_tools::{BASE, File, LAYERED, ample, checksum, run_files, text_bytes};
 use std::alloc::{AllocError, Global};
 use std::process::Abort;
 use std::test::Fail;

@@ -1,12 +1,10 @@
-//! The command `receive` by workers, over a station in memory: that two threads really run, seen by a
-//! gate, and that the number of workers changes nothing.
+//! Workers: that two threads really run, seen by a gate, in the parallel phases and in the command
+//! `receive`, and that the number of workers changes nothing.
 //!
 //! The crate has tests alone.
 #![tactic(auto)]
 
 #[cfg(test)]
-mod meeting;
+mod pieces;
 #[cfg(test)]
 mod received;
-#[cfg(test)]
-mod runs;

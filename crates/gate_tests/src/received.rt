@@ -1,43 +1,40 @@
 // The command `receive` by workers.
-use crate::meeting::Meeting;
-use crate::runs::run_files;
+use run_tools::{BASE, Meeting, Ran, WHOLE_NULLS, run_gated_files, text_bytes};
+use std::alloc::{AllocError, Global};
 use std::test::Fail;
-use word_workers::OpenGate;
+use std::thread::Threads;
+use word_workers::{Gate, OpenGate};
 
 /// Two streams of 3/4 in 64-QAM in the 8K mode.
-const LAYERED: &str =
+const LAYERED_64: &str =
     "mode = \"8k\"\nconstellation = \"64qam\"\nhierarchy = \"2\"\nrate_hp = \"3/4\"\nrate_lp = \"3/4\"\nguard = \"1/32\"\n";
 
-/// QPSK at 1/2 in the 2K mode.
-const BASE: &str = "mode = \"2k\"\nconstellation = \"qpsk\"\nrate_hp = \"1/2\"\nguard = \"1/32\"\n";
-
-const WHOLE: &str =
-    "symbols 272 tail 0\ntps read 4 bad 0\nhp words 241 clean 241 corrected 0 bad 0 unphased 0 unmerged 0\n";
+// Runs the words through this gate, over a file of cells under the name `b` and an empty one under `a`.
+fn run<R: Threads + Sync, G: Gate>(
+    rt: &R,
+    alloc: Global,
+    gate: &G,
+    text: &str,
+    settings: (&str, &str),
+    cells: &[u8],
+) -> Result<Ran, AllocError> {
+    let settings = text_bytes(alloc, settings.0, settings.1)?;
+    let inputs = (Vec::new(alloc), Vec::from_slice(alloc, cells)?);
+    run_gated_files(rt, alloc, gate, text, settings, inputs)
+}
 
 // The first three symbols of two streams of null packets: two workers decode outer words at once, and so
 // are the inner decoders of the streams.
 #[test]
 fn two_threads_in_a_reception(rt: HostRuntime) -> Result<(), Fail> {
     let alloc = rt.alloc();
-    let sent = run_files(
-        &rt,
-        alloc,
-        &OpenGate,
-        "modulate s none none sent",
-        (LAYERED, "max_symbols = 3\n"),
-        &[],
-    )?;
+    let settings = (LAYERED_64, "max_symbols = 3\n");
+    let sent = run(&rt, alloc, &OpenGate, "modulate s a a sent", settings, &[])?;
     assert_eq!(rt; (sent.status, sent.cells.len()), (8, 81_804));
     let gate = Meeting::new();
-    let settings = (LAYERED, "workers = 2\n");
-    let got = run_files(
-        &rt,
-        alloc,
-        &gate,
-        "receive s cells hp lp",
-        settings,
-        &sent.cells,
-    )?;
+    let settings = (LAYERED_64, "workers = 2\n");
+    let words = "receive s b hp lp";
+    let got = run(&rt, alloc, &gate, words, settings, &sent.cells)?;
     assert_eq!(rt; got.status, 0);
     assert!(rt; gate.outer.have_met() && gate.inner.have_met());
     Ok(())
@@ -47,27 +44,14 @@ fn two_threads_in_a_reception(rt: HostRuntime) -> Result<(), Fail> {
 #[test]
 fn null_super_frame_by_workers(rt: HostRuntime) -> Result<(), Fail> {
     let alloc = rt.alloc();
-    let sent = run_files(
-        &rt,
-        alloc,
-        &OpenGate,
-        "modulate s none sent",
-        (BASE, ""),
-        &[],
-    )?;
+    let sent = run(&rt, alloc, &OpenGate, "modulate s a sent", (BASE, ""), &[])?;
     assert_eq!(rt; (sent.status, sent.cells.len()), (0, 1_855_040));
     for workers in ["workers = 1\n", "workers = 3\n", "workers = 16\n"] {
         let settings = (BASE, workers);
-        let got = run_files(
-            &rt,
-            alloc,
-            &OpenGate,
-            "receive s cells hp",
-            settings,
-            &sent.cells,
-        )?;
+        let words = "receive s b hp";
+        let got = run(&rt, alloc, &OpenGate, words, settings, &sent.cells)?;
         assert_eq!(rt; (got.status, got.hp.len(), got.lp.len()), (0, 45_308, 0));
-        assert!(rt; got.report.as_slice() == WHOLE.as_bytes());
+        assert!(rt; got.report.as_slice() == WHOLE_NULLS.as_bytes());
     }
     Ok(())
 }

@@ -5,7 +5,7 @@ use word_workers::{Gate, Job};
 /// Two flags of a job, which stay raised: piece 0 was there, and another piece was. The third one says
 /// that a piece gave up waiting.
 #[derive(Drop)]
-pub(crate) struct Flags {
+pub struct Flags {
     first: AtomicBool,
     other: AtomicBool,
     tired: AtomicBool,
@@ -39,8 +39,13 @@ impl Flags {
         }
     }
 
+    /// Was any piece there?
+    pub fn seen(&self) -> bool {
+        self.first.load(Ordering::SeqCst) || self.other.load(Ordering::SeqCst)
+    }
+
     /// Were piece 0 and another one there, and did none give up waiting?
-    pub(crate) fn have_met(&self) -> bool {
+    pub fn have_met(&self) -> bool {
         self.first.load(Ordering::SeqCst)
             && self.other.load(Ordering::SeqCst)
             && !self.tired.load(Ordering::SeqCst)
@@ -49,13 +54,16 @@ impl Flags {
 
 /// A gate at which piece 0 of a job and another piece wait for each other.
 #[derive(Drop)]
-pub(crate) struct Meeting {
-    pub(crate) outer: Flags,
-    pub(crate) inner: Flags,
+pub struct Meeting {
+    /// Those of the outer words.
+    pub outer: Flags,
+    /// Those of the inner decoders.
+    pub inner: Flags,
 }
 
 impl Meeting {
-    pub(crate) fn new() -> Meeting {
+    /// A gate at which nobody was.
+    pub fn new() -> Meeting {
         Meeting {
             outer: Flags::new(),
             inner: Flags::new(),

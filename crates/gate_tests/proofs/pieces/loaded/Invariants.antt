@@ -1,6 +1,6 @@
 use Rattle.std.proofs.Common.{◌≡◌, length}
 use Rattle.word_workers.specs.Symbols.{MayRun}
-use Rattle.word_workers.proofs.tests.loaded.Given as goal
+use Rattle.gate_tests.proofs.pieces.loaded.Given as goal
 
 abbrev pub invariant-loop-k : goal.invariant-loop-k
 invariant-loop-k l = record {

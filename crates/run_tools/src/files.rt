@@ -1,22 +1,25 @@
 // The files that the runs begin with.
 use std::alloc::{AllocError, Global};
-use std::process::Abort;
 use ts_packet::Packet;
 
 /// QPSK at 1/2 in the 2K mode.
-pub(crate) const BASE: &str =
+pub const BASE: &str =
     "mode = \"2k\"\nconstellation = \"qpsk\"\nrate_hp = \"1/2\"\nguard = \"1/32\"\n";
 
 /// Two streams, of 1/2 and 3/4, in 16-QAM in the 2K mode.
-pub(crate) const LAYERED: &str =
+pub const LAYERED: &str =
     "mode = \"2k\"\nconstellation = \"16qam\"\nhierarchy = \"4\"\nrate_hp = \"1/2\"\nrate_lp = \"3/4\"\nguard = \"1/32\"\n";
 
-/// The bytes of a symbol of the 2K mode.
-pub(crate) const SYMBOL: usize = 6820;
+/// The report of a reception of the super-frame of null packets in `BASE`.
+pub const WHOLE_NULLS: &str =
+    "symbols 272 tail 0\ntps read 4 bad 0\nhp words 241 clean 241 corrected 0 bad 0 unphased 0 unmerged 0\n";
+
+/// Two inputs without a packet.
+pub const NO_FILES: (File, File) = (File::Nulls(0, 0), File::Nulls(0, 0));
 
 /// A transport file.
 #[derive(Clone, Copy)]
-pub(crate) enum File {
+pub enum File {
     /// So many null packets, and so many bytes of one more.
     Nulls(usize, usize),
     /// So many null packets, a packet that begins with 00, and so many null packets.
@@ -26,8 +29,8 @@ pub(crate) enum File {
 }
 
 impl File {
-    /// The file's bytes.
-    pub(crate) fn bytes(self, alloc: Global) -> Result<Vec<u8>, AllocError> {
+    /// The file's bytes. The only error is want of memory.
+    pub fn bytes(self, alloc: Global) -> Result<Vec<u8>, AllocError> {
         let mut bytes = Vec::new(alloc);
         match self {
             File::Nulls(count, tail) => {
@@ -70,8 +73,8 @@ fn add_counted(number: u32, to: &mut Vec<u8>) -> Result<(), AllocError> {
     Ok(())
 }
 
-/// The bytes of a text, and of one more.
-pub(crate) fn text_bytes(alloc: Global, text: &str, more: &str) -> Result<Vec<u8>, AllocError> {
+/// The bytes of a text, and of one more behind it. The only error is want of memory.
+pub fn text_bytes(alloc: Global, text: &str, more: &str) -> Result<Vec<u8>, AllocError> {
     let mut bytes = Vec::new(alloc);
     bytes.extend_from_slice(text.as_bytes())?;
     bytes.extend_from_slice(more.as_bytes())?;
@@ -79,24 +82,10 @@ pub(crate) fn text_bytes(alloc: Global, text: &str, more: &str) -> Result<Vec<u8
 }
 
 /// The bytes as the digits of a number of base 31, modulo 2^32.
-pub(crate) fn checksum(bytes: &[u8]) -> u32 {
+pub fn checksum(bytes: &[u8]) -> u32 {
     let mut sum = 0u32;
     for byte in bytes {
         sum = sum.wrapping_mul(31).wrapping_add(u32::from(*byte));
     }
     sum
-}
-
-/// The number at a place of cells.
-pub(crate) fn number_at(rt: &impl Abort, cells: &[u8], at: usize) -> i16 {
-    assert!(rt; at < 4_000_000 && at + 1 < cells.len());
-    i16::from_be_bytes([cells[at], cells[at + 1]])
-}
-
-/// Puts a number at a place of cells.
-pub(crate) fn put_number(rt: &impl Abort, cells: &mut [u8], at: usize, number: i16) {
-    assert!(rt; at < 4_000_000 && at + 1 < cells.len());
-    let bytes = number.to_be_bytes();
-    cells[at] = bytes[0];
-    cells[at + 1] = bytes[1];
 }

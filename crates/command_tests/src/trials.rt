@@ -1,0 +1,58 @@
+// The command `trial` over a station in memory. The expected lines are those of an independent program.
+use run_tools::{BASE, Conditions, LAYERED, ample, run_files, text_bytes};
+use station_core::{Failing, OutPort};
+use std::alloc::{AllocError, Global};
+use std::process::Abort;
+use std::test::Fail;
+use std::thread::Threads;
+
+// Runs the words with these settings, and compares the status and the report.
+fn expect<R: Abort + Threads + Sync>(
+    rt: &R,
+    alloc: Global,
+    text: &str,
+    settings: (&str, &str),
+    failing: Option<Failing>,
+    found: (u8, &str),
+) -> Result<(), AllocError> {
+    let settings = text_bytes(alloc, settings.0, settings.1)?;
+    let none = (Vec::new(alloc), Vec::new(alloc));
+    let conditions = Conditions {
+        failing,
+        ..ample(1_000)
+    };
+    let ran = run_files(rt, alloc, text, settings, none, 1, conditions)?;
+    let is_told = ran.status == found.0 && ran.report.as_slice() == found.1.as_bytes();
+    assert!(rt; is_told, "{text}: status or report beside {}", found.1);
+    Ok(())
+}
+
+#[test]
+fn one_stream_and_its_refusals(rt: HostRuntime) -> Result<(), Fail> {
+    let alloc = rt.alloc();
+    let lines = "cells 220836107\nhp packets 150 back 241 sum 7652286\n";
+    let from_any = "start = \"any\"\nmax_symbols = 272\n";
+    for (words, more, status, report) in [
+        ("trial s 7", "", 0, lines),
+        ("trial s 0000000007", from_any, 0, lines),
+        ("trial s 7", "max_symbols = 271\n", 8, "limit 271\n"),
+        ("trial s 7", "colour = \"red\"\n", 3, "settings unknown 0\n"),
+        ("trial s 4294967296", "", 2, "usage\n"),
+        ("trial gone 7", "", 5, "read fault\n"),
+    ] {
+        expect(&rt, alloc, words, (BASE, more), None, (status, report))?;
+    }
+    Ok(())
+}
+
+#[test]
+fn two_streams_and_a_failed_write(rt: HostRuntime) -> Result<(), Fail> {
+    let alloc = rt.alloc();
+    let lines =
+        "cells 220938195\nhp packets 150 back 241 sum 7669421\nlp packets 146 back 367 sum 13932039\n";
+    expect(&rt, alloc, "trial s 7", (LAYERED, ""), None, (0, lines))?;
+    let second = Some(Failing::Write(OutPort::Report, 2));
+    let half = "cells 220836107\nhp packets 150 bacwrite fault\n";
+    expect(&rt, alloc, "trial s 7", (BASE, ""), second, (6, half))?;
+    Ok(())
+}

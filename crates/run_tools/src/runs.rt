@@ -1,0 +1,169 @@
+// A station for a run of a command, and what the run leaves there.
+ghost use Rattle.std.specs.Prelude.{◌≡◌, ◌≤◌, None, IfOk};
+ghost use Rattle.station_core.specs.Meaning.{IsFresh};
+ghost use Rattle.station_core.specs.Memory.{memory_meaning};
+
+use dvbt_top::{Limits, run_gated, run_within};
+use station_core::{Failing, MemoryStation, OutPort};
+use std::alloc::{AllocError, Global};
+use std::thread::Threads;
+use word_workers::Gate;
+
+/// What a run left: its status, and the bytes that were written to each output.
+#[derive(Drop)]
+pub struct Ran {
+    /// The status.
+    pub status: u8,
+    /// The lines and the text of the report.
+    pub report: Vec<u8>,
+    /// The output of `disperse`, `outer` and `inner`.
+    pub bytes: Vec<u8>,
+    /// The cells of a modulation.
+    pub cells: Vec<u8>,
+    /// The packets of HP.
+    pub hp: Vec<u8>,
+    /// The packets of LP.
+    pub lp: Vec<u8>,
+}
+
+impl Ran {
+    /// What stands in the station behind a run of this status. The only error is want of memory.
+    pub fn new(alloc: Global, status: u8, station: &MemoryStation<'_>) -> Result<Ran, AllocError> {
+        Ok(Ran {
+            status,
+            report: Vec::from_slice(alloc, station.written(OutPort::Report))?,
+            bytes: Vec::from_slice(alloc, station.written(OutPort::Bytes))?,
+            cells: Vec::from_slice(alloc, station.written(OutPort::Cells))?,
+            hp: Vec::from_slice(alloc, station.written(OutPort::Hp))?,
+            lp: Vec::from_slice(alloc, station.written(OutPort::Lp))?,
+        })
+    }
+}
+
+/// How a station behaves.
+#[derive(Clone, Copy)]
+pub struct Conditions {
+    /// The most bytes that a read gives.
+    pub most: u32,
+    /// The bytes that each output has room for.
+    pub room: u32,
+    /// The call that fails, if one does.
+    pub failing: Option<Failing>,
+}
+
+/// A station with room for these bytes at each output, of which no call fails.
+pub fn ample(room: u32) -> Conditions
+    ensures { result ≡ record { most = 4294967295; room = room; failing = None } }
+{
+    Conditions {
+        most: u32::MAX,
+        room,
+        failing: None,
+    }
+}
+
+/// The words of this text. The only error is want of memory.
+pub fn words_of(alloc: Global, text: &str) -> Result<Vec<String>, AllocError> {
+    let mut words = Vec::new(alloc);
+    for word in text.split_whitespace() {
+        words.push(String::from_str(alloc, word)?)?;
+    }
+    Ok(words)
+}
+
+// The settings under the name `s` and two files under the names `a` and `b`.
+fn named(
+    alloc: Global,
+    settings: Vec<u8>,
+    inputs: (Vec<u8>, Vec<u8>),
+) -> Result<Vec<(String, Vec<u8>)>, AllocError> {
+    let mut files = Vec::new(alloc);
+    files.push((String::from_str(alloc, "s")?, settings))?;
+    files.push((String::from_str(alloc, "a")?, inputs.0))?;
+    files.push((String::from_str(alloc, "b")?, inputs.1))?;
+    Ok(files)
+}
+
+/// A station for one run, with the settings under the name `s` and two files under the names `a` and `b`.
+/// At least one byte a read is asked for. The only error is want of memory.
+pub fn station_of<'a>(
+    alloc: Global,
+    settings: Vec<u8>,
+    inputs: (Vec<u8>, Vec<u8>),
+    conditions: Conditions,
+) -> Result<MemoryStation<'a>, AllocError>
+    requires { 1 ≤ conditions.most }
+    ensures fresh { IfOk result (λ s. IsFresh (memory_meaning s)) }
+{
+    let files = named(alloc, settings, inputs)?;
+    let mut failing = Vec::new(alloc);
+    if let Some(call) = conditions.failing {
+        failing.push(call)?;
+    }
+    MemoryStation::new(alloc, files, conditions.most, conditions.room, failing)
+}
+
+// Runs the words with this limit of packets, and tells the status alone.
+fn run_words<'a, R: Threads + Sync>(
+    rt: &R,
+    alloc: Global,
+    words: &'a [String],
+    packets: u64,
+    station: &mut MemoryStation<'a>,
+) -> u8
+    requires fresh { IsFresh (memory_meaning station.old) }
+    requires some { 1 ≤ packets }
+    requires few { packets ≤ 100000000 }
+{
+    run_within(rt, alloc, words, Limits { packets }, station)
+}
+
+// The same through this gate.
+fn run_words_gated<'a, R: Threads + Sync, G: Gate>(
+    rt: &R,
+    alloc: Global,
+    gate: &G,
+    words: &'a [String],
+    station: &mut MemoryStation<'a>,
+) -> u8
+    requires fresh { IsFresh (memory_meaning station.old) }
+{
+    run_gated(rt, alloc, words, Limits::shipped(), gate, station)
+}
+
+/// Runs the words over the settings, named `s`, and two files, named `a` and `b`, with this limit of
+/// packets. The only error is want of memory.
+pub fn run_files<R: Threads + Sync>(
+    rt: &R,
+    alloc: Global,
+    text: &str,
+    settings: Vec<u8>,
+    inputs: (Vec<u8>, Vec<u8>),
+    packets: u64,
+    conditions: Conditions,
+) -> Result<Ran, AllocError>
+    requires most { 1 ≤ conditions.most }
+    requires some { 1 ≤ packets }
+    requires few { packets ≤ 100000000 }
+{
+    let words = words_of(alloc, text)?;
+    let mut station = station_of(alloc, settings, inputs, conditions)?;
+    let status = run_words(rt, alloc, &words, packets, &mut station);
+    Ran::new(alloc, status, &station)
+}
+
+/// The same through this gate, with the limits of the program, in a station with room for a super-frame of
+/// the 2K mode.
+pub fn run_gated_files<R: Threads + Sync, G: Gate>(
+    rt: &R,
+    alloc: Global,
+    gate: &G,
+    text: &str,
+    settings: Vec<u8>,
+    inputs: (Vec<u8>, Vec<u8>),
+) -> Result<Ran, AllocError> {
+    let words = words_of(alloc, text)?;
+    let mut station = station_of(alloc, settings, inputs, ample(1_900_000))?;
+    let status = run_words_gated(rt, alloc, gate, &words, &mut station);
+    Ran::new(alloc, status, &station)
+}
