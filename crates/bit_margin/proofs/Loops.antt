@@ -1,7 +1,6 @@
 -- What the loops over the states keep.
-use Rattle.std.proofs.Common.{ap, zero, suc, ◌-◌, cond, false, Bool, ltb, ◌&&◌, ap₂, [], ◌∷◌, ◌++◌, ◌≡◌, ℕ, ◌+◌, ◌*◌, ◌<◌, ◌≤◌, ◌≢◌, min, List, length, ◌⊎◌, inl, inr, refl, sym, subst, arith, below_more, get_or-set_other, get_or-set_same, length-set, slice_index, ◌∙◌, true, eqb, ◌||◌}
-use Rattle.std.specs.Prelude.{slice_set}
-use Rattle.std.proofs.lemmas.Bool.{cases_lt, eqb-true, or_cases, and_parts, ltb-true}
+use Rattle.std.proofs.Common.{◌≡◌, ℕ, ◌+◌, ◌<◌, ◌≤◌, min, List, ◌⊎◌, inl, inr, sym, subst, arith, below_more, slice_index, true, eqb, ◌||◌}
+use Rattle.std.proofs.lemmas.Bool.{cases_lt, eqb-true, or_cases}
 use Rattle.code_paths.proofs.Registers.{all_below, all_below_at}
 use Rattle.bit_margin.specs.Sums.{IsLeastOf, AreStartCosts, far}
 use Rattle.inner_decoder.specs.declared.decoder.StartState.{StartState}

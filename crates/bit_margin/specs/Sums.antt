@@ -1,9 +1,9 @@
 -- Least sums to a state and from a state.
-use Rattle.std.specs.Prelude.{◌≡◌, ℕ, ◌+◌, ◌*◌, ◌<◌, ◌≤◌, ◌^◌, Bool, false, true, min, List, [], ◌∷◌, ◌++◌, length, take, drop, slice_index, slice_index_or}
+use Rattle.std.specs.Prelude.{◌≡◌, ℕ, ◌+◌, ◌*◌, ◌<◌, ◌≤◌, ◌^◌, Bool, min, List, [], ◌++◌, length, take, drop, slice_index, slice_index_or}
 use Rattle.std.specs.declared.option.Option.{Option}
 use Rattle.std.specs.declared.option.Option.TheVariants.{None, Some}
 use Rattle.code_paths.specs.declared.costs.CostPair.{CostPair}
-use Rattle.code_paths.specs.Paths.{step_cost, total, IsPath}
+use Rattle.code_paths.specs.Paths.{total, IsPath}
 use Rattle.code_paths.specs.States.{register}
 use Rattle.code_paths.specs.Trial.{weight}
 use Rattle.inner_decoder.specs.declared.decoder.StartState.{StartState}

@@ -1,5 +1,5 @@
 use Rattle.std.proofs.Common.{◌≡◌, length}
-use Rattle.std.specs.Prelude.{false, vec_len, vec_capacity}
+use Rattle.std.specs.Prelude.{false}
 use Rattle.bit_margin.proofs.tests.margins_of.Given as goal
 
 abbrev pub invariant-loop-k : goal.invariant-loop-k

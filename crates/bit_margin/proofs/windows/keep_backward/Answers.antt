@@ -1,5 +1,4 @@
-use Rattle.std.proofs.Common.{arith, ◌∙◌, ◌≡◌, refl, subst, length-set, drop, ◌-◌, ◌+◌}
-use Rattle.bit_margin.specs.Sums.{AreBackward}
+use Rattle.std.proofs.Common.{arith, ◌∙◌, refl, length-set, ◌-◌, ◌+◌}
 use Rattle.bit_margin.proofs.Passes.{rows_more, backward_at, backward_fits, backward_same}
 use Rattle.bit_margin.proofs.windows.keep_backward.Goals as goal
 

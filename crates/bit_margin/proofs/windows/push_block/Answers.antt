@@ -1,4 +1,4 @@
-use Rattle.std.proofs.Common.{arith, refl, ◌∙◌, min, ◌*◌, ◌+◌}
+use Rattle.std.proofs.Common.{arith, refl, ◌∙◌}
 use Rattle.bit_margin.proofs.Passes.{backward_same, have_passed, passed_at, passed_none}
 use Rattle.bit_margin.proofs.windows.push_block.Goals as goal
 

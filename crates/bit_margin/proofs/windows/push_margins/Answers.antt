@@ -1,5 +1,5 @@
 use Rattle.std.proofs.Common.{arith, refl, ◌+◌}
-use Rattle.bit_margin.specs.Sums.{HavePassed, row}
+use Rattle.bit_margin.specs.Sums.{row}
 use Rattle.bit_margin.proofs.Passes.{passed_at, passed_far, passed_fits, passed_more, have_passed, backward_far}
 use Rattle.bit_margin.proofs.windows.push_margins.Goals as goal
 
