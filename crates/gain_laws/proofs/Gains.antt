@@ -114,7 +114,7 @@ pub removed : PilotsAreAround → StrongGainIsRemoved
 unfolding equalised
 removed all m l a b sent received weights strong is come k few =
     let t = tells m l a b sent received k (all m l k few) is few come.cells in
-    restored (gain_at m l received k) a b (sent k) (get_or received k blank) (get_or weights k 0) t.some (come.weights k few) strong (is.cells k few) t.near (come.cells k few)
+    restored (gain_at m l received k) a b (sent k) (get_or received k blank) (get_or weights k 0) t.some (come.counts k few) strong (is.cells k few) t.near (come.cells k few)
 
 -- what is within 17 is within 64
 pub weakened : StrongGainIsRemoved → FlatGainIsRemoved

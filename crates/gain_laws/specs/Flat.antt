@@ -44,7 +44,7 @@ pub record IsRestored (most : ℕ) (sent : Cell) (e : Equalised) : Type 0 where
 -- symbol l came through such a gain whole, and each of its cells counts
 pub record HasCome (m : Mode) (a b : ℤ) (sent : ℕ → Cell) (received : List Cell) (weights : List ℕ) : Type 0 where
   pub cells : (k : ℕ) → k < carriers m → CameThrough a b (sent k) (get_or received k blank)
-  pub weights : (k : ℕ) → k < carriers m → 1 ≤ slice_index weights k
+  pub counts : (k : ℕ) → k < carriers m → 1 ≤ slice_index weights k
 
 -- each carrier of it is so near after the correction
 abbrev pub ComesBack : ℕ → Mode → ℕ → (ℕ → Cell) → List Cell → List ℕ → Type 0
