@@ -192,7 +192,7 @@ fn drawn(alloc: Global, mode: Mode, l: u8, channel: Channel) -> Result<(u32, boo
         weights[k] = (numbered(&mut draw) % 16) as u8;
     }
     let bytes = equalised(alloc, mode, l, &cells, &weights)?;
-    let back = comes_back(&sent_cells, &weights, &bytes);
+    let back = bytes.len() == 5 * count && comes_back(&sent_cells, &weights, &bytes);
     Ok((sum_of(&bytes), back))
 }
 
