@@ -1,10 +1,10 @@
 -- The whole number nearest to a quotient.
-use Rattle.std.proofs.Common.{◌≡◌, ℕ, ◌+◌, ◌*◌, ◌<◌, ◌≤◌, ap, ◌∙◌, sym, arith}
+use Rattle.std.proofs.Common.{◌≡◌, ℕ, ◌*◌, ◌<◌, ap, ◌∙◌, arith}
 use Rattle.std.specs.Prelude.{ℤ, pos, negsuc, ◌+ℤ◌, ◌-ℤ◌, ◌*ℤ◌, ◌≤ℤ◌, ◌<ℤ◌}
 use Rattle.std.specs.Int.{saturate_signed, w16}
 use Rattle.std.specs.Int.RustNames.{FitsSigned}
 use Rattle.std.proofs.lemmas.Int.{ints, clamps}
-use borrow.Author.Differences.{up, down, product_is}
+use borrow.Author.Differences.{product_is}
 use Rattle.integer_lemmas.proofs.Floors.{IsFloor, floor_is, same_floor}
 use Rattle.cell_equal.specs.Equal.{nearest, value_near, IsNearest}
 

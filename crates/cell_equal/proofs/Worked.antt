@@ -1,11 +1,10 @@
 -- Worked values of the definitions.
-use Rattle.std.proofs.Common.{◌≡◌, ℕ, List, [], ◌∷◌, refl}
+use Rattle.std.proofs.Common.{◌≡◌, ℕ, [], ◌∷◌, refl}
 use Rattle.std.specs.Prelude.{ℤ, pos, neg_ℤ}
 use Rattle.spec_words.specs.Words.{numbers}
-use Rattle.mode_set.specs.declared.modes.Mode.TheVariants.{M2k, M8k}
-use Rattle.qam_map.specs.declared.cell.Cell.{Cell}
+use Rattle.mode_set.specs.declared.modes.Mode.TheVariants.{M2k}
 use Rattle.cell_equal.specs.Around.{pilot_below, pilot_above, is_pilot}
-use Rattle.cell_equal.specs.Equal.{blank, at_pilot, between, corrected, bytes_of}
+use Rattle.cell_equal.specs.Equal.{between, corrected, bytes_of}
 use Rattle.cell_equal.specs.declared.gain.Gain.{Gain}
 use Rattle.cell_equal.specs.declared.equalised.Equalised.{Equalised}
 use Rattle.pilots.specs.Carriers.{kind, is_continual, is_scattered, is_tps, tps_carriers}

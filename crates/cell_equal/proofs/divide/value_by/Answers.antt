@@ -1,6 +1,6 @@
 -- A guess that passes the test is the value.
 use Rattle.std.proofs.Common.{◌≡◌, ◌∙◌, arith, to_z, of_z}
-use Rattle.std.specs.Prelude.{ℤ, pos, ◌+ℤ◌, ◌-ℤ◌, ◌*ℤ◌, ◌*◌}
+use Rattle.std.specs.Prelude.{pos, ◌+ℤ◌, ◌-ℤ◌, ◌*ℤ◌, ◌*◌}
 use Rattle.std.specs.Int.{w16, w64}
 use Rattle.std.proofs.lemmas.Int.{ints}
 use Rattle.cell_equal.proofs.Nearest.{same_rest, tested, guessed}
