@@ -1,0 +1,6 @@
+pub mod Around
+pub mod Nearest
+pub mod Quotients
+pub mod Walk
+pub mod Bytes
+pub mod Worked

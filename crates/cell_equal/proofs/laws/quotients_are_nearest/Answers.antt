@@ -1,0 +1,6 @@
+-- From what rounding down means.
+use Rattle.cell_equal.proofs.Nearest.{nearest_is}
+use Rattle.cell_equal.proofs.laws.quotients_are_nearest.Goals as goal
+
+pub returns : goal.returns
+returns c = nearest_is

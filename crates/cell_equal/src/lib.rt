@@ -1,0 +1,19 @@
+//! Cells corrected by the pilots of their own symbol: the gain of the channel at each carrier is taken
+//! from the line between the pilots around it, and each cell is divided by it.
+//!
+//! EN 300 744, 4.5, has the pilots; the rule is this project's own.
+#![tactic(auto)]
+
+mod divide;
+mod equalised;
+mod estimate;
+mod gain;
+pub mod laws;
+mod span;
+mod symbol;
+#[cfg(test)]
+mod tests;
+
+pub use equalised::Equalised;
+pub use gain::Gain;
+pub use symbol::equalise;

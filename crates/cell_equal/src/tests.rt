@@ -1,0 +1,227 @@
+// Symbols against cases from outside: a quarter turn, nothing received, and drawn cells beside another program's answers.
+ghost use Rattle.std.specs.Prelude.{◌≡◌, ℕ, ◌+◌, ◌*◌, ◌<◌, ◌≤◌, length, IfOk, vec_len, vec_capacity};
+ghost use Rattle.mode_set.specs.StreamTable.{carriers};
+
+use crate::equalise;
+use mode_set::Mode;
+use pilots::{CarrierKind, kind, reference};
+use qam_map::Cell;
+use std::alloc::{AllocError, Global};
+use std::rt::HostRuntime;
+
+fn carriers_of(mode: Mode) -> u32
+    ensures { result ≡ carriers mode }
+{
+    match mode {
+        Mode::M2k => 1705,
+        Mode::M8k => 6817,
+    }
+}
+
+// The symbol's corrected bytes.
+fn equalised(
+    alloc: Global,
+    mode: Mode,
+    l: u8,
+    cells: &[Cell],
+    weights: &[u8],
+) -> Result<Vec<u8>, AllocError>
+    requires symbol { l < 68 }
+    requires cells { length cells.now ≡ carriers mode }
+    requires weights { length weights.now ≡ carriers mode }
+{
+    let mut bytes = Vec::with_capacity(alloc, 5 * carriers_of(mode) as usize)?;
+    equalise(mode, l, cells, weights, &mut bytes);
+    Ok(bytes)
+}
+
+fn numbered(draw: &mut u32) -> u32 {
+    *draw = draw.wrapping_mul(1664525).wrapping_add(1013904223);
+    *draw >> 8
+}
+
+// One of four values of an axis.
+fn level(draw: &mut u32) -> i16 {
+    match numbered(draw) % 4 {
+        0 => 5181,
+        1 => -5181,
+        2 => 15543,
+        _ => -15543,
+    }
+}
+
+fn sent(mode: Mode, l: u8, k: u32, draw: &mut u32) -> Cell
+    requires symbol { l < 68 }
+    requires carrier { k < carriers mode }
+{
+    let pilot = if reference(k) { -21845 } else { 21845 };
+    match kind(mode, l, k) {
+        CarrierKind::Continual | CarrierKind::Scattered => Cell { re: pilot, im: 0 },
+        CarrierKind::Tps => Cell { re: -16384, im: 0 },
+        CarrierKind::Payload(_) => Cell {
+            re: level(draw),
+            im: level(draw),
+        },
+    }
+}
+
+// A quarter turn is taken back exactly, and every weight is 15.
+#[test]
+fn a_quarter_turn(rt: HostRuntime) {
+    let alloc = rt.alloc();
+    let mut cells = vec![in alloc; Cell { re: 0, im: 0 }; 1705].expect(&rt, "memory");
+    let mut sent_cells = vec![in alloc; Cell { re: 0, im: 0 }; 1705].expect(&rt, "memory");
+    let weights = vec![in alloc; 15u8; 1705].expect(&rt, "memory");
+    for l in [0u8, 1, 66, 67] {
+        let mut draw = 5;
+        for k in 0..1705u32 {
+            let cell = sent(Mode::M2k, l, k, &mut draw);
+            sent_cells[k as usize] = cell;
+            cells[k as usize] = Cell {
+                re: cell.im.wrapping_neg(),
+                im: cell.re,
+            };
+        }
+        let bytes = equalised(alloc, Mode::M2k, l, &cells, &weights).expect(&rt, "memory");
+        assert!(&rt; bytes.len() == 8525);
+        for k in 0..1705usize {
+            let [a, b] = sent_cells[k].re.to_be_bytes();
+            let [c, d] = sent_cells[k].im.to_be_bytes();
+            assert!(&rt;
+                bytes[5 * k..5 * k + 5] == [a, b, c, d, 15],
+                "carrier {k} of {l}"
+            );
+        }
+    }
+}
+
+// Where nothing was received nothing is known.
+#[test]
+fn zero_cells(rt: HostRuntime) {
+    let alloc = rt.alloc();
+    let cells = vec![in alloc; Cell { re: 0, im: 0 }; 1705].expect(&rt, "memory");
+    let weights = vec![in alloc; 15u8; 1705].expect(&rt, "memory");
+    let bytes = equalised(alloc, Mode::M2k, 3, &cells, &weights).expect(&rt, "memory");
+    assert!(&rt; bytes.len() == 8525);
+    assert!(&rt; bytes.iter().all(|byte| *byte == 0));
+}
+
+// The bytes as one number, modulo 2^32.
+fn sum_of(bytes: &[u8]) -> u32 {
+    bytes.iter().fold(
+        0u32,
+        |sum, byte| sum.wrapping_mul(16777619) ^ (*byte as u32),
+    )
+}
+
+// What a channel makes of a symbol.
+#[derive(Clone, Copy, Debug, PartialEq, Eq)]
+enum Channel {
+    // Any values, or values near 0, in place of the cells.
+    Any,
+    Weak,
+    // A gain of (a + b i) / 16384, within 1 on each axis.
+    Gain(i32, i32),
+    // A gain that falls and turns from carrier to carrier.
+    Slope,
+}
+
+fn value(draw: &mut u32, small: bool) -> i16 {
+    let value = ((numbered(draw) % 65536) as u16).cast_signed();
+    if small { value % 4 } else { value }
+}
+
+fn part(times_16384: i32) -> i16 {
+    (times_16384 / 16384).clamp(-32768, 32767) as i16
+}
+
+fn through(cell: Cell, a: i32, b: i32) -> Cell {
+    let (x, y) = (i32::from(cell.re), i32::from(cell.im));
+    Cell {
+        re: part(a.wrapping_mul(x).wrapping_sub(b.wrapping_mul(y))),
+        im: part(a.wrapping_mul(y).wrapping_add(b.wrapping_mul(x))),
+    }
+}
+
+fn came(channel: Channel, cell: Cell, k: u32, draw: &mut u32) -> Cell {
+    match channel {
+        Channel::Any | Channel::Weak => {
+            let re = value(draw, channel == Channel::Weak);
+            let im = value(draw, channel == Channel::Weak);
+            Cell { re, im }
+        }
+        Channel::Gain(a, b) => through(cell, a, b),
+        Channel::Slope => {
+            let place = (k % 8192) as i32;
+            through(cell, 16384 - 2 * place, place)
+        }
+    }
+}
+
+// Whether each cell of weight 1 or more is within 64 of what was sent, and has a weight.
+fn comes_back(sent_cells: &[Cell], weights: &[u8], bytes: &[u8]) -> bool
+    requires weights { length weights.now ≡ length sent_cells.now }
+    requires bytes { length bytes.now ≡ 5 * length sent_cells.now }
+{
+    for k in 0..sent_cells.len() {
+        let re = i16::from_be_bytes([bytes[5 * k], bytes[5 * k + 1]]);
+        let im = i16::from_be_bytes([bytes[5 * k + 2], bytes[5 * k + 3]]);
+        let near = re.abs_diff(sent_cells[k].re) <= 64 && im.abs_diff(sent_cells[k].im) <= 64;
+        if !near || (bytes[5 * k + 4] == 0) != (weights[k] == 0) {
+            return false;
+        }
+    }
+    true
+}
+
+// The corrected bytes of a drawn symbol behind a channel as one number, and whether it comes back.
+fn drawn(alloc: Global, mode: Mode, l: u8, channel: Channel) -> Result<(u32, bool), AllocError>
+    requires { l < 68 }
+{
+    let mut draw = 7 + l as u32;
+    let count = carriers_of(mode) as usize;
+    let mut sent_cells = vec![in alloc; Cell { re: 0, im: 0 }; count]?;
+    let mut cells = vec![in alloc; Cell { re: 0, im: 0 }; count]?;
+    let mut weights = vec![in alloc; 0u8; count]?;
+    let is_sent = channel != Channel::Any && channel != Channel::Weak;
+    for k in 0..count {
+        if is_sent {
+            sent_cells[k] = sent(mode, l, k as u32, &mut draw);
+        }
+        cells[k] = came(channel, sent_cells[k], k as u32, &mut draw);
+        weights[k] = (numbered(&mut draw) % 16) as u8;
+    }
+    let bytes = equalised(alloc, mode, l, &cells, &weights)?;
+    let back = bytes.len() == 5 * count && comes_back(&sent_cells, &weights, &bytes);
+    Ok((sum_of(&bytes), back))
+}
+
+// Drawn symbols of every phase of the scattered pilots beside the sums of an independent program: any
+// values, of which a fifth are cut off at the ends of the range; pilots that are often zero; single
+// gains of half and of the whole nominal amplitude, which come back; and one that differs by carrier.
+#[test]
+fn drawn_symbols(rt: HostRuntime) {
+    let alloc = rt.alloc();
+    for (mode, l, channel, sum) in [
+        (Mode::M2k, 0u8, Channel::Any, 1666746854u32),
+        (Mode::M2k, 67, Channel::Weak, 2945897832),
+        (Mode::M2k, 30, Channel::Any, 1339069200),
+        (Mode::M8k, 5, Channel::Any, 670544072),
+        (Mode::M8k, 2, Channel::Weak, 2571237164),
+        (Mode::M8k, 3, Channel::Any, 1509796531),
+        (Mode::M2k, 0, Channel::Gain(8192, 0), 1836251031),
+        (Mode::M2k, 1, Channel::Gain(-5793, 5793), 3199468633),
+        (Mode::M8k, 6, Channel::Gain(0, -8192), 3245562678),
+        (Mode::M8k, 67, Channel::Gain(11585, -11585), 2645961161),
+        (Mode::M2k, 3, Channel::Gain(-16384, 0), 773155435),
+        (Mode::M2k, 2, Channel::Slope, 2087090885),
+        (Mode::M8k, 4, Channel::Slope, 352988856),
+    ] {
+        assert!(&rt; l < 68);
+        let (found, back) = drawn(alloc, mode, l, channel).expect(&rt, "memory");
+        assert!(&rt; found == sum, "symbol {l}: {found}");
+        if let Channel::Gain(_, _) = channel {
+            assert!(&rt; back, "symbol {l} of one gain");
+        }
+    }
+}

@@ -1,0 +1,6 @@
+pub mod Errors
+pub mod Rounding
+pub mod Estimate
+pub mod OneCell
+pub mod Gains
+pub mod Sent

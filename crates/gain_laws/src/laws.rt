@@ -1,0 +1,26 @@
+// The flat gain law, as contracts of functions that do nothing.
+ghost use Rattle.gain_laws.specs.Flat.{FlatGainIsRemoved, StrongGainIsRemoved};
+ghost use Rattle.gain_laws.specs.Symbols.{SymbolsComeBack, TransmissionsComeBack, IsTolerated};
+
+use cell_equal::laws::pilots_are_around;
+
+/// A symbol whose cells were all multiplied by one gain, of half the nominal amplitude to the whole,
+/// and rounded to within 1 on each axis, comes back: each part of each corrected cell is within 64 of
+/// what was sent, and its weight is at least 1. It is even within 17, with no bound on how strong the
+/// gain is.
+pub fn flat_gain_is_removed()
+    ensures flat { FlatGainIsRemoved }
+    ensures strong { StrongGainIsRemoved }
+{
+    pilots_are_around();
+}
+
+/// So do the symbols of a transmission, one by one and all of them, near enough for every
+/// constellation.
+pub fn transmissions_come_back()
+    ensures symbols { SymbolsComeBack }
+    ensures transmissions { TransmissionsComeBack }
+    ensures tolerated { IsTolerated }
+{
+    flat_gain_is_removed();
+}
