@@ -1,5 +1,5 @@
 -- It can be decided whether the TPS word of a frame is read, so the frames of bytes are counted.
-use Rattle.std.proofs.Common.{◌≡◌, ℕ, zero, suc, ◌+◌, ◌-◌, ◌/◌, ◌≤◌, Bool, cond, true, false, List, inl, inr, refl, subst, arith}
+use Rattle.std.proofs.Common.{◌≡◌, ℕ, zero, suc, ◌+◌, ◌-◌, ◌/◌, ◌≤◌, Bool, cond, true, false, List, inl, inr, refl, arith}
 use Rattle.std.specs.Prelude.{IsTrue, IsFalse}
 use Rattle.outer_chain.specs.Words.{count}
 use Rattle.mode_set.specs.Kept.{is_flat, is_qpsk}

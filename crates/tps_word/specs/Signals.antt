@@ -1,5 +1,5 @@
 -- What bits signal where a few of them are wrong (that two errors are corrected is this project's own choice; the code of EN 300 744, 4.6.2.11, corrects as many).
-use Rattle.std.specs.Prelude.{◌≡◌, ℕ, ◌≤◌, Bool, List, length}
+use Rattle.std.specs.Prelude.{◌≡◌, ◌≤◌, Bool, List, length}
 use Rattle.tps_bch.specs.Bch.{IsTpsWord, bit_distance}
 use Rattle.tps_word.specs.Tps.{tps_word, IsValid}
 use Rattle.tps_word.specs.declared.word.TpsWord.{TpsWord}

@@ -1,5 +1,4 @@
-use Rattle.std.proofs.Common.{ℕ, ◌≡◌, length, take, refl, sym, ◌∙◌, ap, subst}
-use Rattle.qam_map.specs.declared.cell.Cell.{Cell}
+use Rattle.std.proofs.Common.{ℕ, ◌≡◌, take, refl, sym, ◌∙◌, ap, subst}
 use Rattle.tps_word.specs.Vote.{vote, tps_cells_of}
 use Rattle.receiver.proofs.Voting.{noted}
 use Rattle.receiver.proofs.frames.FrameReader.note.Goals as goal
