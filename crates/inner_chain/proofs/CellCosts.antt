@@ -13,7 +13,8 @@ use Rattle.pilots.specs.Carriers.{payload_carriers}
 use Rattle.qam_map.specs.declared.cell.Cell.{Cell}
 use Rattle.soft_metric.specs.Costs.{costs_at_place}
 use Rattle.soft_metric.specs.Squares.{IsSmallPair}
-use Rattle.inner_chain.specs.CostPairs.{cell_of, costs_on}
+use Rattle.qam_map.specs.Cells.{cell_of}
+use Rattle.inner_chain.specs.CostPairs.{costs_on}
 use Rattle.inner_chain.specs.CostTables.{pair_at, ArePayloadCells, ArePlanes, PutsCosts, AreCosts, AreCarriers, IsRoom}
 
 -- ---- the carriers of a symbol

@@ -1,5 +1,5 @@
 -- The costs of the coded bits of a symbol, from its cells.
-use Rattle.std.specs.Prelude.{◌≡◌, ℕ, ◌<◌, true, false, List, ◌++◌, length, slice_index, slice_index_or, pos}
+use Rattle.std.specs.Prelude.{◌≡◌, ℕ, ◌<◌, true, false, List, ◌++◌, length, slice_index, slice_index_or}
 use Rattle.code_paths.specs.declared.costs.CostPair.{CostPair}
 use Rattle.mode_set.specs.StreamTable.{need, rate}
 use Rattle.mode_set.specs.declared.modes.Stream.{Stream}
@@ -9,13 +9,10 @@ use Rattle.puncture.specs.Steps.{number_of, costs_at}
 use Rattle.bit_interleave.specs.Place.{place_in_label, word_of_bit}
 use Rattle.symbol_interleave.specs.Carried.{is_odd, place_of_word}
 use Rattle.pilots.specs.Carriers.{payload_carriers}
+use Rattle.qam_map.specs.Cells.{cell_of}
 use Rattle.qam_map.specs.Points.{on_axis}
 use Rattle.qam_map.specs.declared.cell.Cell.{Cell}
 use Rattle.soft_metric.specs.Costs.{cost}
-
--- the cell of carrier k
-abbrev pub cell_of : List Cell → ℕ → Cell
-cell_of cells k = slice_index_or cells k (record { re = pos 0; im = pos 0 })
 
 -- the payload place of symbol l at which coded bit d of a stream stands: the one that carries the bit's word
 abbrev pub payload_place : Settings → ℕ → Stream → ℕ → ℕ

@@ -16,7 +16,8 @@ use Rattle.pilots.specs.Carriers.{payload_carriers}
 use Rattle.soft_metric.specs.Costs.{costs_at_place}
 use Rattle.qam_map.specs.declared.cell.Cell.{Cell}
 use Rattle.soft_metric.specs.Squares.{IsSmallPair}
-use Rattle.inner_chain.specs.CostPairs.{cell_of, costs_on}
+use Rattle.qam_map.specs.Cells.{cell_of}
+use Rattle.inner_chain.specs.CostPairs.{costs_on}
 
 -- the number of the costs of a coded bit among those of all places of all labels, the last number for an unsent bit
 abbrev pub entry_at : Settings → Bool → Stream → Option ℕ → ℕ

@@ -12,7 +12,8 @@ use Rattle.qam_map.specs.Points.{map_cell, on_axis}
 use Rattle.qam_map.specs.declared.cell.Cell.{Cell}
 use Rattle.soft_metric.specs.Costs.{IsNear, cost, NearPointsFavourTheirBits}
 use Rattle.frame_build.specs.Symbol.{cell_at, cell_of_kind}
-use Rattle.inner_chain.specs.CostPairs.{cell_of, costs_on}
+use Rattle.qam_map.specs.Cells.{cell_of}
+use Rattle.inner_chain.specs.CostPairs.{costs_on}
 use Rattle.transmission.specs.Transmission.{Inputs, tx_cell, tx_label}
 use Rattle.transmission.specs.SuperFrames.{symbols_of}
 use Rattle.reception.specs.Cells.{symbol_cells}

@@ -6,7 +6,7 @@ use Rattle.mode_set.specs.declared.modes.Start.TheVariants.{Zero}
 use Rattle.mode_set.specs.declared.modes.Stream.{Stream}
 use Rattle.mode_set.specs.declared.settings.Settings.{Settings}
 use Rattle.ts_packet.specs.Packet.{null_packet}
-use Rattle.inner_chain.specs.CostPairs.{cell_of}
+use Rattle.qam_map.specs.Cells.{cell_of}
 use Rattle.transmission.specs.Transmission.{Inputs, tx_cell}
 use Rattle.transmission.specs.SuperFrames.{symbols_of, tx}
 use Rattle.reception.specs.Cells.{symbol_cells}

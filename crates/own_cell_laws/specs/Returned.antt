@@ -7,7 +7,7 @@ use Rattle.pilots.specs.Carriers.{is_payload}
 use Rattle.soft_metric.specs.Costs.{IsNear}
 use Rattle.outer_chain.specs.Sent.{ArePackets, first_packets}
 use Rattle.outer_chain.specs.Words.{Tally}
-use Rattle.inner_chain.specs.CostPairs.{cell_of}
+use Rattle.qam_map.specs.Cells.{cell_of}
 use Rattle.transmission.specs.Transmission.{Inputs, tx_cell}
 use Rattle.transmission.specs.SuperFrames.{super_frames, counts_of, symbols_of}
 use Rattle.reception.specs.Cells.{symbols, symbol_cells}

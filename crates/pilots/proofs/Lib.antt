@@ -4,3 +4,4 @@ pub mod Walks
 pub mod Periods
 pub mod Popcount
 pub mod References
+pub mod TpsCarriers

@@ -1,5 +1,5 @@
 // The kind of a carrier, and the payload carriers by their numbers.
-ghost use Rattle.std.specs.Prelude.{◌≡◌, ℕ, ◌<◌, slice_index};
+ghost use Rattle.std.specs.Prelude.{◌≡◌, ℕ, ◌<◌, ◌≤◌, All, length, slice_index};
 ghost use Rattle.mode_set.specs.StreamTable.{carriers, payload};
 ghost use Rattle.pilots.specs.Carriers.{kind, payload_carriers, tps_carriers};
 ghost use Rattle.pilots.specs.Tables.{in_set, rank, continual_set, tps_set, payload_set, below_words, payload_places};
@@ -99,7 +99,9 @@ pub fn carrier(mode: Mode, l: u8, q: u32) -> u32
 
 /// The TPS carriers of a symbol, rising: 17 in the 2K mode, 68 in the 8K mode (EN 300 744, 4.6).
 pub fn tps_carriers(mode: Mode) -> &'static [u16]
-    ensures { result.now ≡ tps_carriers mode }
+    ensures carriers { result.now ≡ tps_carriers mode }
+    ensures few { length result.now ≤ 68 }
+    ensures within { All (λ k. k < carriers mode) result.now }
 {
     match mode {
         Mode::M2k => &TPS_2K,

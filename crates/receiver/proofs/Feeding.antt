@@ -17,7 +17,7 @@ use Rattle.pilots.specs.Carriers.{tps_carriers}
 use Rattle.qam_map.specs.declared.cell.Cell.{Cell}
 use Rattle.tps_word.specs.Vote.{vote}
 use Rattle.frame_build.specs.Symbol.{cells_from}
-use Rattle.inner_chain.specs.CostPairs.{cell_of}
+use Rattle.qam_map.specs.Cells.{cell_of}
 use Rattle.inner_chain.specs.PairLists.{pair_of}
 use Rattle.outer_chain.specs.Bits.{ByteOfBits}
 use Rattle.outer_chain.specs.Running.{AllFinished, no_words}

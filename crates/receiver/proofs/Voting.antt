@@ -1,19 +1,16 @@
 -- The bits of a frame, symbol by symbol, and the words that are counted.
-use Rattle.std.proofs.Common.{◌≡◌, ℕ, zero, suc, ◌+◌, ◌-◌, ◌*◌, ◌/◌, ◌%◌, ◌<◌, ◌≤◌, Bool, true, false, cond, eqb, inl, inr, ◌⊎◌, List, [], ◌∷◌, length, take, drop, set, map, get_or, refl, sym, ap, ap₂, ◌∙◌, subst, arith, length-drop}
-use Rattle.std.specs.Prelude.{◌↔◌, IsTrue, All, nat_lt}
+use Rattle.std.proofs.Common.{◌≡◌, ℕ, zero, suc, ◌+◌, ◌-◌, ◌*◌, ◌/◌, ◌%◌, ◌<◌, ◌≤◌, Bool, false, cond, eqb, inl, inr, ◌⊎◌, List, length, take, drop, set, map, get_or, refl, sym, ap, ap₂, ◌∙◌, subst, arith, length-drop}
+use Rattle.std.specs.Prelude.{◌↔◌, IsTrue}
 use Rattle.std.specs.List.{range_with_len}
-use Rattle.std.proofs.lemmas.List.Elements.{All-nil, All-cons}
-use Rattle.std.proofs.lemmas.Bool.{cases_lt, ne_eqb, eq-eqb, true≢false}
+use Rattle.std.proofs.lemmas.Bool.{cases_lt, ne_eqb, eq-eqb}
 use Rattle.std.proofs.lemmas.List.{get_or-set_same, get_or-set_other, get_or-drop, ext_get_or}
 use Rattle.std.proofs.lemmas.List.FromFn.{length-map-range_with_len, get_or-map-range_with_len}
 use Rattle.spec_words.specs.Words.{numbers}
 use Rattle.outer_chain.specs.Words.{count}
-use Rattle.mode_set.specs.StreamTable.{carriers}
 use Rattle.mode_set.specs.declared.modes.Mode.{Mode}
-use Rattle.mode_set.specs.declared.modes.Mode.TheVariants.{M2k, M8k}
-use Rattle.pilots.specs.Carriers.{tps_carriers, tps_2k, in_mode}
+use Rattle.pilots.specs.Carriers.{tps_carriers}
 use Rattle.qam_map.specs.declared.cell.Cell.{Cell}
-use Rattle.tps_word.specs.Vote.{vote}
+use Rattle.tps_word.specs.Vote.{vote, bits_from}
 use Rattle.reception.specs.Frames.{frame_bit, frame_bits, IsReadable, CountsWords}
 use Rattle.receiver.specs.Framing.{FrameStands, IsVoted}
 use Rattle.receiver.specs.declared.frames.FrameReader.{FrameReader}
@@ -98,7 +95,7 @@ goes_on mode x y cells n small s c b r d h =
 
 -- the word of a whole frame
 whole_word : (mode : Mode) (x : FrameReader) (cells : ℕ → List Cell) (n : ℕ) → length x.bits ≡ 68 → 67 ≤ n % 68 → IsVoted mode x cells n → drop 1 x.bits ≡ frame_bits cells (n / 68)
-unfolding frame_bits numbers
+unfolding frame_bits bits_from numbers
 whole_word mode x cells n long last h =
     let size : length (drop 1 x.bits) ≡ 67 = length-drop 1 x.bits ∙ (omega (arith, long)) in
     ext_get_or false (drop 1 x.bits) (map (frame_bit cells (n / 68)) (range_with_len 0 67)) (size ∙ sym (length-map-range_with_len (frame_bit cells (n / 68)) 0 67))
@@ -119,30 +116,3 @@ ends_frame mode x y cells n word b long small last s w is r t h =
       bits = λ i l. absurd (omega (arith, l, first));
       counts = subst (λ k. CountsWords (frame_bits cells) k y.read y.bad) (sym next) (word_more (frame_bits cells) (n / 68) x.read x.bad y.read y.bad b r t (subst (λ (z : List Bool). IsTrue b ↔ IsReadable z) whole is) h.counts);
     }
-
--- ---- the TPS carriers of a mode
-
-pub few_carriers : (m : Mode) → length (tps_carriers m) ≤ 68
-unfolding tps_carriers numbers
-few_carriers M2k = omega arith
-few_carriers M8k = omega arith
-
-abbrev are_below : ℕ → List ℕ → Bool
-are_below n [] = true
-are_below n (x ∷ xs) = cond (nat_lt x n) (are_below n xs) false
-
-below_true : (a b : ℕ) → nat_lt a b ≡ true → a < b
-below_true a b h = grind arith
-
-all_below : (n : ℕ) (xs : List ℕ) → are_below n xs ≡ true → All (λ k. k < n) xs
-all_below n [] e = All-nil (λ k. k < n)
-all_below n (x ∷ xs) e = go (nat_lt x n) refl (λ f. all_below n xs f) e
-  where
-    go : (b : Bool) → nat_lt x n ≡ b → (are_below n xs ≡ true → All (λ k. k < n) xs) → cond b (are_below n xs) false ≡ true → All (λ k. k < n) (x ∷ xs)
-    go true t rest f = All-cons (λ k. k < n) x xs (below_true x n t) (rest f)
-    go false t rest f = absurd (true≢false (sym f))
-
-pub carriers_within : (m : Mode) → All (λ k. k < carriers m) (tps_carriers m)
-unfolding tps_carriers numbers
-carriers_within M2k = all_below 1705 (in_mode M2k tps_2k) refl
-carriers_within M8k = all_below 6817 (in_mode M8k tps_2k) refl

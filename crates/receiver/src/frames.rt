@@ -1,19 +1,16 @@
 // The TPS words of frames, as their symbols come.
-ghost use Rattle.std.specs.Prelude.{◌≡◌, ◌+◌, ◌<◌, ◌≤◌, ◌^◌, ◌↔◌, ℕ, List, All, IsTrue, drop, length, map, slice_set, take};
-ghost use Rattle.tps_word.specs.Vote.{vote};
+ghost use Rattle.std.specs.Prelude.{◌≡◌, ◌+◌, ◌<◌, ◌≤◌, ◌^◌, ◌↔◌, ℕ, List, IsTrue, drop, length, map, slice_set};
 ghost use Rattle.mode_set.specs.StreamTable.{carriers};
 ghost use Rattle.pilots.specs.Carriers.{tps_carriers};
 ghost use Rattle.mode_set.specs.declared.modes.Mode.{Mode as AnyMode};
 ghost use Rattle.qam_map.specs.declared.cell.Cell.{Cell as AnyCell};
-ghost use Rattle.inner_chain.specs.CostPairs.{cell_of};
+ghost use Rattle.qam_map.specs.Cells.{cell_of};
 ghost use Rattle.reception.specs.Frames.{IsReadable};
 ghost use Rattle.receiver.specs.Framing.{FrameStands, IsVoted};
 
 use mode_set::Mode;
-use pilots::tps_carriers;
 use qam_map::Cell;
-use tps_bch::{TpsOutcome, correct};
-use tps_word::{TpsWord, vote};
+use tps_word::{TpsWord, take_tps_cells, vote};
 
 /// The most TPS carriers of a symbol.
 const MOST: usize = 68;
@@ -22,31 +19,7 @@ const MOST: usize = 68;
 fn is_readable(bits: &[bool; 67]) -> bool
     ensures { IsTrue result ↔ IsReadable bits.now }
 {
-    let mut word = *bits;
-    match correct(&mut word) {
-        TpsOutcome::Read(_) => TpsWord::read(&word).is_some(),
-        TpsOutcome::Unreadable => false,
-    }
-}
-
-// The cells of these carriers.
-fn gather(carriers: &[u16], cells: &[Cell], to: &mut [Cell])
-    requires within { All (λ k. k < length cells.now) carriers.now }
-    requires room { length carriers.now ≤ length to.old }
-    ensures { take (length carriers.now) to.new ≡ map (cell_of cells.now) carriers.now }
-{
-    for (i, k) in carriers.iter().enumerate() {
-        to[i] = cells[*k as usize];
-    }
-}
-
-// The TPS carriers of a mode.
-fn carriers_of(mode: Mode) -> &'static [u16]
-    ensures carriers { result.now ≡ tps_carriers mode }
-    ensures few { length result.now ≤ 68 }
-    ensures within { All (λ k. k < carriers mode) result.now }
-{
-    tps_carriers(mode)
+    TpsWord::nearest(bits).is_some()
 }
 
 /// Reads the TPS word of each frame of 68 symbols, and counts those that are read and those that are not.
@@ -81,14 +54,6 @@ fn word_of(bits: &[bool; 68]) -> [bool; 67]
     word
 }
 
-// The vote of the first so many cells.
-fn vote_of(before: &[Cell; 68], now: &[Cell; 68], count: usize) -> bool
-    requires few { count ≤ 68 }
-    ensures { result ≡ vote (take count before.now) (take count now.now) }
-{
-    vote(&before[..count], &now[..count])
-}
-
 impl FrameReader {
     pub(crate) fn new() -> FrameReader
         ensures none { (mode : AnyMode) (cells : ℕ → List AnyCell) → FrameStands mode result cells 0 }
@@ -114,10 +79,9 @@ impl FrameReader {
         ensures bad { self.new.bad ≡ self.old.bad }
         ensures voted { (shown : ℕ → List AnyCell) (n : ℕ) → shown n ≡ map (cell_of cells.now) (tps_carriers mode) → FrameStands mode self.old shown n → IsVoted mode self.new shown n }
     {
-        let carriers = carriers_of(mode);
         let mut now = [Cell { re: 0, im: 0 }; MOST];
-        gather(carriers, cells, &mut now);
-        let bit = vote_of(&self.before, &now, carriers.len());
+        let count = take_tps_cells(mode, cells, &mut now);
+        let bit = vote(&self.before[..count], &now[..count]);
         put_bit(&mut self.bits, self.symbol, bit);
         self.before = now;
     }

@@ -7,7 +7,7 @@ ghost use Rattle.mode_set.specs.StreamTable.{carriers, need};
 ghost use Rattle.mode_set.specs.declared.modes.Stream.TheVariants.{Hp, Lp};
 ghost use Rattle.pilots.specs.Carriers.{tps_carriers};
 ghost use Rattle.qam_map.specs.declared.cell.Cell.{Cell as AnyCell};
-ghost use Rattle.inner_chain.specs.CostPairs.{cell_of};
+ghost use Rattle.qam_map.specs.Cells.{cell_of};
 ghost use Rattle.inner_chain.specs.PairLists.{pair_of};
 ghost use Rattle.inner_decoder.specs.Events.{ats};
 ghost use Rattle.outer_chain.specs.Words.{Tally};

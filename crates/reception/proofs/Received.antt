@@ -11,7 +11,7 @@ use Rattle.mode_set.specs.declared.settings.Settings.{Settings}
 use Rattle.outer_chain.specs.Bits.{bytes_of, MoreBits}
 use Rattle.outer_chain.specs.Words.{Packets, Tallies, count}
 use Rattle.outer_chain.specs.Laws.{OnePackets, OneTally, MorePackets}
-use Rattle.tps_word.specs.Vote.{vote}
+use Rattle.tps_word.specs.Vote.{vote, bits_from}
 use Rattle.reception.specs.Cells.{symbols}
 use Rattle.reception.specs.Costs.{costs}
 use Rattle.reception.specs.Frames.{tps_cells, frame_bit, frame_bits, IsReadable, CountsWords, CountsFrames}
@@ -67,7 +67,7 @@ frames_once s bytes read bad more_read more_bad x y =
 
 -- the bits of a frame depend on its cells
 pub same_bits : BitsOfCells
-unfolding frame_bits
+unfolding frame_bits bits_from
 same_bits cells longer f h =
     sym (flat_map_single (frame_bit longer f) (numbers 67))
     ∙ same_parts (λ i. frame_bit longer f i ∷ []) (λ i. frame_bit cells f i ∷ []) 67 (λ i l. ap₂ (λ x y. vote x y ∷ []) (h (68 * f + i) (omega (arith, l))) (h (68 * f + i + 1) (omega (arith, l))))

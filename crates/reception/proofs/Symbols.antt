@@ -8,7 +8,7 @@ use Rattle.mode_set.specs.declared.settings.Settings.{Settings}
 use Rattle.pilots.specs.Carriers.{tps_carriers}
 use Rattle.qam_map.specs.declared.cell.Cell.{Cell}
 use Rattle.frame_build.specs.Symbol.{cells_from}
-use Rattle.inner_chain.specs.CostPairs.{cell_of}
+use Rattle.qam_map.specs.Cells.{cell_of}
 use Rattle.reception.specs.Cells.{symbol_length, symbols, bytes_of_symbol, symbol_cells}
 use Rattle.reception.specs.Frames.{tps_cells}
 use Rattle.reception.specs.Laws.{SameSymbols, OneSymbolMore, TailIsUnfinished, MoreUnfinished, EndedSymbol, CellsStay, TpsCellsStay, unfinished}

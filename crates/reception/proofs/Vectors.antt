@@ -12,7 +12,7 @@ use Rattle.pilots.specs.Reference.{reference, eleven_from}
 use Rattle.qam_map.specs.declared.cell.Cell.{Cell}
 use Rattle.tps_bch.specs.Bch.{bit_distance, tps_parity}
 use Rattle.tps_word.specs.Tps.{tps_word, tps_info, sync_word, length_bits, shape_bits, hierarchy_bits, rate_bits, guard_bits, mode_bits, signalled}
-use Rattle.tps_word.specs.Vote.{vote}
+use Rattle.tps_word.specs.Vote.{vote, bits_from}
 use Rattle.frame_build.specs.Symbol.{cell_from, tps_sign, real}
 use Rattle.reception.specs.Cells.{symbols, tail, bytes_of_symbol}
 use Rattle.reception.specs.Frames.{frame_bits}
@@ -72,10 +72,10 @@ abbrev sent_cells : ℕ → ℕ → ℕ → List Cell
 sent_cells a b l = map (λ k. real 16384 (xor (nat_le a l && nat_le l b) (tps_sign word k l))) (34 ∷ 50 ∷ [])
 
 clean : frame_bits (sent_cells 100 100) 0 ≡ word
-unfolding frame_bits numbers tps_word tps_info sync_word length_bits shape_bits hierarchy_bits rate_bits guard_bits mode_bits tps_parity vote tps_sign reference eleven_from
+unfolding frame_bits bits_from numbers tps_word tps_info sync_word length_bits shape_bits hierarchy_bits rate_bits guard_bits mode_bits tps_parity vote tps_sign reference eleven_from
 clean = refl
 
 -- the cells of the symbols 5 to 59 negated: two bits flip
 two_flips : bit_distance (frame_bits (sent_cells 5 59) 0) word ≡ 2
-unfolding frame_bits numbers tps_word tps_info sync_word length_bits shape_bits hierarchy_bits rate_bits guard_bits mode_bits tps_parity vote tps_sign reference eleven_from
+unfolding frame_bits bits_from numbers tps_word tps_info sync_word length_bits shape_bits hierarchy_bits rate_bits guard_bits mode_bits tps_parity vote tps_sign reference eleven_from
 two_flips = refl

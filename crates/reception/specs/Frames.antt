@@ -1,37 +1,28 @@
 -- The TPS words of received frames (EN 300 744, 4.6; the vote and what counts as read are this project's own).
-use Rattle.std.specs.Prelude.{◌≡◌, ℕ, ◌+◌, ◌*◌, ◌/◌, ◌<◌, ◌≤◌, ◌↔◌, IsTrue, Bool, List, map}
-use Rattle.spec_words.specs.Words.{numbers}
+use Rattle.std.specs.Prelude.{◌≡◌, ℕ, ◌+◌, ◌*◌, ◌/◌, ◌<◌, ◌↔◌, IsTrue, Bool, List}
 use Rattle.outer_chain.specs.Words.{count}
 use Rattle.mode_set.specs.declared.settings.Settings.{Settings}
-use Rattle.pilots.specs.Carriers.{tps_carriers}
 use Rattle.qam_map.specs.declared.cell.Cell.{Cell}
-use Rattle.tps_bch.specs.Bch.{IsTpsWord, bit_distance}
-use Rattle.tps_word.specs.Vote.{vote}
-use Rattle.tps_word.specs.Tps.{tps_word, IsValid}
+use Rattle.tps_word.specs.Vote.{tps_cells_of, bit_from, bits_from}
+use Rattle.tps_word.specs.Signals.{Signals}
 use Rattle.tps_word.specs.declared.word.TpsWord.{TpsWord}
-use Rattle.inner_chain.specs.CostPairs.{cell_of}
 use Rattle.reception.specs.Cells.{symbols, symbol_cells}
 
 -- the cells of the TPS carriers of symbol m
 unfoldable pub tps_cells : Settings → List ℕ → ℕ → List Cell
-tps_cells s bytes m = map (cell_of (symbol_cells s bytes m)) (tps_carriers s.mode)
+tps_cells s bytes m = tps_cells_of s.mode (symbol_cells s bytes m)
 
 -- bit s_(i+1) of a frame of 68 symbols: the vote of its symbols i and i + 1
 abbrev pub frame_bit : (ℕ → List Cell) → ℕ → ℕ → Bool
-frame_bit cells frame i = vote (cells (68 * frame + i)) (cells (68 * frame + i + 1))
+frame_bit cells frame i = bit_from cells (68 * frame) i
 
 -- s1 to s67 of a frame, from the TPS cells of the symbols
 unfoldable pub frame_bits : (ℕ → List Cell) → ℕ → List Bool
-frame_bits cells frame = map (frame_bit cells frame) (numbers 67)
+frame_bits cells frame = bits_from cells (68 * frame)
 
 -- the bits are within two errors of a word of the code whose fields can be sent
-pub record IsReadable (bits : List Bool) : Type 0 where
-  pub word : List Bool
-  pub is_word : IsTpsWord word
-  pub close : bit_distance bits word ≤ 2
-  pub fields : TpsWord
-  pub valid : IsValid fields
-  pub is : word ≡ tps_word fields
+abbrev pub IsReadable : List Bool → Type 0
+IsReadable bits = (fields : TpsWord) × Signals bits fields
 
 -- of the first n words so many are read, the others are bad
 pub record CountsWords (word : ℕ → List Bool) (n read bad : ℕ) : Type 0 where

@@ -1,5 +1,5 @@
 -- It can be decided whether the TPS word of a frame is read, so the frames of bytes are counted.
-use Rattle.std.proofs.Common.{◌≡◌, ℕ, zero, suc, ◌+◌, ◌-◌, ◌/◌, ◌≤◌, Bool, cond, true, false, List, inl, inr, refl, subst, arith}
+use Rattle.std.proofs.Common.{◌≡◌, ℕ, zero, suc, ◌+◌, ◌-◌, ◌/◌, ◌≤◌, Bool, cond, true, false, List, inl, inr, refl, arith}
 use Rattle.std.specs.Prelude.{IsTrue, IsFalse}
 use Rattle.outer_chain.specs.Words.{count}
 use Rattle.mode_set.specs.Kept.{is_flat, is_qpsk}
@@ -55,8 +55,8 @@ readable : (bits : List Bool) → Decided (IsReadable bits)
 readable bits = go (find_fields (AreNear bits) (λ t. both (is_valid t) (at_most (bit_distance bits (tps_word t)) 2)) (λ t p. (omega (arith, p.0.last), p.0.byte)))
   where
     go : Decided ((t : TpsWord) × (AreNear bits t)) → Decided (IsReadable bits)
-    go (inl f) = inl (record { word = tps_word f.0; is_word = is_code f.0; close = f.1.1; fields = f.0; valid = f.1.0; is = refl })
-    go (inr n) = inr (λ r. n (r.fields, (r.valid, subst (λ w. bit_distance bits w ≤ 2) r.is r.close)))
+    go (inl f) = inl (f.0, record { is_word = is_code f.0; close = f.1.1; valid = f.1.0 })
+    go (inr n) = inr (λ r. n (r.0, (r.1.valid, r.1.close)))
 
 count_most : (f : ℕ → Bool) (n : ℕ) → count f n ≤ n
 unfolding count

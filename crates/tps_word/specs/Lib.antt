@@ -1,3 +1,4 @@
 pub mod Tps
 pub mod Vote
 pub mod Number
+pub mod Signals

@@ -4,11 +4,14 @@
 //! EN 300 744, 4.6.
 #![tactic(auto)]
 
+mod cells;
 mod fields;
 mod laws;
+mod nearest;
 mod votes;
 mod word;
 
-pub use laws::words_are_read_back;
+pub use cells::take_tps_cells;
+pub use laws::{one_word_is_signalled, words_are_read_back};
 pub use votes::vote;
 pub use word::TpsWord;

@@ -1,0 +1,4 @@
+pub mod Places
+pub mod Tuning
+pub mod Announced
+pub mod OfBytes

@@ -1,0 +1,17 @@
+//! Reception from any symbol on: finds a frame by the TPS words that the symbols show, and from it the
+//! settings of the transmission and the symbol with which the next super-frame begins.
+//!
+//! EN 300 744, 4.6; the votes, and what counts as found, are this project's own.
+#![tactic(auto)]
+
+mod frame;
+mod laws;
+mod reception_settings;
+#[cfg(test)]
+mod tests;
+mod tuner;
+
+pub use frame::{Found, begin};
+pub use laws::{found_stays, more_bytes, one_found, symbols_of_bytes};
+pub use reception_settings::announced;
+pub use tuner::Tuner;
