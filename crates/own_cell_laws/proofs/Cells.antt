@@ -1,5 +1,5 @@
 -- The cell that stands for a label, where it is received near its point.
-use Rattle.std.proofs.Common.{◌≡◌, ℕ, zero, suc, ◌+◌, ◌%◌, ◌*◌, ◌<◌, List, ◌∷◌, length, get_or, refl, sym, ap, ap₂, ◌∙◌, subst, arith, Bool, true, false, cond, not, ◌||◌}
+use Rattle.std.proofs.Common.{◌≡◌, ℕ, zero, suc, ◌+◌, ◌%◌, ◌*◌, ◌<◌, ◌≤◌, List, ◌∷◌, length, get_or, refl, sym, ap, ap₂, ◌∙◌, subst, arith, Bool, true, false, cond, not, ◌||◌}
 use Rattle.std.specs.Prelude.{IsTrue, filter, count_by, slice_index, ◌==◌}
 use Rattle.std.specs.List.{range_with_len}
 use Rattle.spec_words.specs.Words.{numbers}
@@ -113,10 +113,10 @@ near_label s inputs bytes m q w l c =
     let k : ℕ = slice_index (payload_carriers s.mode (m % 68)) q in
     subst (λ (z : Cell). IsNear s.shape s.hierarchy z (cell_on s bytes m q)) (point_is s inputs m q k c.kind_is) (w.near m k l c.within c.free)
 
--- each bit of the label costs less than the other bit
+-- each bit of the label costs less than the other bit, by 15 at least
 pub label_favoured : NearPointsFavourTheirBits → (s : Settings) (inputs : Inputs) (bytes : List ℕ) (m q e : ℕ) → IsWithin s inputs bytes → m < symbols_of s inputs
     → AreCounted s.mode (m % 68) → q < payload s.mode → e < label_bits s.shape
-    → cost s.shape s.hierarchy (on_axis (cell_on s bytes m q) e) e (tx_label s inputs m q e) < cost s.shape s.hierarchy (on_axis (cell_on s bytes m q) e) e (not (tx_label s inputs m q e))
+    → cost s.shape s.hierarchy (on_axis (cell_on s bytes m q) e) e (tx_label s inputs m q e) + 15 ≤ cost s.shape s.hierarchy (on_axis (cell_on s bytes m q) e) e (not (tx_label s inputs m q e))
 label_favoured favour s inputs bytes m q e w l counts lq le = favour s.shape s.hierarchy (tx_label s inputs m q) (cell_on s bytes m q) e le (near_label s inputs bytes m q w l (carrier_of s m q counts lq))
 
 pub costs_are : (s : Settings) (bytes : List ℕ) (m q e : ℕ)

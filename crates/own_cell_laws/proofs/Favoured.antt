@@ -1,5 +1,5 @@
 -- The costs of each step speak for the path that was sent.
-use Rattle.std.proofs.Common.{◌≡◌, ℕ, ◌+◌, ◌*◌, ◌%◌, ◌<◌, ◌⊎◌, inl, inr, List, refl, sym, ap, ◌∙◌, subst, Bool, true, false, cond, not, ◌||◌}
+use Rattle.std.proofs.Common.{◌≡◌, ℕ, ◌+◌, ◌*◌, ◌%◌, ◌<◌, ◌≤◌, ◌⊎◌, inl, inr, List, refl, sym, ap, ◌∙◌, subst, Bool, true, false, cond, not, ◌||◌, arith}
 use Rattle.std.specs.Prelude.{IsTrue, Option, Some, None}
 use Rattle.std.proofs.Math.Nat.{add_assoc}
 use Rattle.mode_set.specs.StreamTable.{coded, need, rate, has_stream}
@@ -41,15 +41,18 @@ pub record AreKnown : Type 0 where
   pub periods : SymbolsHaveWholePeriods
 
 -- ---- a coded bit
-favours_of : (b : Bool) (k : Bool → ℕ) (c : ℕ × ℕ) → c ≡ (k false, k true) → k b < k (not b) → Favours b c.0 c.1
-favours_of true k c e l = subst (λ (z : ℕ × ℕ). z.1 < z.0) (sym e) l
-favours_of false k c e l = subst (λ (z : ℕ × ℕ). z.0 < z.1) (sym e) l
+less : (a b : ℕ) → a + 15 ≤ b → a < b
+less a b l = omega (arith, l)
+
+favours_of : (b : Bool) (k : Bool → ℕ) (c : ℕ × ℕ) → c ≡ (k false, k true) → k b + 15 ≤ k (not b) → Favours b c.0 c.1
+favours_of true k c e l = subst (λ (z : ℕ × ℕ). z.1 < z.0) (sym e) (less _ _ l)
+favours_of false k c e l = subst (λ (z : ℕ × ℕ). z.0 < z.1) (sym e) (less _ _ l)
 
 pub bit_favoured : AreKnown → (s : Settings) (inputs : Inputs) (bytes : List ℕ) (m : ℕ) (σ : Stream) (d : ℕ) → IsWithin s inputs bytes → m < symbols_of s inputs → IsTrue (has_stream s.hierarchy σ) → d < coded s σ
     → Favours (sent_bit (rate s σ) (paths_of inputs σ) (m * coded s σ + d)) (costs_of_bit s (symbol_cells s bytes m) (m % 68) σ d).0 (costs_of_bit s (symbol_cells s bytes m) (m % 68) σ d).1
 bit_favoured known s inputs bytes m σ d w l exists few =
     favours_of (sent_bit (rate s σ) (paths_of inputs σ) (m * coded s σ + d)) k (costs_of_bit s (symbol_cells s bytes m) (m % 68) σ d) (costs_are s bytes m q e)
-    (subst (λ (b : Bool). k b < k (not b)) (label_is known.found known.agree s inputs m σ d sent few p)
+    (subst (λ (b : Bool). k b + 15 ≤ k (not b)) (label_is known.found known.agree s inputs m σ d sent few p)
     (label_favoured known.favour s inputs bytes m q e w l (known.counts s.mode (m % 68)) (place_within known.permutation s.mode (is_odd (m % 68)) (word_of_bit s.shape s.hierarchy σ d) known.agree p.word) p.place))
   where
     sent : IsSent s.shape s.hierarchy σ

@@ -3,3 +3,4 @@ mod Vectors
 mod Wrapping
 mod Sides
 pub mod Near
+mod Weighing
