@@ -64,6 +64,7 @@ fn a_symbol_in_pieces(rt: HostRuntime) {
             im: 0x1212
         }
     );
+    assert!(&rt; symbol.weights()[1704] == 15);
     symbol.next();
     assert!(&rt; symbol.waiting() == 0);
 }

@@ -137,15 +137,16 @@ fn check<M: Carriers>(
     )?;
     let mut cells = vec![in alloc; Cell::default(); settings.mode.carriers() as usize]?;
     place_cells(rt, settings, 0, &labels, &mut cells);
+    let weights = vec![in alloc; 15u8; settings.mode.carriers() as usize]?;
     let mut pairs = Vec::with_capacity(alloc, settings.need(Stream::Hp) as usize)?;
-    rx.pairs(&cells, 0, Stream::Hp, &mut pairs);
+    rx.pairs(&cells, &weights, 0, Stream::Hp, &mut pairs);
     let coded = settings.coded(Stream::Hp) as usize;
     let steps = settings.need(Stream::Hp) as usize;
     assert!(rt; coded <= 2 * steps && steps == rx.steps(Stream::Hp) as usize);
     pairs_fit(rt, &pairs, 1, 2 * steps - coded);
     if settings.has_stream(Stream::Lp) {
         let mut pairs = Vec::with_capacity(alloc, settings.need(Stream::Lp) as usize)?;
-        rx.pairs(&cells, 0, Stream::Lp, &mut pairs);
+        rx.pairs(&cells, &weights, 0, Stream::Lp, &mut pairs);
         let coded = settings.coded(Stream::Lp) as usize;
         let steps = settings.need(Stream::Lp) as usize;
         assert!(rt; coded <= 2 * steps);

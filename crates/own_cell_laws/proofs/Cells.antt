@@ -12,10 +12,11 @@ use Rattle.qam_map.specs.Points.{map_cell, on_axis}
 use Rattle.qam_map.specs.declared.cell.Cell.{Cell}
 use Rattle.soft_metric.specs.Costs.{IsNear, cost, NearPointsFavourTheirBits}
 use Rattle.frame_build.specs.Symbol.{cell_at, cell_of_kind}
-use Rattle.inner_chain.specs.CostPairs.{cell_of, costs_on}
+use Rattle.soft_metric.specs.Weights.{weighted}
+use Rattle.inner_chain.specs.CostPairs.{cell_of, weight_of, costs_on, weighted_costs_on}
 use Rattle.transmission.specs.Transmission.{Inputs, tx_cell, tx_label}
 use Rattle.transmission.specs.SuperFrames.{symbols_of}
-use Rattle.reception.specs.Cells.{symbol_cells}
+use Rattle.reception.specs.Cells.{symbol_cells, symbol_weights}
 use Rattle.own_cell_laws.specs.Counted.{AreCounted}
 use Rattle.own_cell_laws.specs.Returned.{IsWithin}
 
@@ -119,7 +120,16 @@ pub label_favoured : NearPointsFavourTheirBits → (s : Settings) (inputs : Inpu
     → cost s.shape s.hierarchy (on_axis (cell_on s bytes m q) e) e (tx_label s inputs m q e) + 15 ≤ cost s.shape s.hierarchy (on_axis (cell_on s bytes m q) e) e (not (tx_label s inputs m q e))
 label_favoured favour s inputs bytes m q e w l counts lq le = favour s.shape s.hierarchy (tx_label s inputs m q) (cell_on s bytes m q) e le (near_label s inputs bytes m q w l (carrier_of s m q counts lq))
 
+-- the weight that a receiver finds on a payload place
+abbrev pub weight_on : Settings → List ℕ → ℕ → ℕ → ℕ
+weight_on s bytes m q = weight_of (symbol_weights s bytes m) (slice_index (payload_carriers s.mode (m % 68)) q)
+
+-- it is at least 1
+pub some_weight : (s : Settings) (inputs : Inputs) (bytes : List ℕ) (m q : ℕ) → IsWithin s inputs bytes → m < symbols_of s inputs → AreCounted s.mode (m % 68) → q < payload s.mode → 1 ≤ weight_on s bytes m q
+some_weight s inputs bytes m q w l counts lq = let c = carrier_of s m q counts lq in w.weight m (slice_index (payload_carriers s.mode (m % 68)) q) l c.within c.free
+
 pub costs_are : (s : Settings) (bytes : List ℕ) (m q e : ℕ)
-    → costs_on s (symbol_cells s bytes m) (m % 68) q e ≡ (cost s.shape s.hierarchy (on_axis (cell_on s bytes m q) e) e false, cost s.shape s.hierarchy (on_axis (cell_on s bytes m q) e) e true)
-unfolding costs_on
+    → weighted_costs_on s (symbol_cells s bytes m) (symbol_weights s bytes m) (m % 68) q e
+    ≡ weighted (cost s.shape s.hierarchy (on_axis (cell_on s bytes m q) e) e false, cost s.shape s.hierarchy (on_axis (cell_on s bytes m q) e) e true) (weight_on s bytes m q)
+unfolding costs_on weighted_costs_on
 costs_are s bytes m q e = refl

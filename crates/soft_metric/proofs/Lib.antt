@@ -4,3 +4,4 @@ mod Wrapping
 mod Sides
 pub mod Near
 mod Weighing
+mod Fifteenths
