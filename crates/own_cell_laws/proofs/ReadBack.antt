@@ -1,5 +1,5 @@
 -- The cells of a transmission are read from its bytes.
-use Rattle.std.proofs.Common.{◌≡◌, ℕ, zero, suc, ◌+◌, ◌*◌, ◌/◌, ◌%◌, ◌^◌, ◌<◌, ◌≤◌, List, [], ◌∷◌, ◌++◌, length, take, drop, refl, sym, ap, ap₂, ◌∙◌, subst, arith, append_assoc, length-append, ltb, Bool, true, false, ◌&&◌}
+use Rattle.std.proofs.Common.{◌≡◌, ℕ, zero, suc, ◌+◌, ◌*◌, ◌/◌, ◌%◌, ◌^◌, ◌<◌, ◌≤◌, List, [], ◌∷◌, ◌++◌, length, take, drop, refl, sym, ap, ap₂, ◌∙◌, subst, arith, append_assoc, length-append, ltb, Bool, true, false, ◌&&◌, get_or, replicate}
 use Rattle.std.specs.Prelude.{ℤ, pos, unsigned_abs, flat_map}
 use Rattle.std.specs.Int.{cast_signed, cast_unsigned, w16}
 use Rattle.std.specs.List.{range_with_len}
@@ -223,7 +223,7 @@ near_itself s h c = record { re = few (no_distance c.re); im = few (no_distance 
     few e = omega (arith, e)
 
 -- own cells have a weight
-whole : (n k : ℕ) → get_or (replicate n 15) k 15 ≡ 15
+whole : (n k : ℕ) → let weights : List ℕ = replicate n 15 in get_or weights k 15 ≡ 15
 whole zero k = refl
 whole (suc n) zero = refl
 whole (suc n) (suc k) = whole n k

@@ -18,7 +18,7 @@ use Rattle.mode_set.specs.declared.settings.Settings.{Settings}
 use Rattle.qam_map.specs.declared.cell.Cell.{Cell}
 use Rattle.inner_chain.specs.CostPairs.{costs_on, weighted_costs_on}
 use Rattle.inner_chain.specs.PairLists.{pair_of}
-use Rattle.reception.specs.Cells.{symbols, symbol_cells, bytes_of_symbol}
+use Rattle.reception.specs.Cells.{symbols, symbol_cells, symbol_weights, bytes_of_symbol}
 use Rattle.reception.specs.Costs.{symbol_costs, costs}
 use Rattle.reception.specs.Frames.{tps_cells, frame_bits, CountsWords}
 use Rattle.reception.specs.Lines.{events, event_lines, closing_lines}
