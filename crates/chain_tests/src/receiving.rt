@@ -142,8 +142,9 @@ fn stream_fits<M: Carriers>(
     if settings.has_stream(stream) {
         let steps = rx.steps(stream) as usize;
         let mut pairs = Vec::with_capacity(alloc, steps)?;
+        let weights = vec![in alloc; 15u8; settings.mode.carriers() as usize]?;
         assert!(rt; l < 68 && cells.len() == settings.mode.carriers() as usize);
-        rx.pairs(cells, l, stream, &mut pairs);
+        rx.pairs(cells, &weights, l, stream, &mut pairs);
         assert!(rt; pairs.len() == steps);
         pairs_fit(rt, &pairs, settings.rate(stream), coded);
     }

@@ -12,7 +12,7 @@ use Rattle.pilots.specs.Reference.{reference}
 use Rattle.qam_map.specs.declared.cell.Cell.{Cell}
 use Rattle.qam_map.specs.Points.{map_cell}
 use Rattle.tps_word.specs.Tps.{tps_word, signalled}
-use Rattle.frame_build.specs.Symbol.{cell_bytes, cells_from}
+use Rattle.frame_build.specs.Symbol.{cell_bytes, cells_from, weights_from}
 use Rattle.frame_build.specs.declared.source.Source.{Source}
 use Rattle.frame_build.specs.declared.source.Source.TheVariants.{Label, Pilot, OppositePilot, Signalling, OppositeSignalling}
 
@@ -64,9 +64,10 @@ pub record IsReady (m : Mode) (s : Settings) (frame l : ℕ) (word : List Bool) 
   pub table : IsLabelTable s cells (2 ^ label_bits s.shape)
   pub send : (i : ℕ) (d : List Source) → i < 4 → AreSources m i (get_or lists i d) (carriers m)
 
--- a symbol of k carriers of which some bytes were taken; a whole one has its cells
-pub record IsTaking (k filled : ℕ) (bytes : List ℕ) (cells : List Cell) : Type 0 where
+-- a symbol of k carriers of which some bytes were taken; a whole one has its cells and their weights
+pub record IsTaking (k filled : ℕ) (bytes : List ℕ) (cells : List Cell) (weights : List ℕ) : Type 0 where
   pub bytes_of : length bytes ≡ 4 * k
   pub cells_of : length cells ≡ k
   pub within : filled ≤ 4 * k
   pub whole : filled ≡ 4 * k → cells ≡ cells_from bytes k
+  pub weighed : weights ≡ weights_from bytes k

@@ -1,5 +1,5 @@
 -- The cells of an OFDM symbol, and their bytes (EN 300 744, 4.4 to 4.6; the bytes are this project's own).
-use Rattle.std.specs.Prelude.{ℕ, zero, suc, ◌+◌, ◌*◌, ◌/◌, ◌%◌, Bool, if◌then◌else◌, List, ◌++◌, map, flat_map, drop, pos, neg_ℤ, ◌≡◌, ◌<◌}
+use Rattle.std.specs.Prelude.{ℕ, zero, suc, ◌+◌, ◌*◌, ◌/◌, ◌%◌, Bool, if◌then◌else◌, List, ◌++◌, map, flat_map, drop, replicate, pos, neg_ℤ, ◌≡◌, ◌<◌}
 use Rattle.std.specs.Int.{cast_unsigned, cast_signed, w16}
 use Rattle.std.specs.Prelude.{get_or}
 use Rattle.byteorder.specs.Endian.{big_bytes, big_number}
@@ -62,3 +62,7 @@ cell_from bytes k = record { re = cast_signed w16 (big_number 2 (drop (4 * k) by
 -- the first n cells of bytes
 unfoldable pub cells_from : List ℕ → ℕ → List Cell
 cells_from bytes n = map (cell_from bytes) (numbers n)
+
+-- the weights of the first n cells of bytes, which have none: every cell counts whole
+abbrev pub weights_from : List ℕ → ℕ → List ℕ
+weights_from bytes n = replicate n 15

@@ -5,6 +5,7 @@
 //! two's complement, the high byte first.
 #![tactic(auto)]
 
+mod cell_file;
 mod laws;
 mod source;
 mod symbol_in;
@@ -12,6 +13,7 @@ mod symbol_out;
 #[cfg(test)]
 mod tests;
 
+pub use cell_file::header;
 pub use laws::{symbols_follow_labels, symbols_repeat};
 pub use symbol_in::SymbolIn;
 pub use symbol_out::SymbolOut;

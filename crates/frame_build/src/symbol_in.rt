@@ -1,6 +1,6 @@
 // From bytes that were cut anywhere to the cells of symbols.
-ghost use Rattle.std.specs.Prelude.{◌≡◌, ℕ, ◌+◌, ◌*◌, ◌≢◌, ◌≤◌, ◌++◌, ◌↔◌, [], ◌-◌, min, take, drop, length, IfOk, IsTrue};
-ghost use Rattle.frame_build.specs.Symbol.{cell_from, cells_from};
+ghost use Rattle.std.specs.Prelude.{◌≡◌, ℕ, ◌+◌, ◌*◌, ◌≢◌, ◌<◌, ◌≤◌, ◌++◌, ◌↔◌, [], ◌-◌, min, take, drop, length, slice_index, IfOk, IsTrue};
+ghost use Rattle.frame_build.specs.Symbol.{cell_from, cells_from, weights_from};
 
 use byteorder::{BigEndian, ByteOrder};
 use mode_set::Carriers;
@@ -34,10 +34,11 @@ fn read_cells(bytes: &[u8], cells: &mut [Cell])
 #[derive(Drop)]
 pub struct SymbolIn<M: Carriers> {
     // The bytes of the current symbol, of which the first `filled` were taken, and its cells once it
-    // is whole.
+    // is whole. Every cell counts whole.
     bytes: Vec<u8>,
     filled: usize,
     cells: Vec<Cell>,
+    weights: Vec<u8>,
     of: PhantomData<M>,
 }
 
@@ -49,7 +50,7 @@ impl<M: Carriers> Model for SymbolIn<M> {
 
     ghost view = { λ i. take i.filled i.bytes.items };
 
-    ghost invariant = { λ i. IsTaking M.K i.filled i.bytes.items i.cells.items };
+    ghost invariant = { λ i. IsTaking M.K i.filled i.bytes.items i.cells.items i.weights.items };
 }
 
 impl<M: Carriers> SymbolIn<M> {
@@ -59,10 +60,12 @@ impl<M: Carriers> SymbolIn<M> {
     {
         let bytes = vec![in alloc; 0u8; 4 * M::K as usize]?;
         let cells = vec![in alloc; Cell { re: 0, im: 0 }; M::K as usize]?;
+        let weights = vec![in alloc; 15u8; M::K as usize]?;
         Ok(SymbolIn {
             bytes,
             filled: 0,
             cells,
+            weights,
             of: PhantomData,
         })
     }
@@ -107,6 +110,16 @@ impl<M: Carriers> SymbolIn<M> {
         ensures count { length result.now ≡ M.K }
     {
         &self.cells
+    }
+
+    /// The weights of these cells, each at most 15.
+    pub fn weights(&self) -> &[u8]
+        requires { length self.now ≡ 4 * M.K }
+        ensures weights { result.now ≡ weights_from self.now M.K }
+        ensures count { length result.now ≡ M.K }
+        ensures small { (k : ℕ) → k < M.K → slice_index result.now k ≤ 15 }
+    {
+        &self.weights
     }
 
     /// Passes on to the following symbol, of which no byte was taken yet.

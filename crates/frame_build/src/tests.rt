@@ -1,7 +1,7 @@
 // The cells of the first symbols of a transmission.
 ghost use Rattle.std.specs.Prelude.{ℕ, ◌<◌, get_or};
 
-use crate::{SymbolIn, SymbolOut};
+use crate::{SymbolIn, SymbolOut, header};
 use mode_set::{Guard, Hierarchy, Mode, Mode2k, Rate, Settings, Shape, Start};
 use qam_map::Cell;
 use std::rt::HostRuntime;
@@ -64,6 +64,13 @@ fn a_symbol_in_pieces(rt: HostRuntime) {
             im: 0x1212
         }
     );
+    assert!(&rt; symbol.weights()[1704] == 15);
     symbol.next();
     assert!(&rt; symbol.waiting() == 0);
+}
+
+#[test]
+fn headers_of_both_modes(rt: HostRuntime) {
+    assert_eq!(&rt; header(Mode::M2k), [0x44, 0x56, 0x54, 0x43, 2, 0, 0, 0]);
+    assert_eq!(&rt; header(Mode::M8k), [0x44, 0x56, 0x54, 0x43, 2, 1, 0, 0]);
 }

@@ -27,28 +27,28 @@ same_pair c d ex ey =
     let with_y : IsThisPair c d.x0 d.x1 d.y0 d.y1 = subst (λ (z : ℕ × ℕ). IsThisPair c d.x0 d.x1 z.0 z.1) ey with_x in
     with_y d.small
 
-is_pair_of : (s : Settings) (cells : List Cell) (l : ℕ) (σ : Stream) (t : ℕ) (c : CostPair) → IsPairOf s cells l σ t c → c ≡ pair_of s cells l σ t
+is_pair_of : (s : Settings) (cells : List Cell) (weights : List ℕ) (l : ℕ) (σ : Stream) (t : ℕ) (c : CostPair) → IsPairOf s cells weights l σ t c → c ≡ pair_of s cells weights l σ t
 unfolding pair_of
-is_pair_of s cells l σ t c p = same_pair c (pair_of s cells l σ t) p.x p.y
+is_pair_of s cells weights l σ t c p = same_pair c (pair_of s cells weights l σ t) p.x p.y
 
 pub pairs_are_listed : PairsAreListed
 unfolding numbers
-pairs_are_listed s cells l σ old new a = a.is ∙ ap (λ (zs : List CostPair). old ++ zs) (ext_get_or d a.pairs all long each)
+pairs_are_listed s cells weights l σ old new a = a.is ∙ ap (λ (zs : List CostPair). old ++ zs) (ext_get_or d a.pairs all long each)
   where
     d : CostPair
-    d = pair_of s cells l σ 0
+    d = pair_of s cells weights l σ 0
 
     n : ℕ
     n = need s σ
 
     all : List CostPair
-    all = map (pair_of s cells l σ) (range_with_len 0 n)
+    all = map (pair_of s cells weights l σ) (range_with_len 0 n)
 
     long : length a.pairs ≡ length all
-    long = a.long ∙ sym (length-map-range_with_len (pair_of s cells l σ) 0 n)
+    long = a.long ∙ sym (length-map-range_with_len (pair_of s cells weights l σ) 0 n)
 
     each : (t : ℕ) → t < length a.pairs → get_or a.pairs t d ≡ get_or all t d
     each t m =
         let within : t < n = omega (arith, m, a.long) in
         let place : 0 + t ≡ t = omega arith in
-        is_pair_of s cells l σ t (get_or a.pairs t d) (a.at t d within) ∙ sym (get_or-map-range_with_len (pair_of s cells l σ) 0 n t t d within place)
+        is_pair_of s cells weights l σ t (get_or a.pairs t d) (a.at t d within) ∙ sym (get_or-map-range_with_len (pair_of s cells weights l σ) 0 n t t d within place)

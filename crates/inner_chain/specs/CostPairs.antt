@@ -1,5 +1,5 @@
--- The costs of the coded bits of a symbol, from its cells.
-use Rattle.std.specs.Prelude.{◌≡◌, ℕ, ◌<◌, true, false, List, ◌++◌, length, slice_index, slice_index_or}
+-- The costs of the coded bits of a symbol, from its cells and their weights.
+use Rattle.std.specs.Prelude.{◌≡◌, ℕ, ◌<◌, true, false, List, ◌++◌, length, get_or, slice_index, slice_index_or}
 use Rattle.code_paths.specs.declared.costs.CostPair.{CostPair}
 use Rattle.mode_set.specs.StreamTable.{need, rate}
 use Rattle.mode_set.specs.declared.modes.Stream.{Stream}
@@ -13,6 +13,7 @@ use Rattle.qam_map.specs.Cells.{cell_of}
 use Rattle.qam_map.specs.Points.{on_axis}
 use Rattle.qam_map.specs.declared.cell.Cell.{Cell}
 use Rattle.soft_metric.specs.Costs.{cost}
+use Rattle.soft_metric.specs.Weights.{full_weight, weight_of_byte, weighted}
 
 -- the payload place of symbol l at which coded bit d of a stream stands: the one that carries the bit's word
 abbrev pub payload_place : Settings → ℕ → Stream → ℕ → ℕ
@@ -23,18 +24,26 @@ unfoldable pub costs_on : Settings → List Cell → ℕ → ℕ → ℕ → ℕ
 costs_on s cells l q e = let x = on_axis (cell_of cells (slice_index (payload_carriers s.mode l) q)) e in
     (cost s.shape s.hierarchy x e false, cost s.shape s.hierarchy x e true)
 
--- the costs of coded bit d: its cell is that of its payload place, its axis that of its place in the label
-abbrev pub costs_of_bit : Settings → List Cell → ℕ → Stream → ℕ → ℕ × ℕ
-costs_of_bit s cells l σ d = costs_on s cells l (payload_place s l σ d) (place_in_label s.shape s.hierarchy σ d)
+-- the weight of carrier k: one above 15 counts as 15
+abbrev pub weight_of : List ℕ → ℕ → ℕ
+weight_of weights k = weight_of_byte (get_or weights k full_weight)
 
--- the cost pair of step t: the costs of its X and of its Y, each nothing where the bit is not sent
-pub record IsPairOf (s : Settings) (cells : List Cell) (l : ℕ) (σ : Stream) (t : ℕ) (c : CostPair) : Type 0 where
-  pub x : (c.x0, c.x1) ≡ costs_at (costs_of_bit s cells l σ) (number_of (rate s σ) X t)
-  pub y : (c.y0, c.y1) ≡ costs_at (costs_of_bit s cells l σ) (number_of (rate s σ) Y t)
+-- those costs by the weight of the cell
+unfoldable pub weighted_costs_on : Settings → List Cell → List ℕ → ℕ → ℕ → ℕ → ℕ × ℕ
+weighted_costs_on s cells weights l q e = weighted (costs_on s cells l q e) (weight_of weights (slice_index (payload_carriers s.mode l) q))
+
+-- the weighted costs of coded bit d: its cell is that of its payload place, its axis that of its place in the label
+abbrev pub costs_of_bit : Settings → List Cell → List ℕ → ℕ → Stream → ℕ → ℕ × ℕ
+costs_of_bit s cells weights l σ d = weighted_costs_on s cells weights l (payload_place s l σ d) (place_in_label s.shape s.hierarchy σ d)
+
+-- the cost pair of step t: the weighted costs of its X and of its Y, each nothing where the bit is not sent
+pub record IsPairOf (s : Settings) (cells : List Cell) (weights : List ℕ) (l : ℕ) (σ : Stream) (t : ℕ) (c : CostPair) : Type 0 where
+  pub x : (c.x0, c.x1) ≡ costs_at (costs_of_bit s cells weights l σ) (number_of (rate s σ) X t)
+  pub y : (c.y0, c.y1) ≡ costs_at (costs_of_bit s cells weights l σ) (number_of (rate s σ) Y t)
 
 -- a list is continued by one pair for each step of a symbol
-pub record AppendsPairs (s : Settings) (cells : List Cell) (l : ℕ) (σ : Stream) (old new : List CostPair) : Type 0 where
+pub record AppendsPairs (s : Settings) (cells : List Cell) (weights : List ℕ) (l : ℕ) (σ : Stream) (old new : List CostPair) : Type 0 where
   pub pairs : List CostPair
   pub long : length pairs ≡ need s σ
-  pub at : (t : ℕ) (d : CostPair) → t < need s σ → IsPairOf s cells l σ t (slice_index_or pairs t d)
+  pub at : (t : ℕ) (d : CostPair) → t < need s σ → IsPairOf s cells weights l σ t (slice_index_or pairs t d)
   pub is : new ≡ old ++ pairs

@@ -16,8 +16,9 @@ use Rattle.pilots.specs.Carriers.{payload_carriers}
 use Rattle.soft_metric.specs.Costs.{costs_at_place}
 use Rattle.qam_map.specs.declared.cell.Cell.{Cell}
 use Rattle.soft_metric.specs.Squares.{IsSmallPair}
+use Rattle.soft_metric.specs.Weights.{full_weight, weighted}
 use Rattle.qam_map.specs.Cells.{cell_of}
-use Rattle.inner_chain.specs.CostPairs.{costs_on}
+use Rattle.inner_chain.specs.CostPairs.{weight_of, weighted_costs_on}
 
 -- the number of the costs of a coded bit among those of all places of all labels, the last number for an unsent bit
 abbrev pub entry_at : Settings → Bool → Stream → Option ℕ → ℕ
@@ -66,9 +67,9 @@ pub record AppendsTwo (s : Settings) (odd : Bool) (σ : Stream) (x y : Option �
 abbrev pub pair_at : List (ℕ × ℕ) → ℕ → ℕ × ℕ
 pair_at costs n = slice_index_or costs n (0, 0)
 
--- the costs of all places of the labels on all payload places of symbol l: those of place 0 of the labels first
-pub record AreCosts (s : Settings) (cells : List Cell) (l : ℕ) (costs : List (ℕ × ℕ)) : Type 0 where
-  pub at : (q e : ℕ) → q < payload s.mode → e < label_bits s.shape → pair_at costs (e * payload s.mode + q) ≡ costs_on s cells l q e
+-- the weighted costs of all places of the labels on all payload places of symbol l: those of place 0 of the labels first
+pub record AreCosts (s : Settings) (cells : List Cell) (weights : List ℕ) (l : ℕ) (costs : List (ℕ × ℕ)) : Type 0 where
+  pub at : (q e : ℕ) → q < payload s.mode → e < label_bits s.shape → pair_at costs (e * payload s.mode + q) ≡ weighted_costs_on s cells weights l q e
 
 -- the room for them: its last pair is nothing, and no cost is above 4095
 pub record IsRoom (s : Settings) (costs : List (ℕ × ℕ)) : Type 0 where
@@ -76,20 +77,35 @@ pub record IsRoom (s : Settings) (costs : List (ℕ × ℕ)) : Type 0 where
   pub last : pair_at costs (payload s.mode * label_bits s.shape) ≡ (0, 0)
   pub small : (k : ℕ) → k < length costs → IsSmallPair (pair_at costs k)
 
+-- the weights of all carriers, none above 15
+pub record AreWeights (m : Mode) (weights : List ℕ) : Type 0 where
+  pub long : length weights ≡ carriers m
+  pub small : (k : ℕ) → k < carriers m → slice_index weights k ≤ full_weight
+
 -- the cells on the first n payload places of symbol l
 pub record ArePayloadCells (m : Mode) (cells : List Cell) (l n : ℕ) (list : List Cell) : Type 0 where
   pub long : length list ≡ payload m
   pub at : (q : ℕ) (d : Cell) → q < n → slice_index_or list q d ≡ cell_of cells (slice_index (payload_carriers m l) q)
 
--- the first n of the costs of all places of these payload cells
-pub record ArePlanes (s : Settings) (cells : List Cell) (n : ℕ) (costs : List (ℕ × ℕ)) : Type 0 where
+-- the room for the weights of payload places, none above 15
+pub record IsWeightRoom (m : Mode) (list : List ℕ) : Type 0 where
+  pub long : length list ≡ payload m
+  pub small : (q : ℕ) → q < payload m → slice_index list q ≤ full_weight
+
+-- the weights on the first n payload places of symbol l
+pub record ArePayloadWeights (m : Mode) (weights : List ℕ) (l n : ℕ) (list : List ℕ) : Type 0 where
+  pub room : IsWeightRoom m list
+  pub at : (q : ℕ) → q < n → slice_index list q ≡ weight_of weights (slice_index (payload_carriers m l) q)
+
+-- the first n of the costs of all places of these payload cells, by their weights
+pub record ArePlanes (s : Settings) (cells : List Cell) (weights : List ℕ) (n : ℕ) (costs : List (ℕ × ℕ)) : Type 0 where
   pub at : (q e : ℕ) (d : Cell) → q < payload s.mode → e < label_bits s.shape → e * payload s.mode + q < n
-      → pair_at costs (e * payload s.mode + q) ≡ costs_at_place s.shape s.hierarchy (slice_index_or cells q d) e
+      → pair_at costs (e * payload s.mode + q) ≡ weighted (costs_at_place s.shape s.hierarchy (slice_index_or cells q d) e) (slice_index weights q)
 
 -- the costs at place e of so many of these payload cells, from number q on, are written
-pub record PutsCosts (s : Settings) (e q count : ℕ) (cells : List Cell) (old new : List (ℕ × ℕ)) : Type 0 where
+pub record PutsCosts (s : Settings) (e q count : ℕ) (cells : List Cell) (weights : List ℕ) (old new : List (ℕ × ℕ)) : Type 0 where
   pub long : length new ≡ length old
-  pub here : (j : ℕ) (d : Cell) → j < count → pair_at new (e * payload s.mode + q + j) ≡ costs_at_place s.shape s.hierarchy (slice_index_or cells (q + j) d) e
+  pub here : (j : ℕ) (d : Cell) → j < count → pair_at new (e * payload s.mode + q + j) ≡ weighted (costs_at_place s.shape s.hierarchy (slice_index_or cells (q + j) d) e) (slice_index weights (q + j))
   pub small : (j : ℕ) → j < count → IsSmallPair (pair_at new (e * payload s.mode + q + j))
   pub below : (k : ℕ) → k < e * payload s.mode + q → pair_at new k ≡ pair_at old k
   pub above : (k : ℕ) → e * payload s.mode + q + count ≤ k → pair_at new k ≡ pair_at old k
@@ -103,7 +119,7 @@ pub record AppendsRead (costs : List (ℕ × ℕ)) (entries : List ℕ) (n : ℕ
   pub is : new ≡ old ++ pairs
 
 -- what the receiving side of a mode keeps
-pub record IsRx (m : Mode) (s : Settings) (metric : Shape × Hierarchy) (carrier_table hp_even hp_odd lp_even lp_odd : List ℕ) (costs : List (ℕ × ℕ)) (payload_cells : List Cell) : Type 0 where
+pub record IsRx (m : Mode) (s : Settings) (metric : Shape × Hierarchy) (carrier_table hp_even hp_odd lp_even lp_odd : List ℕ) (costs : List (ℕ × ℕ)) (payload_cells : List Cell) (payload_weights : List ℕ) : Type 0 where
   pub mode : s.mode ≡ m
   pub metric_is : metric ≡ (s.shape, s.hierarchy)
   pub are_carriers : AreCarriers s.mode (4 * payload s.mode) carrier_table
@@ -113,3 +129,4 @@ pub record IsRx (m : Mode) (s : Settings) (metric : Shape × Hierarchy) (carrier
   pub lp_in_odd : AreCostEntries s true Lp (need s Lp) lp_odd
   pub room : IsRoom s costs
   pub cells_long : length payload_cells ≡ payload s.mode
+  pub weight_room : IsWeightRoom s.mode payload_weights

@@ -1,25 +1,38 @@
 // The costs of all places of the labels of a symbol.
-ghost use Rattle.std.specs.Prelude.{◌≡◌, ◌+◌, ◌*◌, ◌%◌, ◌<◌, ◌≤◌, ℕ, length, slice_index_or};
+ghost use Rattle.std.specs.Prelude.{◌≡◌, ◌+◌, ◌*◌, ◌%◌, ◌<◌, ◌≤◌, ℕ, length, slice_index, slice_index_or};
 ghost use Rattle.mode_set.specs.StreamTable.{carriers, label_bits, payload};
 ghost use Rattle.qam_map.specs.declared.cell.Cell.{Cell as AnyCell};
-ghost use Rattle.inner_chain.specs.CostTables.{AreCarriers, AreCosts, ArePayloadCells, ArePlanes, IsRoom, PutsCosts, pair_at};
+ghost use Rattle.inner_chain.specs.CostTables.{AreCarriers, AreCosts, ArePayloadCells, ArePayloadWeights, ArePlanes, AreWeights, IsRoom, IsWeightRoom, PutsCosts, pair_at};
 
 use mode_set::{Mode, Settings};
 use pilots::kinds_repeat;
 use qam_map::Cell;
-use soft_metric::{AxisMetric, costs};
+use soft_metric::{AxisMetric, costs, weighted};
 
-// The cells on the payload places of symbol `l`.
-fn gather_cells(mode: Mode, carrier_table: &[u16], cells: &[Cell], l: u8, to: &mut [Cell])
+// The cells on the payload places of symbol `l`, and their weights.
+fn gather_cells(
+    mode: Mode,
+    carrier_table: &[u16],
+    cells: &[Cell],
+    weights: &[u8],
+    l: u8,
+    to: &mut [Cell],
+    weights_to: &mut [u8],
+)
     requires carriers { AreCarriers mode (4 * payload mode) carrier_table.now }
     requires cells { length cells.now ≡ carriers mode }
+    requires weights { AreWeights mode weights.now }
     requires room { length to.old ≡ payload mode }
-    ensures { ArePayloadCells mode cells.now l (payload mode) to.new }
+    requires weight_room { IsWeightRoom mode weights_to.old }
+    ensures cells { ArePayloadCells mode cells.now l (payload mode) to.new }
+    ensures weights { ArePayloadWeights mode weights.now l (payload mode) weights_to.new }
 {
     kinds_repeat(mode, l);
     let first = (l % 4) as usize * mode.payload() as usize;
     for q in 0..mode.payload() as usize {
-        to[q] = cells[carrier_table[first + q] as usize];
+        let carrier = carrier_table[first + q] as usize;
+        to[q] = cells[carrier];
+        weights_to[q] = weights[carrier];
     }
 }
 
@@ -30,6 +43,16 @@ fn sixteen_of(cells: &[Cell], first: usize) -> [Cell; 16]
 {
     let mut block = [Cell { re: 0, im: 0 }; 16];
     block.copy_from_slice(&cells[first..first + 16]);
+    block
+}
+
+// Sixteen weights in a row.
+fn sixteen_weights(weights: &[u8], first: usize) -> [u8; 16]
+    requires { first + 16 ≤ length weights.now }
+    ensures { (j : ℕ) → j < 16 → slice_index result j ≡ slice_index weights.now (first + j) }
+{
+    let mut block = [0; 16];
+    block.copy_from_slice(&weights[first..first + 16]);
     block
 }
 
@@ -44,11 +67,12 @@ fn put_sixteen(to: &mut [(u16, u16)], first: usize, pairs: &[(u16, u16); 16])
     to[first..first + 16].copy_from_slice(pairs);
 }
 
-// Writes the costs at a place of sixteen cells in a row.
+// Writes the weighted costs at a place of sixteen cells in a row.
 fn write_sixteen(
     settings: &Settings,
     metric: &AxisMetric,
     cells: &[Cell],
+    weights: &[u8],
     place: u8,
     q: usize,
     costs: &mut [(u16, u16)],
@@ -56,77 +80,114 @@ fn write_sixteen(
     requires metric { metric.now ≡ (settings.now.shape, settings.now.hierarchy) }
     requires place { place < label_bits settings.now.shape }
     requires cells { length cells.now ≡ payload settings.now.mode }
+    requires weights { IsWeightRoom settings.now.mode weights.now }
     requires within { q + 16 ≤ payload settings.now.mode }
     requires room { IsRoom settings.now costs.old }
-    ensures { PutsCosts settings.now place q 16 cells.now costs.old costs.new }
+    ensures { PutsCosts settings.now place q 16 cells.now weights.now costs.old costs.new }
 {
     let block = sixteen_of(cells, q);
+    let weights = sixteen_weights(weights, q);
     let first = place as usize * settings.mode.payload() as usize + q;
-    put_sixteen(costs, first, &metric.costs_lanes(&block, place));
+    put_sixteen(
+        costs,
+        first,
+        &metric.weighted_costs_lanes(&block, &weights, place),
+    );
 }
 
-// Writes the costs at a place of one cell.
-fn write_one(settings: &Settings, cells: &[Cell], place: u8, q: usize, to: &mut [(u16, u16)])
+// Writes the weighted costs at a place of one cell.
+fn write_one(
+    settings: &Settings,
+    cells: &[Cell],
+    weights: &[u8],
+    place: u8,
+    q: usize,
+    to: &mut [(u16, u16)],
+)
     requires place { place < label_bits settings.now.shape }
     requires cells { length cells.now ≡ payload settings.now.mode }
+    requires weights { IsWeightRoom settings.now.mode weights.now }
     requires within { q < payload settings.now.mode }
     requires room { IsRoom settings.now to.old }
-    ensures { PutsCosts settings.now place q 1 cells.now to.old to.new }
+    ensures { PutsCosts settings.now place q 1 cells.now weights.now to.old to.new }
 {
     let first = place as usize * settings.mode.payload() as usize + q;
-    to[first] = costs(settings.shape, settings.hierarchy, cells[q], place);
+    let pair = costs(settings.shape, settings.hierarchy, cells[q], place);
+    to[first] = weighted(pair, weights[q]);
 }
 
-// Writes the costs at a place of all cells, sixteen at once and the rest one by one.
+// Writes the weighted costs at a place of all cells, sixteen at once and the rest one by one.
 fn write_plane(
     settings: &Settings,
     metric: &AxisMetric,
     cells: &[Cell],
+    weights: &[u8],
     place: u8,
     costs: &mut [(u16, u16)],
 )
     requires metric { metric.now ≡ (settings.now.shape, settings.now.hierarchy) }
     requires place { place < label_bits settings.now.shape }
     requires cells { length cells.now ≡ payload settings.now.mode }
-    requires planes { ArePlanes settings.now cells.now (place * payload settings.now.mode) costs.old }
+    requires weights { IsWeightRoom settings.now.mode weights.now }
+    requires planes { ArePlanes settings.now cells.now weights.now (place * payload settings.now.mode) costs.old }
     requires room { IsRoom settings.now costs.old }
-    ensures planes { ArePlanes settings.now cells.now ((place + 1) * payload settings.now.mode) costs.new }
+    ensures planes { ArePlanes settings.now cells.now weights.now ((place + 1) * payload settings.now.mode) costs.new }
     ensures room { IsRoom settings.now costs.new }
 {
     let payload = settings.mode.payload() as usize;
     let mut q = 0;
     while q + 16 <= payload {
-        write_sixteen(settings, metric, cells, place, q, costs);
+        write_sixteen(settings, metric, cells, weights, place, q, costs);
         q += 16;
     }
     while q < payload {
-        write_one(settings, cells, place, q, costs);
+        write_one(settings, cells, weights, place, q, costs);
         q += 1;
     }
 }
 
-// Writes the costs of all places of the labels of symbol `l`, for which its payload cells are
-// gathered first.
+// Writes the weighted costs of all places of the labels of symbol `l`, for which its payload cells
+// and their weights are gathered first.
 pub(crate) fn write_costs(
     settings: &Settings,
     metric: &AxisMetric,
     carrier_table: &[u16],
     cells: &[Cell],
+    weights: &[u8],
     l: u8,
     payload_cells: &mut [Cell],
+    payload_weights: &mut [u8],
     costs: &mut [(u16, u16)],
 )
     requires metric { metric.now ≡ (settings.now.shape, settings.now.hierarchy) }
     requires carriers { AreCarriers settings.now.mode (4 * payload settings.now.mode) carrier_table.now }
     requires cells { length cells.now ≡ carriers settings.now.mode }
+    requires weights { AreWeights settings.now.mode weights.now }
     requires payload_cells { length payload_cells.old ≡ payload settings.now.mode }
+    requires payload_weights { IsWeightRoom settings.now.mode payload_weights.old }
     requires room { IsRoom settings.now costs.old }
-    ensures costs { AreCosts settings.now cells.now l costs.new }
+    ensures costs { AreCosts settings.now cells.now weights.now l costs.new }
     ensures room { IsRoom settings.now costs.new }
     ensures payload_cells { length payload_cells.new ≡ payload settings.now.mode }
+    ensures payload_weights { IsWeightRoom settings.now.mode payload_weights.new }
 {
-    gather_cells(settings.mode, carrier_table, cells, l, payload_cells);
+    gather_cells(
+        settings.mode,
+        carrier_table,
+        cells,
+        weights,
+        l,
+        payload_cells,
+        payload_weights,
+    );
     for place in 0..settings.shape.label_bits() {
-        write_plane(settings, metric, payload_cells, place, costs);
+        write_plane(
+            settings,
+            metric,
+            payload_cells,
+            payload_weights,
+            place,
+            costs,
+        );
     }
 }

@@ -2,7 +2,7 @@
 ghost use Rattle.std.specs.Prelude.{◌≡◌, ◌+◌, ◌*◌, ◌<◌, ◌≤◌, IfOk, IsTrue, false, length, true, vec_capacity, vec_len};
 ghost use Rattle.mode_set.specs.StreamTable.{carriers, has_stream, need, payload};
 ghost use Rattle.inner_chain.specs.CostPairs.{AppendsPairs};
-ghost use Rattle.inner_chain.specs.CostTables.{AreCarriers, AreCostEntries, IsRoom};
+ghost use Rattle.inner_chain.specs.CostTables.{AreCarriers, AreCostEntries, AreWeights, IsRoom, IsWeightRoom};
 
 use crate::cell_costs::write_costs;
 use crate::cost_entries::{carriers_of, cost_entries};
@@ -25,7 +25,9 @@ fn push_symbol_pairs(
     odd: &[u16],
     costs: &mut [(u16, u16)],
     payload_cells: &mut [Cell],
+    payload_weights: &mut [u8],
     cells: &[Cell],
+    weights: &[u8],
     l: u8,
     stream: Stream,
     to: &mut Vec<CostPair>,
@@ -35,12 +37,15 @@ fn push_symbol_pairs(
     requires even { AreCostEntries settings.now false stream (need settings.now stream) even.now }
     requires odd { AreCostEntries settings.now true stream (need settings.now stream) odd.now }
     requires cells { length cells.now ≡ carriers settings.now.mode }
+    requires weights { AreWeights settings.now.mode weights.now }
     requires room { IsRoom settings.now costs.old }
     requires payload_cells { length payload_cells.old ≡ payload settings.now.mode }
+    requires payload_weights { IsWeightRoom settings.now.mode payload_weights.old }
     requires spare { vec_len to.old + need settings.now stream ≤ vec_capacity to.old }
-    ensures pairs { AppendsPairs settings.now cells.now l stream to.old.items to.new.items }
+    ensures pairs { AppendsPairs settings.now cells.now weights.now l stream to.old.items to.new.items }
     ensures room { IsRoom settings.now costs.new }
     ensures payload_cells { length payload_cells.new ≡ payload settings.now.mode }
+    ensures payload_weights { IsWeightRoom settings.now.mode payload_weights.new }
     ensures capacity { vec_capacity to.new ≡ vec_capacity to.old }
 {
     write_costs(
@@ -48,8 +53,10 @@ fn push_symbol_pairs(
         metric,
         carrier_table,
         cells,
+        weights,
         l,
         payload_cells,
+        payload_weights,
         costs,
     );
     let steps = settings.need(stream) as usize;
@@ -73,6 +80,7 @@ pub struct InnerRx<M: Carriers> {
     lp_odd: Vec<u16>,
     costs: Vec<(u16, u16)>,
     payload_cells: Vec<Cell>,
+    payload_weights: Vec<u8>,
     of: PhantomData<M>,
 }
 
@@ -84,7 +92,7 @@ impl<M: Carriers> Model for InnerRx<M> {
 
     ghost view = { λ r. r.settings };
 
-    ghost invariant = { λ r. IsRx M.MODE r.settings r.metric r.carrier_table.items r.hp_even.items r.hp_odd.items r.lp_even.items r.lp_odd.items r.costs.items r.payload_cells.items };
+    ghost invariant = { λ r. IsRx M.MODE r.settings r.metric r.carrier_table.items r.hp_even.items r.hp_odd.items r.lp_even.items r.lp_odd.items r.costs.items r.payload_cells.items r.payload_weights.items };
 }
 
 impl<M: Carriers> InnerRx<M> {
@@ -104,6 +112,7 @@ impl<M: Carriers> InnerRx<M> {
         let payload_cells = vec![in alloc; Cell { re: 0, im: 0 }; settings
             .mode
             .payload() as usize]?;
+        let payload_weights = vec![in alloc; 0u8; settings.mode.payload() as usize]?;
         Ok(InnerRx {
             settings: *settings,
             metric: AxisMetric::new(settings.shape, settings.hierarchy),
@@ -114,6 +123,7 @@ impl<M: Carriers> InnerRx<M> {
             lp_odd,
             costs,
             payload_cells,
+            payload_weights,
             of: PhantomData,
         })
     }
@@ -126,15 +136,24 @@ impl<M: Carriers> InnerRx<M> {
     }
 
     /// Appends the cost pairs of a stream in symbol `l` of a frame, one for each step in order: of
-    /// each sent bit the costs of its cell at its place, and nothing for a bit that is not sent.
+    /// each sent bit the costs of its cell at its place by the cell's weight, and nothing for a bit
+    /// that is not sent.
     ///
-    /// `cells` are those of all carriers of the symbol.
-    pub fn pairs(&mut self, cells: &[Cell], l: u8, stream: Stream, to: &mut Vec<CostPair>)
+    /// `cells` are those of all carriers of the symbol, and `weights` theirs, each at most 15.
+    pub fn pairs(
+        &mut self,
+        cells: &[Cell],
+        weights: &[u8],
+        l: u8,
+        stream: Stream,
+        to: &mut Vec<CostPair>,
+    )
         requires cells { length cells.now ≡ carriers self.old.mode }
+        requires weights { AreWeights self.old.mode weights.now }
         requires symbol { l < 68 }
         requires exists { IsTrue (has_stream self.old.hierarchy stream) }
         requires spare { vec_len to.old + need self.old stream ≤ vec_capacity to.old }
-        ensures pairs { AppendsPairs self.old cells.now l stream to.old.items to.new.items }
+        ensures pairs { AppendsPairs self.old cells.now weights.now l stream to.old.items to.new.items }
         ensures settings { self.new ≡ self.old }
         ensures capacity { vec_capacity to.new ≡ vec_capacity to.old }
     {
@@ -147,7 +166,9 @@ impl<M: Carriers> InnerRx<M> {
                 &self.hp_odd,
                 &mut self.costs,
                 &mut self.payload_cells,
+                &mut self.payload_weights,
                 cells,
+                weights,
                 l,
                 stream,
                 to,
@@ -160,7 +181,9 @@ impl<M: Carriers> InnerRx<M> {
                 &self.lp_odd,
                 &mut self.costs,
                 &mut self.payload_cells,
+                &mut self.payload_weights,
                 cells,
+                weights,
                 l,
                 stream,
                 to,

@@ -1,7 +1,8 @@
 // Symbols of given bits against a plain model of the standard, and back.
 ghost use Rattle.std.specs.Prelude.{◌≡◌, ◌≤◌, IfOk};
 ghost use Rattle.std.specs.Prelude.{length};
-ghost use Rattle.mode_set.specs.StreamTable.{carriers};
+ghost use Rattle.mode_set.specs.StreamTable.{carriers, need};
+ghost use Rattle.mode_set.specs.declared.modes.Stream.TheVariants.{Hp};
 
 use crate::{InnerRx, InnerTx};
 use bit_pack::WaitBuf;
@@ -113,6 +114,29 @@ fn pairs_fit(rt: &impl Abort, pairs: &[CostPair], mut state: u32, unsent: usize)
     assert!(rt; missing == unsent);
 }
 
+// Cells of the weight 0 cost nothing.
+fn none_left<M: Carriers>(
+    rt: &impl Abort,
+    alloc: Global,
+    rx: &mut InnerRx<M>,
+    cells: &[Cell],
+    steps: usize,
+) -> Result<(), AllocError>
+    requires cells { length cells.now ≡ carriers rx.old.mode }
+    requires steps { steps ≡ need rx.old Hp }
+    requires few { steps ≤ 31752 }
+    ensures { rx.new ≡ rx.old }
+{
+    let weights = vec![in alloc; 0u8; cells.len()]?;
+    let mut pairs = Vec::with_capacity(alloc, steps)?;
+    rx.pairs(cells, &weights, 0, Stream::Hp, &mut pairs);
+    assert!(rt; pairs.len() == steps);
+    for pair in pairs {
+        assert!(rt; pair.x0 == 0 && pair.x1 == 0 && pair.y0 == 0 && pair.y1 == 0);
+    }
+    Ok(())
+}
+
 fn check<M: Carriers>(
     rt: &impl Abort,
     alloc: Global,
@@ -137,15 +161,17 @@ fn check<M: Carriers>(
     )?;
     let mut cells = vec![in alloc; Cell::default(); settings.mode.carriers() as usize]?;
     place_cells(rt, settings, 0, &labels, &mut cells);
+    let weights = vec![in alloc; 15u8; settings.mode.carriers() as usize]?;
     let mut pairs = Vec::with_capacity(alloc, settings.need(Stream::Hp) as usize)?;
-    rx.pairs(&cells, 0, Stream::Hp, &mut pairs);
+    rx.pairs(&cells, &weights, 0, Stream::Hp, &mut pairs);
     let coded = settings.coded(Stream::Hp) as usize;
     let steps = settings.need(Stream::Hp) as usize;
     assert!(rt; coded <= 2 * steps && steps == rx.steps(Stream::Hp) as usize);
     pairs_fit(rt, &pairs, 1, 2 * steps - coded);
+    none_left(rt, alloc, &mut rx, &cells, steps)?;
     if settings.has_stream(Stream::Lp) {
         let mut pairs = Vec::with_capacity(alloc, settings.need(Stream::Lp) as usize)?;
-        rx.pairs(&cells, 0, Stream::Lp, &mut pairs);
+        rx.pairs(&cells, &weights, 0, Stream::Lp, &mut pairs);
         let coded = settings.coded(Stream::Lp) as usize;
         let steps = settings.need(Stream::Lp) as usize;
         assert!(rt; coded <= 2 * steps);

@@ -1,5 +1,5 @@
 -- The cell that stands for a label, where it is received near its point.
-use Rattle.std.proofs.Common.{◌≡◌, ℕ, zero, suc, ◌+◌, ◌%◌, ◌*◌, ◌<◌, List, ◌∷◌, length, get_or, refl, sym, ap, ap₂, ◌∙◌, subst, arith, Bool, true, false, cond, not, ◌||◌}
+use Rattle.std.proofs.Common.{◌≡◌, ℕ, zero, suc, ◌+◌, ◌%◌, ◌*◌, ◌<◌, ◌≤◌, List, ◌∷◌, length, get_or, refl, sym, ap, ap₂, ◌∙◌, subst, arith, Bool, true, false, cond, not, ◌||◌}
 use Rattle.std.specs.Prelude.{IsTrue, filter, count_by, slice_index, ◌==◌}
 use Rattle.std.specs.List.{range_with_len}
 use Rattle.spec_words.specs.Words.{numbers}
@@ -12,11 +12,12 @@ use Rattle.qam_map.specs.Points.{map_cell, on_axis}
 use Rattle.qam_map.specs.declared.cell.Cell.{Cell}
 use Rattle.soft_metric.specs.Costs.{IsNear, cost, NearPointsFavourTheirBits}
 use Rattle.frame_build.specs.Symbol.{cell_at, cell_of_kind}
+use Rattle.soft_metric.specs.Weights.{weighted}
 use Rattle.qam_map.specs.Cells.{cell_of}
-use Rattle.inner_chain.specs.CostPairs.{costs_on}
+use Rattle.inner_chain.specs.CostPairs.{weight_of, costs_on, weighted_costs_on}
 use Rattle.transmission.specs.Transmission.{Inputs, tx_cell, tx_label}
 use Rattle.transmission.specs.SuperFrames.{symbols_of}
-use Rattle.reception.specs.Cells.{symbol_cells}
+use Rattle.reception.specs.Cells.{symbol_cells, symbol_weights}
 use Rattle.own_cell_laws.specs.Counted.{AreCounted}
 use Rattle.own_cell_laws.specs.Returned.{IsWithin}
 
@@ -114,13 +115,22 @@ near_label s inputs bytes m q w l c =
     let k : ℕ = slice_index (payload_carriers s.mode (m % 68)) q in
     subst (λ (z : Cell). IsNear s.shape s.hierarchy z (cell_on s bytes m q)) (point_is s inputs m q k c.kind_is) (w.near m k l c.within c.free)
 
--- each bit of the label costs less than the other bit
+-- each bit of the label costs less than the other bit, by 15 at least
 pub label_favoured : NearPointsFavourTheirBits → (s : Settings) (inputs : Inputs) (bytes : List ℕ) (m q e : ℕ) → IsWithin s inputs bytes → m < symbols_of s inputs
     → AreCounted s.mode (m % 68) → q < payload s.mode → e < label_bits s.shape
-    → cost s.shape s.hierarchy (on_axis (cell_on s bytes m q) e) e (tx_label s inputs m q e) < cost s.shape s.hierarchy (on_axis (cell_on s bytes m q) e) e (not (tx_label s inputs m q e))
+    → cost s.shape s.hierarchy (on_axis (cell_on s bytes m q) e) e (tx_label s inputs m q e) + 15 ≤ cost s.shape s.hierarchy (on_axis (cell_on s bytes m q) e) e (not (tx_label s inputs m q e))
 label_favoured favour s inputs bytes m q e w l counts lq le = favour s.shape s.hierarchy (tx_label s inputs m q) (cell_on s bytes m q) e le (near_label s inputs bytes m q w l (carrier_of s m q counts lq))
 
+-- the weight that a receiver finds on a payload place
+abbrev pub weight_on : Settings → List ℕ → ℕ → ℕ → ℕ
+weight_on s bytes m q = weight_of (symbol_weights s bytes m) (slice_index (payload_carriers s.mode (m % 68)) q)
+
+-- it is at least 1
+pub some_weight : (s : Settings) (inputs : Inputs) (bytes : List ℕ) (m q : ℕ) → IsWithin s inputs bytes → m < symbols_of s inputs → AreCounted s.mode (m % 68) → q < payload s.mode → 1 ≤ weight_on s bytes m q
+some_weight s inputs bytes m q w l counts lq = let c = carrier_of s m q counts lq in w.weight m (slice_index (payload_carriers s.mode (m % 68)) q) l c.within c.free
+
 pub costs_are : (s : Settings) (bytes : List ℕ) (m q e : ℕ)
-    → costs_on s (symbol_cells s bytes m) (m % 68) q e ≡ (cost s.shape s.hierarchy (on_axis (cell_on s bytes m q) e) e false, cost s.shape s.hierarchy (on_axis (cell_on s bytes m q) e) e true)
-unfolding costs_on
+    → weighted_costs_on s (symbol_cells s bytes m) (symbol_weights s bytes m) (m % 68) q e
+    ≡ weighted (cost s.shape s.hierarchy (on_axis (cell_on s bytes m q) e) e false, cost s.shape s.hierarchy (on_axis (cell_on s bytes m q) e) e true) (weight_on s bytes m q)
+unfolding costs_on weighted_costs_on
 costs_are s bytes m q e = refl

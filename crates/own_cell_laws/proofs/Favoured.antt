@@ -1,8 +1,8 @@
 -- The costs of each step speak for the path that was sent.
-use Rattle.std.proofs.Common.{◌≡◌, ℕ, ◌+◌, ◌*◌, ◌%◌, ◌<◌, ◌⊎◌, inl, inr, List, refl, sym, ap, ◌∙◌, subst, Bool, true, false, cond, not, ◌||◌}
+use Rattle.std.proofs.Common.{◌≡◌, ℕ, ◌+◌, ◌*◌, ◌%◌, ◌<◌, ◌≤◌, ◌⊎◌, inl, inr, List, refl, sym, ap, ◌∙◌, subst, Bool, true, false, cond, not, ◌||◌, arith}
 use Rattle.std.specs.Prelude.{IsTrue, Option, Some, None}
 use Rattle.std.proofs.Math.Nat.{add_assoc}
-use Rattle.mode_set.specs.StreamTable.{coded, need, rate, has_stream}
+use Rattle.mode_set.specs.StreamTable.{coded, need, payload, rate, has_stream}
 use Rattle.mode_set.specs.Laws.{SymbolsHaveWholePeriods}
 use Rattle.mode_set.specs.declared.modes.Mode.{Mode}
 use Rattle.mode_set.specs.declared.modes.Rate.{Rate}
@@ -17,14 +17,15 @@ use Rattle.bit_interleave.specs.Place.{place_in_label, word_of_bit, IsSent, Each
 use Rattle.symbol_interleave.specs.Carried.{is_odd, HIsAPermutation, PlacesAndWordsAgree}
 use Rattle.qam_map.specs.Points.{on_axis}
 use Rattle.soft_metric.specs.Costs.{cost, NearPointsFavourTheirBits}
+use Rattle.soft_metric.specs.Weights.{weighted, WeightsTellApart}
 use Rattle.inner_chain.specs.CostPairs.{payload_place, costs_of_bit}
 use Rattle.inner_chain.specs.PairLists.{pair_of}
 use Rattle.transmission.specs.Transmission.{Inputs, paths_of}
 use Rattle.transmission.specs.SuperFrames.{symbols_of}
-use Rattle.reception.specs.Cells.{symbol_cells}
+use Rattle.reception.specs.Cells.{symbol_cells, symbol_weights}
 use Rattle.own_cell_laws.specs.Returned.{IsWithin}
 use Rattle.own_cell_laws.specs.Counted.{AreCounted}
-use Rattle.own_cell_laws.proofs.Cells.{cell_on, label_favoured, costs_are}
+use Rattle.own_cell_laws.proofs.Cells.{cell_on, weight_on, label_favoured, some_weight, costs_are}
 use Rattle.own_cell_laws.proofs.Places.{IsPlaced, placed, place_within, label_is}
 use Rattle.own_cell_laws.proofs.Steps.{AreParities, AreWithin, numbers_within, symbol_parities}
 
@@ -35,22 +36,24 @@ pub record AreKnown : Type 0 where
   pub agree : PlacesAndWordsAgree
   pub found : EachBitIsFound
   pub favour : NearPointsFavourTheirBits
+  pub apart : WeightsTellApart
   pub order : StepsSendInOrder
   pub numbers : StepsAreNumbered
   pub shift : PeriodsShift
   pub periods : SymbolsHaveWholePeriods
 
 -- ---- a coded bit
-favours_of : (b : Bool) (k : Bool → ℕ) (c : ℕ × ℕ) → c ≡ (k false, k true) → k b < k (not b) → Favours b c.0 c.1
-favours_of true k c e l = subst (λ (z : ℕ × ℕ). z.1 < z.0) (sym e) l
-favours_of false k c e l = subst (λ (z : ℕ × ℕ). z.0 < z.1) (sym e) l
+favours_of : WeightsTellApart → (b : Bool) (k : Bool → ℕ) (w : ℕ) (c : ℕ × ℕ) → c ≡ weighted (k false, k true) w → k b + 15 ≤ k (not b) → 1 ≤ w → Favours b c.0 c.1
+favours_of apart true k w c e l some = subst (λ (z : ℕ × ℕ). z.1 < z.0) (sym e) (apart (k true) (k false) w l some)
+favours_of apart false k w c e l some = subst (λ (z : ℕ × ℕ). z.0 < z.1) (sym e) (apart (k false) (k true) w l some)
 
 pub bit_favoured : AreKnown → (s : Settings) (inputs : Inputs) (bytes : List ℕ) (m : ℕ) (σ : Stream) (d : ℕ) → IsWithin s inputs bytes → m < symbols_of s inputs → IsTrue (has_stream s.hierarchy σ) → d < coded s σ
-    → Favours (sent_bit (rate s σ) (paths_of inputs σ) (m * coded s σ + d)) (costs_of_bit s (symbol_cells s bytes m) (m % 68) σ d).0 (costs_of_bit s (symbol_cells s bytes m) (m % 68) σ d).1
+    → Favours (sent_bit (rate s σ) (paths_of inputs σ) (m * coded s σ + d)) (costs_of_bit s (symbol_cells s bytes m) (symbol_weights s bytes m) (m % 68) σ d).0 (costs_of_bit s (symbol_cells s bytes m) (symbol_weights s bytes m) (m % 68) σ d).1
 bit_favoured known s inputs bytes m σ d w l exists few =
-    favours_of (sent_bit (rate s σ) (paths_of inputs σ) (m * coded s σ + d)) k (costs_of_bit s (symbol_cells s bytes m) (m % 68) σ d) (costs_are s bytes m q e)
-    (subst (λ (b : Bool). k b < k (not b)) (label_is known.found known.agree s inputs m σ d sent few p)
-    (label_favoured known.favour s inputs bytes m q e w l (known.counts s.mode (m % 68)) (place_within known.permutation s.mode (is_odd (m % 68)) (word_of_bit s.shape s.hierarchy σ d) known.agree p.word) p.place))
+    favours_of known.apart (sent_bit (rate s σ) (paths_of inputs σ) (m * coded s σ + d)) k (weight_on s bytes m q) (costs_of_bit s (symbol_cells s bytes m) (symbol_weights s bytes m) (m % 68) σ d) (costs_are s bytes m q e)
+    (subst (λ (b : Bool). k b + 15 ≤ k (not b)) (label_is known.found known.agree s inputs m σ d sent few p)
+    (label_favoured known.favour s inputs bytes m q e w l (known.counts s.mode (m % 68)) placed_within p.place))
+    (some_weight s inputs bytes m q w l (known.counts s.mode (m % 68)) placed_within)
   where
     sent : IsSent s.shape s.hierarchy σ
     sent = record { qpsk = s.kept.qpsk; exists = exists }
@@ -63,6 +66,9 @@ bit_favoured known s inputs bytes m σ d w l exists few =
 
     e : ℕ
     e = place_in_label s.shape s.hierarchy σ d
+
+    placed_within : q < payload s.mode
+    placed_within = place_within known.permutation s.mode (is_odd (m % 68)) (word_of_bit s.shape s.hierarchy σ d) known.agree p.word
 
     k : Bool → ℕ
     k b = cost s.shape s.hierarchy (on_axis (cell_on s bytes m q) e) e b
@@ -82,7 +88,7 @@ one_sent f ox oy false false i j x y some ex ey hx hy = absurd (cc)
 
 -- the costs of step t of symbol m speak for a path that has there the bits that were sent
 pub step_speaks : AreKnown → (s : Settings) (inputs : Inputs) (bytes : List ℕ) (m t : ℕ) (σ : Stream) (p : List Bool) → IsWithin s inputs bytes → m < symbols_of s inputs → IsTrue (has_stream s.hierarchy σ) → t < need s σ
-    → parity_x p ≡ parity_x (window (paths_of inputs σ) (m * need s σ + t)) → parity_y p ≡ parity_y (window (paths_of inputs σ) (m * need s σ + t)) → SpeaksFor (pair_of s (symbol_cells s bytes m) (m % 68) σ t) p
+    → parity_x p ≡ parity_x (window (paths_of inputs σ) (m * need s σ + t)) → parity_y p ≡ parity_y (window (paths_of inputs σ) (m * need s σ + t)) → SpeaksFor (pair_of s (symbol_cells s bytes m) (symbol_weights s bytes m) (m % 68) σ t) p
 unfolding pair_of
 step_speaks known s inputs bytes m t σ p w l exists few px py = record {
   x = allows_of f ox sx n (parity_x p) (known.numbers r t).x x_favoured;
@@ -103,7 +109,7 @@ step_speaks known s inputs bytes m t σ p w l exists few px py = record {
     sy = is_sent r Y t
 
     f : ℕ → ℕ × ℕ
-    f = costs_of_bit s (symbol_cells s bytes m) (m % 68) σ
+    f = costs_of_bit s (symbol_cells s bytes m) (symbol_weights s bytes m) (m % 68) σ
 
     ox : Option ℕ
     ox = number_of r X t

@@ -1,5 +1,5 @@
 -- The cells of a transmission are read from its bytes.
-use Rattle.std.proofs.Common.{◌≡◌, ℕ, zero, suc, ◌+◌, ◌*◌, ◌/◌, ◌%◌, ◌^◌, ◌<◌, ◌≤◌, List, [], ◌∷◌, ◌++◌, length, take, drop, refl, sym, ap, ap₂, ◌∙◌, subst, arith, append_assoc, length-append, ltb, Bool, true, false, ◌&&◌}
+use Rattle.std.proofs.Common.{◌≡◌, ℕ, zero, suc, ◌+◌, ◌*◌, ◌/◌, ◌%◌, ◌^◌, ◌<◌, ◌≤◌, List, [], ◌∷◌, ◌++◌, length, take, drop, refl, sym, ap, ap₂, ◌∙◌, subst, arith, append_assoc, length-append, ltb, Bool, true, false, ◌&&◌, get_or, replicate}
 use Rattle.std.specs.Prelude.{ℤ, pos, unsigned_abs, flat_map}
 use Rattle.std.specs.Int.{cast_signed, cast_unsigned, w16}
 use Rattle.std.specs.List.{range_with_len}
@@ -28,10 +28,11 @@ use Rattle.qam_map.specs.declared.cell.Cell.{Cell}
 use Rattle.qam_map.specs.Points.{value_of, real_bits, imaginary_bits, distance}
 use Rattle.soft_metric.specs.Costs.{IsNear}
 use Rattle.frame_build.specs.Symbol.{real, cell_of_kind, cell_at, cell_bytes, cell_from, cells_from}
+use Rattle.inner_chain.specs.CostPairs.{weight_of}
 use Rattle.transmission.specs.Transmission.{Inputs, tx_label, tx_cell, tx_symbol, first_symbols}
 use Rattle.transmission.specs.SuperFrames.{symbols_of, tx}
 use Rattle.transmission.specs.Laws.{SymbolsAreCells, SymbolsAreLong}
-use Rattle.reception.specs.Cells.{symbol_length, symbols, bytes_of_symbol, symbol_cells}
+use Rattle.reception.specs.Cells.{symbol_length, symbols, bytes_of_symbol, symbol_cells, symbol_weights}
 use Rattle.own_cell_laws.specs.Laws.{CellsAreRead, OwnAreWithin, NoiseLaw, NoiseIsClean, CleanLaw, OwnAreClean}
 
 -- ---- both parts of a cell fit 16 bits
@@ -221,10 +222,21 @@ near_itself s h c = record { re = few (no_distance c.re); im = few (no_distance 
     few : {a b : ℕ} → a ≡ 0 → a ≤ b
     few e = omega (arith, e)
 
+-- own cells have a weight
+whole : (n k : ℕ) → let weights : List ℕ = replicate n 15 in get_or weights k 15 ≡ 15
+whole zero k = refl
+whole (suc n) zero = refl
+whole (suc n) (suc k) = whole n k
+
+some_read : (s : Settings) (inputs : Inputs) (m k : ℕ) → 1 ≤ weight_of (symbol_weights s (tx s inputs) m) k
+unfolding symbol_weights
+some_read s inputs m k = omega (arith, whole (carriers s.mode) k)
+
 pub own_are_within : SymbolsAreLong → SymbolsAreCells → OwnAreWithin
 own_are_within long cells s inputs = record {
   all = symbols_read long s inputs;
   near = λ m k lm lk free. subst (IsNear s.shape s.hierarchy (tx_cell s inputs m k)) (sym (cells_are_read long cells s inputs m k lm lk)) (near_itself s.shape s.hierarchy (tx_cell s inputs m k));
+  weight = λ m k lm lk free. some_read s inputs m k;
 }
 
 pub clean_law : SymbolsAreLong → SymbolsAreCells → NoiseLaw → CleanLaw

@@ -122,7 +122,7 @@ all_speak known listed lists s inputs bytes σ w exists = record {
     p = sent_path (outer_byte (inputs σ)) n
 
     d : CostPair
-    d = pair_of s [] 0 σ 0
+    d = pair_of s [] [] 0 σ 0
 
     long : length (costs s bytes σ) ≡ n
     long = listed.long s bytes σ

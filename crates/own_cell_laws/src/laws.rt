@@ -10,7 +10,7 @@ use outer_chain::laws::{bits, own_bytes, sending};
 use pilots::{payload_carriers_are_numbered, symbols_have_as_many_payload_carriers};
 use puncture::{lists_are_paths, periods_shift, steps_are_numbered, steps_send_in_order};
 use reception::laws::costs;
-use soft_metric::laws::near_points_favour_their_bits;
+use soft_metric::laws::{near_points_favour_their_bits, weights_tell_apart};
 use symbol_interleave::laws::{h_is_a_permutation, places_and_words_agree};
 use transmission::laws::{super_frames, symbols};
 
@@ -44,6 +44,7 @@ pub fn noise()
     places_and_words_agree();
     each_bit_is_found();
     near_points_favour_their_bits();
+    weights_tell_apart();
     steps_send_in_order();
     steps_are_numbered();
     periods_shift();

@@ -16,13 +16,13 @@ use Rattle.mode_set.specs.declared.settings.Settings.{Settings}
 use Rattle.pilots.specs.Carriers.{tps_carriers}
 use Rattle.qam_map.specs.declared.cell.Cell.{Cell}
 use Rattle.tps_word.specs.Vote.{vote}
-use Rattle.frame_build.specs.Symbol.{cells_from}
+use Rattle.frame_build.specs.Symbol.{cells_from, weights_from}
 use Rattle.qam_map.specs.Cells.{cell_of}
 use Rattle.inner_chain.specs.PairLists.{pair_of}
 use Rattle.outer_chain.specs.Bits.{ByteOfBits}
 use Rattle.outer_chain.specs.Running.{AllFinished, no_words}
 use Rattle.outer_chain.specs.Words.{Tally}
-use Rattle.reception.specs.Cells.{symbols, tail, symbol_length, bytes_of_symbol, symbol_cells}
+use Rattle.reception.specs.Cells.{symbols, tail, symbol_length, bytes_of_symbol, symbol_cells, symbol_weights}
 use Rattle.reception.specs.Costs.{symbol_costs, costs}
 use Rattle.reception.specs.Frames.{tps_cells, frame_bits, IsReadable, CountsWords}
 use Rattle.reception.specs.Streams.{memory, start_of, Moment, so_far, at_end, Reception, Receives}
@@ -120,12 +120,14 @@ feeds_within same more stay bits costs_same one all x y bytes piece n r out with
 -- ---- bytes that end a symbol
 
 -- the costs of the symbol that is ended, from its cells
-pub ended_costs : EndedSymbol → (s : Settings) (bytes p : List ℕ) (cells : List Cell) (rest : List ℕ) (count k : ℕ) (σ : Stream) → EndsSymbol s bytes p → rest ≡ unfinished s bytes ++ p → cells ≡ cells_from rest k → k ≡ carriers s.mode → count ≡ symbols s bytes
-    → map (pair_of s cells (count % 68) σ) (numbers (need s σ)) ≡ symbol_costs s (bytes ++ p) σ (symbols s bytes)
-unfolding symbol_costs symbol_cells
-ended_costs ended s bytes p cells rest count k σ ends r c e n =
+pub ended_costs : EndedSymbol → (s : Settings) (bytes p : List ℕ) (cells : List Cell) (weights rest : List ℕ) (count k : ℕ) (σ : Stream) → EndsSymbol s bytes p → rest ≡ unfinished s bytes ++ p → cells ≡ cells_from rest k → weights ≡ weights_from rest k → k ≡ carriers s.mode → count ≡ symbols s bytes
+    → map (pair_of s cells weights (count % 68) σ) (numbers (need s σ)) ≡ symbol_costs s (bytes ++ p) σ (symbols s bytes)
+unfolding symbol_costs symbol_cells symbol_weights
+ended_costs ended s bytes p cells weights rest count k σ ends r c w e n =
     let same : cells ≡ cells_from (bytes_of_symbol s (bytes ++ p) (symbols s bytes)) (carriers s.mode) = c ∙ ap₂ cells_from (r ∙ sym (ended s bytes p ends).0) e in
-    ap₂ (λ (z : List Cell) (m : ℕ). map (pair_of s z (m % 68) σ) (numbers (need s σ))) same n
+    let weighed : weights ≡ weights_from (bytes_of_symbol s (bytes ++ p) (symbols s bytes)) (carriers s.mode) = w ∙ ap₂ weights_from (r ∙ sym (ended s bytes p ends).0) e in
+    ap₂ (λ (z : List Cell) (m : ℕ). map (pair_of s z weights (m % 68) σ) (numbers (need s σ))) same n
+    ∙ ap (λ (z : List ℕ). map (pair_of s (cells_from (bytes_of_symbol s (bytes ++ p) (symbols s bytes)) (carriers s.mode)) z (symbols s bytes % 68) σ) (numbers (need s σ))) weighed
 
 ended_tps : EndedSymbol → (s : Settings) (bytes p : List ℕ) (cells : List Cell) (rest : List ℕ) (k : ℕ) → EndsSymbol s bytes p → rest ≡ unfinished s bytes ++ p → cells ≡ cells_from rest k → k ≡ carriers s.mode
     → tps_cells s (bytes ++ p) (symbols s bytes) ≡ map (cell_of cells) (tps_carriers s.mode)
@@ -135,9 +137,9 @@ ended_tps ended s bytes p cells rest k ends r c e =
     ap (λ (z : List Cell). map (cell_of z) (tps_carriers s.mode)) (sym same)
 
 -- what the streams and the reader make of the cells of a symbol
-pub record TakesSymbol (s : Settings) (hp lp new_hp new_lp : StreamState) (frames new_frames : FrameReader) (cells : List Cell) (count : ℕ) (hp_steps lp_steps : List ℕ) (out : Output) : Type 0 where
-  pub hp_gave : (a : Option (List Bool)) (c : List CostPair) (given : List ℕ) (tally : Tally) (steps : List ℕ) → StreamStands so_far hp a c given tally steps → StreamGave so_far new_hp a (c ++ map (pair_of s cells (count % 68) Hp) (numbers (need s Hp))) given (steps ++ hp_steps) [] out.hp
-  pub lp_gave : (a : Option (List Bool)) (c : List CostPair) (given : List ℕ) (tally : Tally) (steps : List ℕ) → StreamStands so_far lp a c given tally steps → StreamGave so_far new_lp a (c ++ map (pair_of s cells (count % 68) Lp) (numbers (need s Lp))) given (steps ++ lp_steps) [] out.lp
+pub record TakesSymbol (s : Settings) (hp lp new_hp new_lp : StreamState) (frames new_frames : FrameReader) (cells : List Cell) (weights : List ℕ) (count : ℕ) (hp_steps lp_steps : List ℕ) (out : Output) : Type 0 where
+  pub hp_gave : (a : Option (List Bool)) (c : List CostPair) (given : List ℕ) (tally : Tally) (steps : List ℕ) → StreamStands so_far hp a c given tally steps → StreamGave so_far new_hp a (c ++ map (pair_of s cells weights (count % 68) Hp) (numbers (need s Hp))) given (steps ++ hp_steps) [] out.hp
+  pub lp_gave : (a : Option (List Bool)) (c : List CostPair) (given : List ℕ) (tally : Tally) (steps : List ℕ) → StreamStands so_far lp a c given tally steps → StreamGave so_far new_lp a (c ++ map (pair_of s cells weights (count % 68) Lp) (numbers (need s Lp))) given (steps ++ lp_steps) [] out.lp
   pub events_are : out.events ≡ map (event_at Hp) hp_steps ++ map (event_at Lp) lp_steps
   pub framed : (shown : ℕ → List Cell) (n : ℕ) → shown n ≡ map (cell_of cells) (tps_carriers s.mode) → FrameStands s.mode frames shown n → FrameStands s.mode new_frames shown (n + 1)
 
@@ -152,19 +154,19 @@ pub record SymbolLaws : Type 0 where
   pub one : ByteOfBits
   pub all : AllFinished
 
-gave_on : SymbolLaws → (s : Settings) (bytes p : List ℕ) (cells : List Cell) (rest : List ℕ) (count k : ℕ) (σ : Stream) (new : StreamState) (given steps more old out : List ℕ) → EndsSymbol s bytes p → rest ≡ unfinished s bytes ++ p → cells ≡ cells_from rest k → k ≡ carriers s.mode → count ≡ symbols s bytes
-    → StreamGave so_far new (start_of s.start) (costs s bytes σ ++ map (pair_of s cells (count % 68) σ) (numbers (need s σ))) given (steps ++ more) old out → StreamGave so_far new (start_of s.start) (costs s (bytes ++ p) σ) given (steps ++ more) old out
-gave_on laws s bytes p cells rest count k σ new given steps more old out ends r c e n h =
+gave_on : SymbolLaws → (s : Settings) (bytes p : List ℕ) (cells : List Cell) (weights rest : List ℕ) (count k : ℕ) (σ : Stream) (new : StreamState) (given steps more old out : List ℕ) → EndsSymbol s bytes p → rest ≡ unfinished s bytes ++ p → cells ≡ cells_from rest k → weights ≡ weights_from rest k → k ≡ carriers s.mode → count ≡ symbols s bytes
+    → StreamGave so_far new (start_of s.start) (costs s bytes σ ++ map (pair_of s cells weights (count % 68) σ) (numbers (need s σ))) given (steps ++ more) old out → StreamGave so_far new (start_of s.start) (costs s (bytes ++ p) σ) given (steps ++ more) old out
+gave_on laws s bytes p cells weights rest count k σ new given steps more old out ends r c w e n h =
     subst (λ z. StreamGave so_far new (start_of s.start) z given (steps ++ more) old out)
-    (ap (λ z. costs s bytes σ ++ z) (ended_costs laws.ended s bytes p cells rest count k σ ends r c e n) ∙ sym (laws.costs_next s bytes p σ ends)) h
+    (ap (λ z. costs s bytes σ ++ z) (ended_costs laws.ended s bytes p cells weights rest count k σ ends r c w e n) ∙ sym (laws.costs_next s bytes p σ ends)) h
 
-pub feeds_whole : SymbolLaws → (x y : ReceiverState) (bytes piece : List ℕ) (n k : ℕ) (r : Reception) (out : Output) (cells : List Cell) (hp_steps lp_steps : List ℕ)
+pub feeds_whole : SymbolLaws → (x y : ReceiverState) (bytes piece : List ℕ) (n k : ℕ) (r : Reception) (out : Output) (cells : List Cell) (weights hp_steps lp_steps : List ℕ)
     → EndsSymbol x.settings bytes (take n piece) → n ≡ taken x.settings bytes piece
     → y.settings ≡ x.settings → y.ended ≡ false → y.taken ≡ x.taken + 1 → y.rest ≡ []
-    → cells ≡ cells_from (x.rest ++ take n piece) k → k ≡ carriers x.settings.mode
-    → TakesSymbol x.settings x.hp x.lp y.hp y.lp x.frames y.frames cells x.taken hp_steps lp_steps out
+    → cells ≡ cells_from (x.rest ++ take n piece) k → weights ≡ weights_from (x.rest ++ take n piece) k → k ≡ carriers x.settings.mode
+    → TakesSymbol x.settings x.hp x.lp y.hp y.lp x.frames y.frames cells weights x.taken hp_steps lp_steps out
     → StandsFor so_far x bytes r → Feeds (StandsFor so_far y) x.settings bytes piece r n out
-feeds_whole laws x y bytes piece n k r out cells hp_steps lp_steps ends count kept going one_more none c e t h =
+feeds_whole laws x y bytes piece n k r out cells weights hp_steps lp_steps ends count kept going one_more none c w e t h =
     record { after = after; count = count; stands = stands; live = subst (λ (z : Settings). Receives so_far z (bytes ++ p) after) kept stands.receives; follows = record { packets = λ σ. refl; events_are = happened } }
   where
     s : Settings
@@ -177,10 +179,10 @@ feeds_whole laws x y bytes piece n k r out cells hp_steps lp_steps ends count ke
     rest = ap (λ z. z ++ p) h.rest
 
     hp : StreamGave so_far y.hp (start_of s.start) (costs s (bytes ++ p) Hp) (r.packets Hp) (r.reports Hp ++ hp_steps) [] out.hp
-    hp = gave_on laws s bytes p cells (x.rest ++ p) x.taken k Hp y.hp (r.packets Hp) (r.reports Hp) hp_steps [] out.hp ends rest c e h.taken (t.hp_gave (start_of s.start) (costs s bytes Hp) (r.packets Hp) (r.tally Hp) (r.reports Hp) (h.streams Hp))
+    hp = gave_on laws s bytes p cells weights (x.rest ++ p) x.taken k Hp y.hp (r.packets Hp) (r.reports Hp) hp_steps [] out.hp ends rest c w e h.taken (t.hp_gave (start_of s.start) (costs s bytes Hp) (r.packets Hp) (r.tally Hp) (r.reports Hp) (h.streams Hp))
 
     lp : StreamGave so_far y.lp (start_of s.start) (costs s (bytes ++ p) Lp) (r.packets Lp) (r.reports Lp ++ lp_steps) [] out.lp
-    lp = gave_on laws s bytes p cells (x.rest ++ p) x.taken k Lp y.lp (r.packets Lp) (r.reports Lp) lp_steps [] out.lp ends rest c e h.taken (t.lp_gave (start_of s.start) (costs s bytes Lp) (r.packets Lp) (r.tally Lp) (r.reports Lp) (h.streams Lp))
+    lp = gave_on laws s bytes p cells weights (x.rest ++ p) x.taken k Lp y.lp (r.packets Lp) (r.reports Lp) lp_steps [] out.lp ends rest c w e h.taken (t.lp_gave (start_of s.start) (costs s bytes Lp) (r.packets Lp) (r.tally Lp) (r.reports Lp) (h.streams Lp))
 
     after : Reception
     after = record {

@@ -163,6 +163,7 @@ impl<M: Carriers> Receiver<M> {
             &self.settings,
             self.taken,
             self.input.cells(),
+            self.input.weights(),
             &mut out.hp,
             &mut out.lp,
             &mut out.events,

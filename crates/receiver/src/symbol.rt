@@ -8,6 +8,7 @@ ghost use Rattle.mode_set.specs.declared.modes.Stream.TheVariants.{Hp, Lp};
 ghost use Rattle.pilots.specs.Carriers.{tps_carriers};
 ghost use Rattle.qam_map.specs.declared.cell.Cell.{Cell as AnyCell};
 ghost use Rattle.qam_map.specs.Cells.{cell_of};
+ghost use Rattle.inner_chain.specs.CostTables.{AreWeights};
 ghost use Rattle.inner_chain.specs.PairLists.{pair_of};
 ghost use Rattle.inner_decoder.specs.Events.{ats};
 ghost use Rattle.outer_chain.specs.Words.{Tally};
@@ -34,15 +35,17 @@ fn put_pairs<M: Carriers>(
     settings: &Settings,
     inner: &mut InnerRx<M>,
     cells: &[Cell],
+    weights: &[u8],
     l: u8,
     stream: Stream,
     to: &mut Vec<CostPair>,
 )
     requires inner { inner.old ≡ settings.now }
     requires cells { length cells.now ≡ carriers settings.now.mode }
+    requires weights { AreWeights settings.now.mode weights.now }
     requires symbol { l < 68 }
     requires spare { need settings.now stream ≤ vec_capacity to.old }
-    ensures pairs { to.new.items ≡ map (pair_of settings.now cells.now l stream) (numbers (need settings.now stream)) }
+    ensures pairs { to.new.items ≡ map (pair_of settings.now cells.now weights.now l stream) (numbers (need settings.now stream)) }
     ensures long { vec_len to.new ≡ need settings.now stream }
     ensures few { need settings.now stream ≤ 31752 }
     ensures inner { inner.new ≡ settings.now }
@@ -51,7 +54,7 @@ fn put_pairs<M: Carriers>(
     to.clear();
     if settings.need(stream) > 0 {
         pairs_are_listed();
-        inner.pairs(cells, l, stream, to);
+        inner.pairs(cells, weights, l, stream, to);
     }
 }
 
@@ -60,6 +63,7 @@ fn load_pairs<M: Carriers>(
     settings: &Settings,
     inner: &mut InnerRx<M>,
     cells: &[Cell],
+    weights: &[u8],
     l: u8,
     stream: Stream,
     pairs: &mut Vec<CostPair>,
@@ -67,6 +71,7 @@ fn load_pairs<M: Carriers>(
 )
     requires inner { inner.old ≡ settings.now }
     requires cells { length cells.now ≡ carriers settings.now.mode }
+    requires weights { AreWeights settings.now.mode weights.now }
     requires symbol { l < 68 }
     requires spare { need settings.now stream ≤ vec_capacity pairs.old }
     requires going { branch.old.decoder.ended ≡ false }
@@ -75,10 +80,10 @@ fn load_pairs<M: Carriers>(
     ensures few { need settings.now stream ≤ 31752 }
     ensures inner { inner.new ≡ settings.now }
     ensures capacity { vec_capacity pairs.new ≡ vec_capacity pairs.old }
-    ensures loaded { branch.new ≡ record branch.old { loaded = map (pair_of settings.now cells.now l stream) (numbers (need settings.now stream)) } }
+    ensures loaded { branch.new ≡ record branch.old { loaded = map (pair_of settings.now cells.now weights.now l stream) (numbers (need settings.now stream)) } }
     ensures long { length branch.new.loaded ≡ need settings.now stream }
 {
-    put_pairs(settings, inner, cells, l, stream, pairs);
+    put_pairs(settings, inner, cells, weights, l, stream, pairs);
     load(branch, pairs);
 }
 
@@ -94,7 +99,7 @@ pub(crate) struct SymbolRx<M: Carriers> {
 }
 
 impl<M: Carriers> SymbolRx<M> {
-    /// Takes the cells of symbol `taken`, and appends the packets of the words that are then complete and
+    /// Takes the cells of symbol `taken` and their weights, and appends the packets of the words that are then complete and
     /// the reports.
     pub(crate) fn take<R: Threads + Sync, G: Gate>(
         &mut self,
@@ -103,6 +108,7 @@ impl<M: Carriers> SymbolRx<M> {
         settings: &Settings,
         taken: u64,
         cells: &[Cell],
+        weights: &[u8],
         hp: &mut Vec<u8>,
         lp: &mut Vec<u8>,
         events: &mut Vec<Event>,
@@ -110,6 +116,7 @@ impl<M: Carriers> SymbolRx<M> {
         requires inner { self.old.inner ≡ settings.now }
         requires few { taken < 2 ^ 32 }
         requires cells { length cells.now ≡ carriers settings.now.mode }
+        requires weights { AreWeights settings.now.mode weights.now }
         requires hp_pairs { need settings.now Hp ≤ vec_capacity self.old.pairs }
         requires lp_pairs { need settings.now Lp ≤ vec_capacity self.old.pairs }
         requires hp_kept { IsKeptStream self.old.hp (need settings.now Hp) taken }
@@ -129,9 +136,9 @@ impl<M: Carriers> SymbolRx<M> {
         ensures lp_capacity { vec_capacity lp.new ≡ vec_capacity lp.old }
         ensures event_capacity { vec_capacity events.new ≡ vec_capacity events.old }
         ensures hp_gave { (a : Option (List Bool)) (c : List Pair) (given : List ℕ) (tally : Tally) (steps : List ℕ) → StreamStands so_far (seen self.old.hp) a c given tally steps
-            → StreamGave so_far (seen self.new.hp) a (c ++ map (pair_of settings.now cells.now (taken % 68) Hp) (numbers (need settings.now Hp))) given (steps ++ ats self.new.hp.branch.events) hp.old.items hp.new.items }
+            → StreamGave so_far (seen self.new.hp) a (c ++ map (pair_of settings.now cells.now weights.now (taken % 68) Hp) (numbers (need settings.now Hp))) given (steps ++ ats self.new.hp.branch.events) hp.old.items hp.new.items }
         ensures lp_gave { (a : Option (List Bool)) (c : List Pair) (given : List ℕ) (tally : Tally) (steps : List ℕ) → StreamStands so_far (seen self.old.lp) a c given tally steps
-            → StreamGave so_far (seen self.new.lp) a (c ++ map (pair_of settings.now cells.now (taken % 68) Lp) (numbers (need settings.now Lp))) given (steps ++ ats self.new.lp.branch.events) lp.old.items lp.new.items }
+            → StreamGave so_far (seen self.new.lp) a (c ++ map (pair_of settings.now cells.now weights.now (taken % 68) Lp) (numbers (need settings.now Lp))) given (steps ++ ats self.new.lp.branch.events) lp.old.items lp.new.items }
         ensures events { events.new.items ≡ events.old.items ++ map (event_at Hp) (ats self.new.hp.branch.events) ++ map (event_at Lp) (ats self.new.lp.branch.events) }
         ensures framed { (shown : ℕ → List AnyCell) (n : ℕ) → shown n ≡ map (cell_of cells.now) (tps_carriers settings.now.mode) → FrameStands settings.now.mode self.old.frames shown n → FrameStands settings.now.mode self.new.frames shown (n + 1) }
     {
@@ -141,6 +148,7 @@ impl<M: Carriers> SymbolRx<M> {
             settings,
             &mut self.inner,
             cells,
+            weights,
             l,
             Stream::Hp,
             &mut self.pairs,
@@ -150,6 +158,7 @@ impl<M: Carriers> SymbolRx<M> {
             settings,
             &mut self.inner,
             cells,
+            weights,
             l,
             Stream::Lp,
             &mut self.pairs,

@@ -1,5 +1,5 @@
 -- The costs of longer bytes.
-use Rattle.std.proofs.Common.{◌≡◌, ℕ, zero, suc, ◌+◌, ◌-◌, ◌*◌, ◌/◌, ◌%◌, ◌<◌, ◌≤◌, true, List, [], ◌++◌, length, get_or, map, ap, ◌∙◌, arith, length-append}
+use Rattle.std.proofs.Common.{◌≡◌, ℕ, zero, suc, ◌+◌, ◌-◌, ◌*◌, ◌/◌, ◌%◌, ◌<◌, ◌≤◌, true, List, [], ◌++◌, length, get_or, map, ap, ap₂, ◌∙◌, arith, length-append}
 use Rattle.std.specs.Prelude.{flat_map}
 use Rattle.std.proofs.Math.Nat.{mul-zero, zero-mul, zero-div}
 use Rattle.std.proofs.lemmas.List.{length-map}
@@ -14,15 +14,15 @@ use Rattle.mode_set.specs.declared.modes.Stream.TheVariants.{Lp}
 use Rattle.mode_set.specs.declared.settings.Settings.{Settings}
 use Rattle.qam_map.specs.declared.cell.Cell.{Cell}
 use Rattle.inner_chain.specs.PairLists.{pair_of}
-use Rattle.reception.specs.Cells.{symbols, symbol_cells}
+use Rattle.reception.specs.Cells.{symbols, symbol_cells, symbol_weights}
 use Rattle.reception.specs.Costs.{symbol_costs, costs}
 use Rattle.reception.specs.Laws.{CostsGrow, SameCosts, NextCosts, NoCosts, CostsAreSteps, CostOfStep, NoLowCosts}
-use Rattle.reception.proofs.Symbols.{more_count, no_count, same_symbols, one_symbol_more, cells_stay}
+use Rattle.reception.proofs.Symbols.{more_count, no_count, same_symbols, one_symbol_more, cells_stay, weights_stay}
 use Rattle.reception.proofs.Numbered.{parts_end, no_parts, same_parts, more_parts, empty_parts, parts_long, part_at}
 
 symbol_costs_stay : (s : Settings) (bytes more : List ℕ) (σ : Stream) (m : ℕ) → m < symbols s bytes → symbol_costs s (bytes ++ more) σ m ≡ symbol_costs s bytes σ m
 unfolding symbol_costs
-symbol_costs_stay s bytes more σ m h = ap (λ (z : List Cell). map (pair_of s z (m % 68) σ) (numbers (need s σ))) (cells_stay s bytes more m h)
+symbol_costs_stay s bytes more σ m h = ap₂ (λ (z : List Cell) (w : List ℕ). map (pair_of s z w (m % 68) σ) (numbers (need s σ))) (cells_stay s bytes more m h) (weights_stay s bytes more m h)
 
 costs_before : (s : Settings) (bytes more : List ℕ) (σ : Stream) → flat_map (symbol_costs s (bytes ++ more) σ) (numbers (symbols s bytes)) ≡ flat_map (symbol_costs s bytes σ) (numbers (symbols s bytes))
 costs_before s bytes more σ = same_parts (symbol_costs s (bytes ++ more) σ) (symbol_costs s bytes σ) (symbols s bytes) (λ m l. symbol_costs_stay s bytes more σ m l)
@@ -56,15 +56,15 @@ no_costs s σ = ap (λ k. flat_map (symbol_costs s [] σ) (numbers k)) (no_count
 
 symbol_costs_long : (s : Settings) (bytes : List ℕ) (σ : Stream) (m : ℕ) → length (symbol_costs s bytes σ m) ≡ need s σ
 unfolding symbol_costs
-symbol_costs_long s bytes σ m = length-map (numbers (need s σ)) (pair_of s (symbol_cells s bytes m) (m % 68) σ) ∙ length-numbers (need s σ)
+symbol_costs_long s bytes σ m = length-map (numbers (need s σ)) (pair_of s (symbol_cells s bytes m) (symbol_weights s bytes m) (m % 68) σ) ∙ length-numbers (need s σ)
 
 pub costs_are_steps : CostsAreSteps
 unfolding costs
 costs_are_steps s bytes σ = parts_long (symbol_costs s bytes σ) (need s σ) (symbols s bytes) (symbol_costs_long s bytes σ)
 
-cost_in_symbol : (s : Settings) (bytes : List ℕ) (σ : Stream) (m t : ℕ) (d : CostPair) → t < need s σ → get_or (symbol_costs s bytes σ m) t d ≡ pair_of s (symbol_cells s bytes m) (m % 68) σ t
+cost_in_symbol : (s : Settings) (bytes : List ℕ) (σ : Stream) (m t : ℕ) (d : CostPair) → t < need s σ → get_or (symbol_costs s bytes σ m) t d ≡ pair_of s (symbol_cells s bytes m) (symbol_weights s bytes m) (m % 68) σ t
 unfolding symbol_costs numbers
-cost_in_symbol s bytes σ m t d l = let e : 0 + t ≡ t = omega arith in get_or-map-range_with_len (pair_of s (symbol_cells s bytes m) (m % 68) σ) 0 (need s σ) t t d l e
+cost_in_symbol s bytes σ m t d l = let e : 0 + t ≡ t = omega arith in get_or-map-range_with_len (pair_of s (symbol_cells s bytes m) (symbol_weights s bytes m) (m % 68) σ) 0 (need s σ) t t d l e
 
 pub cost_of_step : CostOfStep
 unfolding costs
@@ -85,4 +85,4 @@ no_low_need s flat = rw flat (nothing_of (payload s.mode) (steps_in_period (rate
 
 pub no_low_costs : NoLowCosts
 unfolding costs symbol_costs numbers
-no_low_costs s bytes flat = empty_parts (symbol_costs s bytes Lp) (symbols s bytes) (λ m. ap (λ n. map (pair_of s (symbol_cells s bytes m) (m % 68) Lp) (numbers n)) (no_low_need s flat))
+no_low_costs s bytes flat = empty_parts (symbol_costs s bytes Lp) (symbols s bytes) (λ m. ap (λ n. map (pair_of s (symbol_cells s bytes m) (symbol_weights s bytes m) (m % 68) Lp) (numbers n)) (no_low_need s flat))

@@ -7,11 +7,11 @@ use Rattle.mode_set.specs.declared.modes.Mode.TheVariants.{M2k, M8k}
 use Rattle.mode_set.specs.declared.settings.Settings.{Settings}
 use Rattle.pilots.specs.Carriers.{tps_carriers}
 use Rattle.qam_map.specs.declared.cell.Cell.{Cell}
-use Rattle.frame_build.specs.Symbol.{cells_from}
+use Rattle.frame_build.specs.Symbol.{cells_from, weights_from}
 use Rattle.qam_map.specs.Cells.{cell_of}
-use Rattle.reception.specs.Cells.{symbol_length, symbols, bytes_of_symbol, symbol_cells}
+use Rattle.reception.specs.Cells.{symbol_length, symbols, bytes_of_symbol, symbol_cells, symbol_weights}
 use Rattle.reception.specs.Frames.{tps_cells}
-use Rattle.reception.specs.Laws.{SameSymbols, OneSymbolMore, TailIsUnfinished, MoreUnfinished, EndedSymbol, CellsStay, TpsCellsStay, unfinished}
+use Rattle.reception.specs.Laws.{SameSymbols, OneSymbolMore, TailIsUnfinished, MoreUnfinished, EndedSymbol, CellsStay, WeightsStay, TpsCellsStay, unfinished}
 
 abbrev pub width : Mode → ℕ
 width m = 4 * carriers m
@@ -92,6 +92,10 @@ bytes_stay s bytes more m h =
 pub cells_stay : CellsStay
 unfolding symbol_cells
 cells_stay s bytes more m h = ap (λ (z : List ℕ). cells_from z (carriers s.mode)) (bytes_stay s bytes more m h)
+
+pub weights_stay : WeightsStay
+unfolding symbol_weights
+weights_stay s bytes more m h = ap (λ (z : List ℕ). weights_from z (carriers s.mode)) (bytes_stay s bytes more m h)
 
 pub tps_cells_stay : TpsCellsStay
 unfolding tps_cells

@@ -1,9 +1,9 @@
--- The bytes of symbols, and their cells (this project's own format: four bytes a carrier, carriers rising).
+-- The bytes of symbols, their cells and the weights of these (this project's own format: four bytes a carrier, carriers rising).
 use Rattle.std.specs.Prelude.{ℕ, ◌*◌, ◌/◌, ◌%◌, List, length, take, drop}
 use Rattle.mode_set.specs.StreamTable.{carriers}
 use Rattle.mode_set.specs.declared.settings.Settings.{Settings}
 use Rattle.qam_map.specs.declared.cell.Cell.{Cell}
-use Rattle.frame_build.specs.Symbol.{cells_from}
+use Rattle.frame_build.specs.Symbol.{cells_from, weights_from}
 
 -- the bytes of a symbol: four for each of the K carriers
 abbrev pub symbol_length : Settings → ℕ
@@ -24,3 +24,7 @@ bytes_of_symbol s bytes m = take (symbol_length s) (drop (m * symbol_length s) b
 -- its cells
 unfoldable pub symbol_cells : Settings → List ℕ → ℕ → List Cell
 symbol_cells s bytes m = cells_from (bytes_of_symbol s bytes m) (carriers s.mode)
+
+-- their weights
+unfoldable pub symbol_weights : Settings → List ℕ → ℕ → List ℕ
+symbol_weights s bytes m = weights_from (bytes_of_symbol s bytes m) (carriers s.mode)

@@ -1,4 +1,4 @@
--- The costs that the cells of symbols give to the decoder of a stream.
+-- The costs that the cells of symbols, by their weights, give to the decoder of a stream.
 use Rattle.std.specs.Prelude.{ℕ, ◌%◌, List, map, flat_map}
 use Rattle.spec_words.specs.Words.{numbers}
 use Rattle.code_paths.specs.declared.costs.CostPair.{CostPair}
@@ -6,11 +6,11 @@ use Rattle.mode_set.specs.StreamTable.{need}
 use Rattle.mode_set.specs.declared.modes.Stream.{Stream}
 use Rattle.mode_set.specs.declared.settings.Settings.{Settings}
 use Rattle.inner_chain.specs.PairLists.{pair_of}
-use Rattle.reception.specs.Cells.{symbols, symbol_cells}
+use Rattle.reception.specs.Cells.{symbols, symbol_cells, symbol_weights}
 
 -- the cost pairs of symbol m, one for each of its steps; it is symbol m mod 68 of its frame
 unfoldable pub symbol_costs : Settings → List ℕ → Stream → ℕ → List CostPair
-symbol_costs s bytes σ m = map (pair_of s (symbol_cells s bytes m) (m % 68) σ) (numbers (need s σ))
+symbol_costs s bytes σ m = map (pair_of s (symbol_cells s bytes m) (symbol_weights s bytes m) (m % 68) σ) (numbers (need s σ))
 
 -- the cost pairs of every whole symbol of the bytes
 unfoldable pub costs : Settings → List ℕ → Stream → List CostPair

@@ -10,7 +10,7 @@ use Rattle.mode_set.specs.declared.modes.Stream.TheVariants.{Hp, Lp}
 use Rattle.mode_set.specs.declared.settings.Settings.{Settings}
 use Rattle.outer_chain.specs.Words.{Tally}
 use Rattle.inner_chain.specs.PairLists.{pair_of}
-use Rattle.reception.specs.Cells.{symbol_length, symbols, tail, bytes_of_symbol, symbol_cells}
+use Rattle.reception.specs.Cells.{symbol_length, symbols, tail, bytes_of_symbol, symbol_cells, symbol_weights}
 use Rattle.reception.specs.Costs.{symbol_costs, costs}
 use Rattle.qam_map.specs.declared.cell.Cell.{Cell}
 use Rattle.reception.specs.Frames.{tps_cells, frame_bits}
@@ -54,6 +54,9 @@ EndedSymbol = (s : Settings) (bytes more : List ℕ) → EndsSymbol s bytes more
 abbrev pub CellsStay : Type 0
 CellsStay = (s : Settings) (bytes more : List ℕ) (m : ℕ) → m < symbols s bytes → symbol_cells s (bytes ++ more) m ≡ symbol_cells s bytes m
 
+abbrev pub WeightsStay : Type 0
+WeightsStay = (s : Settings) (bytes more : List ℕ) (m : ℕ) → m < symbols s bytes → symbol_weights s (bytes ++ more) m ≡ symbol_weights s bytes m
+
 abbrev pub TpsCellsStay : Type 0
 TpsCellsStay = (s : Settings) (bytes more : List ℕ) (m : ℕ) → m < symbols s bytes → tps_cells s (bytes ++ more) m ≡ tps_cells s bytes m
 
@@ -83,7 +86,7 @@ CostsAreSteps = (s : Settings) (bytes : List ℕ) (σ : Stream) → length (cost
 -- step t is one of symbol t / need
 abbrev pub CostOfStep : Type 0
 CostOfStep = (s : Settings) (bytes : List ℕ) (σ : Stream) (t : ℕ) (d : CostPair) → t < symbols s bytes * need s σ
-    → slice_index_or (costs s bytes σ) t d ≡ pair_of s (symbol_cells s bytes (t / need s σ)) (t / need s σ % 68) σ (t % need s σ)
+    → slice_index_or (costs s bytes σ) t d ≡ pair_of s (symbol_cells s bytes (t / need s σ)) (symbol_weights s bytes (t / need s σ)) (t / need s σ % 68) σ (t % need s σ)
 
 -- without a hierarchy LP has no costs
 abbrev pub NoLowCosts : Type 0

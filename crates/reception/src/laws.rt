@@ -1,5 +1,5 @@
 // The laws of reception, as contracts of functions that do nothing.
-ghost use Rattle.reception.specs.Laws.{SameSymbols, OneSymbolMore, TailIsUnfinished, MoreUnfinished, EndedSymbol, CellsStay, TpsCellsStay, BitsOfCells, CostsGrow, SameCosts, NextCosts, NoCosts, CostsAreSteps, CostOfStep, NoLowCosts, ReportsAreSteps, NewReportsAreLater, NextEvents, NoEvents, OneLive, OneFinal, LiveGrows, FinalEndsLive, NothingGiven, NothingLive};
+ghost use Rattle.reception.specs.Laws.{SameSymbols, OneSymbolMore, TailIsUnfinished, MoreUnfinished, EndedSymbol, CellsStay, WeightsStay, TpsCellsStay, BitsOfCells, CostsGrow, SameCosts, NextCosts, NoCosts, CostsAreSteps, CostOfStep, NoLowCosts, ReportsAreSteps, NewReportsAreLater, NextEvents, NoEvents, OneLive, OneFinal, LiveGrows, FinalEndsLive, NothingGiven, NothingLive};
 
 use code_paths::{
     ended_once, given_begins_ended, given_grows, given_once, reports_grow, reports_once,
@@ -13,6 +13,7 @@ pub fn symbols()
     ensures unfinished { MoreUnfinished }
     ensures ended { EndedSymbol }
     ensures cells { CellsStay }
+    ensures weights { WeightsStay }
     ensures tps { TpsCellsStay }
     ensures bits { BitsOfCells }
 {}

@@ -3,3 +3,5 @@ mod Vectors
 mod Wrapping
 mod Sides
 pub mod Near
+mod Weighing
+mod Fifteenths

@@ -1,4 +1,4 @@
--- Near a point the bits of its label cost less than the others.
+-- Near a point the bits of its label cost less than the others, by 15 at least.
 use Rattle.std.proofs.Common.{◌≡◌, ℕ, zero, suc, ◌+◌, ◌-◌, ◌*◌, ◌/◌, ◌%◌, ◌^◌, ◌<◌, ◌≤◌, min, Bool, true, false, cond, not, ◌&&◌, ◌||◌, List, [], ◌∷◌, filter, take, ◌⊎◌, inl, inr, refl, sym, ap, ◌∙◌, subst, arith, eqb, ltb}
 use Rattle.std.specs.Prelude.{ℤ}
 use Rattle.std.specs.Bool.{beq}
@@ -72,7 +72,7 @@ fine s h ys j =
     among v (fitting s h (2 * j) b) && (is_some (fitting s h (2 * j) (not b)) && all_far (spacing s h) v (fitting s h (2 * j) (not b)))
 
 abbrev margin : Shape → Hierarchy → Bool
-margin s h = let d = spacing s h in let t = tolerance s h in ltb (t ^ 2 / 2 ^ 18) (min 4095 ((d - t) ^ 2 / 2 ^ 18))
+margin s h = let d = spacing s h in let t = tolerance s h in ltb (t ^ 2 / 2 ^ 18 + 14) (min 4095 ((d - t) ^ 2 / 2 ^ 18))
 
 abbrev all_below : (ℕ → Bool) → ℕ → Bool
 all_below t zero = true
@@ -125,11 +125,11 @@ is_fine s h a b c j l =
     (for_bits_at (λ b. for_bits (λ c. all_below (fine s h (take (label_bits s / 2) (a ∷ b ∷ c ∷ []))) (label_bits s / 2))) b
     (for_bits_at (λ a. for_bits (λ b. for_bits (λ c. all_below (fine s h (take (label_bits s / 2) (a ∷ b ∷ c ∷ []))) (label_bits s / 2)))) a (tables s h)))) l
 
-least_costs : (a b t u : ℕ) → a ≤ t → u ≤ b → t / 2 ^ 18 < min 4095 (u / 2 ^ 18) → min 4095 (a / 2 ^ 18) < min 4095 (b / 2 ^ 18)
+least_costs : (a b t u : ℕ) → a ≤ t → u ≤ b → t / 2 ^ 18 + 14 < min 4095 (u / 2 ^ 18) → min 4095 (a / 2 ^ 18) + 15 ≤ min 4095 (b / 2 ^ 18)
 least_costs a b t u h k m = omega (arith, h, k, m)
 
 -- ---- one axis: ys are the bits of a label on it
-favours : (s : Shape) (h : Hierarchy) (ys : List Bool) (j : ℕ) (x : ℤ) → fine s h ys j ≡ true → distance x (value_of s h ys) ≤ tolerance s h → cost s h x (2 * j) (bit ys j) < cost s h x (2 * j) (not (bit ys j))
+favours : (s : Shape) (h : Hierarchy) (ys : List Bool) (j : ℕ) (x : ℤ) → fine s h ys j ≡ true → distance x (value_of s h ys) ≤ tolerance s h → cost s h x (2 * j) (bit ys j) + 15 ≤ cost s h x (2 * j) (not (bit ys j))
 unfolding cost
 favours s h ys j x f l =
     let d = spacing s h in
@@ -160,9 +160,9 @@ same_place s h x e j b l =
     ap (λ (z : ℕ). min 4095 (least_square x (filter (λ p. beq (bit p.label z) b) (points s h)) / 2 ^ 18)) place
 
 axis_favours : (s : Shape) (h : Hierarchy) (a b c v : Bool) (j e : ℕ) (x : ℤ) → j < label_bits s / 2 → e / 2 ≡ j → bit (take (label_bits s / 2) (a ∷ b ∷ c ∷ [])) j ≡ v
-    → distance x (value_of s h (take (label_bits s / 2) (a ∷ b ∷ c ∷ []))) ≤ tolerance s h → cost s h x e v < cost s h x e (not v)
+    → distance x (value_of s h (take (label_bits s / 2) (a ∷ b ∷ c ∷ []))) ≤ tolerance s h → cost s h x e v + 15 ≤ cost s h x e (not v)
 axis_favours s h a b c v j e x l place is near =
-    let here : cost s h x (2 * j) v < cost s h x (2 * j) (not v) = subst (λ (z : Bool). cost s h x (2 * j) z < cost s h x (2 * j) (not z)) is (favours s h _ j x (is_fine s h a b c j l) near) in
+    let here : cost s h x (2 * j) v + 15 ≤ cost s h x (2 * j) (not v) = subst (λ (z : Bool). cost s h x (2 * j) z + 15 ≤ cost s h x (2 * j) (not z)) is (favours s h _ j x (is_fine s h a b c j l) near) in
     omega (arith, here, same_place s h x e j v place, same_place s h x e j (not v) place)
 
 axis_exact : (s : Shape) (h : Hierarchy) (a b c v : Bool) (j e : ℕ) (x : ℤ) → j < label_bits s / 2 → e / 2 ≡ j → bit (take (label_bits s / 2) (a ∷ b ∷ c ∷ [])) j ≡ v
@@ -253,7 +253,7 @@ near_at s h point cell e n = go (cases_lt (e % 2) 1)
 
 pub near_points : NearPointsFavourTheirBits
 near_points s h y cell e l n =
-    on_both (λ x v e b. distance x v ≤ tolerance s h → cost s h x e b < cost s h x e (not b)) s h y cell e l
+    on_both (λ x v e b. distance x v ≤ tolerance s h → cost s h x e b + 15 ≤ cost s h x e (not b)) s h y cell e l
     (λ a b c v j x less place is near. axis_favours s h a b c v j e x less place is near) (near_at s h (map_cell s h y) cell e n)
 
 none_apart : (x : ℤ) → distance x x ≡ 0
@@ -267,5 +267,5 @@ exact_points s h y e l =
     on_both (λ x v e b. distance x v ≡ 0 → cost s h x e b ≡ 0) s h y point e l
     (λ a b c v j x less place is near. axis_exact s h a b c v j e x less place is near) none in
     let close : (x : ℤ) → distance x x ≤ tolerance s h = λ x. omega (arith, none_apart x) in
-    let less : cost s h (on_axis point e) e (y e) < cost s h (on_axis point e) e (not (y e)) = near_points s h y point e l (record { re = close point.re; im = close point.im }) in
+    let less : cost s h (on_axis point e) e (y e) + 15 ≤ cost s h (on_axis point e) e (not (y e)) = near_points s h y point e l (record { re = close point.re; im = close point.im }) in
     (zero_cost, omega (arith, less))

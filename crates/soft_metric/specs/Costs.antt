@@ -1,5 +1,5 @@
 -- What the two values of a coded bit cost, by the cell that carries it. The costs are this project's own.
-use Rattle.std.specs.Prelude.{◌≡◌, ℕ, ◌/◌, ◌^◌, ◌<◌, ◌≤◌, min, Bool, true, false, not, List, [], ◌∷◌, map, filter, ℤ}
+use Rattle.std.specs.Prelude.{◌≡◌, ℕ, ◌+◌, ◌/◌, ◌^◌, ◌<◌, ◌≤◌, min, Bool, true, false, not, List, [], ◌∷◌, map, filter, ℤ}
 use Rattle.std.specs.Bool.{beq}
 use Rattle.spec_words.specs.Bits.{bit}
 use Rattle.spec_words.specs.Words.{least}
@@ -30,10 +30,10 @@ pub record IsNear (s : Shape) (h : Hierarchy) (point cell : Cell) : Type 0 where
   pub re : distance cell.re point.re ≤ tolerance s h
   pub im : distance cell.im point.im ≤ tolerance s h
 
--- near the point of a label each bit of the label costs less than the other bit
+-- near the point of a label each bit of the label costs less than the other bit, by 15 at least
 abbrev pub NearPointsFavourTheirBits : Type 0
 NearPointsFavourTheirBits = (s : Shape) (h : Hierarchy) (y : ℕ → Bool) (cell : Cell) (e : ℕ) → e < label_bits s → IsNear s h (map_cell s h y) cell
-    → cost s h (on_axis cell e) e (y e) < cost s h (on_axis cell e) e (not (y e))
+    → cost s h (on_axis cell e) e (y e) + 15 ≤ cost s h (on_axis cell e) e (not (y e))
 
 -- at the point of a label each bit of the label costs nothing, and the other bit at least 1
 abbrev pub ExactPointsCostNothing : Type 0

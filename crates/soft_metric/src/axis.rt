@@ -6,8 +6,10 @@ ghost use Rattle.mode_set.specs.StreamTable.{label_bits};
 ghost use Rattle.soft_metric.specs.Costs.{cost, costs_at_place, four_levels};
 ghost use Rattle.qam_map.specs.declared.cell.Cell.{Cell as AnyCell};
 ghost use Rattle.soft_metric.specs.Squares.{AreAxisCosts, IsSmallPair};
+ghost use Rattle.soft_metric.specs.Weights.{weighted};
 
 use crate::lanes::costs_by_lanes;
+use crate::weight::weighted_by_lanes;
 use mode_set::{Hierarchy, Shape};
 use qam_map::{Cell, levels};
 use std::marker::Model;
@@ -130,5 +132,28 @@ impl AxisMetric {
         ensures small { (k : ℕ) → k < 16 → IsSmallPair (slice_index_or result k (0, 0)) }
     {
         costs_by_lanes(self.shape, self.hierarchy, self.rings, cells, place)
+    }
+
+    /// The costs of the values 0 and 1 at a place of the label of each of sixteen cells, by the
+    /// cells' weights: those of `costs_lanes`, each as `weighted` makes it.
+    pub fn weighted_costs_lanes(
+        &self,
+        cells: &[Cell; 16],
+        weights: &[u8; 16],
+        place: u8,
+    ) -> [(u16, u16); 16]
+        requires place { place < label_bits self.now.0 }
+        requires weights { (k : ℕ) → k < 16 → slice_index weights.now k ≤ 15 }
+        ensures costs { (k : ℕ) (d : AnyCell) → k < 16 → slice_index_or result k (0, 0) ≡ weighted (costs_at_place self.now.0 self.now.1 (slice_index_or cells.now k d) place) (slice_index weights.now k) }
+        ensures small { (k : ℕ) → k < 16 → IsSmallPair (slice_index_or result k (0, 0)) }
+    {
+        weighted_by_lanes(
+            self.shape,
+            self.hierarchy,
+            self.rings,
+            cells,
+            weights,
+            place,
+        )
     }
 }

@@ -41,7 +41,7 @@ fn scaled(gaps: u16x16) -> u16x16
 
 // The costs of the values 0 and 1 of the bit of axis number `axis`, where a value of an axis is
 // given modulo 2^16.
-fn lane_costs(levels: [u16; 4], axis: u8, values: u16x16) -> (u16x16, u16x16)
+pub(crate) fn lane_costs(levels: [u16; 4], axis: u8, values: u16x16) -> (u16x16, u16x16)
     requires axis { axis < 3 }
     requires levels { (k : ℕ) → slice_index levels k ≤ 20000 }
     ensures zero { result.0 ≡ map (lane_zero levels axis) values }
@@ -73,7 +73,7 @@ fn value_of(cell: Cell, place: u8) -> u16
 }
 
 // Those of sixteen cells.
-fn values_of(cells: &[Cell; 16], place: u8) -> [u16; 16]
+pub(crate) fn values_of(cells: &[Cell; 16], place: u8) -> [u16; 16]
     ensures { (k : ℕ) (d : AnyCell) → k < 16 → lane_value (slice_index result k) ≡ on_axis (slice_index_or cells.now k d) place }
 {
     let mut values = [0; 16];
@@ -83,7 +83,7 @@ fn values_of(cells: &[Cell; 16], place: u8) -> [u16; 16]
     values
 }
 
-fn in_pairs(zero: [u16; 16], one: [u16; 16]) -> [(u16, u16); 16]
+pub(crate) fn in_pairs(zero: [u16; 16], one: [u16; 16]) -> [(u16, u16); 16]
     ensures { (k : ℕ) → k < 16 → pair_at result k ≡ (slice_index zero k, slice_index one k) }
 {
     let mut pairs = [(0, 0); 16];

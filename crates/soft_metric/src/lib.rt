@@ -8,6 +8,8 @@ pub mod laws;
 mod metric;
 #[cfg(test)]
 mod tests;
+mod weight;
 
 pub use axis::AxisMetric;
 pub use metric::{costs, costs_lanes};
+pub use weight::weighted;

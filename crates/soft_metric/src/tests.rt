@@ -2,7 +2,7 @@
 ghost use Rattle.std.specs.Prelude.{◌<◌};
 ghost use Rattle.mode_set.specs.StreamTable.{label_bits};
 
-use crate::{costs, costs_lanes};
+use crate::{costs, costs_lanes, weighted};
 use mode_set::{Hierarchy, Shape};
 use qam_map::{Cell, map};
 use std::process::Abort;
@@ -146,4 +146,21 @@ fn lanes_are_single_costs(rt: HostRuntime) {
             }
         }
     }
+}
+
+#[test]
+fn costs_by_weights(rt: HostRuntime) {
+    let weights = [
+        (0, (0, 0)),
+        (1, (34, 136)),
+        (7, (238, 955)),
+        (14, (476, 1910)),
+        (15, (511, 2047)),
+    ];
+    for (weight, pair) in weights {
+        assert!(rt; weight <= 15);
+        assert_eq!(rt; weighted((511, 2047), weight), pair);
+    }
+    assert_eq!(rt; weighted((4095, 14), 15), (4095, 14));
+    assert_eq!(rt; weighted((4095, 14), 1), (273, 0));
 }

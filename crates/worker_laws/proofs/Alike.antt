@@ -16,9 +16,9 @@ use Rattle.mode_set.specs.declared.modes.Start.{Start}
 use Rattle.mode_set.specs.declared.modes.Stream.{Stream}
 use Rattle.mode_set.specs.declared.settings.Settings.{Settings}
 use Rattle.qam_map.specs.declared.cell.Cell.{Cell}
-use Rattle.inner_chain.specs.CostPairs.{costs_on}
+use Rattle.inner_chain.specs.CostPairs.{costs_on, weighted_costs_on}
 use Rattle.inner_chain.specs.PairLists.{pair_of}
-use Rattle.reception.specs.Cells.{symbols, symbol_cells, bytes_of_symbol}
+use Rattle.reception.specs.Cells.{symbols, symbol_cells, symbol_weights, bytes_of_symbol}
 use Rattle.reception.specs.Costs.{symbol_costs, costs}
 use Rattle.reception.specs.Frames.{tps_cells, frame_bits, CountsWords}
 use Rattle.reception.specs.Lines.{events, event_lines, closing_lines}
@@ -50,11 +50,11 @@ over Fact s t d base =
 
 module _ (s : Settings) (w : ℕ) (k : IsKept s.shape s.hierarchy s.rate_lp w s.max_symbols) where
   -- its costs are the same, and that they are small has no two proofs
-  pair_alike : (cells : List Cell) (l : ℕ) (σ : Stream) (t : ℕ) → pair_of s cells l σ t ≡ pair_of (with_workers s w k) cells l σ t
-  unfolding pair_of costs_on
-  pair_alike cells l σ t = λ i.
-      let p = pair_of s cells l σ t in
-      let q = pair_of (with_workers s w k) cells l σ t in
+  pair_alike : (cells : List Cell) (weights : List ℕ) (l : ℕ) (σ : Stream) (t : ℕ) → pair_of s cells weights l σ t ≡ pair_of (with_workers s w k) cells weights l σ t
+  unfolding pair_of weighted_costs_on costs_on
+  pair_alike cells weights l σ t = λ i.
+      let p = pair_of s cells weights l σ t in
+      let q = pair_of (with_workers s w k) cells weights l σ t in
       record {
         x0 = p.x0;
         x1 = p.x1;
@@ -64,8 +64,8 @@ module _ (s : Settings) (w : ℕ) (k : IsKept s.shape s.hierarchy s.rate_lp w s.
       }
 
   symbol_alike : (bytes : List ℕ) (σ : Stream) (m : ℕ) → symbol_costs s bytes σ m ≡ symbol_costs (with_workers s w k) bytes σ m
-  unfolding symbol_costs symbol_cells bytes_of_symbol
-  symbol_alike bytes σ m = λ i. map (λ t. pair_alike (symbol_cells s bytes m) (m % 68) σ t i) (numbers (need s σ))
+  unfolding symbol_costs symbol_cells symbol_weights bytes_of_symbol
+  symbol_alike bytes σ m = λ i. map (λ t. pair_alike (symbol_cells s bytes m) (symbol_weights s bytes m) (m % 68) σ t i) (numbers (need s σ))
 
   costs_alike : (bytes : List ℕ) (σ : Stream) → costs s bytes σ ≡ costs (with_workers s w k) bytes σ
   unfolding costs

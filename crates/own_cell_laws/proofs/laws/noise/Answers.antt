@@ -18,6 +18,7 @@ returns c =
       agree = c.places_and_words_agree.ensures;
       found = c.each_bit_is_found.ensures;
       favour = c.near_points_favour_their_bits.ensures;
+      apart = c.weights_tell_apart.ensures;
       order = c.steps_send_in_order.ensures;
       numbers = c.steps_are_numbered.ensures;
       shift = c.periods_shift.ensures;

@@ -1,4 +1,4 @@
-use Rattle.reception.proofs.Symbols.{same_symbols, one_symbol_more, tail_is_unfinished, more_unfinished, ended_symbol, cells_stay, tps_cells_stay}
+use Rattle.reception.proofs.Symbols.{same_symbols, one_symbol_more, tail_is_unfinished, more_unfinished, ended_symbol, cells_stay, weights_stay, tps_cells_stay}
 use Rattle.reception.proofs.Received.{same_bits}
 use Rattle.reception.proofs.laws.symbols.Goals as goal
 
@@ -19,6 +19,9 @@ returns-clause-ended c = ended_symbol
 
 pub returns-clause-cells : goal.returns-clause-cells
 returns-clause-cells c = cells_stay
+
+pub returns-clause-weights : goal.returns-clause-weights
+returns-clause-weights c = weights_stay
 
 pub returns-clause-tps : goal.returns-clause-tps
 returns-clause-tps c = tps_cells_stay

@@ -3,7 +3,7 @@ use Rattle.std.proofs.lemmas.Bool.{true≢false}
 use Rattle.spec_words.specs.Words.{numbers}
 use Rattle.mode_set.specs.StreamTable.{carriers, need}
 use Rattle.mode_set.specs.declared.modes.Stream.TheVariants.{Hp, Lp}
-use Rattle.frame_build.specs.Symbol.{cells_from}
+use Rattle.frame_build.specs.Symbol.{cells_from, weights_from}
 use Rattle.inner_chain.specs.PairLists.{pair_of}
 use Rattle.inner_decoder.specs.Events.{ats}
 use Rattle.rx_report.specs.declared.counts.Event.{Event}
@@ -59,14 +59,14 @@ returns-clause-fed g c = λ b r.
     subst (λ (z : ReceiverState). StandsFor so_far z b r → Feeds (StandsFor so_far y) z.settings b c.args.piece.now r n out) c.self.view_is
     (λ h. feeds_whole
     (record { next = c.symbols.ensures.next; ended = c.symbols.ensures.ended; stay = c.symbols.ensures.tps; bits = c.symbols.ensures.bits; costs_next = c.costs.ensures.next; events_next = c.events.ensures.next; one = c.bits.ensures.byte; all = c.receiving.ensures.all })
-    x y b c.args.piece.now n k r out c.cells.result.now hp_steps lp_steps
+    x y b c.args.piece.now n k r out c.cells.result.now c.weights.result.now hp_steps lp_steps
     (ends_is c.symbols.ensures.tail x b c.args.piece.now c.take-count.new.self n k r h e c.take-count.ensures.count c.take-count.ensures.taken l)
     (taken_is c.symbols.ensures.tail x b c.args.piece.now n k r h e c.take-count.ensures.count)
     refl (ap (λ (z : ReceiverState). z.ended) c.self.view_is ∙ c.requires.going) refl c.next.ensures
-    (c.cells.ensures.cells ∙ ap (λ (z : List ℕ). cells_from z k) c.take-count.ensures.taken) e
+    (c.cells.ensures.cells ∙ ap (λ (z : List ℕ). cells_from z k) c.take-count.ensures.taken) (c.weights.ensures.weights ∙ ap (λ (z : List ℕ). weights_from z k) c.take-count.ensures.taken) e
     (record {
-      hp_gave = λ a s d t q m. subst (λ (z : List ℕ). StreamGave so_far (seen c.take.new.self.hp) a (s ++ map (pair_of c.self.inside.settings c.cells.result.now (c.self.inside.taken % 68) Hp) (numbers (need c.self.inside.settings Hp))) d (q ++ hp_steps) z c.take.new.hp.items) (ap (λ (o : Output). o.hp) empty) (c.take.ensures.hp_gave a s d t q m);
-      lp_gave = λ a s d t q m. subst (λ (z : List ℕ). StreamGave so_far (seen c.take.new.self.lp) a (s ++ map (pair_of c.self.inside.settings c.cells.result.now (c.self.inside.taken % 68) Lp) (numbers (need c.self.inside.settings Lp))) d (q ++ lp_steps) z c.take.new.lp.items) (ap (λ (o : Output). o.lp) empty) (c.take.ensures.lp_gave a s d t q m);
+      hp_gave = λ a s d t q m. subst (λ (z : List ℕ). StreamGave so_far (seen c.take.new.self.hp) a (s ++ map (pair_of c.self.inside.settings c.cells.result.now c.weights.result.now (c.self.inside.taken % 68) Hp) (numbers (need c.self.inside.settings Hp))) d (q ++ hp_steps) z c.take.new.hp.items) (ap (λ (o : Output). o.hp) empty) (c.take.ensures.hp_gave a s d t q m);
+      lp_gave = λ a s d t q m. subst (λ (z : List ℕ). StreamGave so_far (seen c.take.new.self.lp) a (s ++ map (pair_of c.self.inside.settings c.cells.result.now c.weights.result.now (c.self.inside.taken % 68) Lp) (numbers (need c.self.inside.settings Lp))) d (q ++ lp_steps) z c.take.new.lp.items) (ap (λ (o : Output). o.lp) empty) (c.take.ensures.lp_gave a s d t q m);
       events_are = c.take.ensures.events ∙ ap (λ (z : List Event). z ++ map (event_at Hp) hp_steps ++ map (event_at Lp) lp_steps) (ap (λ (o : Output). o.events) empty);
       framed = c.take.ensures.framed;
     }) h)
