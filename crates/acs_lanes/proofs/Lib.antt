@@ -2,7 +2,9 @@ pub mod Vectors
 pub mod LaneLaws
 pub mod Sums16
 pub mod Quarters
-pub mod Halves
 pub mod Highs
 pub mod Shifts
+pub mod Laid
 pub mod Costs16
+pub mod Marks
+pub mod Turns
