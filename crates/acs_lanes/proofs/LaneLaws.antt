@@ -103,10 +103,10 @@ lane_total old low pair n e o s t h u =
     inside true = refl
     inside false = refl
 
-abbrev bits_at : ℕ → Bool → ℕ → List Bool
+abbrev pub bits_at : ℕ → Bool → ℕ → List Bool
 bits_at parity input k = register (2 * k + parity) ++ input ∷ []
 
-four_small : (pair : CostPair) (x y : Bool) → cond x pair.x1 pair.x0 + cond y pair.y1 pair.y0 ≤ 8190
+pub four_small : (pair : CostPair) (x y : Bool) → cond x pair.x1 pair.x0 + cond y pair.y1 pair.y0 ≤ 8190
 four_small pair true true = omega (arith, pair.small.x1_small, pair.small.y1_small)
 four_small pair true false = omega (arith, pair.small.x1_small, pair.small.y0_small)
 four_small pair false true = omega (arith, pair.small.x0_small, pair.small.y1_small)
@@ -203,10 +203,10 @@ even_lanes w k l = at_map (λ j. get_or w j 0) evens k l ∙ ap (λ j. get_or w 
 pub odd_lanes : (w : List ℕ) (k : ℕ) → k < 16 → get_or (map (λ j. get_or w j 0) odds) k 0 ≡ get_or w (2 * k + 1) 0
 odd_lanes w k l = at_map (λ j. get_or w j 0) odds k l ∙ ap (λ j. get_or w j 0) (same_number (λ k. get_or odds k 0) (λ k. 2 * k + 1) k l refl)
 
-abbrev code_of : Bool → Bool → ℕ
+abbrev pub code_of : Bool → Bool → ℕ
 code_of x y = 2 * cond x 1 0 + cond y 1 0
 
-four_at : (pair : CostPair) (x y : Bool) → get_or (four pair) (code_of x y) 0 ≡ cond x pair.x1 pair.x0 + cond y pair.y1 pair.y0
+pub four_at : (pair : CostPair) (x y : Bool) → get_or (four pair) (code_of x y) 0 ≡ cond x pair.x1 pair.x0 + cond y pair.y1 pair.y0
 four_at pair true true = refl
 four_at pair true false = refl
 four_at pair false true = refl

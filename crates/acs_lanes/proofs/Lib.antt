@@ -2,8 +2,10 @@ pub mod Vectors
 pub mod LaneLaws
 pub mod Sums16
 pub mod Quarters
-pub mod Halves
 pub mod Highs
 pub mod Shifts
+pub mod Laid
 pub mod Costs16
 mod Back
+pub mod Marks
+pub mod Turns

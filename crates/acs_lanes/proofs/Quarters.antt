@@ -1,12 +1,9 @@
--- Four vectors of sixteen lanes as one list, and the step over them.
-use Rattle.std.proofs.Common.{◌≡◌, ℕ, zero, suc, take, drop, ◌+◌, ◌-◌, ◌*◌, ◌^◌, ◌<◌, ◌≤◌, List, [], ◌∷◌, ◌++◌, length, ◌⊎◌, inl, inr, refl, sym, ap, ◌∙◌, subst, arith, get_or}
+-- Four vectors of sixteen lanes as one list.
+use Rattle.std.proofs.Common.{◌≡◌, ℕ, zero, suc, take, drop, ◌+◌, ◌-◌, ◌<◌, ◌≤◌, List, [], ◌∷◌, ◌++◌, length, ◌⊎◌, inl, inr, refl, sym, ap, ◌∙◌, subst, arith, get_or}
 use Rattle.std.proofs.lemmas.Bool.{cases_lt}
 use Rattle.std.proofs.lemmas.List.{get_or_append_left, get_or-append_right, length-append, get_or-take, get_or-drop, same_lists}
 use Rattle.std.specs.Prelude.{slice_index}
-use Rattle.code_paths.specs.declared.costs.CostPair.{CostPair}
-use Rattle.acs_lanes.specs.Lanes.{AreStepCosts, AreTaken, IsLaneStep}
-use Rattle.acs_lanes.proofs.LaneLaws.{lanes_joined, IsJoined}
-use Rattle.acs_lanes.specs.Lanes16.{AreLanes, AddFits, joined}
+use Rattle.acs_lanes.specs.Lanes16.{AreLanes, joined}
 
 two_len : (a b : List ℕ) → length a ≡ 16 → length b ≡ 16 → length (a ++ b) ≡ 32
 two_len a b l m = omega (arith, length-append a b, l, m)
@@ -60,56 +57,6 @@ both_lanes R a b c d e f g h la lb lc ld le lf lg lh p q r s =
     move : {x y u v : ℕ} → x ≡ u → y ≡ v → R u v → R x y
     move {x} {y} {u} {v} i j t = subst (λ z. R z y) (sym i) (subst (λ z. R u z) (sym j) t)
 
--- ---- the step
-
--- a lane of a step fits
-pub taken_fits : (part even_steps odd_steps costs : List ℕ) (word : ℕ) → AreTaken part even_steps odd_steps costs word → ((j : ℕ) → j < 32 → slice_index part j ≤ 57345) → ((k : ℕ) → k < 16 → slice_index even_steps k ≤ 8190)
-    → (k : ℕ) → k < 16 → slice_index costs k < 2 ^ 16
-taken_fits part es os costs word t p s k l = omega (arith, t.cost k l, p (2 * k) (omega arith), s k l)
-
-pub zero_small : (pair : CostPair) (from : ℕ) (zs os : List ℕ) → AreStepCosts pair from zs os → (k : ℕ) → k < 16 → slice_index zs k ≤ 8190
-zero_small pair from zs os s k l = (s.even_zero k l).small
-
-pub one_small : (pair : CostPair) (from : ℕ) (zs os : List ℕ) → AreStepCosts pair from zs os → (k : ℕ) → k < 16 → slice_index os k ≤ 8190
-one_small pair from zs os s k l = (s.even_one k l).small
-
-pub add_fits : (old costs steps : List ℕ) (parity : ℕ) → parity < 2 → length costs ≡ 16 → length steps ≡ 16 → ((k : ℕ) → k < 16 → slice_index costs k ≡ slice_index old (2 * k + parity))
-    → ((j : ℕ) → j < 32 → slice_index old j ≤ 57345) → ((k : ℕ) → k < 16 → slice_index steps k ≤ 8190) → AddFits costs steps
-add_fits old costs steps parity p l m e f s = record {
-  costs_len = l;
-  steps_len = m;
-  fits = λ k n. omega (arith, e k n, f (2 * k + parity) (omega arith), s k n);
-}
-
-pub first_few : (oa ob oc od : List ℕ) → AreLanes oa ob oc od → ((n : ℕ) → n < 64 → slice_index (joined oa ob oc od) n ≤ 57345) → (j : ℕ) → j < 32 → slice_index (oa ++ ob) j ≤ 57345
-first_few oa ob oc od o f j l = omega (arith, first_at oa ob oc od o.a_len o.b_len o.c_len o.d_len j l, f j (omega arith))
-
-pub last_few : (oa ob oc od : List ℕ) → AreLanes oa ob oc od → ((n : ℕ) → n < 64 → slice_index (joined oa ob oc od) n ≤ 57345) → (j : ℕ) → j < 32 → slice_index (oc ++ od) j ≤ 57345
-last_few oa ob oc od o f j l = omega (arith, last_at oa ob oc od o.a_len o.b_len o.c_len o.d_len j l, f (32 + j) (omega arith))
-
-module _ (pair : CostPair) (oa ob oc od a b c d zero one far_zero far_one : List ℕ) (wa wb wc wd low high : ℕ) (o : AreLanes oa ob oc od)
-    (s : AreStepCosts pair 0 zero one) (t : AreStepCosts pair 16 far_zero far_one)
-    (ta : AreTaken (oa ++ ob) zero one a wa) (tc : AreTaken (oa ++ ob) one zero c wc) (tb : AreTaken (oc ++ od) far_zero far_one b wb) (td : AreTaken (oc ++ od) far_one far_zero d wd) where
-  pub wide_step : IsJoined wa wb low → IsJoined wc wd high → IsLaneStep pair (joined oa ob oc od) (joined a b c d) low high
-  wide_step j k =
-      lanes_joined pair (joined oa ob oc od) (oa ++ ob) (oc ++ od) (joined a b c d) (joined a b c d) b (joined a b c d) wa wb wc wd low high
-      (λ j l. let e : 2 * 0 + j ≡ j = omega arith in sym (ap (λ z. get_or (joined oa ob oc od) z 0) e ∙ first_at oa ob oc od o.a_len o.b_len o.c_len o.d_len j l))
-      (λ j l. let e : 2 * 16 + j ≡ 32 + j = omega arith in sym (ap (λ z. get_or (joined oa ob oc od) z 0) e ∙ last_at oa ob oc od o.a_len o.b_len o.c_len o.d_len j l))
-      (record { zero = zero; one = one; low = a; high = c; steps = s; low_taken = ta; high_taken = tc; low_is = a_at a b c d ta.len tb.len tc.len td.len; high_is = c_at a b c d ta.len tb.len tc.len td.len })
-      (record { zero = far_zero; one = far_one; low = b; high = d; steps = t; low_taken = tb; high_taken = td; low_is = λ k l. refl; high_is = d_at a b c d ta.len tb.len tc.len td.len })
-      (λ k l m. refl) (b_at a b c d ta.len tb.len tc.len td.len) (λ k l. refl) (λ k l m. refl) j k
-
-  pub wide_lanes : ((n : ℕ) → n < 64 → slice_index (joined oa ob oc od) n ≤ 57345) → AreLanes a b c d
-  wide_lanes f = record {
-    a_len = ta.len;
-    b_len = tb.len;
-    c_len = tc.len;
-    d_len = td.len;
-    fits = both_lanes (λ x y. x < 2 ^ 16) a b c d a b c d ta.len tb.len tc.len td.len ta.len tb.len tc.len td.len
-        (taken_fits (oa ++ ob) zero one a wa ta (first_few oa ob oc od o f) (zero_small pair 0 zero one s)) (taken_fits (oc ++ od) far_zero far_one b wb tb (last_few oa ob oc od o f) (zero_small pair 16 far_zero far_one t))
-        (taken_fits (oa ++ ob) one zero c wc tc (first_few oa ob oc od o f) (one_small pair 0 zero one s)) (taken_fits (oc ++ od) far_one far_zero d wd td (last_few oa ob oc od o f) (one_small pair 16 far_zero far_one t));
-  }
-
 -- ---- parts and wholes
 
 pub part_at : (xs : List ℕ) (i n k : ℕ) → k < 16 → n ≡ 16 → get_or (take 16 (take n (drop i xs))) k 0 ≡ get_or xs (i + k) 0
@@ -136,3 +83,15 @@ stored a b c d u v w x la lb lc ld lx ha hb bb hc bc hd bd =
     (λ k l. bd (16 + k) (omega arith) ∙ bc (16 + k) (omega arith) ∙ hb k l ∙ sym (b_at a b c d la lb lc ld k l))
     (λ k l. bd (32 + k) (omega arith) ∙ hc k l ∙ sym (c_at a b c d la lb lc ld k l))
     (λ k l. hd k l ∙ sym (d_at a b c d la lb lc ld k l)))
+
+-- four parts of 64 costs in a row
+module _ (costs a b c d : List ℕ) (la : length a ≡ 16) (lb : length b ≡ 16) (lc : length c ≡ 16) (ld : length d ≡ 16) (ha : (k : ℕ) → k < 16 → slice_index a k ≡ slice_index costs (0 + k)) (hb : (k : ℕ) → k < 16 → slice_index b k ≡ slice_index costs (16 + k))
+    (hc : (k : ℕ) → k < 16 → slice_index c k ≡ slice_index costs (32 + k)) (hd : (k : ℕ) → k < 16 → slice_index d k ≡ slice_index costs (48 + k)) where
+  pub quarters_joined : (n : ℕ) → n < 64 → slice_index (joined a b c d) n ≡ slice_index costs n
+  quarters_joined =
+      by_quarters (λ n. slice_index (joined a b c d) n ≡ slice_index costs n)
+      (λ k l. let e : 0 + k ≡ k = omega arith in a_at a b c d la lb lc ld k l ∙ ha k l ∙ ap (λ j. get_or costs j 0) e)
+      (λ k l. b_at a b c d la lb lc ld k l ∙ hb k l) (λ k l. c_at a b c d la lb lc ld k l ∙ hc k l) (λ k l. d_at a b c d la lb lc ld k l ∙ hd k l)
+
+  pub quarters_fit : ((n : ℕ) → n < 64 → slice_index costs n ≤ 49140) → AreLanes a b c d
+  quarters_fit f = record { a_len = la; b_len = lb; c_len = lc; d_len = ld; fits = λ n l. omega (arith, quarters_joined n l, f n l) }

@@ -116,7 +116,7 @@ pub(crate) fn store(cost: &mut [u32; 64], from: usize, lanes: u32x16)
 }
 
 /// Two words of 16 bits, the first one's bits the lowest.
-pub(crate) fn joined(first: u64, last: u64) -> u64
+fn joined(first: u64, last: u64) -> u64
     requires first { first < 2 ^ 16 }
     requires last { last < 2 ^ 16 }
     ensures low { (k : ℕ) → k < 16 → is_set result k ≡ is_set first k }

@@ -1,12 +1,13 @@
 // The 64 costs in lanes of 16 bits.
 ghost use Rattle.std.specs.Prelude.{◌≡◌, ◌≤◌, ◌<◌, ◌+◌, ◌^◌, ℕ, IsTrue, IsFalse, max, length, slice_index};
-ghost use Rattle.acs_lanes.specs.Lanes16.{AreLanes, AreLowered, AreClose, HasHigh, joined};
+ghost use Rattle.acs_lanes.specs.Lanes16.{AreLanes, AreLowered, AreClose, HasHigh, joined, laid, place, state_at};
 
 use crate::lanes::write;
 use std::simd::cmp::{SimdOrd, SimdPartialOrd};
 use std::simd::{u16x16, u32x16};
 
-/// The costs of the 64 states: 16 of them in each vector.
+/// The costs of the 64 states, 16 of them in each vector, in an order that a step gives back: the even states in the first
+/// two vectors, the odd ones in the last two.
 #[derive(Clone, Copy, Drop)]
 pub(crate) struct Lanes {
     pub(crate) a: u16x16,
@@ -16,17 +17,43 @@ pub(crate) struct Lanes {
     ghost lanes: { AreLanes a b c d },
 }
 
+/// Which state's cost is at a place of the lanes.
+fn state_in(place: usize) -> usize
+    requires { place < 64 }
+    ensures { result ≡ state_at place }
+{
+    32 * (place / 8 % 2)
+        + 16 * (place / 16 % 2)
+        + 8 * (place % 2)
+        + 4 * (place / 2 % 2)
+        + 2 * (place / 4 % 2)
+        + place / 32
+}
+
+/// Where a state's cost is in the lanes.
+fn place_of(state: usize) -> usize
+    requires { state < 64 }
+    ensures { result ≡ place state }
+{
+    32 * (state % 2)
+        + 16 * (state / 16 % 2)
+        + 8 * (state / 32)
+        + 4 * (state / 2 % 2)
+        + 2 * (state / 4 % 2)
+        + state / 8 % 2
+}
+
 /// The costs less a number, in lanes.
 fn narrowed(costs: &[u32; 64], low: u32) -> [u16; 64]
     requires low { (n : ℕ) → n < 64 → low ≤ slice_index costs.now n }
     requires high { (n : ℕ) → n < 64 → slice_index costs.now n ≤ low + 49140 }
-    ensures is { (n : ℕ) → n < 64 → slice_index result n + low ≡ slice_index costs.now n }
-    ensures few { (n : ℕ) → n < 64 → slice_index result n ≤ 49140 }
+    ensures is { (p : ℕ) → p < 64 → slice_index result p + low ≡ slice_index costs.now (state_at p) }
+    ensures few { (p : ℕ) → p < 64 → slice_index result p ≤ 49140 }
     ensures long { length result ≡ 64 }
 {
     let mut lanes = [0u16; 64];
-    for n in 0..64usize {
-        lanes[n] = (costs[n] - low) as u16;
+    for p in 0..64usize {
+        lanes[p] = (costs[state_in(p)] - low) as u16;
     }
     lanes
 }
@@ -44,7 +71,7 @@ fn part(costs: &[u16; 64], from: usize) -> u16x16
 pub(crate) fn narrow(costs: &[u32; 64], low: u32) -> Lanes
     requires low { (n : ℕ) → n < 64 → low ≤ slice_index costs.now n }
     requires high { (n : ℕ) → n < 64 → slice_index costs.now n ≤ low + 49140 }
-    ensures is { (n : ℕ) → n < 64 → slice_index (joined result.a result.b result.c result.d) n + low ≡ slice_index costs.now n }
+    ensures is { (n : ℕ) → n < 64 → slice_index (laid result.a result.b result.c result.d) n + low ≡ slice_index costs.now n }
 {
     let lanes = narrowed(costs, low);
     Lanes {
@@ -73,14 +100,26 @@ fn store(cost: &mut [u32; 64], from: usize, lanes: u16x16)
     write(&mut cost[from..from + 16], wide(lanes));
 }
 
-/// The costs in 32 bits.
-pub(crate) fn widen(lanes: Lanes, cost: &mut [u32; 64])
-    ensures { cost.new ≡ joined lanes.a lanes.b lanes.c lanes.d }
+/// All lanes in 32 bits.
+fn all_lanes(lanes: Lanes) -> [u32; 64]
+    ensures { result ≡ joined lanes.a lanes.b lanes.c lanes.d }
 {
-    store(cost, 0, lanes.a);
-    store(cost, 16, lanes.b);
-    store(cost, 32, lanes.c);
-    store(cost, 48, lanes.d);
+    let mut all = [0u32; 64];
+    store(&mut all, 0, lanes.a);
+    store(&mut all, 16, lanes.b);
+    store(&mut all, 32, lanes.c);
+    store(&mut all, 48, lanes.d);
+    all
+}
+
+/// The costs in 32 bits, in the order of states.
+pub(crate) fn widen(lanes: Lanes, cost: &mut [u32; 64])
+    ensures { cost.new ≡ laid lanes.a lanes.b lanes.c lanes.d }
+{
+    let all = all_lanes(lanes);
+    for n in 0..64usize {
+        cost[n] = all[place_of(n)];
+    }
 }
 
 /// The higher one of each two lanes.

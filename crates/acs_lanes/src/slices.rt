@@ -2,7 +2,7 @@
 ghost use Rattle.std.specs.Prelude.{◌≡◌, ◌≤◌, ◌<◌, ◌+◌, ℕ, length, slice_index};
 ghost use Rattle.acs_plain.specs.Spread.{IsSpread};
 ghost use Rattle.acs_plain.specs.Steps.{AreSteps};
-ghost use Rattle.acs_lanes.specs.Lanes16.{all_with, joined};
+ghost use Rattle.acs_lanes.specs.Lanes16.{all_with, laid};
 
 use crate::lanes16::{Lanes, lowered, narrow, widen};
 use crate::step16::step;
@@ -12,9 +12,9 @@ use conv_code::CostPair;
 /// A step in lanes for each pair.
 #[inline(never)]
 fn run_lanes(from: Lanes, pairs: &[CostPair], words: &mut [u64]) -> Lanes
-    requires spread { IsSpread (all_with (joined from.a from.b from.c from.d)) }
+    requires spread { IsSpread (all_with (laid from.a from.b from.c from.d)) }
     requires room { length words.old ≡ length pairs.now }
-    ensures steps { AreSteps (all_with (joined from.a from.b from.c from.d)) pairs.now (all_with (joined result.a result.b result.c result.d)) words.new }
+    ensures steps { AreSteps (all_with (laid from.a from.b from.c from.d)) pairs.now (all_with (laid result.a result.b result.c result.d)) words.new }
     ensures room { length words.new ≡ length pairs.now }
 {
     let mut lanes = from;

@@ -2,4 +2,5 @@ mod Bytes
 pub mod RowSteps
 mod Words
 mod Walks
+mod Traces
 mod AllAlive

@@ -1,7 +1,7 @@
 -- The bits that decision words stand for, and the walk back through them.
-use Rattle.std.specs.Prelude.{◌≡◌, ℕ, ◌+◌, ◌-◌, ◌/◌, ◌%◌, ◌<◌, ◌==◌, Bool, true, false, cond, not, ◌&&◌, ◌||◌, List, [], ◌∷◌, ◌++◌, IsTrue, ◌⊎◌}
+use Rattle.std.specs.Prelude.{◌≡◌, ℕ, ◌+◌, ◌-◌, ◌*◌, ◌/◌, ◌%◌, ◌<◌, ◌≤◌, ◌==◌, length, slice_index, Bool, true, false, cond, not, ◌&&◌, ◌||◌, List, [], ◌∷◌, ◌++◌, IsTrue, ◌⊎◌}
 use Rattle.std.specs.Bool.{nat_lt}
-use Rattle.spec_words.specs.Bits.{is_set}
+use Rattle.spec_words.specs.Bits.{bit, is_set}
 use Rattle.code_paths.specs.States.{before}
 
 -- the state before the oldest of these words, where the state after the newest is n
@@ -13,6 +13,12 @@ root (d ∷ ws) n = before d (root ws n)
 abbrev pub trace : List ℕ → ℕ → List Bool
 trace [] n = []
 trace (d ∷ ws) n = is_set (root ws n) 5 ∷ trace ws n
+
+-- The bits from a place on were written: `last` has the eight from there, as far as there are so many, the first one the most
+-- significant, and each byte that begins there or behind it has its eight.
+pub record IsTraced (bits : List Bool) (from last : ℕ) (bytes : List ℕ) : Type 0 where
+  pub last_is : (j : ℕ) → j < 8 → from + j < length bits → is_set last (7 - j) ≡ bit bits (from + j)
+  pub bytes_are : (b j : ℕ) → j < 8 → from ≤ 8 * b → 8 * b + j < length bits → is_set (slice_index bytes b) (7 - j) ≡ bit bits (8 * b + j)
 
 -- one word more: the bits for the state before, and the newest bit of the state
 abbrev pub TraceFollows : Type 0

@@ -1,6 +1,7 @@
 // Words of states, and bits that are handed out.
-ghost use Rattle.std.specs.Prelude.{◌≡◌, ◌≢◌, ◌+◌, ◌*◌, ◌<◌, ◌≤◌, ◌++◌, length, take, IsTrue};
+ghost use Rattle.std.specs.Prelude.{◌≡◌, ◌≢◌, ◌+◌, ◌*◌, ◌/◌, ◌%◌, ◌<◌, ◌≤◌, ◌++◌, length, take, IsTrue};
 ghost use Rattle.spec_words.specs.Bits.{is_set, spelled};
+ghost use Rattle.bit_pack.specs.Queue.{bits_of_bytes};
 
 use bit_pack::WaitBuf;
 
@@ -63,4 +64,39 @@ pub(crate) fn append(row: &[bool], count: usize, to: &mut WaitBuf)
     let number = count / 8;
     append_bytes(row, number, to);
     append_bits(&row[8 * number..count], to);
+}
+
+/// Appends the bits of the first bytes.
+fn append_whole(bytes: &[u8; 257], number: usize, to: &mut WaitBuf)
+    requires few { number ≤ 257 }
+    requires room { length to.old + 8 * number ≤ 36864 }
+    ensures bits { to.new ≡ to.old ++ take (8 * number) (bits_of_bytes bytes.now) }
+    ensures amount { length to.new ≡ length to.old + 8 * number }
+{
+    for k in 0..number {
+        to.push_byte(bytes[k]);
+    }
+}
+
+/// Appends the first bits of a byte.
+fn append_first(byte: u8, count: usize, to: &mut WaitBuf)
+    requires few { count ≤ 8 }
+    requires room { length to.old + count ≤ 36864 }
+    ensures bits { to.new ≡ to.old ++ take count (spelled 8 byte) }
+    ensures amount { length to.new ≡ length to.old + count }
+{
+    for k in 0..count {
+        to.push_bit((byte >> (7 - k)) & 1 == 1);
+    }
+}
+
+/// Appends the first bits of bytes.
+pub(crate) fn append_traced(bytes: &[u8; 257], count: usize, to: &mut WaitBuf)
+    requires few { count < 2056 }
+    requires room { length to.old + count ≤ 36864 }
+    ensures bits { to.new ≡ to.old ++ take count (bits_of_bytes bytes.now) }
+    ensures amount { length to.new ≡ length to.old + count }
+{
+    append_whole(bytes, count / 8, to);
+    append_first(bytes[count / 8], count % 8, to);
 }

@@ -3,11 +3,12 @@ ghost use Rattle.std.specs.Prelude.{◌≡◌, ◌≢◌, ◌+◌, ◌-◌, ◌*
 ghost use Rattle.spec_words.specs.Bits.{is_set};
 ghost use Rattle.code_paths.specs.States.{before};
 ghost use Rattle.survivor_ring.specs.Survivors.{AreAlike, IsAlike};
-ghost use Rattle.survivor_ring.specs.Ring.{TraceFollows, root, trace, moved, AreBefore, IsSplit, IsUniform, IsSingle, Chosen};
+ghost use Rattle.survivor_ring.specs.Ring.{TraceFollows, root, trace, IsTraced, moved, AreBefore, IsSplit, IsUniform, IsSingle, Chosen};
 ghost use Rattle.std.specs.Prelude.{slice_index, IsFalse, ◌^◌};
+ghost use Rattle.bit_pack.specs.Queue.{bits_of_bytes};
 
 use crate::Survivors;
-use crate::bits::{append, lowest};
+use crate::bits::{append_traced, lowest};
 use bit_pack::WaitBuf;
 use circular_buffer::HeapCircularBuffer;
 use std::alloc::{AllocError, Global};
@@ -76,36 +77,44 @@ fn step_back(word: u64, state: u64) -> u64
     2 * (state % 32) + if odd { 1 } else { 0 }
 }
 
-/// Writes the bits that words stand for, and answers the state before the oldest of them.
-fn trace_part(words: &[u64], state: u64, bits: &mut [bool]) -> u64
+/// Writes the bits that words stand for, from a place on, eight in a byte: behind the oldest word the state before it, and
+/// the eight bits from this place on. `byte` are the eight bits behind those of the newest word.
+fn trace_part(
+    words: &[u64],
+    place: usize,
+    state: u64,
+    byte: u64,
+    bytes: &mut [u8; 257],
+) -> (u64, u64)
     requires state { state < 64 }
-    requires room { length words.now ≤ length bits.old }
-    ensures size { length bits.new ≡ length bits.old }
-    ensures bits { take (length words.now) bits.new ≡ trace words.now state }
-    ensures root { result ≡ root words.now state }
-    ensures small { result < 64 }
+    requires byte { byte < 256 }
+    requires room { place + length words.now ≤ 2056 }
+    ensures root { result.0 ≡ root words.now state }
+    ensures small { result.0 < 64 }
+    ensures byte { result.1 < 256 }
+    ensures traced { (bits : List Bool) → take (length words.now) (drop place bits) ≡ trace words.now state → IsTraced bits (place + length words.now) byte bytes.old → IsTraced bits place result.1 bytes.new }
 {
     let count = words.len();
     let mut now = state;
+    let mut last = byte;
     for k in 0..count {
         let index = count - 1 - k;
-        bits[index] = now >= 32;
+        last = last / 2 + 128 * (now / 32);
+        bytes[(place + index) / 8] = last as u8;
         now = step_back(words[index], now);
     }
-    now
+    (now, last)
 }
 
-/// Writes the bits that the words of a ring stand for.
-fn trace_back(words: &HeapCircularBuffer<u64>, state: u64, bits: &mut [bool])
+/// Writes the bits that the words of a ring stand for, eight in a byte.
+fn trace_back(words: &HeapCircularBuffer<u64>, state: u64, bytes: &mut [u8; 257])
     requires state { state < 64 }
-    requires room { length words.now.items ≤ length bits.old }
-    ensures size { length bits.new ≡ length bits.old }
-    ensures bits { take (length words.now.items) bits.new ≡ trace words.now.items state }
+    requires room { length words.now.items ≤ 2056 }
+    ensures bits { take (length words.now.items) (bits_of_bytes bytes.new) ≡ trace words.now.items state }
 {
     let (older, newer) = words.as_slices();
-    let (first, last) = bits.split_at_mut(older.len());
-    let between = trace_part(newer, state, last);
-    trace_part(older, between, first);
+    let (between, byte) = trace_part(newer, older.len(), state, 0, bytes);
+    trace_part(older, 0, between, byte, bytes);
 }
 
 /// Is one state alone in a set?
@@ -221,16 +230,16 @@ impl<const L: usize> Survivors<L> for RingSurvivors<L> {
     }
 
     fn give(&mut self, number: u32, to: &mut WaitBuf) {
-        let mut bits = [false; 2049];
-        trace_back(&self.words, lowest(self.states) as u64, &mut bits);
-        append(&bits, number as usize, to);
+        let mut bytes = [0; 257];
+        trace_back(&self.words, lowest(self.states) as u64, &mut bytes);
+        append_traced(&bytes, number as usize, to);
         drop_words(&mut self.words, number as usize);
     }
 
     fn force(&mut self, end: u8, to: &mut WaitBuf) {
-        let mut bits = [false; 2049];
-        trace_back(&self.words, end as u64, &mut bits);
-        append(&bits, self.words.len(), to);
+        let mut bytes = [0; 257];
+        trace_back(&self.words, end as u64, &mut bytes);
+        append_traced(&bytes, self.words.len(), to);
         self.words.clear();
         self.states = 1 << end;
     }

@@ -1,8 +1,6 @@
-use Rattle.acs_lanes.proofs.Quarters.{stored}
+use Rattle.std.proofs.Common.{arith}
+use Rattle.acs_lanes.proofs.Laid.{laid_all}
 use Rattle.acs_lanes.proofs.lanes16.widen.Goals as goal
 
 pub returns : goal.returns
-returns c =
-    let o = c.args.lanes.lanes in
-    stored c.args.lanes.a c.args.lanes.b c.args.lanes.c c.args.lanes.d c.store.new.cost c.store-2.new.cost c.store-3.new.cost c.store-4.new.cost o.a_len o.b_len o.c_len o.d_len c.store-4.array_long
-    c.store.ensures.here c.store-2.ensures.here c.store-2.ensures.below c.store-3.ensures.here c.store-3.ensures.below c.store-4.ensures.here c.store-4.ensures.below
+returns c = laid_all c.args.lanes.a c.args.lanes.b c.args.lanes.c c.args.lanes.d _ c.loop-n.invariant.size (λ n l. c.loop-n.invariant.is n (omega (arith, l, c.loop-n-test.false)))

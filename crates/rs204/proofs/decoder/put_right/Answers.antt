@@ -18,6 +18,6 @@ returns-then-count-eq0 c = (
       (elim c.then-count-eq0.branch [
         | then-count-eq0-via-then-count-eq0 w ↦ inl (sym c.places_apart-count.ensures ∙ w.if-count-eq0.true)
         | then-count-eq0-via-else-count-eq0+then-count-gt-MOST w ↦ inr (inl (omega (arith, w.if-count-gt-MOST.true, c.places_apart-count.ensures)))
-        | then-count-eq0-via-else-count-eq0+else-count-gt-MOST+then-not-is_codeword w ↦ inr (inr (λ h. true≢false (sym (w.is_codeword.ensures.1 h) ∙ w.if-not-is_codeword.true)))
+        | then-count-eq0-via-else-count-eq0+else-count-gt-MOST+then-not-is_codeword w ↦ inr (inr (λ h. true≢false (sym (w.is_codeword-else-count-gt-MOST.ensures.1 h) ∙ w.if-not-is_codeword.true)))
       ]),
 )

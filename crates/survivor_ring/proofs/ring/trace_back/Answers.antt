@@ -1,6 +1,9 @@
-use Rattle.std.proofs.Common.{rules}
-use Rattle.survivor_ring.proofs.Walks.{two_parts}
+use Rattle.survivor_ring.proofs.Traces.{both_traced}
 use Rattle.survivor_ring.proofs.ring.trace_back.Goals as goal
 
-pub returns-clause-bits : goal.returns-clause-bits
-returns-clause-bits c = two_parts c.as_slices.result.0.now c.as_slices.result.1.now c.args.words.now.items c.args.state c.trace_part-between.result c.trace_part.new.bits c.trace_part-between.new.bits c.as_slices.ensures (search rules) c.trace_part-between.ensures.root c.trace_part.ensures.bits c.trace_part-between.ensures.bits
+pub returns : goal.returns
+returns c =
+    record {
+      bits =
+          both_traced c.as_slices.result.0.now c.as_slices.result.1.now c.args.words.now.items c.args.state _ _ _ _ _ c.trace_part.new.bytes c.as_slices.ensures c.trace_part-between.ensures.root c.requires.room c.trace_part.array_long c.trace_part-between.ensures.traced c.trace_part.ensures.traced;
+    }

@@ -1,3 +1,4 @@
+use Rattle.bit_pack.specs.Queue.{bits_of_bytes}
 use Rattle.survivor_ring.proofs.Walks.{traces_dropped, given_any}
 use Rattle.survivor_ring.proofs.ring.RingSurvivorsSurvivors.give.Goals as goal
 
@@ -5,4 +6,4 @@ pub returns-clause-list : goal.returns-clause-list
 returns-clause-list g c = λ n l t. traces_dropped c.args.self.now.words.items _ c.args.number n c.drop_words.ensures.items
 
 pub returns-clause-given : goal.returns-clause-given
-returns-clause-given g c = given_any c.args.self.now.words.items c.args.self.now.states c.lowest.result c.args.number c.trace_back.new.bits _ _ c.lowest.ensures.below c.lowest.ensures.lives c.requires.within c.trace_back.ensures.bits c.append.ensures c.requires.alike
+returns-clause-given g c = given_any c.args.self.now.words.items c.args.self.now.states c.lowest.result c.args.number (bits_of_bytes c.trace_back.new.bytes) _ _ c.lowest.ensures.below c.lowest.ensures.lives c.requires.within c.trace_back.ensures.bits c.append_traced.ensures.bits c.requires.alike

@@ -1,0 +1,139 @@
+-- Bits written eight in a byte.
+use Rattle.std.proofs.Common.{◌≡◌, ℕ, zero, suc, ◌+◌, ◌-◌, ◌*◌, ◌/◌, ◌%◌, ◌<◌, ◌≤◌, Bool, false, List, [], ◌∷◌, ◌++◌, ◌⊎◌, inl, inr, length, take, drop, get_or, set, refl, sym, ap, ap₂, ◌∙◌, subst, arith, eqb, get_or-take, length-take-le, append_assoc}
+use Rattle.std.proofs.lemmas.Bool.{cases_eq}
+use Rattle.std.proofs.lemmas.List.{get_or_append_left, get_or-append_right, get_or-drop, get_or-set_same, get_or-set_other, length-append, take-take, take_all, take_more, ext_get_or}
+use Rattle.std.specs.Prelude.{slice_index}
+use Rattle.spec_words.specs.Bits.{bit, is_set, spelled}
+use Rattle.bit_pack.specs.Queue.{bits_of_bytes}
+use Rattle.survivor_ring.specs.Ring.{IsTraced, root, trace}
+use Rattle.survivor_ring.proofs.Walks.{drop_one, trace_append, trace_bit, trace_length}
+use Rattle.survivor_ring.proofs.Bytes.{parts_join}
+use Rattle.code_paths.specs.States.{before}
+use Rattle.std.proofs.Math.Seq.{take-append_seam, drop-append_seam}
+
+-- ---- bytes as bits
+
+spelled_at : (x j : ℕ) → j < 8 → get_or (spelled 8 x) j false ≡ is_set x (7 - j)
+spelled_at x zero l = refl
+spelled_at x (suc zero) l = refl
+spelled_at x (suc (suc zero)) l = refl
+spelled_at x (suc (suc (suc zero))) l = refl
+spelled_at x (suc (suc (suc (suc zero)))) l = refl
+spelled_at x (suc (suc (suc (suc (suc zero))))) l = refl
+spelled_at x (suc (suc (suc (suc (suc (suc zero)))))) l = refl
+spelled_at x (suc (suc (suc (suc (suc (suc (suc zero))))))) l = refl
+spelled_at x (suc (suc (suc (suc (suc (suc (suc (suc j)))))))) l = absurd (omega arith)
+
+bits_len : (bytes : List ℕ) → length (bits_of_bytes bytes) ≡ 8 * length bytes
+bits_len [] = refl
+bits_len (x ∷ xs) = omega (arith, length-append (spelled 8 x) (bits_of_bytes xs), bits_len xs)
+
+bits_at : (bytes : List ℕ) (b j : ℕ) → j < 8 → b < length bytes → get_or (bits_of_bytes bytes) (8 * b + j) false ≡ is_set (get_or bytes b 0) (7 - j)
+bits_at [] b j l m = absurd (omega arith)
+bits_at (x ∷ xs) zero j l m = let e : 8 * 0 + j ≡ j = omega arith in ap (λ k. get_or (spelled 8 x ++ bits_of_bytes xs) k false) e ∙ get_or_append_left (spelled 8 x) (bits_of_bytes xs) false j l ∙ spelled_at x j l
+bits_at (x ∷ xs) (suc b) j l m =
+    let e : 8 * suc b + j - 8 ≡ 8 * b + j = omega arith in
+    get_or-append_right (spelled 8 x) (bits_of_bytes xs) 8 (8 * suc b + j) false refl (omega arith) ∙ ap (λ k. get_or (bits_of_bytes xs) k false) e ∙ bits_at xs b j l (omega arith)
+
+pub chunk_is : (bytes : List ℕ) (b : ℕ) → b < length bytes → take 8 (drop (8 * b) (bits_of_bytes bytes)) ≡ spelled 8 (get_or bytes b 0)
+chunk_is [] b l = absurd (omega arith)
+chunk_is (x ∷ xs) zero l = refl
+chunk_is (x ∷ xs) (suc b) l = let e : 8 * suc b ≡ suc (suc (suc (suc (suc (suc (suc (suc (8 * b)))))))) = omega arith in ap (λ k. take 8 (drop k (spelled 8 x ++ bits_of_bytes xs))) e ∙ chunk_is xs b (omega arith)
+
+-- the bits of a byte that is only begun
+pub rest_is : (bytes : List ℕ) (count : ℕ) → count / 8 < length bytes → take (count % 8) (spelled 8 (get_or bytes (count / 8) 0)) ≡ take (count - 8 * (count / 8)) (drop (8 * (count / 8)) (bits_of_bytes bytes))
+rest_is bytes count l =
+    let e : count - 8 * (count / 8) ≡ count % 8 = omega arith in
+    ap (take (count % 8)) (sym (chunk_is bytes (count / 8) l)) ∙ take-take (count % 8) 8 (drop (8 * (count / 8)) (bits_of_bytes bytes)) (omega arith) ∙ ap (λ z. take z (drop (8 * (count / 8)) (bits_of_bytes bytes))) (sym e)
+
+pub traced_all : (bits : List Bool) (last : ℕ) (bytes : List ℕ) → IsTraced bits 0 last bytes → length bits ≤ 8 * length bytes → take (length bits) (bits_of_bytes bytes) ≡ bits
+traced_all bits last bytes t f =
+    let n : length (take (length bits) (bits_of_bytes bytes)) ≡ length bits = length-take-le (length bits) (bits_of_bytes bytes) (omega (arith, bits_len bytes)) in
+    ext_get_or false (take (length bits) (bits_of_bytes bytes)) bits n
+    (λ k l.
+    let m : k < length bits = omega (arith, l, n) in
+    let e : 8 * (k / 8) + k % 8 ≡ k = omega arith in
+    get_or-take (length bits) (bits_of_bytes bytes) k false m ∙ ap (λ z. get_or (bits_of_bytes bytes) z false) (sym e) ∙ bits_at bytes (k / 8) (k % 8) (omega arith) (omega arith)
+    ∙ t.bytes_are (k / 8) (k % 8) (omega arith) (omega arith) (omega arith) ∙ ap (bit bits) e)
+
+-- ---- a bit more
+
+newest_bit : (last now : ℕ) → last < 256 → now < 64 → is_set (last / 2 + 128 * (now / 32)) 7 ≡ is_set now 5
+newest_bit last now f g = let e : (last / 2 + 128 * (now / 32)) / 128 % 2 ≡ now / 32 % 2 = omega arith in ap (λ z. eqb z 1) e
+
+moved_bit : (last y j : ℕ) → last < 256 → j < 7 → is_set (last / 2 + 128 * y) (7 - suc j) ≡ is_set last (7 - j)
+moved_bit last y zero f l = let e : (last / 2 + 128 * y) / 64 % 2 ≡ last / 128 % 2 = omega arith in ap (λ z. eqb z 1) e
+moved_bit last y (suc zero) f l = let e : (last / 2 + 128 * y) / 32 % 2 ≡ last / 64 % 2 = omega arith in ap (λ z. eqb z 1) e
+moved_bit last y (suc (suc zero)) f l = let e : (last / 2 + 128 * y) / 16 % 2 ≡ last / 32 % 2 = omega arith in ap (λ z. eqb z 1) e
+moved_bit last y (suc (suc (suc zero))) f l = let e : (last / 2 + 128 * y) / 8 % 2 ≡ last / 16 % 2 = omega arith in ap (λ z. eqb z 1) e
+moved_bit last y (suc (suc (suc (suc zero)))) f l = let e : (last / 2 + 128 * y) / 4 % 2 ≡ last / 8 % 2 = omega arith in ap (λ z. eqb z 1) e
+moved_bit last y (suc (suc (suc (suc (suc zero))))) f l = let e : (last / 2 + 128 * y) / 2 % 2 ≡ last / 4 % 2 = omega arith in ap (λ z. eqb z 1) e
+moved_bit last y (suc (suc (suc (suc (suc (suc zero)))))) f l = let e : (last / 2 + 128 * y) / 1 % 2 ≡ last / 2 % 2 = omega arith in ap (λ z. eqb z 1) e
+moved_bit last y (suc (suc (suc (suc (suc (suc (suc j))))))) f l = absurd (omega arith)
+
+pub traced_more : (bits : List Bool) (from next last now : ℕ) (bytes : List ℕ) → next ≡ from + 1 → last < 256 → now < 64 → is_set now 5 ≡ bit bits from → IsTraced bits next last bytes → from / 8 < length bytes
+    → IsTraced bits from (last / 2 + 128 * (now / 32)) (set bytes (from / 8) (last / 2 + 128 * (now / 32)))
+traced_more bits from next last now bytes e f g b t w = record { last_is = last_is; bytes_are = λ c j l h m. byte_is c j l h m (cases_eq c (from / 8)) }
+  where
+    last_is : (j : ℕ) → j < 8 → from + j < length bits → is_set (last / 2 + 128 * (now / 32)) (7 - j) ≡ bit bits (from + j)
+    last_is zero l m = let p : from ≡ from + 0 = omega arith in newest_bit last now f g ∙ b ∙ ap (bit bits) p
+    last_is (suc j) l m = let p : next + j ≡ from + suc j = omega (arith, e) in moved_bit last (now / 32) j f (omega arith) ∙ t.last_is j (omega arith) (omega (arith, m, e)) ∙ ap (bit bits) p
+
+    byte_is : (c j : ℕ) → j < 8 → from ≤ 8 * c → 8 * c + j < length bits → (c ≡ from / 8) ⊎ (c ≡ from / 8 → ⊥) → is_set (get_or (set bytes (from / 8) (last / 2 + 128 * (now / 32))) c 0) (7 - j) ≡ bit bits (8 * c + j)
+    byte_is c j l h m (inl p) =
+        let q : from + j ≡ 8 * c + j = omega (arith, p, h) in
+        ap (λ z. is_set z (7 - j)) (ap (λ z. get_or (set bytes (from / 8) (last / 2 + 128 * (now / 32))) z 0) p ∙ get_or-set_same bytes (from / 8) (last / 2 + 128 * (now / 32)) 0 w) ∙ last_is j l (omega (arith, m, q)) ∙ ap (bit bits) q
+    byte_is c j l h m (inr p) =
+        let q : next ≤ 8 * c = omega (arith, e, h, p) in
+        ap (λ z. is_set z (7 - j)) (get_or-set_other bytes (from / 8) c (last / 2 + 128 * (now / 32)) 0 p) ∙ t.bytes_are c j l q m
+
+-- bit i of those that words stand for, which begin at a place
+pub bit_there : (bits : List Bool) (words : List ℕ) (place state i now : ℕ) → take (length words) (drop place bits) ≡ trace words state → i < length words → now ≡ root (drop (suc i) words) state → is_set now 5 ≡ bit bits (place + i)
+bit_there bits words place state i now e l n =
+    ap (λ z. is_set z 5) n ∙ sym (trace_bit words state i l) ∙ ap (λ z. get_or z i false) (sym e) ∙ get_or-take (length words) (drop place bits) i false l ∙ get_or-drop place bits i false
+
+pub none_traced : (bits : List Bool) (from last : ℕ) (bytes : List ℕ) → length bits ≤ from → IsTraced bits from last bytes
+none_traced bits from last bytes l = record { last_is = λ j m n. absurd (omega (arith, l, n)); bytes_are = λ b j m h n. absurd (omega (arith, l, h, n)) }
+
+pub root_more : (words : List ℕ) (state k now new : ℕ) → k < length words → now ≡ root (drop (length words - k) words) state → new ≡ before (slice_index words (length words - 1 - k)) now → new ≡ root (drop (length words - (k + 1)) words) state
+root_more words state k now new l e f =
+    let i = length words - 1 - k in
+    let p : length words - k ≡ suc i = omega (arith, l) in
+    let q : length words - (k + 1) ≡ i = omega (arith, l) in
+    f ∙ ap (before (slice_index words i)) (e ∙ ap (λ z. root (drop z words) state) p) ∙ sym (ap (λ z. root z state) (ap (λ z. drop z words) q ∙ drop_one words i (omega (arith, l))))
+
+pub part_more : (bits : List Bool) (words : List ℕ) (place state k last now : ℕ) (bytes : List ℕ) → take (length words) (drop place bits) ≡ trace words state → k < length words → now ≡ root (drop (length words - k) words) state → now < 64 → last < 256
+    → (place + (length words - 1 - k)) / 8 < length bytes → IsTraced bits (place + (length words - k)) last bytes
+    → IsTraced bits (place + (length words - (k + 1))) (last / 2 + 128 * (now / 32)) (set bytes ((place + (length words - 1 - k)) / 8) (last / 2 + 128 * (now / 32)))
+part_more bits words place state k last now bytes e l f g h w t =
+    let i = length words - 1 - k in
+    let p : length words - k ≡ suc i = omega (arith, l) in
+    let q : place + i ≡ place + (length words - (k + 1)) = omega (arith, l) in
+    subst (λ z. IsTraced bits z (last / 2 + 128 * (now / 32)) (set bytes ((place + i) / 8) (last / 2 + 128 * (now / 32)))) q
+    (traced_more bits (place + i) (place + (length words - k)) last now bytes (omega (arith, l)) h g (bit_there bits words place state i now e (omega (arith, l)) (f ∙ ap (λ z. root (drop z words) state) p)) t w)
+
+pub both_traced : (older newer items : List ℕ) (state between byte last : ℕ) (old mid new : List ℕ) → older ++ newer ≡ items → between ≡ root newer state → length items ≤ 2056 → length new ≡ 257
+    → ((bits : List Bool) → take (length newer) (drop (length older) bits) ≡ trace newer state → IsTraced bits (length older + length newer) 0 old → IsTraced bits (length older) byte mid)
+    → ((bits : List Bool) → take (length older) (drop 0 bits) ≡ trace older between → IsTraced bits (0 + length older) byte mid → IsTraced bits 0 last new) → take (length items) (bits_of_bytes new) ≡ trace items state
+both_traced older newer items state between byte last old mid new e b f s p q =
+    let bits = trace items state in
+    let n : length bits ≡ length items = trace_length items state in
+    let m : length older + length newer ≡ length items = omega (arith, length-append older newer, ap length e) in
+    let both : bits ≡ trace older between ++ trace newer state = ap (λ z. trace z state) (sym e) ∙ trace_append older newer state ∙ ap (λ z. trace older z ++ trace newer state) (sym b) in
+    let first : take (length older) bits ≡ trace older between = ap₂ take (sym (trace_length older between)) both ∙ take-append_seam (trace older between) (trace newer state) in
+    let rest : drop (length older) bits ≡ trace newer state = ap₂ drop (sym (trace_length older between)) both ∙ drop-append_seam (trace older between) (trace newer state) in
+    let whole : take (length newer) (trace newer state) ≡ trace newer state = take_all (length newer) (trace newer state) (omega (arith, trace_length newer state)) in
+    let z : length older ≡ 0 + length older = omega arith in
+    let t = q bits first (subst (λ k. IsTraced bits k byte mid) z (p bits (ap (take (length newer)) rest ∙ whole) (none_traced bits (length older + length newer) 0 old (omega (arith, n, m))))) in
+    ap (λ k. take k (bits_of_bytes new)) (sym n) ∙ traced_all bits last new t (omega (arith, n, f, s))
+
+-- ---- bits that were appended
+
+pub whole_more : (bytes : List ℕ) (k : ℕ) (to now new : List Bool) → k < length bytes → now ≡ to ++ take (8 * k) (bits_of_bytes bytes) → new ≡ now ++ spelled 8 (slice_index bytes k) → new ≡ to ++ take (8 * (k + 1)) (bits_of_bytes bytes)
+whole_more bytes k to now new l e f =
+    let p : 8 * (k + 1) - 8 * k ≡ 8 = omega arith in
+    parts_join (bits_of_bytes bytes) to now new (spelled 8 (slice_index bytes k)) (8 * k) (8 * (k + 1)) (omega arith) e f (sym (ap (λ z. take z (drop (8 * k) (bits_of_bytes bytes))) p ∙ chunk_is bytes k l))
+
+pub first_more : (byte k : ℕ) (to now new : List Bool) (b : Bool) → k < 8 → now ≡ to ++ take k (spelled 8 byte) → new ≡ now ++ b ∷ [] → b ≡ is_set byte (7 - k) → new ≡ to ++ take (k + 1) (spelled 8 byte)
+first_more byte k to now new b l e f g =
+    f ∙ ap₂ (λ x y. x ++ y ∷ []) e (g ∙ sym (spelled_at byte k l)) ∙ append_assoc to (take k (spelled 8 byte)) (get_or (spelled 8 byte) k false ∷ []) ∙ ap (λ z. to ++ z) (sym (take_more (spelled 8 byte) k false l))
