@@ -5,3 +5,4 @@ pub mod Steps
 pub mod Ends
 pub mod Loop
 pub mod Runs
+pub mod Ending

@@ -121,6 +121,10 @@ module _ (names : Names) (old m1 : Meaning) (makes : AreMade names old m1) (begi
       attached = attached_same;
       created = created;
       closed = closed.closed;
+      lp_behind = elim makes.lp_behind [
+        | inl same ↦ inl (ap (λ (x : Sink). x.asked) (sinks outs.Lp) ∙ ap (λ (x : Sink). x.asked) same)
+        | inr is ↦ inr (ap (λ (x : Sink). x.created) (sinks outs.Hp) ∙ is)
+      ];
       works = subst (λ (l : List ℕ). Works w most l m1 new result) left_same works;
     })
 

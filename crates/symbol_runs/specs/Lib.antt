@@ -4,3 +4,4 @@ pub mod Work
 pub mod Outputs
 pub mod Cells
 pub mod Runs
+pub mod Commands

@@ -39,11 +39,12 @@ made name = record { asked = Some name; created = true; closed = false; written 
 abbrev pub SinksOnly : Meaning → Meaning → Type 0
 SinksOnly old new = new ≡ record old { cells_out = new.cells_out; hp_out = new.hp_out; lp_out = new.lp_out; bytes_out = new.bytes_out; write_faults = new.write_faults }
 
--- the outputs were made
+-- the outputs were made, LP behind HP
 pub record AreMade (names : Names) (old new : Meaning) : Type 0 where
   pub others : SinksOnly old new
   pub are : (port : OutPort) (name : List ℕ) → names port ≡ Some name → sink_at port new ≡ made name
   pub kept : (port : OutPort) → names port ≡ None → sink_at port new ≡ sink_at port old
+  pub lp_behind : (new.lp_out ≡ old.lp_out) ⊎ (new.hp_out.created ≡ true)
 
 -- An output was not made: none is open, and none holds a byte. LP was asked for only where HP was made.
 pub record AreUnmade (names : Names) (old new : Meaning) : Type 0 where

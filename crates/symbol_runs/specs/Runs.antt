@@ -9,7 +9,7 @@ use Rattle.run_steps.specs.Report.{WritesText}
 use Rattle.symbol_runs.specs.declared.stop.Stop.{Stop}
 use Rattle.symbol_runs.specs.declared.stop.Stop.TheVariants.{ReadFault, WriteFault}
 use Rattle.symbol_runs.specs.Stops.{HasCause, stop_refusal}
-use Rattle.symbol_runs.specs.Work.{Work}
+use Rattle.symbol_runs.specs.Work.{HasReason, Work}
 use Rattle.symbol_runs.specs.Outputs.{AreUntouched, Names, made}
 use Rattle.symbol_runs.specs.Cells.{Works}
 
@@ -61,6 +61,7 @@ pub record IsWorked (w : Work) (most : ℕ) (names : Names) (old new : Meaning) 
   pub attached : new.cells.attached ≡ old.cells.attached
   pub created : (port : OutPort) → is_some (names port) ≡ true → (sink_at port new).created ≡ true
   pub closed : (port : OutPort) → is_some (names port) ≡ true → (sink_at port new).closed ≡ true
+  pub lp_behind : (new.lp_out.asked ≡ old.lp_out.asked) ⊎ (new.hp_out.created ≡ true)
   pub works : Works w most old.cells.left start new result
 
 -- an output was not made, or the work was done
@@ -102,6 +103,7 @@ pub record RunsCells (w : Work) (most : ℕ) (cells : List ℕ) (names : Names) 
   pub cells_asked : mid.cells.asked ≡ Some cells
   pub asks : AsksOutputs names old mid
   pub cause : HasCause old mid outcome
+  pub reason : HasReason w outcome
   pub later_report : old.report_faults ≤ mid.report_faults
   pub ran : Ran w most cells names old mid outcome
   pub taken : TakesCells ((most + 1) * w.size) cells old mid

@@ -1,5 +1,5 @@
 -- What a command does with cells, and what each of its calls does.
-use Rattle.std.specs.Prelude.{◌≡◌, ℕ, ◌+◌, ◌^◌, ◌<◌, ◌≤◌, Bool, true, false, List, [], ◌++◌, take, Result, Ok, Err}
+use Rattle.std.specs.Prelude.{⊤, ◌≡◌, ℕ, ◌+◌, ◌^◌, ◌<◌, ◌≤◌, Bool, true, false, List, [], ◌++◌, take, Result, Ok, Err}
 use Rattle.station_core.specs.Meaning.{Meaning, sink_at}
 use Rattle.station_core.specs.declared.ports.OutPort.{OutPort}
 use Rattle.run_clauses.specs.declared.work.Refusal.{Refusal}
@@ -25,6 +25,16 @@ pub record Work : Type 1 where
   pub Ends : List ℕ → Written → Type 0
   -- Behind these bytes, with those left, the work refuses the cells for this reason. This had been given before.
   pub Refuses : List ℕ → List ℕ → Written → Refusal → Type 0
+  -- the reasons for which it may refuse at all
+  pub Reasons : Refusal → Type 0
+
+-- the work refuses only for reasons of its own
+abbrev pub HasReason : {T : Type 0} → Work → Result T Stop → Type 0
+HasReason w (Ok value) = ⊤
+HasReason w (Err ReadFault) = ⊤
+HasReason w (Err WriteFault) = ⊤
+HasReason w (Err Limit) = ⊤
+HasReason w (Err (stops.Work r)) = w.Reasons r
 
 -- at each port these bytes were written behind what stood there
 abbrev pub Holds : Meaning → Meaning → Written → Type 0

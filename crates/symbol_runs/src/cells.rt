@@ -2,7 +2,7 @@
 ghost use Rattle.std.specs.Prelude.{◌≡◌, ◌≤◌, ◌<◌, ◌+◌, ◌*◌, ℕ, List, [], true, IsTrue, length};
 ghost use Rattle.symbol_runs.specs.Stops.{HasCause};
 ghost use Rattle.symbol_runs.specs.Symbols.{symbols};
-ghost use Rattle.symbol_runs.specs.Work.{AreOpen, GoesOn, Written};
+ghost use Rattle.symbol_runs.specs.Work.{AreOpen, GoesOn, HasReason, Written};
 ghost use Rattle.station_core.specs.Meaning.{Meaning};
 ghost use Rattle.symbol_runs.specs.Cells.{IsWorking, KeepsOthers, Next, TakesAll, TakesAtMost, Works};
 
@@ -29,6 +29,7 @@ fn take_next<'a, X: SymbolWork<'a, S>, S: Station<'a>>(
     ensures setup { X.setup work.new ≡ X.setup work.old }
     ensures others { KeepsOthers (S.meaning station.old) (S.meaning station.new) }
     ensures cause { HasCause (S.meaning station.old) (S.meaning station.new) result }
+    ensures reason { HasReason (X.work (X.setup work.old)) result }
     ensures later_report { (S.meaning station.old).report_faults ≤ (S.meaning station.new).report_faults }
     ensures taken { TakesAtMost (X.work (X.setup work.old)).size (S.meaning station.old) (S.meaning station.new) }
     ensures next { (most : ℕ) (file bytes : List ℕ) (given : Written) (start : Meaning) → number < most → length bytes ≡ number * (X.work (X.setup work.old)).size
@@ -63,6 +64,7 @@ fn take_rest<'a, X: SymbolWork<'a, S>, S: Station<'a>>(
     ensures setup { X.setup work.new ≡ X.setup work.old }
     ensures others { KeepsOthers (S.meaning station.old) (S.meaning station.new) }
     ensures cause { HasCause (S.meaning station.old) (S.meaning station.new) result }
+    ensures reason { HasReason (X.work (X.setup work.old)) result }
     ensures later_report { (S.meaning station.old).report_faults ≤ (S.meaning station.new).report_faults }
     ensures taken { TakesAtMost (X.work (X.setup work.old)).size (S.meaning station.old) (S.meaning station.new) }
     ensures rest { (file bytes : List ℕ) (given : Written) (start : Meaning) → length bytes ≡ max_symbols * (X.work (X.setup work.old)).size
@@ -97,6 +99,7 @@ fn take_all<'a, X: SymbolWork<'a, S>, S: Station<'a>>(
     ensures setup { X.setup work.new ≡ X.setup work.old }
     ensures others { KeepsOthers (S.meaning station.old) (S.meaning station.new) }
     ensures cause { HasCause (S.meaning station.old) (S.meaning station.new) result }
+    ensures reason { HasReason (X.work (X.setup work.old)) result }
     ensures later_report { (S.meaning station.old).report_faults ≤ (S.meaning station.new).report_faults }
     ensures taken { TakesAtMost ((max_symbols + 1) * (X.work (X.setup work.old)).size) (S.meaning station.old) (S.meaning station.new) }
     ensures all { TakesAll (X.work (X.setup work.old)) (X.stands work.new) max_symbols (S.meaning station.old).cells.left (S.meaning station.old) (S.meaning station.new) result }
@@ -122,6 +125,7 @@ fn end<'a, X: SymbolWork<'a, S>, S: Station<'a>>(work: &mut X, station: &mut S) 
     requires going { GoesOn (X.work (X.setup work.old)) (X.stands work.old) }
     ensures others { KeepsOthers (S.meaning station.old) (S.meaning station.new) }
     ensures cause { HasCause (S.meaning station.old) (S.meaning station.new) result }
+    ensures reason { HasReason (X.work (X.setup work.old)) result }
     ensures later_report { (S.meaning station.old).report_faults ≤ (S.meaning station.new).report_faults }
     ensures left { (S.meaning station.new).cells.left ≡ (S.meaning station.old).cells.left }
     ensures ends { (most : ℕ) (file bytes : List ℕ) (given : Written) (start : Meaning) → symbols (X.work (X.setup work.old)).size bytes ≤ most
@@ -149,6 +153,7 @@ pub(crate) fn work_on_cells<'a, X: SymbolWork<'a, S>, S: Station<'a>>(
     requires new { X.is_new work.old }
     ensures others { KeepsOthers (S.meaning station.old) (S.meaning station.new) }
     ensures cause { HasCause (S.meaning station.old) (S.meaning station.new) result }
+    ensures reason { HasReason (X.work (X.setup work.old)) result }
     ensures later_report { (S.meaning station.old).report_faults ≤ (S.meaning station.new).report_faults }
     ensures taken { TakesAtMost ((max_symbols + 1) * (X.work (X.setup work.old)).size) (S.meaning station.old) (S.meaning station.new) }
     ensures works { Works (X.work (X.setup work.old)) max_symbols (S.meaning station.old).cells.left (S.meaning station.old) (S.meaning station.new) result }

@@ -2,6 +2,7 @@
 ghost use Rattle.std.specs.Prelude.{◌≡◌, ◌≤◌, ◌<◌, ◌+◌, ◌*◌, ℕ, Some, true, length, is_some};
 ghost use Rattle.station_core.specs.declared.ports.OutPort.{OutPort};
 ghost use Rattle.symbol_runs.specs.Stops.{HasCause};
+ghost use Rattle.symbol_runs.specs.Work.{HasReason};
 ghost use Rattle.symbol_runs.specs.Cells.{TakesAtMost};
 ghost use Rattle.symbol_runs.specs.Runs.{AsksOutputs, CanBegin, IsReady, PortsOnly, Ran, RanBehind, RunsCells, TakesCells};
 
@@ -12,7 +13,7 @@ use crate::work::SymbolWork;
 use run_steps::refuse;
 use station_core::{InPort, Station};
 
-/// Makes the outputs, does the work on what is left of Cells, and closes the outputs, whatever the work came to.
+// Makes the outputs, does the work on what is left of Cells, and closes the outputs, whatever the work came to.
 fn run_behind<'a, F: OutputFiles<'a, S>, X: SymbolWork<'a, S>, S: Station<'a>>(
     max_symbols: u32,
     files: &F,
@@ -31,6 +32,7 @@ fn run_behind<'a, F: OutputFiles<'a, S>, X: SymbolWork<'a, S>, S: Station<'a>>(
     ensures cells_asked { (S.meaning station.new).cells.asked ≡ (S.meaning station.old).cells.asked }
     ensures asks { AsksOutputs (F.names files.now) (S.meaning station.old) (S.meaning station.new) }
     ensures cause { HasCause (S.meaning station.old) (S.meaning station.new) result }
+    ensures reason { HasReason (X.work (X.setup work.old)) result }
     ensures later_report { (S.meaning station.old).report_faults ≤ (S.meaning station.new).report_faults }
     ensures ran { RanBehind (X.work (X.setup work.old)) max_symbols (F.names files.now) (S.meaning station.old) (S.meaning station.new) result }
     ensures taken { TakesAtMost ((max_symbols + 1) * (X.work (X.setup work.old)).size) (S.meaning station.old) (S.meaning station.new) }
@@ -67,6 +69,7 @@ fn run_all<'a, F: OutputFiles<'a, S>, X: SymbolWork<'a, S>, S: Station<'a>>(
     ensures cells_asked { (S.meaning station.new).cells.asked ≡ Some cells.now }
     ensures asks { AsksOutputs (F.names files.now) (S.meaning station.old) (S.meaning station.new) }
     ensures cause { HasCause (S.meaning station.old) (S.meaning station.new) result }
+    ensures reason { HasReason (X.work (X.setup work.old)) result }
     ensures later_report { (S.meaning station.old).report_faults ≤ (S.meaning station.new).report_faults }
     ensures ran { Ran (X.work (X.setup work.old)) max_symbols cells.now (F.names files.now) (S.meaning station.old) (S.meaning station.new) result }
     ensures taken { TakesCells ((max_symbols + 1) * (X.work (X.setup work.old)).size) cells.now (S.meaning station.old) (S.meaning station.new) }

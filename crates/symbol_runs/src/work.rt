@@ -3,7 +3,7 @@ ghost use Rattle.std.specs.Prelude.{◌≡◌, ◌≤◌, ◌<◌, ◌+◌, ◌+
 ghost use Rattle.station_core.specs.declared.ports.OutPort.{OutPort};
 ghost use Rattle.symbol_runs.specs.Stops.{HasCause};
 ghost use Rattle.symbol_runs.specs.Symbols.{tail};
-ghost use Rattle.symbol_runs.specs.Work.{AreOpen, Finishes, GoesOn, Takes, Work, WritesOnly, Written, none_written};
+ghost use Rattle.symbol_runs.specs.Work.{AreOpen, Finishes, GoesOn, HasReason, Takes, Work, WritesOnly, Written, none_written};
 
 use crate::stop::Stop;
 use station_core::Station;
@@ -37,6 +37,7 @@ pub trait SymbolWork<'a, S: Station<'a>> {
         ensures setup { setup self.new ≡ setup self.old }
         ensures others { WritesOnly (S.meaning station.old) (S.meaning station.new) }
         ensures cause { HasCause (S.meaning station.old) (S.meaning station.new) result }
+        ensures reason { HasReason (work (setup self.old)) result }
         ensures later_report { (S.meaning station.old).report_faults ≤ (S.meaning station.new).report_faults }
         ensures begins { Takes (work (setup self.old)) (stands self.new) [] [] none_written (S.meaning station.old) (S.meaning station.new) result };
 
@@ -48,6 +49,7 @@ pub trait SymbolWork<'a, S: Station<'a>> {
         ensures setup { setup self.new ≡ setup self.old }
         ensures others { WritesOnly (S.meaning station.old) (S.meaning station.new) }
         ensures cause { HasCause (S.meaning station.old) (S.meaning station.new) result }
+        ensures reason { HasReason (work (setup self.old)) result }
         ensures later_report { (S.meaning station.old).report_faults ≤ (S.meaning station.new).report_faults }
         ensures takes { (bytes : List ℕ) (before : Written) → stands self.old bytes before → (work (setup self.old)).Gives bytes before
             → tail (work (setup self.old)).size bytes + length piece.now ≤ (work (setup self.old)).size
@@ -60,6 +62,7 @@ pub trait SymbolWork<'a, S: Station<'a>> {
         requires going { GoesOn (work (setup self.old)) (stands self.old) }
         ensures others { WritesOnly (S.meaning station.old) (S.meaning station.new) }
         ensures cause { HasCause (S.meaning station.old) (S.meaning station.new) result }
+        ensures reason { HasReason (work (setup self.old)) result }
         ensures later_report { (S.meaning station.old).report_faults ≤ (S.meaning station.new).report_faults }
         ensures finishes { (bytes : List ℕ) (before : Written) → stands self.old bytes before → (work (setup self.old)).Gives bytes before
             → Finishes (work (setup self.old)) bytes before (S.meaning station.old) (S.meaning station.new) result };
