@@ -9,7 +9,7 @@ ghost use Rattle.symbol_runs.specs.Cells.{IsWorking, KeepsOthers, Next, TakesAll
 use crate::stop::Stop;
 use crate::work::SymbolWork;
 use run_steps::fill;
-use station_core::{InPort, Station};
+use station_core::{Failed, InPort, Station};
 
 // Hands in the symbol of this number, or the bytes that are left of the cells; whether the symbol was whole.
 // Each read asks for the bytes that the symbol lacks.
@@ -74,7 +74,7 @@ fn take_rest<'a, X: SymbolWork<'a, S>, S: Station<'a>>(
     work.law();
     let filled = match fill(station, InPort::Cells, symbol) {
         Ok(filled) => filled,
-        Err(_) => return Err(Stop::ReadFault),
+        Err(Failed) => return Err(Stop::ReadFault),
     };
     if filled == symbol.len() {
         return Err(Stop::Limit);
