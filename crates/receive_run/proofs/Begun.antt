@@ -15,7 +15,7 @@ use Rattle.reception.specs.Lines.{events, event_lines, closing_lines}
 use Rattle.reception.specs.Laws.{IsWithin, TailIsUnfinished}
 use Rattle.reception_laws.specs.Laws.{SomeLive, SomeFinal, LiveBeginsLive, LiveBeginsFinal, WholeSymbolsGive}
 use Rattle.receive_run.specs.Received.{IsAll, IsCutOff, LinesCome, within_limit}
-use Rattle.receive_run.specs.Receiving.{ReceivedUpTo, lines_up_to}
+use Rattle.receive_run.specs.Working.{ReceivedUpTo, lines_up_to}
 use Rattle.receive_run.proofs.Parts.{no_tail, some_bytes, symbols_are}
 
 pub record ReceptionLaws : Type 0 where

@@ -1,28 +1,109 @@
--- The end of a reception: the rest of the packets, and the closing lines.
-use Rattle.std.proofs.Common.{◌≡◌, ℕ, ◌≤◌, Bool, true, List, [], ◌++◌, inr, take, refl, ◌∙◌, sym, ap, subst, arith, Result, Ok, Err}
+-- What the receiver gave is written by the work: with each piece, and behind the last with the closing lines.
+use Rattle.std.proofs.Common.{◌≡◌, ℕ, Bool, true, false, List, [], ◌++◌, take, refl, ◌∙◌, sym, ap, subst, arith, Result, Ok, Err, if◌then◌else◌}
 use Rattle.std.specs.Prelude.{flat_map}
 use Rattle.std.proofs.lemmas.List.{append-nil, take_all}
-use Rattle.station_core.specs.Meaning.{Meaning}
+use Rattle.std.proofs.lemmas.List.Concat.{flat_map-append}
+use Rattle.station_core.specs.Meaning.{Meaning, sink_at}
+use Rattle.station_core.specs.declared.ports.OutPort.{OutPort}
+use Rattle.station_core.specs.declared.ports.OutPort.TheVariants as outs
 use Rattle.mode_set.specs.declared.modes.Stream.{Stream}
 use Rattle.mode_set.specs.declared.modes.Stream.TheVariants.{Hp, Lp}
-use Rattle.mode_set.specs.declared.settings.Settings.{Settings as TheSettings}
+use Rattle.mode_set.specs.declared.settings.Settings.{Settings}
 use Rattle.rx_report.specs.Text.{event_line}
+use Rattle.rx_report.specs.declared.counts.Event.{Event}
 use Rattle.reception.specs.Cells.{symbols}
-use Rattle.reception.specs.Streams.{Reception, Final}
+use Rattle.reception.specs.Streams.{Reception, Live, Final}
 use Rattle.reception.specs.Lines.{events, event_lines, closing_lines}
 use Rattle.reception.specs.Feeds.{Output, packets_of}
 use Rattle.reception.specs.Laws.{Ends}
-use Rattle.run_clauses.specs.declared.work.Refusal.{Refusal}
-use Rattle.receive_run.specs.Writing.{Appends, ReportOnly, WritesOnly, WritesOut, event_text}
-use Rattle.receive_run.specs.Receiving.{EndsWhole, HoldsFronts, IsReceiving, IsWhole, ReceivedUpTo, Refused, Works}
-use Rattle.receive_run.proofs.Fronts.{front_more, front_whole}
+use Rattle.symbol_runs.specs.declared.stop.Stop.{Stop}
+use Rattle.symbol_runs.specs.declared.stop.Stop.TheVariants.{WriteFault}
+use Rattle.symbol_runs.specs.Outputs.{IsWriting}
+use Rattle.symbol_runs.specs.Work.{ Finishes, Follows, Holds, HoldsFront, Written}
+use Rattle.symbol_runs.specs.Work.{Takes as TakesPiece}
+use Rattle.symbol_runs.proofs.Fronts.{all_of, none_of}
+use Rattle.receive_run.specs.Writing.{Appends, IsPartlyWritten, IsWritten, ReportOnly, WritesOnly, WritesOut, event_text, lp_bytes}
+use Rattle.receive_run.specs.Working.{Takes, final_at, live_at, reception_work, written_at}
 
-module _ (s : TheSettings) (two : Bool) (bytes : List ℕ) (r : Reception) (standing : List ℕ → Reception → Type 0) (m m' : Meaning)
-    (was : IsReceiving s two standing bytes m bytes r) (few : symbols s bytes ≤ s.max_symbols)
-    (out : Output) (after : Reception) (ends : Ends r after) (final : Final s bytes after) (packets : (σ : Stream) → after.packets σ ≡ r.packets σ ++ packets_of out σ) (none : out.events ≡ []) (writes : WritesOnly m m') where
-  tells_are : m'.tells ≡ m.tells
-  tells_are = ap (λ (x : Meaning). x.tells) writes
+-- what is written of an output, with lines at Report
+abbrev given_at : Bool → Output → List ℕ → Written
+given_at two out lines outs.Cells = []
+given_at two out lines outs.Hp = out.hp
+given_at two out lines outs.Lp = lp_bytes two out.lp
+given_at two out lines outs.Bytes = []
+given_at two out lines outs.Report = lines
 
+-- it follows what was written of the reception before
+follows_by : (two : Bool) (before : Written) (r after : Reception) (out : Output) (lines more all : List ℕ) → ((port : OutPort) → before port ≡ written_at two r lines port)
+    → ((σ : Stream) → after.packets σ ≡ r.packets σ ++ packets_of out σ) → all ≡ lines ++ more → Follows before (given_at two out more) (written_at two after all)
+follows_by two before r after out lines more all is packets report port = go port ∙ ap (λ (l : List ℕ). l ++ given_at two out more port) (sym (is port))
+  where
+    lp_more : (b : Bool) → (if b then after.packets Lp else []) ≡ (if b then r.packets Lp else []) ++ lp_bytes b out.lp
+    lp_more true = packets Lp
+    lp_more false = refl
+
+    go : (port : OutPort) → written_at two after all port ≡ written_at two r lines port ++ given_at two out more port
+    go outs.Cells = refl
+    go outs.Hp = packets Hp
+    go outs.Lp = lp_more two
+    go outs.Bytes = refl
+    go outs.Report = report
+
+-- what was written, or fronts of it, at each port
+module _ (two : Bool) (out : Output) (m m' : Meaning) (only : WritesOnly m m') where
+  holds_by : IsWritten two out m m' → Holds m m' (given_at two out (event_text out.events))
+  holds_by w outs.Cells = ap (λ (x : Meaning). x.cells_out.written) only ∙ sym (append-nil m.cells_out.written)
+  holds_by w outs.Hp = w.hp
+  holds_by w outs.Lp = w.lp
+  holds_by w outs.Bytes = ap (λ (x : Meaning). x.bytes_out.written) only ∙ sym (append-nil m.bytes_out.written)
+  holds_by w outs.Report = w.report
+
+  fronts_by : IsPartlyWritten two out m m' → HoldsFront m m' (given_at two out (event_text out.events))
+  fronts_by w outs.Cells = none_of m.cells_out.written [] m'.cells_out.written (ap (λ (x : Meaning). x.cells_out.written) only)
+  fronts_by w outs.Hp = w.hp
+  fronts_by w outs.Lp = w.lp
+  fronts_by w outs.Bytes = none_of m.bytes_out.written [] m'.bytes_out.written (ap (λ (x : Meaning). x.bytes_out.written) only)
+  fronts_by w outs.Report = w.report
+
+-- no front of nothing is more
+take_none : (k : ℕ) → take {A = ℕ} k [] ≡ []
+take_none k = take_all k [] (omega arith)
+
+-- a failed write is the stop of a write
+stopped_by : (P : Result (Unit {0}) Stop → Type 0) (stop : Stop) → stop ≡ WriteFault → P (Err WriteFault) → P (Err stop)
+stopped_by P stop is p = subst (λ (x : Stop). P (Err x)) (sym is) p
+
+-- the lines of events, and those of more events
+more_lines : (a b c : List Event) → c ≡ a ++ b → flat_map event_line c ≡ flat_map event_line a ++ flat_map event_line b
+more_lines a b c e = ap (flat_map event_line) e ∙ flat_map-append event_line a b
+
+module _ (s : Settings) (two : Bool) (standing' : List ℕ → Written → Type 0) (bytes piece : List ℕ) (r : Reception) (given : Written) (is : (port : OutPort) → given port ≡ live_at s two bytes r port)
+    (stands : List ℕ → Reception → Type 0) (out : Output) (takes : Takes stands s bytes piece r out) (standing : standing' (bytes ++ piece) (live_at s two (bytes ++ piece) takes.after))
+    (m m' : Meaning) (only : WritesOnly m m') where
+  follows_live : Follows given (given_at two out (event_text out.events)) (live_at s two (bytes ++ piece) takes.after)
+  follows_live = follows_by two given r takes.after out (event_lines s bytes r) (event_text out.events) (event_lines s (bytes ++ piece) takes.after) is takes.follows.packets
+      (more_lines (events s (symbols s bytes) r.reports) out.events (events s (symbols s (bytes ++ piece)) takes.after.reports) takes.follows.events_are)
+
+  -- the packets and the lines of a piece were written, or fronts of them
+  pub took_piece : (result : Result (Unit {0}) Stop) → (m.tells ≡ true → WritesOut two out m m' result) → IsWriting result → TakesPiece (reception_work s two) standing' bytes piece given m m' result
+  took_piece (Ok u) written kind = record {
+    after = live_at s two (bytes ++ piece) takes.after;
+    more = given_at two out (event_text out.events);
+    is = (standing, (takes.after, takes.live, (λ port. refl)));
+    follows = follows_live;
+    written = λ t. holds_by two out m m' only (written t);
+  }
+  took_piece (Err stop) written kind = stopped_by (TakesPiece (reception_work s two) standing' bytes piece given m m') stop kind (record {
+    after = live_at s two (bytes ++ piece) takes.after;
+    more = given_at two out (event_text out.events);
+    is = (takes.after, takes.live, (λ port. refl));
+    follows = follows_live;
+    written = λ t. fronts_by two out m m' only (written t).1;
+  })
+
+module _ (s : Settings) (two : Bool) (bytes : List ℕ) (r : Reception) (given : Written) (is : (port : OutPort) → given port ≡ live_at s two bytes r port)
+    (out : Output) (after : Reception) (ends : Ends r after) (final : Final s bytes after) (packets : (σ : Stream) → after.packets σ ≡ r.packets σ ++ packets_of out σ) (none : out.events ≡ [])
+    (m m' : Meaning) (only : WritesOnly m m') where
   -- the events are those before
   lines_are : event_lines s bytes after ≡ event_lines s bytes r
   lines_are = ap (λ (f : Stream → List ℕ). flat_map event_line (events s (symbols s bytes) f)) (λ i σ. ends.reports σ i)
@@ -30,66 +111,76 @@ module _ (s : TheSettings) (two : Bool) (bytes : List ℕ) (r : Reception) (stan
   no_text : event_text out.events ≡ []
   no_text = ap event_text none
 
-  abbrev up : ReceivedUpTo s bytes after
-  up = record { taken = bytes; rest = []; are = sym (append-nil bytes); within = few; gives = inr (refl, final) }
+  abbrev more : Written
+  more = given_at two out (closing_lines s bytes after)
+
+  follows_final : Follows given more (final_at s two bytes after)
+  follows_final = follows_by two given r after out (event_lines s bytes r) (closing_lines s bytes after) (event_lines s bytes after ++ closing_lines s bytes after) is packets
+      (ap (λ (l : List ℕ). l ++ closing_lines s bytes after) lines_are)
 
   -- the rest of the packets was not written
-  pub rest_failed : (refusal : Refusal) → (m.tells ≡ true → WritesOut two out m m' (Err refusal)) → m'.tells ≡ true → Refused s two bytes m' refusal
-  rest_failed refusal written t' =
-      let t : m.tells ≡ true = sym tells_are ∙ t' in
-      let w = (written t).1 in
-      let h = was.holds t in
-      let same : m'.report.written ≡ event_lines s bytes after =
-      w.report.1 ∙ (λ i. h.report i ++ take w.report.0 (no_text i)) ∙ ap (λ (l : List ℕ). event_lines s bytes r ++ l) (take_all w.report.0 [] (omega arith)) ∙ append-nil (event_lines s bytes r) ∙ sym lines_are in
-      let fronts : HoldsFronts s two bytes m' = record {
-        given = after;
-        up = up;
-        hp = λ made. front_more (r.packets Hp) out.hp (after.packets Hp) m'.hp_out.written w.hp.0 (w.hp.1 ∙ ap (λ (l : List ℕ). l ++ take w.hp.0 out.hp) h.hp) (packets Hp);
-        lp = λ is made. front_more (r.packets Lp) out.lp (after.packets Lp) m'.lp_out.written (w.lp is).0 ((w.lp is).1 ∙ ap (λ (l : List ℕ). l ++ take (w.lp is).0 out.lp) (h.lp is)) (packets Lp);
-        report = front_more (event_lines s bytes after) (closing_lines s bytes after) (event_lines s bytes after ++ closing_lines s bytes after) m'.report.written 0 (same ∙ sym (append-nil (event_lines s bytes after))) refl;
-      } in
-      subst (Refused s two bytes m') (sym (written t).0) fronts
-
+  pub rest_failed : (stop : Stop) → stop ≡ WriteFault → (m.tells ≡ true → WritesOut two out m m' (Err stop)) → Finishes (reception_work s two) bytes given m m' (Err stop)
+  rest_failed stop kind written = stopped_by (Finishes (reception_work s two) bytes given m m') stop kind (record {
+    after = final_at s two bytes after;
+    more = more;
+    is = (after, final, (λ port. refl));
+    follows = follows_final;
+    written = λ t. fronts (written t).1;
+  })
+    where
+      fronts : IsPartlyWritten two out m m' → HoldsFront m m' more
+      fronts w outs.Cells = fronts_by two out m m' only w outs.Cells
+      fronts w outs.Hp = w.hp
+      fronts w outs.Lp = w.lp
+      fronts w outs.Bytes = fronts_by two out m m' only w outs.Bytes
+      fronts w outs.Report =
+          none_of m.report.written (closing_lines s bytes after) m'.report.written
+          (w.report.1 ∙ ap (λ (l : List ℕ). m.report.written ++ take w.report.0 l) no_text ∙ ap (λ (l : List ℕ). m.report.written ++ l) (take_none w.report.0) ∙ append-nil m.report.written)
   -- the closing lines were written, or were not
-  module _ (m'' : Meaning) (only : ReportOnly m' m'') (written : m.tells ≡ true → WritesOut two out m m' (Ok tt)) where
-    before : m''.tells ≡ true → m.tells ≡ true
-    before t = sym tells_are ∙ sym (ap (λ (x : Meaning). x.tells) only) ∙ t
+  module _ (m'' : Meaning) (report_only : ReportOnly m' m'') (written : m.tells ≡ true → WritesOut two out m m' (Ok tt)) where
+    tells' : m.tells ≡ true → m'.tells ≡ true
+    tells' t = ap (λ (x : Meaning). x.tells) only ∙ t
 
-    module _ (t : m''.tells ≡ true) where
-      hp_is : m''.hp_out.written ≡ after.packets Hp
-      hp_is = ap (λ (x : Meaning). x.hp_out.written) only ∙ (written (before t)).hp ∙ ap (λ (l : List ℕ). l ++ out.hp) (was.holds (before t)).hp ∙ sym (packets Hp)
+    report_was : (t : m.tells ≡ true) → m'.report.written ≡ m.report.written
+    report_was t = (written t).report ∙ ap (λ (l : List ℕ). m.report.written ++ l) no_text ∙ append-nil m.report.written
 
-      lp_is : two ≡ true → m''.lp_out.written ≡ after.packets Lp
-      lp_is is = ap (λ (x : Meaning). x.lp_out.written) only ∙ (written (before t)).lp is ∙ ap (λ (l : List ℕ). l ++ out.lp) ((was.holds (before t)).lp is) ∙ sym (packets Lp)
+    hp_is : (t : m.tells ≡ true) → m''.hp_out.written ≡ m.hp_out.written ++ out.hp
+    hp_is t = ap (λ (x : Meaning). x.hp_out.written) report_only ∙ (written t).hp
 
-      report_is : m'.report.written ≡ event_lines s bytes after
-      report_is =
-          (written (before t)).report ∙ (λ i. (was.holds (before t)).report i ++ no_text i) ∙ append-nil (event_lines s bytes r) ∙ sym lines_are
+    lp_is : (t : m.tells ≡ true) → m''.lp_out.written ≡ m.lp_out.written ++ lp_bytes two out.lp
+    lp_is t = ap (λ (x : Meaning). x.lp_out.written) report_only ∙ (written t).lp
 
-    pub whole : (result : Result (Unit {0}) Refusal) → (m'.tells ≡ true → Appends (closing_lines s bytes after) m'.report.written m''.report.written result) → EndsWhole s two bytes m'' result
-    whole (Ok u) a = λ t. record {
-      given = after;
-      final = final;
-      holds = record {
-        hp = hp_is t;
-        lp = lp_is t;
-        report = a (tells_are ∙ before t) ∙ ap (λ (l : List ℕ). l ++ closing_lines s bytes after) (report_is t);
-      };
+    cells_is : m''.cells_out.written ≡ m.cells_out.written
+    cells_is = ap (λ (x : Meaning). x.cells_out.written) report_only ∙ ap (λ (x : Meaning). x.cells_out.written) only
+
+    bytes_is : m''.bytes_out.written ≡ m.bytes_out.written
+    bytes_is = ap (λ (x : Meaning). x.bytes_out.written) report_only ∙ ap (λ (x : Meaning). x.bytes_out.written) only
+
+    pub ended : (result : Result (Unit {0}) Stop) → (m'.tells ≡ true → Appends (closing_lines s bytes after) m'.report.written m''.report.written result) → IsWriting result
+        → Finishes (reception_work s two) bytes given m m'' result
+    ended (Ok u) a kind = record {
+      after = final_at s two bytes after;
+      more = more;
+      is = (tt, (after, final, (λ port. refl)));
+      follows = follows_final;
+      written = λ t. elim [
+        | outs.Cells ↦ cells_is ∙ sym (append-nil m.cells_out.written)
+        | outs.Hp ↦ hp_is t
+        | outs.Lp ↦ lp_is t
+        | outs.Bytes ↦ bytes_is ∙ sym (append-nil m.bytes_out.written)
+        | outs.Report ↦ a (tells' t) ∙ ap (λ (l : List ℕ). l ++ closing_lines s bytes after) (report_was t)
+      ];
     }
-    whole (Err refusal) a = λ t.
-        let b = a (tells_are ∙ before t) in
-        let fronts : HoldsFronts s two bytes m'' = record {
-          given = after;
-          up = up;
-          hp = λ made. front_whole (after.packets Hp) m''.hp_out.written (hp_is t);
-          lp = λ is made. front_whole (after.packets Lp) m''.lp_out.written (lp_is t is);
-          report = front_more (event_lines s bytes after) (closing_lines s bytes after) (event_lines s bytes after ++ closing_lines s bytes after) m''.report.written b.1
-              (b.2 ∙ ap (λ (l : List ℕ). l ++ take b.1 (closing_lines s bytes after)) (report_is t)) refl;
-        } in
-        subst (Refused s two bytes m'') (sym b.0) fronts
-
--- the whole work ends as the reception does
-pub works : (s : TheSettings) (two : Bool) (file bytes : List ℕ) (m m' : Meaning) (result : Result (Unit {0}) Refusal)
-    → (m'.tells ≡ true → file ≡ bytes) → (m'.tells ≡ true → m'.cells.left ≡ []) → symbols s bytes ≤ s.max_symbols → EndsWhole s two bytes m' result → Works s two file m' result
-works s two file bytes m m' (Ok u) are left few e = λ t. (left t, subst (λ (l : List ℕ). symbols s l ≤ s.max_symbols) (sym (are t)) few, subst (λ (l : List ℕ). IsWhole s two l m') (sym (are t)) (e t))
-works s two file bytes m m' (Err refusal) are left few e = λ t. subst (λ (l : List ℕ). Refused s two l m' refusal) (sym (are t)) (e t)
+    ended (Err stop) a kind = stopped_by (Finishes (reception_work s two) bytes given m m'') stop kind (record {
+      after = final_at s two bytes after;
+      more = more;
+      is = (after, final, (λ port. refl));
+      follows = follows_final;
+      written = λ t. elim [
+        | outs.Cells ↦ none_of m.cells_out.written [] m''.cells_out.written cells_is
+        | outs.Hp ↦ all_of m.hp_out.written out.hp m''.hp_out.written (hp_is t)
+        | outs.Lp ↦ all_of m.lp_out.written (lp_bytes two out.lp) m''.lp_out.written (lp_is t)
+        | outs.Bytes ↦ none_of m.bytes_out.written [] m''.bytes_out.written bytes_is
+        | outs.Report ↦ (let b = a (tells' t) in (b.1, b.2 ∙ ap (λ (l : List ℕ). l ++ take b.1 (closing_lines s bytes after)) (report_was t)))
+      ];
+    })

@@ -8,9 +8,9 @@ use Rattle.station_core.specs.Meaning.{Meaning}
 use Rattle.station_core.specs.declared.ports.OutPort.TheVariants as outs
 use Rattle.rx_report.specs.Text.{event_line}
 use Rattle.rx_report.specs.declared.counts.Event.{Event}
-use Rattle.run_clauses.specs.declared.work.Refusal.{Refusal}
+use Rattle.symbol_runs.specs.declared.stop.Stop.{Stop}
 use Rattle.receive_run.specs.Writing.{Appends, WritesAt, event_text}
-use Rattle.receive_run.proofs.Fronts.{front_of}
+use Rattle.symbol_runs.proofs.Fronts.{front_of}
 use Rattle.receive_run.proofs.Keeping.{report_appends}
 
 -- one event more
@@ -52,7 +52,7 @@ pub events_split : (events : List Event) (i : ℕ) → event_text events ≡ eve
 events_split events i = ap event_text (sym (take-append-drop i events)) ∙ flat_map-append event_line (take i events) (drop i events)
 
 -- what waited of all was written, or a front of it
-pub events_written : (events : List Event) (i : ℕ) (waiting before : List ℕ) (m m' : Meaning) (r : Result (Unit {0}) Refusal) → length events ≤ i → m.tells ≡ true
+pub events_written : (events : List Event) (i : ℕ) (waiting before : List ℕ) (m m' : Meaning) (r : Result (Unit {0}) Stop) → length events ≤ i → m.tells ≡ true
     → Waits before m.report.written waiting (event_text (take i events)) → WritesAt outs.Report waiting m m' r → Appends (event_text events) before m'.report.written r
 events_written events i waiting before m m' (Ok u) le t w v =
     report_appends waiting m m' (Ok tt) t v ∙ ap (λ (z : List ℕ). z ++ waiting) w.1 ∙ append_assoc before w.0 waiting

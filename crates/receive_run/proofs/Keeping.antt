@@ -2,9 +2,8 @@
 use Rattle.std.proofs.Common.{◌≡◌, true, false, Bool, ℕ, List, ◌++◌, if◌then◌else◌, take, refl, ◌∙◌, sym, ap, subst, append_assoc, Result, Ok, Err}
 use Rattle.station_core.specs.Meaning.{Meaning}
 use Rattle.station_core.specs.declared.ports.OutPort.TheVariants as outs
-use Rattle.run_clauses.specs.declared.work.Refusal.{Refusal}
-use Rattle.receive_run.specs.Writing.{Appends, AreOpen, IsPrinting, ReportOnly, WritesAt, WritesLp, WritesOnly}
-use Rattle.receive_run.specs.Receiving.{KeepsOthers}
+use Rattle.symbol_runs.specs.declared.stop.Stop.{Stop}
+use Rattle.receive_run.specs.Writing.{Appends, IsPrinting, ReportOnly, WritesAt, WritesLp, WritesOnly}
 
 -- what is written where contents are told, or not
 abbrev pub told : Bool → List ℕ → List ℕ → List ℕ
@@ -19,11 +18,11 @@ at_lp old new w n p = subst (λ (x : Meaning). WritesOnly old x) (sym p) refl
 at_report : (old new : Meaning) (w : List ℕ) (n k : ℕ) → new ≡ record old { report = record old.report { written = w }; write_faults = n; report_faults = k } → WritesOnly old new
 at_report old new w n k p = subst (λ (x : Meaning). WritesOnly old x) (sym p) refl
 
-pub hp_frame : (bytes : List ℕ) (old new : Meaning) (r : Result (Unit {0}) Refusal) → WritesAt outs.Hp bytes old new r → WritesOnly old new
+pub hp_frame : (bytes : List ℕ) (old new : Meaning) (r : Result (Unit {0}) Stop) → WritesAt outs.Hp bytes old new r → WritesOnly old new
 hp_frame bytes old new (Ok u) w = at_hp old new (told old.tells old.hp_out.written bytes) old.write_faults w
 hp_frame bytes old new (Err r) w = at_hp old new (told old.tells old.hp_out.written (take w.1 bytes)) new.write_faults w.2
 
-pub lp_frame : (two : Bool) (bytes : List ℕ) (old new : Meaning) (r : Result (Unit {0}) Refusal) → WritesLp two bytes old new r → WritesOnly old new
+pub lp_frame : (two : Bool) (bytes : List ℕ) (old new : Meaning) (r : Result (Unit {0}) Stop) → WritesLp two bytes old new r → WritesOnly old new
 lp_frame true bytes old new (Ok u) w = at_lp old new (told old.tells old.lp_out.written bytes) old.write_faults w
 lp_frame true bytes old new (Err r) w = at_lp old new (told old.tells old.lp_out.written (take w.1 bytes)) new.write_faults w.2
 lp_frame false bytes old new (Ok u) w = subst (λ (x : Meaning). WritesOnly old x) (sym w) refl
@@ -45,50 +44,31 @@ writes_again a b c p q =
 pub report_again : (a b c : Meaning) → ReportOnly a b → ReportOnly b c → ReportOnly a c
 report_again a b c p q = q ∙ ap (λ (x : Meaning). record x { report = record x.report { written = c.report.written }; write_faults = c.write_faults; report_faults = c.report_faults }) p
 
-pub keeps_again : (a b c : Meaning) → KeepsOthers a b → KeepsOthers b c → KeepsOthers a c
-keeps_again a b c p q =
-    q ∙ ap (λ (x : Meaning). record x {
-      cells = record x.cells { left = c.cells.left };
-      hp_out = record x.hp_out { written = c.hp_out.written };
-      lp_out = record x.lp_out { written = c.lp_out.written };
-      report = record x.report { written = c.report.written };
-      read_faults = c.read_faults;
-      write_faults = c.write_faults;
-      report_faults = c.report_faults;
-    }) p
-
--- writing alone, and reading alone
-pub keeps_written : (a b : Meaning) → WritesOnly a b → KeepsOthers a b
-keeps_written a b p = subst (λ (x : Meaning). KeepsOthers a x) (sym p) refl
-
-pub keeps_read : (a b : Meaning) (l : List ℕ) (n : ℕ) → b ≡ record a { cells = record a.cells { left = l }; read_faults = n } → KeepsOthers a b
-keeps_read a b l n p = subst (λ (x : Meaning). KeepsOthers a x) (sym p) refl
-
 -- what Report, Hp and Lp hold after a write
-pub hp_appends : (bytes : List ℕ) (old new : Meaning) (r : Result (Unit {0}) Refusal) → old.tells ≡ true → WritesAt outs.Hp bytes old new r → Appends bytes old.hp_out.written new.hp_out.written r
+pub hp_appends : (bytes : List ℕ) (old new : Meaning) (r : Result (Unit {0}) Stop) → old.tells ≡ true → WritesAt outs.Hp bytes old new r → Appends bytes old.hp_out.written new.hp_out.written r
 hp_appends bytes old new (Ok u) t w = ap (λ (x : Meaning). x.hp_out.written) w ∙ ap (λ (b : Bool). told b old.hp_out.written bytes) t
 hp_appends bytes old new (Err r) t w = (w.0, w.1, ap (λ (x : Meaning). x.hp_out.written) w.2 ∙ ap (λ (b : Bool). told b old.hp_out.written (take w.1 bytes)) t)
 
-pub lp_appends : (bytes : List ℕ) (old new : Meaning) (r : Result (Unit {0}) Refusal) → old.tells ≡ true → WritesAt outs.Lp bytes old new r → Appends bytes old.lp_out.written new.lp_out.written r
+pub lp_appends : (bytes : List ℕ) (old new : Meaning) (r : Result (Unit {0}) Stop) → old.tells ≡ true → WritesAt outs.Lp bytes old new r → Appends bytes old.lp_out.written new.lp_out.written r
 lp_appends bytes old new (Ok u) t w = ap (λ (x : Meaning). x.lp_out.written) w ∙ ap (λ (b : Bool). told b old.lp_out.written bytes) t
 lp_appends bytes old new (Err r) t w = (w.0, w.1, ap (λ (x : Meaning). x.lp_out.written) w.2 ∙ ap (λ (b : Bool). told b old.lp_out.written (take w.1 bytes)) t)
 
-pub report_appends : (bytes : List ℕ) (old new : Meaning) (r : Result (Unit {0}) Refusal) → old.tells ≡ true → WritesAt outs.Report bytes old new r → Appends bytes old.report.written new.report.written r
+pub report_appends : (bytes : List ℕ) (old new : Meaning) (r : Result (Unit {0}) Stop) → old.tells ≡ true → WritesAt outs.Report bytes old new r → Appends bytes old.report.written new.report.written r
 report_appends bytes old new (Ok u) t w = ap (λ (x : Meaning). x.report.written) w ∙ ap (λ (b : Bool). told b old.report.written bytes) t
 report_appends bytes old new (Err r) t w = (w.0, w.1, ap (λ (x : Meaning). x.report.written) w.2 ∙ ap (λ (b : Bool). told b old.report.written (take w.1 bytes)) t)
 
 -- what the others hold
-pub hp_only : (bytes : List ℕ) (old new : Meaning) (r : Result (Unit {0}) Refusal) → WritesAt outs.Hp bytes old new r → (new.lp_out.written ≡ old.lp_out.written) × (new.report.written ≡ old.report.written)
+pub hp_only : (bytes : List ℕ) (old new : Meaning) (r : Result (Unit {0}) Stop) → WritesAt outs.Hp bytes old new r → (new.lp_out.written ≡ old.lp_out.written) × (new.report.written ≡ old.report.written)
 hp_only bytes old new (Ok u) w = (ap (λ (x : Meaning). x.lp_out.written) w, ap (λ (x : Meaning). x.report.written) w)
 hp_only bytes old new (Err r) w = (ap (λ (x : Meaning). x.lp_out.written) w.2, ap (λ (x : Meaning). x.report.written) w.2)
 
-pub lp_only : (two : Bool) (bytes : List ℕ) (old new : Meaning) (r : Result (Unit {0}) Refusal) → WritesLp two bytes old new r → (new.hp_out.written ≡ old.hp_out.written) × (new.report.written ≡ old.report.written)
+pub lp_only : (two : Bool) (bytes : List ℕ) (old new : Meaning) (r : Result (Unit {0}) Stop) → WritesLp two bytes old new r → (new.hp_out.written ≡ old.hp_out.written) × (new.report.written ≡ old.report.written)
 lp_only true bytes old new (Ok u) w = (ap (λ (x : Meaning). x.hp_out.written) w, ap (λ (x : Meaning). x.report.written) w)
 lp_only true bytes old new (Err r) w = (ap (λ (x : Meaning). x.hp_out.written) w.2, ap (λ (x : Meaning). x.report.written) w.2)
 lp_only false bytes old new (Ok u) w = (ap (λ (x : Meaning). x.hp_out.written) w, ap (λ (x : Meaning). x.report.written) w)
 lp_only false bytes old new (Err r) w = absurd w
 
-pub at_report_only : (old new : Meaning) (bytes : List ℕ) (r : Result (Unit {0}) Refusal) → WritesAt outs.Report bytes old new r → ReportOnly old new
+pub at_report_only : (old new : Meaning) (bytes : List ℕ) (r : Result (Unit {0}) Stop) → WritesAt outs.Report bytes old new r → ReportOnly old new
 at_report_only old new bytes (Ok u) w = subst (λ (x : Meaning). ReportOnly old x) (sym w) refl
 at_report_only old new bytes (Err r) w = go (told old.tells old.report.written (take w.1 bytes)) new.write_faults new.report_faults w.2
   where
@@ -107,13 +87,3 @@ line_printed m m' m'' text line p w = (
   ap (λ (x : Meaning). x.report_faults) w ∙ p.3,
   (λ t. report_appends line m' m'' (Ok tt) (ap (λ (x : Meaning). x.tells) p.1 ∙ t) w ∙ ap (λ (l : List ℕ). l ++ line) (p.4 t) ∙ append_assoc m.report.written text line),
 )
-
--- the ports stay open
-pub still_open : (two : Bool) (m m' : Meaning) → KeepsOthers m m' → AreOpen two m → AreOpen two m'
-still_open two m m' p o = record {
-  hp = ap (λ (x : Meaning). x.hp_out.created) p ∙ o.hp;
-  hp_open = ap (λ (x : Meaning). x.hp_out.closed) p ∙ o.hp_open;
-  lp = λ is. ap (λ (x : Meaning). x.lp_out.created) p ∙ o.lp is;
-  lp_open = λ is. ap (λ (x : Meaning). x.lp_out.closed) p ∙ o.lp_open is;
-  report = record { created = ap (λ (x : Meaning). x.report.created) p ∙ o.report.created; opened = ap (λ (x : Meaning). x.report.closed) p ∙ o.report.opened };
-}

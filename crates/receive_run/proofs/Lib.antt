@@ -3,12 +3,9 @@ pub mod Keeping
 pub mod Lines
 pub mod Events
 pub mod Parts
-pub mod Steps
 pub mod Ends
-pub mod FewCells
 pub mod Begun
-pub mod Opening
 pub mod Laws
-pub mod Ending
+pub mod Commands
 pub mod WholeRun
 pub mod Taking

@@ -1,8 +1,7 @@
 -- Whole symbols, and bytes that end none.
 use Rattle.std.proofs.Common.{◌≡◌, ℕ, ◌+◌, ◌*◌, ◌/◌, ◌%◌, ◌<◌, ◌≤◌, Bool, true, List, ◌++◌, inl, inr, length, ◌∙◌, sym, ap, subst, arith, length-append}
-use Rattle.std.specs.Prelude.{IsTrue, ◌↔◌, ◌==◌, false}
-use Rattle.std.proofs.lemmas.Bool.{cases_lt, eq-eqb, eqb-true, true≢false}
-use Rattle.std.proofs.Math.Nat.{mul-div_cancel, mul-mod_left, div-lt_iff_lt-mul, add-mul}
+use Rattle.std.specs.Prelude.{IsTrue, ◌↔◌}
+use Rattle.symbol_runs.proofs.Counting as counting
 use Rattle.code_paths.specs.declared.costs.CostPair.{CostPair}
 use Rattle.code_paths.specs.Streams.{Given, Reports}
 use Rattle.mode_set.specs.StreamTable.{carriers}
@@ -24,55 +23,10 @@ some_bytes s = go s.mode
 
 -- n symbols are n symbols, with no byte behind them
 pub symbols_are : (s : Settings) (bytes : List ℕ) (n : ℕ) → length bytes ≡ n * symbol_length s → symbols s bytes ≡ n
-symbols_are s bytes n e = ap (λ (k : ℕ). k / symbol_length s) e ∙ mul-div_cancel n (some_bytes s)
+symbols_are s = counting.symbols_are (symbol_length s) (some_bytes s)
 
 pub no_tail : (s : Settings) (bytes : List ℕ) (n : ℕ) → length bytes ≡ n * symbol_length s → tail s bytes ≡ 0
-no_tail s bytes n e = ap (λ (k : ℕ). k % symbol_length s) e ∙ mul-mod_left n (symbol_length s)
-
-pub one_more : (n k : ℕ) → (n + 1) * k ≡ n * k + k
-one_more n k = add-mul n 1 k ∙ (let e : n * k + 1 * k ≡ n * k + k = omega arith in e)
-
--- one symbol more, and less than one more
-pub longer : (s : Settings) (bytes piece : List ℕ) (n : ℕ) → length bytes ≡ n * symbol_length s → length piece ≡ symbol_length s → length (bytes ++ piece) ≡ (n + 1) * symbol_length s
-longer s bytes piece n e p = length-append bytes piece ∙ (λ i. e i + p i) ∙ sym (one_more n (symbol_length s))
-
-pub not_longer : (s : Settings) (bytes piece : List ℕ) (n : ℕ) → length bytes ≡ n * symbol_length s → length piece < symbol_length s → symbols s (bytes ++ piece) ≤ n
-not_longer s bytes piece n e l =
-    let k : ℕ = symbol_length s in
-    let size : length (bytes ++ piece) ≡ length bytes + length piece = length-append bytes piece in
-    let more : (n + 1) * k ≡ n * k + k = one_more n k in
-    let below : length (bytes ++ piece) < (n + 1) * k = omega (arith, size, more, e, l) in
-    let few : length (bytes ++ piece) / k < n + 1 = (div-lt_iff_lt-mul {k = k} {x = length (bytes ++ piece)} {y = n + 1} (some_bytes s)).1 below in
-    omega (arith, few)
-
-pub little_longer : (s : Settings) (bytes piece : List ℕ) (n : ℕ) → length bytes ≡ n * symbol_length s → length piece ≤ symbol_length s → symbols s (bytes ++ piece) ≤ n + 1
-little_longer s bytes piece n e l =
-    let k : ℕ = symbol_length s in
-    let size : length (bytes ++ piece) ≡ length bytes + length piece = length-append bytes piece in
-    let more : (n + 1) * k ≡ n * k + k = one_more n k in
-    let most : ((n + 1) + 1) * k ≡ (n + 1) * k + k = one_more (n + 1) k in
-    let some : 0 < k = some_bytes s in
-    let below : length (bytes ++ piece) < ((n + 1) + 1) * k = omega (arith, size, more, most, e, l, some) in
-    let few : length (bytes ++ piece) / k < (n + 1) + 1 = (div-lt_iff_lt-mul {k = k} {x = length (bytes ++ piece)} {y = (n + 1) + 1} some).1 below in
-    omega (arith, few)
-
--- a piece of a symbol is the whole of it, or shorter
-pub whole_or_less : (k l : ℕ) → k ≤ l → ((k == l) ≡ true → k ≡ l) × ((k == l) ≡ false → k < l)
-whole_or_less k l le = (
-  (λ e. eqb-true k l e),
-  (λ e. elim (cases_lt k l) [
-    | inl lt ↦ lt
-    | inr ge ↦ let same : k ≡ l = omega (arith, le, ge) in absurd (true≢false (sym (eq-eqb k l same) ∙ e))
-  ]),
-)
-
-pub at_least : (s : Settings) (bytes : List ℕ) (n : ℕ) → (n + 1) * symbol_length s ≤ length bytes → n < symbols s bytes
-at_least s bytes n le = elim (cases_lt (symbols s bytes) (n + 1)) [
-  | inl few ↦
-      let below : length bytes < (n + 1) * symbol_length s = (div-lt_iff_lt-mul {k = symbol_length s} {x = length bytes} {y = n + 1} (some_bytes s)).0 few in
-      absurd (omega (arith, below, le))
-  | inr more ↦ omega (arith, more)
-]
+no_tail s = counting.no_tail (symbol_length s) (some_bytes s)
 
 before_frame_end : (n f m : ℕ) → f < n / 68 → m < 68 * f + 68 → m < n
 before_frame_end n f m l k = omega (arith, l, k)

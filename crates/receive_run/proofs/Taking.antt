@@ -5,7 +5,7 @@ use Rattle.mode_set.specs.declared.settings.Settings.{Settings}
 use Rattle.reception.specs.Cells.{symbol_length, tail}
 use Rattle.reception.specs.Streams.{Reception, Live}
 use Rattle.reception.specs.Feeds.{Feeds, Finishes, Follows, Output}
-use Rattle.receive_run.specs.Receiving.{Takes}
+use Rattle.receive_run.specs.Working.{Takes}
 
 pub took : (s : Settings) (bytes piece : List ℕ) (before : Reception) (n : ℕ) (out : Output) (standing : List ℕ → Reception → Type 0)
     → tail s bytes + length piece ≤ symbol_length s → Feeds standing s bytes piece before n out → Takes standing s bytes piece before out

@@ -1,11 +1,15 @@
 -- The promise of a whole run of `receive`.
-use Rattle.std.proofs.Common.{◌≡◌, ◌≢◌, inl, inr, true, ℕ, List, [], Option, Some, None, Result, Ok, Err, refl, ◌∙◌, sym, ap, subst}
+use Rattle.std.proofs.Common.{◌≡◌, ◌≢◌, inl, inr, true, ℕ, Bool, List, [], Option, Some, None, Result, Ok, Err, refl, ◌∙◌, sym, ap, subst}
 use Rattle.station_core.specs.Meaning.{Meaning, IsFresh}
 use Rattle.station_core.specs.declared.ports.InPort.{InPort}
 use Rattle.station_core.specs.declared.ports.InPort.TheVariants as ins
 use Rattle.mode_set.specs.declared.settings.Settings.{Settings as TheSettings}
 use Rattle.run_clauses.specs.declared.work.Refusal.{Refusal}
 use Rattle.run_clauses.specs.declared.work.Refusal.TheVariants.{Usage, Settings, ReadFault, WriteFault, NotSync, Memory, Limit}
+use Rattle.std.specs.Prelude.{is_some, if◌then◌else◌}
+use Rattle.std.specs.Option.{option_or}
+use Rattle.run_clauses.specs.StreamForm.{form_refusal}
+use Rattle.run_clauses.specs.declared.work.SettingsRefusal.TheVariants.{Form}
 use Rattle.run_clauses.specs.Command.{Command, Unread, input_file, is_among}
 use Rattle.run_clauses.specs.Run.{Run}
 use Rattle.run_clauses.specs.StatedSettings.{settings_of}
@@ -16,10 +20,16 @@ use Rattle.run_steps.specs.SettingsStep.{AsksSettings}
 use Rattle.run_steps.specs.FittingStep.{Accepts}
 use Rattle.run_steps.specs.Ended.{Ended}
 use Rattle.run_steps.proofs.Early.{RefusedEarly, early_ended}
-use Rattle.run_steps.proofs.Whole.{run_done, run_refused}
+use Rattle.run_steps.proofs.Whole.{run_refused}
 use Rattle.receive_run.specs.ReceiveCommand.{receive_command}
-use Rattle.receive_run.specs.Ports.{IsReady, RunsReception, RunsOrLacks, Tells, outcome_status, refusal_in}
-use Rattle.receive_run.proofs.Ending.{SettingsDone, ended_of, no_lines}
+use Rattle.symbol_runs.specs.Commands.{SettingsDone}
+use Rattle.symbol_runs.specs.Outputs.{stream_names}
+use Rattle.symbol_runs.specs.Runs.{IsReady}
+use Rattle.symbol_runs.proofs.Ending.{run_of}
+use Rattle.symbol_runs.proofs.Ending.{ready as cells_ready}
+use Rattle.receive_run.specs.Runs.{RunsReception, RunsOrLacks}
+use Rattle.receive_run.specs.Working.{reception_work}
+use Rattle.receive_run.proofs.Commands.{command_of, no_lines}
 use Rattle.receive_run.proofs.Laws.{Laws, own_laws}
 
 module _ (limit : ℕ) (name cells hp : List ℕ) (lp : Option (List ℕ)) (start mid new : Meaning) (laws : Laws) (fresh : IsFresh start) (asks : AsksSettings name start mid) where
@@ -50,42 +60,29 @@ module _ (limit : ℕ) (name cells hp : List ℕ) (lp : Option (List ℕ)) (star
     same_mid : mid ≡ record start { settings = mid.settings }
     same_mid = asks.others ∙ ap (λ (n : ℕ). record start { settings = mid.settings; read_faults = n }) accepts.0.0
 
-    pub ready : IsReady mid
-    ready = subst IsReady (sym same_mid) (record {
-      cells = fresh.cells.asked;
-      cells_unread = fresh.cells.attached;
-      hp = fresh.hp_out.asked;
-      hp_unmade = fresh.hp_out.created;
-      lp = fresh.lp_out.asked;
-      lp_unmade = fresh.lp_out.created;
-      report = fresh.report;
-      report_open = fresh.report_open;
-      report_empty = fresh.report_empty;
-    })
+    pub ready : IsReady (stream_names hp lp) mid
+    ready = subst (IsReady (stream_names hp lp)) (sym same_mid) (cells_ready (stream_names hp lp) refl start mid.settings fresh)
 
-    settings : SettingsDone name lp s start mid.settings
+    settings : SettingsDone c limit name start mid.settings
     settings = record {
       asked = accepts.0.1;
       attached = accepts.0.2;
       left = λ t. (accepts.0.3 t).0;
-      read = asks.read;
-      accepted = λ t. (accepts.0.3 t).1.1;
-      stated = λ t. stated s (start.file name) (accepts.0.3 t).1.2;
-      fits = accepts.1;
+      read = λ t. asks.read t accepts.0.2;
+      accepted = λ t. ap (λ (o : Option Refusal). option_or o (form_refusal (settings_of (start.file name)) lp)) (accepts.0.3 t).1.1
+          ∙ ap (λ (o : Option TheSettings). form_refusal o lp) (is_stated t)
+          ∙ ap (λ (b : Bool). if b then None else Some (Settings Form)) accepts.1;
     }
+      where
+        is_stated : start.tells ≡ true → settings_of (start.file name) ≡ Some s
+        is_stated t = stated s (start.file name) (accepts.0.3 t).1.2
 
     -- the run has ended with its outcome, and then a text was written or not
     finished : (old : Meaning) → old ≡ record start { settings = mid.settings } → (status : ℕ) → RunsReception s cells hp lp old new status → Run c limit start new status
-    finished old same status runs = go (subst (λ (m : Meaning). RunsReception s cells hp lp m new status) same runs)
-      where
-        closing : (m : Meaning) (o : Result (Unit {0}) Refusal) → Ended c limit start m (refusal_in o) → Tells m new o → Run c limit start new (outcome_status o)
-        closing m (Ok u) e tells = run_done c limit start new (subst (λ (x : Meaning). Ended c limit start x None) (sym tells) e)
-        closing m (Err r) e tells = run_refused c limit start m new r e tells
-
-        go : RunsReception s cells hp lp (record start { settings = mid.settings }) new status → Run c limit start new status
-        go runs =
-            let e = ended_of limit name cells hp lp start runs.mid mid.settings fresh s settings laws runs.asks runs.taken runs.later_report runs.outcome runs.kind runs.cause runs.ran in
-            subst (λ (n : ℕ). Run c limit start new n) (sym runs.status_is) (closing runs.mid runs.outcome e runs.tells)
+    finished old same status runs =
+        run_of c limit name cells (stream_names hp lp) (reception_work s (is_some lp)) s.max_symbols start new mid.settings status fresh settings
+        (command_of laws limit name cells hp lp s start (λ t. stated s (start.file name) (accepts.0.3 t).1.2))
+        (subst (λ (m : Meaning). RunsReception s cells hp lp m new status) same runs)
 
     pub run : (status : ℕ) → RunsOrLacks s cells hp lp mid new status → Run c limit start new status
     run status runs = elim runs [

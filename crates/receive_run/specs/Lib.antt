@@ -2,6 +2,6 @@ pub mod Received
 pub mod OwnLaws
 pub mod ReceiveCommand
 pub mod Writing
-pub mod Receiving
-pub mod Ports
+pub mod Working
+pub mod Runs
 pub mod Feeder

@@ -1,33 +1,33 @@
 -- What is written behind what the outputs of a reception hold.
-use Rattle.std.specs.Prelude.{◌≡◌, ◌⊎◌, ℕ, Bool, true, false, List, ◌++◌, take, flat_map, Result, Ok, Err}
+use Rattle.std.specs.Prelude.{◌≡◌, ◌⊎◌, ℕ, Bool, true, false, if◌then◌else◌, List, [], ◌++◌, take, flat_map, Result, Ok, Err}
 use Rattle.station_core.specs.Meaning.{Meaning, sink_at, with_sink, written_sink, with_failed_write}
 use Rattle.station_core.specs.declared.ports.OutPort.{OutPort}
 use Rattle.station_core.specs.declared.ports.OutPort.TheVariants as outs
 use Rattle.rx_report.specs.Text.{event_line}
 use Rattle.rx_report.specs.declared.counts.Event.{Event}
 use Rattle.reception.specs.Feeds.{Output}
-use Rattle.run_clauses.specs.declared.work.Refusal.{Refusal}
-use Rattle.run_clauses.specs.declared.work.Refusal.TheVariants.{WriteFault}
+use Rattle.symbol_runs.specs.declared.stop.Stop.{Stop}
+use Rattle.symbol_runs.specs.declared.stop.Stop.TheVariants.{WriteFault}
 
 -- bytes were written at a port, or a front of them
-abbrev pub WritesAt : OutPort → List ℕ → Meaning → Meaning → Result (Unit {0}) Refusal → Type 0
+abbrev pub WritesAt : OutPort → List ℕ → Meaning → Meaning → Result (Unit {0}) Stop → Type 0
 WritesAt port bytes old new (Ok u) = new ≡ with_sink port (written_sink old.tells bytes (sink_at port old)) old
 WritesAt port bytes old new (Err r) =
     (r ≡ WriteFault) × (k : ℕ) × (new ≡ with_failed_write port new.write_faults new.report_faults (with_sink port (written_sink old.tells (take k bytes) (sink_at port old)) old))
 
 -- the same at Lp, where there are two streams
-abbrev pub WritesLp : Bool → List ℕ → Meaning → Meaning → Result (Unit {0}) Refusal → Type 0
+abbrev pub WritesLp : Bool → List ℕ → Meaning → Meaning → Result (Unit {0}) Stop → Type 0
 WritesLp true bytes old new result = WritesAt outs.Lp bytes old new result
 WritesLp false bytes old new (Ok u) = new ≡ old
 WritesLp false bytes old new (Err r) = ⊥
 
 -- bytes follow what stood there, or a front of them
-abbrev pub Appends : List ℕ → List ℕ → List ℕ → Result (Unit {0}) Refusal → Type 0
+abbrev pub Appends : List ℕ → List ℕ → List ℕ → Result (Unit {0}) Stop → Type 0
 Appends bytes before after (Ok u) = after ≡ before ++ bytes
 Appends bytes before after (Err r) = (r ≡ WriteFault) × (k : ℕ) × (after ≡ before ++ take k bytes)
 
 -- a line was put behind a text that waits, and the text was written where there was no room for both; or a front of it was
-abbrev pub Pushes : List ℕ → List ℕ → List ℕ → List ℕ → List ℕ → Result (Unit {0}) Refusal → Type 0
+abbrev pub Pushes : List ℕ → List ℕ → List ℕ → List ℕ → List ℕ → Result (Unit {0}) Stop → Type 0
 Pushes line text text' before after (Ok u) = ((after ≡ before) × (text' ≡ text ++ line)) ⊎ ((after ≡ before ++ text) × (text' ≡ line))
 Pushes line text text' before after (Err r) = (r ≡ WriteFault) × (k : ℕ) × (after ≡ before ++ take k text)
 
@@ -62,18 +62,22 @@ pub record AreOpen (two : Bool) (m : Meaning) : Type 0 where
 abbrev pub event_text : List Event → List ℕ
 event_text events = flat_map event_line events
 
+-- the packets of LP, where there are two streams
+abbrev pub lp_bytes : Bool → List ℕ → List ℕ
+lp_bytes two bytes = if two then bytes else []
+
 -- what a receiver gave was written: packets of HP, packets of LP, the lines of events
 pub record IsWritten (two : Bool) (out : Output) (old new : Meaning) : Type 0 where
   pub hp : new.hp_out.written ≡ old.hp_out.written ++ out.hp
-  pub lp : two ≡ true → new.lp_out.written ≡ old.lp_out.written ++ out.lp
+  pub lp : new.lp_out.written ≡ old.lp_out.written ++ lp_bytes two out.lp
   pub report : new.report.written ≡ old.report.written ++ event_text out.events
 
 -- a front of each was
 pub record IsPartlyWritten (two : Bool) (out : Output) (old new : Meaning) : Type 0 where
   pub hp : (k : ℕ) × (new.hp_out.written ≡ old.hp_out.written ++ take k out.hp)
-  pub lp : two ≡ true → (k : ℕ) × (new.lp_out.written ≡ old.lp_out.written ++ take k out.lp)
+  pub lp : (k : ℕ) × (new.lp_out.written ≡ old.lp_out.written ++ take k (lp_bytes two out.lp))
   pub report : (k : ℕ) × (new.report.written ≡ old.report.written ++ take k (event_text out.events))
 
-abbrev pub WritesOut : Bool → Output → Meaning → Meaning → Result (Unit {0}) Refusal → Type 0
+abbrev pub WritesOut : Bool → Output → Meaning → Meaning → Result (Unit {0}) Stop → Type 0
 WritesOut two out old new (Ok u) = IsWritten two out old new
 WritesOut two out old new (Err r) = (r ≡ WriteFault) × IsPartlyWritten two out old new

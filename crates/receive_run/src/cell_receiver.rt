@@ -5,7 +5,7 @@ ghost use Rattle.reception.specs.Cells.{symbol_length, tail};
 ghost use Rattle.reception.specs.Streams.{Moment, Reception, so_far, at_end};
 ghost use Rattle.reception.specs.Lines.{counts_of};
 ghost use Rattle.reception.specs.Feeds.{Output, Finishes};
-ghost use Rattle.receive_run.specs.Receiving.{GoesOn, Takes};
+ghost use Rattle.receive_run.specs.Working.{GoesOn, Takes};
 
 use rx_report::{Counts, Event};
 

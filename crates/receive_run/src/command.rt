@@ -9,11 +9,13 @@ ghost use Rattle.station_core.specs.Meaning.{IsFresh};
 ghost use Rattle.run_clauses.specs.Run.{Run};
 ghost use Rattle.std.specs.Thread.{IsSync};
 ghost use Rattle.receive_run.specs.Feeder.{IsFed, IsFeeder};
-ghost use Rattle.receive_run.specs.Ports.{IsReady, RunsReception, RunsOrLacks};
+ghost use Rattle.symbol_runs.specs.Runs.{IsReady};
+ghost use Rattle.symbol_runs.specs.Outputs.{stream_names};
+ghost use Rattle.receive_run.specs.Runs.{RunsReception, RunsOrLacks};
 ghost use Rattle.receive_run.specs.ReceiveCommand.{receive_command};
 
 use crate::receivers::{ModeReceiver, ReceiverWithOutput};
-use crate::run::{Names, run_reception};
+use crate::reception_work::ReceptionWork;
 use mode_set::{Carriers, Mode, Mode2k, Mode8k, Settings};
 use receiver::{Receiver, RxOut};
 use run_clauses::{Limits, Refusal};
@@ -21,7 +23,19 @@ use run_steps::{read_fitting, refuse};
 use station_core::Station;
 use std::alloc::Global;
 use std::thread::Threads;
+use symbol_runs::{StreamFiles, run_cells};
 use word_workers::Gate;
+
+// The names of the files of a reception.
+#[derive(Clone, Copy)]
+struct Names<'a> {
+    // The cells that are read.
+    cells: &'a str,
+    // The transport file of high priority, or the only one, which is made.
+    hp: &'a str,
+    // The transport file of low priority, if there is one, which is made.
+    lp: Option<&'a str>,
+}
 
 // Runs the reception by a receiver that has had no byte and is fed so. `symbol` has the size of a symbol.
 fn receive_by<
@@ -44,16 +58,22 @@ fn receive_by<
     requires start { StandsFor so_far (T.state receiver) [] nothing }
     requires most { (T.state receiver).settings.max_symbols ≡ max_symbols }
     requires size { length symbol.old ≡ symbol_length (T.state receiver).settings }
-    requires ready { IsReady (S.meaning station.old) }
+    requires ready { IsReady (stream_names names.hp.now (option_copied names.lp)) (S.meaning station.old) }
     ensures { RunsReception (T.state receiver).settings names.entry.cells.now names.entry.hp.now (option_copied names.entry.lp) (S.meaning station.old) (S.meaning station.new) result }
 {
-    let mut receiver = ReceiverWithOutput {
+    let receiver = ReceiverWithOutput {
         rt,
         feeder,
         receiver,
         out,
     };
-    run_reception(max_symbols, names, &mut receiver, symbol, station)
+    let two = names.lp.is_some();
+    let mut work = ReceptionWork { receiver, two };
+    let files = StreamFiles {
+        hp: names.hp,
+        lp: names.lp,
+    };
+    run_cells(max_symbols, names.cells, &files, &mut work, symbol, station)
 }
 
 // Takes the memory of a mode's receiver and of one symbol, and runs the reception through this gate.
@@ -66,7 +86,7 @@ fn receive_in<'a, M: Carriers, R: Threads + Sync, G: Gate, S: Station<'a>>(
     station: &mut S,
 ) -> u8
     requires mode { settings.now.mode ≡ M.MODE }
-    requires ready { IsReady (S.meaning station.old) }
+    requires ready { IsReady (stream_names names.hp.now (option_copied names.lp)) (S.meaning station.old) }
     ensures { RunsOrLacks settings.now names.entry.cells.now names.entry.hp.now (option_copied names.entry.lp) (S.meaning station.old) (S.meaning station.new) result }
 {
     let Ok(receiver) = Receiver::<M>::new(alloc, settings) else {
@@ -103,7 +123,7 @@ fn receive_accepted<'a, R: Threads + Sync, G: Gate, S: Station<'a>>(
     names: Names<'a>,
     station: &mut S,
 ) -> u8
-    requires ready { IsReady (S.meaning station.old) }
+    requires ready { IsReady (stream_names names.hp.now (option_copied names.lp)) (S.meaning station.old) }
     ensures { RunsOrLacks settings.now names.entry.cells.now names.entry.hp.now (option_copied names.entry.lp) (S.meaning station.old) (S.meaning station.new) result }
 {
     match settings.mode {

@@ -8,10 +8,8 @@
 
 mod cell_receiver;
 mod command;
-mod ports;
 mod receivers;
-mod receiving;
-mod run;
+mod reception_work;
 mod writing;
 
 pub use command::receive;

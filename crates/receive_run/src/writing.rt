@@ -4,15 +4,15 @@ ghost use Rattle.std.specs.List.{concat};
 ghost use Rattle.arrayvec.specs.ArrayString.{array_string_len};
 ghost use Rattle.station_core.specs.Meaning.{sink_at};
 ghost use Rattle.rx_report.specs.Text.{closing_lines};
-ghost use Rattle.run_steps.specs.Causes.{HasCause};
-ghost use Rattle.receive_run.specs.Receiving.{IsOfWork};
+ghost use Rattle.symbol_runs.specs.Stops.{HasCause};
+ghost use Rattle.symbol_runs.specs.Outputs.{IsWriting};
 ghost use Rattle.receive_run.specs.Writing.{AreOpen, Appends, IsPrinting, Pushes, ReportOnly, WritesAt, WritesLp, WritesOnly, WritesOut, event_text};
 
 use crate::cell_receiver::CellReceiver;
 use arrayvec::ArrayString;
-use run_clauses::Refusal;
 use rx_report::{Counts, Event, Line};
 use station_core::{OutPort, Station};
+use symbol_runs::Stop;
 
 // Room for the lines of all events of a symbol.
 type EventText = ArrayString<2048>;
@@ -22,10 +22,10 @@ fn write_some<'a, S: Station<'a>>(
     port: OutPort,
     bytes: &[u8],
     station: &mut S,
-) -> Result<(), Refusal>
+) -> Result<(), Stop>
     requires created { (sink_at port (S.meaning station.old)).created ≡ true }
     requires open { (sink_at port (S.meaning station.old)).closed ≡ false }
-    ensures kind { IsOfWork result }
+    ensures kind { IsWriting result }
     ensures cause { HasCause (S.meaning station.old) (S.meaning station.new) result }
     ensures later_report { (S.meaning station.old).report_faults ≤ (S.meaning station.new).report_faults }
     ensures writes { WritesAt port bytes.now (S.meaning station.old) (S.meaning station.new) result }
@@ -35,14 +35,14 @@ fn write_some<'a, S: Station<'a>>(
     }
     match station.write(port, bytes) {
         Ok(()) => Ok(()),
-        Err(_) => Err(Refusal::WriteFault),
+        Err(_) => Err(Stop::WriteFault),
     }
 }
 
 // Writes the packets of LP, where there are two streams.
-fn write_lp<'a, S: Station<'a>>(two: bool, bytes: &[u8], station: &mut S) -> Result<(), Refusal>
+fn write_lp<'a, S: Station<'a>>(two: bool, bytes: &[u8], station: &mut S) -> Result<(), Stop>
     requires open { AreOpen two (S.meaning station.old) }
-    ensures kind { IsOfWork result }
+    ensures kind { IsWriting result }
     ensures cause { HasCause (S.meaning station.old) (S.meaning station.new) result }
     ensures later_report { (S.meaning station.old).report_faults ≤ (S.meaning station.new).report_faults }
     ensures writes { WritesLp two bytes.now (S.meaning station.old) (S.meaning station.new) result }
@@ -59,9 +59,9 @@ fn push_line<'a, S: Station<'a>>(
     line: &Line,
     text: &mut EventText,
     station: &mut S,
-) -> Result<(), Refusal>
+) -> Result<(), Stop>
     requires printing { IsPrinting (S.meaning station.old) }
-    ensures kind { IsOfWork result }
+    ensures kind { IsWriting result }
     ensures cause { HasCause (S.meaning station.old) (S.meaning station.new) result }
     ensures later_report { (S.meaning station.old).report_faults ≤ (S.meaning station.new).report_faults }
     ensures others { ReportOnly (S.meaning station.old) (S.meaning station.new) }
@@ -78,14 +78,14 @@ fn push_line<'a, S: Station<'a>>(
             text.push_str(line.as_str());
             Ok(())
         }
-        Err(refusal) => Err(refusal),
+        Err(stop) => Err(stop),
     }
 }
 
 // Writes the lines of the events of a symbol, by one write.
-fn write_events<'a, S: Station<'a>>(events: &[Event], station: &mut S) -> Result<(), Refusal>
+fn write_events<'a, S: Station<'a>>(events: &[Event], station: &mut S) -> Result<(), Stop>
     requires printing { IsPrinting (S.meaning station.old) }
-    ensures kind { IsOfWork result }
+    ensures kind { IsWriting result }
     ensures cause { HasCause (S.meaning station.old) (S.meaning station.new) result }
     ensures later_report { (S.meaning station.old).report_faults ≤ (S.meaning station.new).report_faults }
     ensures others { ReportOnly (S.meaning station.old) (S.meaning station.new) }
@@ -99,7 +99,7 @@ fn write_events<'a, S: Station<'a>>(events: &[Event], station: &mut S) -> Result
     for event in events {
         match push_line(&event.line(), &mut text, station) {
             Ok(()) => {}
-            Err(refusal) => return Err(refusal),
+            Err(stop) => return Err(stop),
         }
     }
     write_some(OutPort::Report, text.as_str().as_bytes(), station)
@@ -111,9 +111,9 @@ pub(crate) fn write_out<'a, X: CellReceiver, S: Station<'a>>(
     two: bool,
     receiver: &X,
     station: &mut S,
-) -> Result<(), Refusal>
+) -> Result<(), Stop>
     requires open { AreOpen two (S.meaning station.old) }
-    ensures kind { IsOfWork result }
+    ensures kind { IsWriting result }
     ensures cause { HasCause (S.meaning station.old) (S.meaning station.new) result }
     ensures later_report { (S.meaning station.old).report_faults ≤ (S.meaning station.new).report_faults }
     ensures others { WritesOnly (S.meaning station.old) (S.meaning station.new) }
@@ -121,11 +121,11 @@ pub(crate) fn write_out<'a, X: CellReceiver, S: Station<'a>>(
 {
     match write_some(OutPort::Hp, receiver.hp(), station) {
         Ok(()) => {}
-        Err(refusal) => return Err(refusal),
+        Err(stop) => return Err(stop),
     }
     match write_lp(two, receiver.lp(), station) {
         Ok(()) => {}
-        Err(refusal) => return Err(refusal),
+        Err(stop) => return Err(stop),
     }
     write_events(receiver.events(), station)
 }
@@ -134,9 +134,9 @@ pub(crate) fn write_out<'a, X: CellReceiver, S: Station<'a>>(
 pub(crate) fn write_lines<'a, S: Station<'a>>(
     counts: &Counts,
     station: &mut S,
-) -> Result<(), Refusal>
+) -> Result<(), Stop>
     requires printing { IsPrinting (S.meaning station.old) }
-    ensures kind { IsOfWork result }
+    ensures kind { IsWriting result }
     ensures cause { HasCause (S.meaning station.old) (S.meaning station.new) result }
     ensures later_report { (S.meaning station.old).report_faults ≤ (S.meaning station.new).report_faults }
     ensures others { ReportOnly (S.meaning station.old) (S.meaning station.new) }
@@ -147,7 +147,7 @@ pub(crate) fn write_lines<'a, S: Station<'a>>(
         match counts.line(number) {
             Some(line) => match station.write(OutPort::Report, line.as_str().as_bytes()) {
                 Ok(()) => {}
-                Err(_) => return Err(Refusal::WriteFault),
+                Err(_) => return Err(Stop::WriteFault),
             },
             None => return Ok(()),
         }

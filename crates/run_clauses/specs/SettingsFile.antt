@@ -1,10 +1,8 @@
 -- What a settings file comes to, from its bytes alone.
-use Rattle.std.specs.Prelude.{ℕ, List, length, nat_lt, if◌then◌else◌, Option, Some, option_map, option_and_then}
-use Rattle.std.specs.Result.{result_ok}
+use Rattle.std.specs.Prelude.{ℕ, List, length, nat_lt, if◌then◌else◌, Option, Some, option_map}
 use Rattle.mode_set.specs.declared.error.SettingsError.{SettingsError}
 use Rattle.mode_set.specs.declared.error.SettingsError.TheVariants as error
-use Rattle.mode_set.specs.declared.modes.Rate.{Rate}
-use Rattle.mode_set.specs.Document.{document, refusal, rate_hp_in}
+use Rattle.mode_set.specs.Document.{refusal}
 use Rattle.run_clauses.specs.declared.work.SettingsRefusal.TheVariants.{TooLong, NotToml, Unknown, Missing, Value, Clash}
 use Rattle.run_clauses.specs.declared.work.Refusal.{Refusal}
 use Rattle.run_clauses.specs.declared.work.Refusal.TheVariants.{Settings, Memory}
@@ -25,7 +23,3 @@ refused_as error.Memory = Memory
 -- the refusal of a settings file, if it is refused: too long before what its document says
 abbrev pub settings_refusal : List ℕ → Option Refusal
 settings_refusal bytes = if nat_lt most_settings (length bytes) then Some (Settings TooLong) else option_map refused_as (refusal bytes)
-
--- the inner code's rate of HP that it states, if it states one
-abbrev pub rate_hp_of : List ℕ → Option Rate
-rate_hp_of bytes = option_and_then (λ ms. result_ok (rate_hp_in ms)) (document bytes)

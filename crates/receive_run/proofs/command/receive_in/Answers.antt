@@ -1,4 +1,7 @@
-use Rattle.std.proofs.Common.{◌≡◌, ◌∙◌, refl, ap, sym, arith}
+use Rattle.std.proofs.Common.{◌≡◌, ◌∙◌, refl, ap, sym, subst, inl, arith}
+use Rattle.std.specs.Option.{option_copied}
+use Rattle.station_core.specs.Meaning.{Meaning}
+use Rattle.receive_run.specs.Runs.{RunsReception}
 use Rattle.mode_set.specs.StreamTable.{carriers}
 use Rattle.mode_set.specs.declared.settings.Settings.{Settings}
 use Rattle.receive_run.proofs.command.receive_in.Goals as goal
@@ -28,3 +31,9 @@ receive_by-requires-sync-R g c κs within =
         ),
       ),
     )
+
+pub returns : goal.returns
+returns g c =
+    let old : Meaning = g.S.Station.meaning c.args.station.now in
+    let new : Meaning = g.S.Station.meaning c.receive_by.new.station in
+    inl (subst (λ (s : Settings). RunsReception s c.args.names.cells.now c.args.names.hp.now (option_copied c.args.names.lp) old new c.receive_by.result) c.in-Ok.ensures.settings c.receive_by.ensures)

@@ -39,7 +39,7 @@ loop-event-preserved g c =
     record {
       printing = record { created = ap (λ (x : Meaning). x.report.created) e.others ∙ inv.printing.created; opened = ap (λ (x : Meaning). x.report.closed) e.others ∙ inv.printing.opened };
       others = report_again m m' m'' inv.others e.others;
-      write_faults = e.cause.writes ∙ inv.write_faults;
+      write_faults = e.cause.1 ∙ inv.write_faults;
       later_report = omega (arith, e.later_report, inv.later_report);
       written = λ t. waits_more c.line.result.bytes c.loop-event.text.bytes c.push_line.new.text.bytes m.report.written m'.report.written m''.report.written
           (event_text (take i c.args.events.now)) (event_text (take (i + 1) c.args.events.now)) (inv.written t) (e.pushes (ap (λ (x : Meaning). x.tells) inv.others ∙ t))

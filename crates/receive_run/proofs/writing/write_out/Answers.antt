@@ -13,7 +13,7 @@ returns-in-Err-clause-written g c = λ t.
     let m : Meaning = g.S.Station.meaning c.args.station.now in
     let m' : Meaning = g.S.Station.meaning c.write_some.new.station in
     let out : Output = g.X.CellReceiver.gave c.args.receiver.now in
-    failed_hp c.args.two out m m' c.in-Err.refusal t (subst (λ (b : List ℕ). WritesAt outs.Hp b m m' (Err c.in-Err.refusal)) c.hp.ensures c.in-Err.ensures.writes)
+    failed_hp c.args.two out m m' c.in-Err.stop t (subst (λ (b : List ℕ). WritesAt outs.Hp b m m' (Err c.in-Err.stop)) c.hp.ensures c.in-Err.ensures.writes)
 
 pub returns-in-Err-write_lp-clause-written : goal.returns-in-Err-write_lp-clause-written
 returns-in-Err-write_lp-clause-written g c = λ t.
@@ -21,8 +21,8 @@ returns-in-Err-write_lp-clause-written g c = λ t.
     let m' : Meaning = g.S.Station.meaning c.write_some.new.station in
     let m'' : Meaning = g.S.Station.meaning c.write_lp.new.station in
     let out : Output = g.X.CellReceiver.gave c.args.receiver.now in
-    failed_lp c.args.two out m m' m'' t (subst (λ (b : List ℕ). WritesAt outs.Hp b m m' (Ok tt)) c.hp.ensures c.in-Ok.ensures.writes) c.in-Err-write_lp.refusal
-    (subst (λ (b : List ℕ). WritesLp c.args.two b m' m'' (Err c.in-Err-write_lp.refusal)) c.lp.ensures c.in-Err-write_lp.ensures.writes)
+    failed_lp c.args.two out m m' m'' t (subst (λ (b : List ℕ). WritesAt outs.Hp b m m' (Ok tt)) c.hp.ensures c.in-Ok.ensures.writes) c.in-Err-write_lp.stop
+    (subst (λ (b : List ℕ). WritesLp c.args.two b m' m'' (Err c.in-Err-write_lp.stop)) c.lp.ensures c.in-Err-write_lp.ensures.writes)
 
 pub returns-clause-written : goal.returns-clause-written
 returns-clause-written g c = λ t.

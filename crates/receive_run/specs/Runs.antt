@@ -1,0 +1,18 @@
+-- A run of a reception behind its settings.
+use Rattle.std.specs.Prelude.{◌≡◌, ◌⊎◌, ℕ, List, Option, is_some}
+use Rattle.station_core.specs.Meaning.{Meaning}
+use Rattle.mode_set.specs.declared.settings.Settings.{Settings}
+use Rattle.run_clauses.specs.declared.work.Refusal.TheVariants.{Memory}
+use Rattle.run_clauses.specs.Text.{refusal_text}
+use Rattle.run_steps.specs.Report.{WritesText}
+use Rattle.symbol_runs.specs.Outputs.{stream_names}
+use Rattle.symbol_runs.specs.Runs.{RunsCells}
+use Rattle.receive_run.specs.Working.{reception_work}
+
+-- the cells were received, and the packets of the streams written
+abbrev pub RunsReception : Settings → List ℕ → List ℕ → Option (List ℕ) → Meaning → Meaning → ℕ → Type 0
+RunsReception s cells hp lp old new status = RunsCells (reception_work s (is_some lp)) s.max_symbols cells (stream_names hp lp) old new status
+
+-- or memory was wanting before a port was asked
+abbrev pub RunsOrLacks : Settings → List ℕ → List ℕ → Option (List ℕ) → Meaning → Meaning → ℕ → Type 0
+RunsOrLacks s cells hp lp old new status = RunsReception s cells hp lp old new status ⊎ ((status ≡ 7) × WritesText (refusal_text Memory) old new)

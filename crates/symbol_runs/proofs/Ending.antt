@@ -1,0 +1,363 @@
+-- What a run on cells leaves whose settings were accepted, before the text of a refusal is written; and from it
+-- the promise of the run.
+use Rattle.std.proofs.Common.{◌≡◌, ◌≢◌, ◌⊎◌, inl, inr, true, false, ℕ, ◌+◌, ◌*◌, ◌<◌, ◌≤◌, Bool, List, [], ◌++◌, take, drop, Option, Some, None, Result, Ok, Err, refl, ◌∙◌, sym, ap, subst, arith, if◌then◌else◌}
+use Rattle.std.specs.Prelude.{is_some}
+use Rattle.std.specs.Option.{option_or}
+use Rattle.std.proofs.lemmas.Bool.{true≢false}
+use Rattle.std.proofs.Math.Nat.{div-eq_of_lt}
+use Rattle.station_core.specs.Meaning.{Meaning, Source, Sink, IsFresh, IsUntouched, source_at, sink_at}
+use Rattle.station_core.specs.declared.ports.InPort.{InPort}
+use Rattle.station_core.specs.declared.ports.InPort.TheVariants as ins
+use Rattle.station_core.specs.declared.ports.OutPort.{OutPort}
+use Rattle.station_core.specs.declared.ports.OutPort.TheVariants as outs
+use Rattle.run_clauses.specs.declared.work.Refusal.{Refusal}
+use Rattle.run_clauses.specs.declared.work.Refusal.TheVariants as refusals
+use Rattle.run_clauses.specs.Command.{Command, Files, IsInput, IsOutput, is_among, named, refusal_of, input_file, unread}
+use Rattle.run_clauses.specs.Run.{IsUntaken, Run}
+use Rattle.run_clauses.specs.Text.{status_of}
+use Rattle.run_steps.specs.Ended.{AreMade, Ended, Hold, HoldFronts, HoldSoFar, IsCaused, IsExact, Leaves}
+use Rattle.run_steps.proofs.Whole.{run_done, run_refused}
+use Rattle.symbol_runs.specs.declared.stop.Stop.{Stop}
+use Rattle.symbol_runs.specs.declared.stop.Stop.TheVariants.{ReadFault, WriteFault, Limit}
+use Rattle.symbol_runs.specs.declared.stop.Stop.TheVariants as stops
+use Rattle.symbol_runs.specs.Stops.{HasCause, refusal_in, stop_refusal}
+use Rattle.symbol_runs.specs.Symbols.{symbols}
+use Rattle.symbol_runs.specs.Work.{HasReason, Holds, Work, Written}
+use Rattle.symbol_runs.specs.Outputs.{Names, made}
+use Rattle.symbol_runs.specs.Cells.{GivenUpTo, IsCutShort, IsPast, IsStopped, Works}
+use Rattle.symbol_runs.specs.Runs.{AsksOutputs, CanBegin, IsReady, IsUnmade, IsUnopened, IsWorked, PortsOnly, Ran, RunsCells, TakesCells, Tells, opened, outcome_status}
+use Rattle.symbol_runs.specs.Commands.{CellCommand, Come, ComeSoFar, ComesTo, Continues, Refuses, SettingsDone, reads_at}
+use Rattle.symbol_runs.proofs.Fronts.{front_of}
+use Rattle.symbol_runs.proofs.Runs.{name_at}
+
+-- no port is written at the beginning
+pub untouched : (m : Meaning) → IsFresh m → (port : OutPort) → port ≢ outs.Report → IsUntouched (sink_at port m)
+untouched m fresh outs.Cells other = fresh.cells_out
+untouched m fresh outs.Hp other = fresh.hp_out
+untouched m fresh outs.Lp other = fresh.lp_out
+untouched m fresh outs.Bytes other = fresh.bytes_out
+untouched m fresh outs.Report other = absurd (other refl)
+
+-- nor was any asked for
+pub unasked : (m : Meaning) → IsFresh m → (port : OutPort) → (sink_at port m).asked ≡ None
+unasked m fresh outs.Cells = fresh.cells_out.asked
+unasked m fresh outs.Hp = fresh.hp_out.asked
+unasked m fresh outs.Lp = fresh.lp_out.asked
+unasked m fresh outs.Bytes = fresh.bytes_out.asked
+unasked m fresh outs.Report = fresh.report_asked
+
+-- the settings alone change no output
+pub settings_sink : (m : Meaning) (source : Source) (port : OutPort) → sink_at port (record m { settings = source }) ≡ sink_at port m
+settings_sink m source outs.Cells = refl
+settings_sink m source outs.Hp = refl
+settings_sink m source outs.Lp = refl
+settings_sink m source outs.Bytes = refl
+settings_sink m source outs.Report = refl
+
+opened_sink : (cells : List ℕ) (m : Meaning) (port : OutPort) → sink_at port (opened cells m) ≡ sink_at port m
+opened_sink cells m outs.Cells = refl
+opened_sink cells m outs.Hp = refl
+opened_sink cells m outs.Lp = refl
+opened_sink cells m outs.Bytes = refl
+opened_sink cells m outs.Report = refl
+
+-- a refusal is not none
+no_refusal : (r : Refusal) → Some r ≡ None → ⊥
+no_refusal r e = cc
+
+-- an output is not Report
+pub not_report : (names : Names) → names outs.Report ≡ None → (port : OutPort) → is_some (names port) ≡ true → port ≢ outs.Report
+not_report names none port is e = true≢false (sym is ∙ ap (λ (p : OutPort). is_some (names p)) e ∙ ap (λ (o : Option (List ℕ)). is_some o) none)
+
+-- behind the settings a run on cells is ready
+pub ready : (names : Names) → names outs.Report ≡ None → (start : Meaning) (at : Source) → IsFresh start → IsReady names (record start { settings = at })
+ready names none start at fresh = record {
+  cells = fresh.cells;
+  begin = record {
+    outputs = λ port is. subst IsUntouched (sym (settings_sink start at port)) (untouched start fresh port (not_report names none port is));
+    apart = none;
+    report = fresh.report;
+    report_open = fresh.report_open;
+  };
+}
+
+module _ (c : Command) (limit : ℕ) (name cells : List ℕ) (names : Names) (w : Work) (most : ℕ) (start mid : Meaning) (at : Source) (fresh : IsFresh start) (settings : SettingsDone c limit name start at)
+    (command : CellCommand c limit name cells names w most start) (others : PortsOnly (record start { settings = at }) mid) (cells_asked : mid.cells.asked ≡ Some cells) (asks : AsksOutputs names (record start { settings = at }) mid)
+    (taken : TakesCells ((most + 1) * w.size) cells (record start { settings = at }) mid) (later_report : start.report_faults ≤ mid.report_faults) where
+  abbrev old : Meaning
+  old = record start { settings = at }
+
+  abbrev file : List ℕ
+  file = start.file cells
+
+  told : start.tells ≡ true → mid.tells ≡ true
+  told t = ap (λ (x : Meaning). x.tells) others ∙ t
+
+  files_same : mid.file ≡ start.file
+  files_same = ap (λ (x : Meaning). x.file) others
+
+  -- ---- the refusal of the files
+  refusal_is : (r : Option Refusal) → c.work_refusal limit start.file ≡ r → start.tells ≡ true → refusal_of limit start.file c ≡ r
+  refusal_is r is t = ap (λ (o : Option Refusal). option_or o (c.work_refusal limit start.file)) (settings.accepted t) ∙ is
+
+  -- ---- the ports
+  settings_is : mid.settings ≡ at
+  settings_is = ap (λ (x : Meaning). x.settings) others
+
+  lp_unasked : mid.lp.asked ≡ None
+  lp_unasked = ap (λ (x : Meaning). x.lp.asked) others ∙ fresh.lp.asked
+
+  sources : (port : InPort) → ((source_at port mid).asked ≡ None) ⊎ ((source_at port mid).asked ≡ c.reads port)
+  sources ins.Settings = inr (ap (λ (x : Source). x.asked) settings_is ∙ settings.asked ∙ sym (command.reads ins.Settings))
+  sources ins.Hp = inl (ap (λ (x : Meaning). x.hp.asked) others ∙ fresh.hp.asked)
+  sources ins.Lp = inl lp_unasked
+  sources ins.Cells = inr (cells_asked ∙ sym (command.reads ins.Cells))
+
+  sinks : (port : OutPort) → ((sink_at port mid).asked ≡ None) ⊎ ((sink_at port mid).asked ≡ c.writes port)
+  sinks port = elim (asks port) [
+    | inl same ↦ inl (same ∙ ap (λ (x : Sink). x.asked) (settings_sink start at port) ∙ unasked start fresh port)
+    | inr is ↦ inr (is ∙ sym (command.writes port))
+  ]
+
+  is_output : (port : OutPort) → IsOutput c port → is_some (names port) ≡ true
+  is_output port is = ap (λ (o : Option (List ℕ)). is_some o) (sym (command.writes port)) ∙ is
+
+  -- a fact of each input
+  both : (P : InPort → Type 0) → P ins.Settings → P ins.Cells → (port : InPort) → IsInput c port → P port
+  both P p q port is = go port (ap (λ (o : Option (List ℕ)). is_some o) (sym (command.reads port)) ∙ is)
+    where
+      go : (port : InPort) → is_some (reads_at name cells port) ≡ true → P port
+      go ins.Settings is = p
+      go ins.Hp is = absurd (true≢false (sym is))
+      go ins.Lp is = absurd (true≢false (sym is))
+      go ins.Cells is = q
+
+  input_cells : (files : Files) → input_file files c ins.Cells ≡ files cells
+  input_cells files = ap (λ (o : Option (List ℕ)). named files o) (command.reads ins.Cells)
+
+  input_settings : (files : Files) → input_file files c ins.Settings ≡ files name
+  input_settings files = ap (λ (o : Option (List ℕ)). named files o) (command.reads ins.Settings)
+
+  all_opened : mid.cells.attached ≡ true → (port : InPort) → IsInput c port → (source_at port mid).attached ≡ true
+  all_opened is_open = both (λ port. (source_at port mid).attached ≡ true) (ap (λ (x : Source). x.attached) settings_is ∙ settings.attached) is_open
+
+  -- what is unread of the cells, where they are open or not
+  unread_open : mid.cells.attached ≡ true → unread c mid ins.Cells ≡ mid.cells.left
+  unread_open is_open = ap (λ (b : Bool). if b then mid.cells.left else input_file mid.file c ins.Cells) is_open
+
+  unread_shut : mid.cells.attached ≡ false → unread c mid ins.Cells ≡ input_file mid.file c ins.Cells
+  unread_shut shut = ap (λ (b : Bool). if b then mid.cells.left else input_file mid.file c ins.Cells) shut
+
+  takes : start.tells ≡ true → (port : InPort) → IsInput c port → (source_at port mid).attached ≡ true
+      → (k : ℕ) × (k ≤ c.most_taken limit start.file port) × ((source_at port mid).left ≡ drop k (input_file start.file c port))
+  takes t = both (λ port. (source_at port mid).attached ≡ true → (k : ℕ) × (k ≤ c.most_taken limit start.file port) × ((source_at port mid).left ≡ drop k (input_file start.file c port)))
+      (λ is_open. let r = settings.read t in (r.0, r.1, ap (λ (x : Source). x.left) settings_is ∙ r.2 ∙ ap (drop r.0) (sym (input_settings start.file))))
+      (λ is_open. let r = taken t is_open in (r.0, omega (arith, r.1, command.most_taken t), r.2 ∙ ap (drop r.0) (sym (input_cells start.file))))
+
+  -- ---- the order, and the closing, however far the run came
+  record InOrder : Type 0 where
+    behind_inputs : (out : OutPort) → ((sink_at out mid).asked ≡ None) ⊎ ((port : InPort) → IsInput c port → (source_at port mid).attached ≡ true)
+    made_behind_hp : (mid.lp_out.asked ≡ None) ⊎ (mid.hp_out.created ≡ true)
+    behind_outputs : IsUntaken c mid ins.Cells ⊎ AreMade c mid
+    closed : (out : OutPort) → IsOutput c out → (sink_at out mid).created ≡ true → (sink_at out mid).closed ≡ true
+
+  same_sink : IsUnopened old mid → (out : OutPort) → sink_at out mid ≡ sink_at out start
+  same_sink none out = none.outputs out ∙ settings_sink start at out
+
+  unmade_yet : IsUnopened old mid → (out : OutPort) → IsOutput c out → (sink_at out mid).created ≡ true → ⊥
+  unmade_yet none out is made =
+      true≢false (sym made ∙ ap (λ (x : Sink). x.created) (same_sink none out) ∙ (untouched start fresh out (not_report names command.no_report out (is_output out is))).created)
+
+  unopened_order : IsUnopened old mid → InOrder
+  unopened_order none = record {
+    behind_inputs = λ out. inl (ap (λ (x : Sink). x.asked) (same_sink none out) ∙ unasked start fresh out);
+    made_behind_hp = inl (ap (λ (x : Sink). x.asked) (same_sink none outs.Lp) ∙ fresh.lp_out.asked);
+    behind_outputs = inl (unread_shut none.unread);
+    closed = λ out is made. absurd (unmade_yet none out is made);
+  }
+
+  unmade_order : IsUnmade names (opened cells old) mid → InOrder
+  unmade_order none = record {
+    behind_inputs = λ out. inr (all_opened (ap (λ (x : Source). x.attached) none.cells));
+    made_behind_hp = elim none.lp_behind [
+      | inl same ↦ inl (ap (λ (x : Sink). x.asked) same ∙ fresh.lp_out.asked)
+      | inr made ↦ inr made
+    ];
+    behind_outputs = inl (unread_open (ap (λ (x : Source). x.attached) none.cells) ∙ ap (λ (x : Source). x.left) none.cells ∙ ap (λ (f : Files). f cells) (sym files_same) ∙ sym (input_cells mid.file));
+    closed = λ out is made. (none.shut out (is_output out is) made).0;
+  }
+
+  all_made : (result : Result (Unit {0}) Stop) → IsWorked w most names (opened cells old) mid result → AreMade c mid
+  all_made result done out is = done.created out (is_output out is)
+
+  lp_order : (result : Result (Unit {0}) Stop) → IsWorked w most names (opened cells old) mid result → (mid.lp_out.asked ≡ None) ⊎ (mid.hp_out.created ≡ true)
+  lp_order result done = elim done.lp_behind [ inl same ↦ inl (same ∙ fresh.lp_out.asked) | inr is ↦ inr is ]
+
+  worked_order : (result : Result (Unit {0}) Stop) → IsWorked w most names (opened cells old) mid result → InOrder
+  worked_order result done = record {
+    behind_inputs = λ out. inr (all_opened done.attached);
+    made_behind_hp = lp_order result done;
+    behind_outputs = inr (all_made result done);
+    closed = λ out is made. done.closed out (is_output out is);
+  }
+
+  order : (result : Result (Unit {0}) Stop) → Ran w most cells names old mid result → InOrder
+  order result ran = elim ran [
+    | inl p ↦ unopened_order p.1
+    | inr q ↦ elim q [ inl p ↦ unmade_order p.1 | inr p ↦ worked_order result p ]
+  ]
+
+  -- ---- all of it, by the refusal
+  ended_by : (r : Option Refusal) → is_among (status_of r) c.statuses ≡ true → IsCaused start mid r → start.read_faults ≤ mid.read_faults → start.write_faults ≤ mid.write_faults
+      → IsExact c limit start r → InOrder → (r ≡ None → mid.cells.attached ≡ true) → (r ≡ None → start.tells ≡ true → mid.cells.left ≡ []) → Leaves c limit start mid r
+      → Ended c limit start mid r
+  ended_by r known caused later_reads later_writes exact order is_open read leaves = record {
+    known = known;
+    caused = caused;
+    later_reads = later_reads;
+    later_writes = later_writes;
+    later_report = later_report;
+    exact = exact;
+    sources = sources;
+    sinks = sinks;
+    settings_first = λ is. inr (ap (λ (x : Source). x.attached) settings_is ∙ settings.attached, λ t. (ap (λ (x : Source). x.left) settings_is ∙ settings.left t, settings.accepted t));
+    lp_behind_hp = inl lp_unasked;
+    outputs_behind_inputs = order.behind_inputs;
+    lp_made_behind_hp = order.made_behind_hp;
+    work_behind_outputs = λ t port other is. both (λ port. port ≢ ins.Settings → IsUntaken c mid port ⊎ AreMade c mid) (λ other. absurd (other refl)) (λ other. order.behind_outputs) port is other;
+    taken = takes;
+    opened = λ is. all_opened (is_open is);
+    read_out = λ is t. both (λ port. (source_at port mid).left ≡ []) (ap (λ (x : Source). x.left) settings_is ∙ settings.left t) (read is t);
+    closed = order.closed;
+    no_report = command.writes outs.Report ∙ command.no_report;
+    same_telling = ap (λ (x : Meaning). x.tells) others;
+    same_files = files_same;
+    report_open = ap (λ (x : Meaning). x.report.closed) others;
+    leaves = leaves;
+    own = command.own;
+  }
+
+  -- ---- what is left by each outcome
+  module _ (result : Result (Unit {0}) Stop) (done : IsWorked w most names (opened cells old) mid result) where
+    -- the outputs were empty before the work, and so was Report
+    base : (out : OutPort) → IsOutput c out → (sink_at out done.start).written ≡ []
+    base out is = let n = name_at names out (is_output out is) in ap (λ (x : Sink). x.written) (done.made out n.0 n.1)
+
+    base_report : start.tells ≡ true → done.start.report.written ≡ []
+    base_report t = ap (λ (x : Sink). x.written) done.report ∙ fresh.report_empty t
+
+    holds_at : (given : Written) → Holds done.start mid given → (out : OutPort) → IsOutput c out → (sink_at out mid).written ≡ given out
+    holds_at given holds out is = holds out ∙ ap (λ (l : List ℕ). l ++ given out) (base out is)
+
+    holds_report : (given : Written) → Holds done.start mid given → start.tells ≡ true → mid.report.written ≡ given outs.Report
+    holds_report given holds t = holds outs.Report ∙ ap (λ (l : List ℕ). l ++ given outs.Report) (base_report t)
+
+    hold_by : (start.tells ≡ true → (given : Written) × Come c limit start.file given × Holds done.start mid given) → Hold c limit start mid
+    hold_by by = record {
+      made = all_made result done;
+      outputs = λ t out is. let p = by t in subst (λ (l : List ℕ). c.Comes limit start.file out l) (sym (holds_at p.0 p.2 out is)) (p.1.outputs out is);
+      report = λ t. let p = by t in subst (λ (l : List ℕ). c.Prints limit start.file l) (sym (holds_report p.0 p.2 t)) p.1.report;
+    }
+
+    stopped_left : (start.tells ≡ true → IsStopped w most file done.start mid) → HoldSoFar c limit start mid
+    stopped_left stopped = record {
+      outputs = λ t out is made. let p = stopped t in
+          subst (λ (l : List ℕ). c.ComesSoFar limit start.file (unread c mid) out l) (sym (holds_at p.given p.holds out is)) ((come t).outputs out is);
+      report = λ t. let p = stopped t in subst (λ (l : List ℕ). c.PrintsSoFar limit start.file (unread c mid) l) (sym (holds_report p.given p.holds t)) (come t).report;
+    }
+      where
+        come : (t : start.tells ≡ true) → ComeSoFar c limit start.file (unread c mid) (stopped t).given
+        come t = let p = stopped t in
+            (command.comes t).so_far (unread c mid) p.taken p.given (p.are ∙ ap (λ (l : List ℕ). p.taken ++ l) (sym (unread_open done.attached))) p.within p.gives
+
+    -- a front of what was given is a front of what begins with it
+    front_at : (base given all w : List ℕ) (k : ℕ) → base ≡ [] → (rest : List ℕ) × (all ≡ given ++ rest) → w ≡ base ++ take k given → (j : ℕ) × (w ≡ take j all)
+    front_at base given all w k none more is =
+        let f = front_of given more.0 k in (f.0, is ∙ ap (λ (l : List ℕ). l ++ take k given) none ∙ f.1 ∙ ap (take f.0) (sym more.1))
+
+    fronts_left : (start.tells ≡ true → IsCutShort w most file done.start mid) → HoldFronts c limit start mid
+    fronts_left cut = record {
+      outputs = λ t out is made. let p = cut t in let all = (command.comes t).begun p.given p.up in
+          (all.all out, all.come.outputs out is, front_at (sink_at out done.start).written (p.given out) (all.all out) (sink_at out mid).written (p.holds out).0 (base out is) (all.begins out) (p.holds out).1);
+      report = λ t. let p = cut t in let all = (command.comes t).begun p.given p.up in
+          (all.all outs.Report, all.come.report, front_at done.start.report.written (p.given outs.Report) (all.all outs.Report) mid.report.written (p.holds outs.Report).0 (base_report t) (all.begins outs.Report) (p.holds outs.Report).1);
+    }
+
+  shut_left : IsUnopened old mid → HoldSoFar c limit start mid
+  shut_left none = record {
+    outputs = λ t out is made. absurd (unmade_yet none out is made);
+    report = λ t. subst (λ (l : List ℕ). c.PrintsSoFar limit start.file (unread c mid) l) (sym (ap (λ (k : Sink). k.written) (same_sink none outs.Report) ∙ fresh.report_empty t))
+        ((command.comes t).unread (unread c mid) (unread_shut none.unread ∙ input_cells mid.file ∙ ap (λ (f : Files). f cells) files_same));
+  }
+
+  -- where an output was not made nothing was written
+  unmade_left : IsUnmade names (opened cells old) mid → HoldFronts c limit start mid
+  unmade_left none = record {
+    outputs = λ t out is made. let all = begun t in (all.all out, all.come.outputs out is, (0, (none.shut out (is_output out is) made).1));
+    report = λ t. let all = begun t in (all.all outs.Report, all.come.report, (0, ap (λ (k : Sink). k.written) none.report ∙ fresh.report_empty t));
+  }
+    where
+      begun : (t : start.tells ≡ true) → Continues c limit start.file ((command.comes t).first.0)
+      begun t = (command.comes t).begun (command.comes t).first.0 (record {
+        taken = [];
+        rest = file;
+        are = refl;
+        within = let zero : symbols w.size [] ≡ 0 = div-eq_of_lt {n = 0} {m = w.size} command.some in omega (arith, zero);
+        gives = inl (command.comes t).first.1;
+      })
+
+  -- ---- by the outcome
+  abbrev tag : Result (Unit {0}) Stop → ℕ
+  tag (Ok u) = 0
+  tag (Err ReadFault) = 1
+  tag (Err WriteFault) = 2
+  tag (Err Limit) = 3
+  tag (Err (stops.Work r)) = 4
+
+  worked_if : (result : Result (Unit {0}) Stop) → tag result ≢ 1 → tag result ≢ 2 → Ran w most cells names old mid result → IsWorked w most names (opened cells old) mid result
+  worked_if result not_read not_written ran = elim ran [
+    | inl p ↦ absurd (not_read (ap tag p.0))
+    | inr q ↦ elim q [ inl p ↦ absurd (not_written (ap tag p.0)) | inr p ↦ p ]
+  ]
+
+  pub ended_of : (o : Result (Unit {0}) Stop) → HasCause old mid o → HasReason w o → Ran w most cells names old mid o → Ended c limit start mid (refusal_in most o)
+  ended_of (Ok u) cause reason ran =
+      let done = worked_if (Ok u) (λ e. omega (arith, e)) (λ e. omega (arith, e)) ran in
+      ended_by None command.done (cause.0, cause.1) (omega (arith, cause.0)) (omega (arith, cause.1))
+      (λ t. let d = done.works (told t) in refusal_is None ((command.comes t).whole d.2.given d.1 d.2.ends).1 t) (order (Ok u) ran)
+      (λ is. done.attached) (λ is t. (done.works (told t)).0)
+      (hold_by (Ok u) done (λ t. let d = done.works (told t) in (d.2.given, ((command.comes t).whole d.2.given d.1 d.2.ends).0, d.2.holds)))
+  ended_of (Err ReadFault) cause reason ran =
+      ended_by (Some refusals.ReadFault) command.read_fault cause.0 cause.1 cause.2 tt (order (Err ReadFault) ran) (λ is. absurd (no_refusal _ is)) (λ is t. absurd (no_refusal _ is))
+      (elim ran [
+        | inl p ↦ shut_left p.1
+        | inr q ↦ elim q [ inl p ↦ (let e : 1 ≡ 2 = ap tag p.0 in absurd (omega (arith, e))) | inr p ↦ stopped_left (Err ReadFault) p (λ t. p.works (told t)) ]
+      ])
+  ended_of (Err WriteFault) cause reason ran =
+      ended_by (Some refusals.WriteFault) command.write_fault (cause.0, cause.1) (omega (arith, cause.0)) cause.2 tt (order (Err WriteFault) ran) (λ is. absurd (no_refusal _ is)) (λ is t. absurd (no_refusal _ is))
+      (elim ran [
+        | inl p ↦ let e : 2 ≡ 1 = ap tag p.0 in absurd (omega (arith, e))
+        | inr q ↦ elim q [ inl p ↦ unmade_left p.1 | inr p ↦ fronts_left (Err WriteFault) p (λ t. p.works (told t)) ]
+      ])
+  ended_of (Err Limit) cause reason ran =
+      let done = worked_if (Err Limit) (λ e. omega (arith, e)) (λ e. omega (arith, e)) ran in
+      ended_by (Some (refusals.Limit most)) command.limit_passed cause.0 (omega (arith, cause.0)) cause.1
+      (λ t. let d = done.works (told t) in refusal_is (Some (refusals.Limit most)) ((command.comes t).past d.given d.past d.gives).1 t) (order (Err Limit) ran)
+      (λ is. absurd (no_refusal _ is)) (λ is t. absurd (no_refusal _ is))
+      (hold_by (Err Limit) done (λ t. let d = done.works (told t) in (d.given, ((command.comes t).past d.given d.past d.gives).0, d.holds)))
+  ended_of (Err (stops.Work r)) cause reason ran =
+      let done = worked_if (Err (stops.Work r)) (λ e. omega (arith, e)) (λ e. omega (arith, e)) ran in
+      let its = command.its (opened cells old) mid r reason refl refl done in
+      ended_by (Some r) its.known its.caused (omega (arith, cause.0)) cause.1 its.exact (order (Err (stops.Work r)) ran)
+      (λ is. absurd (no_refusal _ is)) (λ is t. absurd (no_refusal _ is)) its.leaves
+
+-- the promise of a run on cells, behind its settings
+pub run_of : (c : Command) (limit : ℕ) (name cells : List ℕ) (names : Names) (w : Work) (most : ℕ) (start new : Meaning) (at : Source) (status : ℕ) → IsFresh start → SettingsDone c limit name start at
+    → CellCommand c limit name cells names w most start → RunsCells w most cells names (record start { settings = at }) new status → Run c limit start new status
+run_of c limit name cells names w most start new at status fresh settings command runs =
+    let e = ended_of c limit name cells names w most start runs.mid at fresh settings command runs.others runs.cells_asked runs.asks runs.taken runs.later_report runs.outcome runs.cause runs.reason runs.ran in
+    subst (λ (n : ℕ). Run c limit start new n) (sym runs.status_is) (closing runs.mid runs.outcome e runs.tells)
+  where
+    closing : (m : Meaning) (o : Result (Unit {0}) Stop) → Ended c limit start m (refusal_in most o) → Tells most m new o → Run c limit start new (outcome_status most o)
+    closing m (Ok u) e tells = run_done c limit start new (subst (λ (x : Meaning). Ended c limit start x None) (sym tells) e)
+    closing m (Err stop) e tells = run_refused c limit start m new (stop_refusal most stop) e tells

@@ -1,0 +1,144 @@
+-- The ports of a run, from the making of the outputs to their closing.
+use Rattle.std.proofs.Common.{◌≡◌, inl, inr, ℕ, Bool, true, false, List, [], ◌++◌, take, Option, Some, None, Result, Ok, Err, refl, ◌∙◌, sym, ap, subst}
+use Rattle.std.specs.Prelude.{◌⊎◌, is_some}
+use Rattle.std.proofs.lemmas.Bool.{true≢false}
+use Rattle.std.proofs.lemmas.List.{append-nil}
+use Rattle.station_core.specs.Meaning.{Meaning, Sink, sink_at}
+use Rattle.station_core.specs.declared.ports.OutPort.{OutPort}
+use Rattle.station_core.specs.declared.ports.OutPort.TheVariants as outs
+use Rattle.symbol_runs.specs.declared.stop.Stop.{Stop}
+use Rattle.symbol_runs.specs.declared.stop.Stop.TheVariants.{ReadFault, WriteFault, Limit}
+use Rattle.symbol_runs.specs.declared.stop.Stop.TheVariants as stops
+use Rattle.symbol_runs.specs.Symbols.{symbols}
+use Rattle.symbol_runs.specs.Work.{AreOpen, Work}
+use Rattle.symbol_runs.specs.Outputs.{AreClosed, AreMade, AreUnmade, ClosesOnly, IsWriting, Names, made}
+use Rattle.symbol_runs.specs.Cells.{IsCutShort, IsWhole, KeepsOthers, Stopped, Works}
+use Rattle.symbol_runs.specs.Runs.{AsksOutputs, CanBegin, IsUnmade, IsWorked, PortsOnly, RanBehind}
+use Rattle.symbol_runs.proofs.Fronts.{all_of}
+use Rattle.symbol_runs.proofs.Sinks.{kept_sink}
+
+-- the name of a port that is written
+pub name_at : (names : Names) (port : OutPort) → is_some (names port) ≡ true → (name : List ℕ) × (names port ≡ Some name)
+name_at names port is = go (names port) is
+  where
+    go : (o : Option (List ℕ)) → is_some o ≡ true → (name : List ℕ) × (o ≡ Some name)
+    go None e = absurd (true≢false (sym e))
+    go (Some name) e = (name, refl)
+
+-- closing changes only what is closed
+pub closed_sink : (m m' : Meaning) → ClosesOnly m m' → (port : OutPort) → sink_at port m' ≡ record (sink_at port m) { closed = (sink_at port m').closed }
+closed_sink m m' p outs.Cells = ap (λ (x : Meaning). x.cells_out) p
+closed_sink m m' p outs.Hp = ap (λ (x : Meaning). x.hp_out) p
+closed_sink m m' p outs.Lp = ap (λ (x : Meaning). x.lp_out) p
+closed_sink m m' p outs.Bytes = ap (λ (x : Meaning). x.bytes_out) p
+closed_sink m m' p outs.Report =
+    let same : m'.report ≡ m.report = ap (λ (x : Meaning). x.report) p in
+    same ∙ sym (ap (λ (b : Bool). record m.report { closed = b }) (ap (λ (x : Sink). x.closed) same))
+
+-- so all that was done stays so
+module _ (w : Work) (most : ℕ) (file : List ℕ) (start m m' : Meaning) (p : ClosesOnly m m') where
+  tells_are : m'.tells ≡ true → m.tells ≡ true
+  tells_are t = sym (ap (λ (x : Meaning). x.tells) p) ∙ t
+
+  left_is : m'.cells.left ≡ m.cells.left
+  left_is = ap (λ (x : Meaning). x.cells.left) p
+
+  written : (port : OutPort) → (sink_at port m').written ≡ (sink_at port m).written
+  written port = ap (λ (x : Sink). x.written) (closed_sink m m' p port)
+
+  stop_closed : (stop : Stop) → Stopped w most file start m stop → Stopped w most file start m' stop
+  stop_closed ReadFault s = record { taken = s.taken; given = s.given; are = s.are ∙ ap (λ (l : List ℕ). s.taken ++ l) (sym left_is); within = s.within; gives = s.gives; holds = λ port. written port ∙ s.holds port }
+  stop_closed WriteFault s = record { given = s.given; up = s.up; holds = λ port. ((s.holds port).0, written port ∙ (s.holds port).1) }
+  stop_closed Limit s = record { given = s.given; past = s.past; gives = s.gives; holds = λ port. written port ∙ s.holds port }
+  stop_closed (stops.Work r) s = record {
+    taken = s.taken;
+    given = s.given;
+    are = s.are ∙ ap (λ (l : List ℕ). s.taken ++ l) (sym left_is);
+    within = s.within;
+    refuses = subst (λ (l : List ℕ). w.Refuses s.taken l s.given r) (sym left_is) s.refuses;
+    holds = λ port. written port ∙ s.holds port;
+  }
+
+  pub works_closed : (result : Result (Unit {0}) Stop) → Works w most file start m result → Works w most file start m' result
+  works_closed (Ok u) f = λ t. let d = f (tells_are t) in (left_is ∙ d.0, d.1, record { given = d.2.given; ends = d.2.ends; holds = λ port. written port ∙ d.2.holds port })
+  works_closed (Err stop) f = λ t. stop_closed stop (f (tells_are t))
+
+  -- the whole is a front of itself
+  whole_cut : Works w most file start m (Ok tt) → m'.tells ≡ true → IsCutShort w most file start m'
+  whole_cut f t = let d = f (tells_are t) in record {
+    given = d.2.given;
+    up = record { taken = file; rest = []; are = sym (append-nil file); within = d.1; gives = inr (refl, d.2.ends) };
+    holds = λ port. all_of (sink_at port start).written (d.2.given port) (sink_at port m').written (written port ∙ d.2.holds port);
+  }
+
+  pub works_unclosed : (result : Result (Unit {0}) Stop) → IsWriting result → Works w most file start m (Ok tt) → Works w most file start m' result
+  works_unclosed (Ok u) kind f = works_closed (Ok u) f
+  works_unclosed (Err stop) kind f = λ t. subst (Stopped w most file start m') (sym kind) (whole_cut f t)
+
+module _ (names : Names) (old m1 : Meaning) (makes : AreMade names old m1) (begin : CanBegin names old) where
+  pub report_same : m1.report ≡ old.report
+  report_same = ap (λ (x : Meaning). x.report) makes.others
+
+  -- the outputs are open
+  pub opened : (outputs : OutPort → Bool) → ((port : OutPort) → outputs port ≡ is_some (names port)) → AreOpen outputs m1
+  opened outputs same = record {
+    made = λ port is. let n = name_at names port (sym (same port) ∙ is) in ap (λ (x : Sink). x.created) (makes.are port n.0 n.1);
+    opened = λ port is. let n = name_at names port (sym (same port) ∙ is) in ap (λ (x : Sink). x.closed) (makes.are port n.0 n.1);
+    report = ap (λ (x : Sink). x.created) report_same ∙ begin.report;
+    report_open = ap (λ (x : Sink). x.closed) report_same ∙ begin.report_open;
+  }
+
+  pub asks_made : (port : OutPort) → ((sink_at port m1).asked ≡ (sink_at port old).asked) ⊎ ((sink_at port m1).asked ≡ names port)
+  asks_made port = go (names port) refl
+    where
+      go : (o : Option (List ℕ)) → names port ≡ o → ((sink_at port m1).asked ≡ (sink_at port old).asked) ⊎ ((sink_at port m1).asked ≡ names port)
+      go None e = inl (ap (λ (x : Sink). x.asked) (makes.kept port e))
+      go (Some name) e = inr (ap (λ (x : Sink). x.asked) (makes.are port name e) ∙ sym e)
+
+  -- behind the work and the closing
+  module _ (w : Work) (most : ℕ) (m2 new : Meaning) (keeps : KeepsOthers m1 m2) (closed : AreClosed names m2 new) where
+    abbrev sinks : (port : OutPort) → sink_at port new ≡ record (sink_at port m1) { written = (sink_at port m2).written; closed = (sink_at port new).closed }
+    sinks port = closed_sink m2 new closed.others port ∙ ap (λ (x : Sink). record x { closed = (sink_at port new).closed }) (kept_sink m1 m2 keeps port)
+
+    pub asks_closed : AsksOutputs names old new
+    asks_closed port = subst (λ o. (o ≡ (sink_at port old).asked) ⊎ (o ≡ names port)) (sym (ap (λ (x : Sink). x.asked) (sinks port))) (asks_made port)
+
+    created : (port : OutPort) → is_some (names port) ≡ true → (sink_at port new).created ≡ true
+    created port is = let n = name_at names port is in ap (λ (x : Sink). x.created) (sinks port) ∙ ap (λ (x : Sink). x.created) (makes.are port n.0 n.1)
+
+    attached_same : new.cells.attached ≡ old.cells.attached
+    attached_same = ap (λ (x : Meaning). x.cells.attached) closed.others ∙ ap (λ (x : Meaning). x.cells.attached) keeps ∙ ap (λ (x : Meaning). x.cells.attached) makes.others
+
+    left_same : m1.cells.left ≡ old.cells.left
+    left_same = ap (λ (x : Meaning). x.cells.left) makes.others
+
+    pub worked : (result : Result (Unit {0}) Stop) → Works w most m1.cells.left m1 new result → RanBehind w most names old new result
+    worked result works = inr (record {
+      start = m1;
+      tells = ap (λ (x : Meaning). x.tells) makes.others;
+      made = makes.are;
+      report = report_same;
+      attached = attached_same;
+      created = created;
+      closed = closed.closed;
+      lp_behind = elim makes.lp_behind [
+        | inl same ↦ inl (ap (λ (x : Sink). x.asked) (sinks outs.Lp) ∙ ap (λ (x : Sink). x.asked) same)
+        | inr is ↦ inr (ap (λ (x : Sink). x.created) (sinks outs.Hp) ∙ is)
+      ];
+      works = subst (λ (l : List ℕ). Works w most l m1 new result) left_same works;
+    })
+
+-- an output was not made
+pub unmade : (w : Work) (most : ℕ) (names : Names) (old new : Meaning) (stop : Stop) → (stop ≡ WriteFault) × AreUnmade names old new → RanBehind w most names old new (Err stop)
+unmade w most names old new stop p = inl (
+  ap (λ (x : Stop). Err x) p.0,
+  record {
+    cells = ap (λ (x : Meaning). x.cells) p.1.others;
+    shut = p.1.shut;
+    lp_behind = p.1.lp_behind;
+    report = ap (λ (x : Meaning). x.report) p.1.others;
+  },
+)
+
+pub unmade_asks : (names : Names) (old new : Meaning) → AreUnmade names old new → AsksOutputs names old new
+unmade_asks names old new p port = elim (p.asked port) [ inl same ↦ inl (ap (λ (x : Sink). x.asked) same) | inr is ↦ inr is ]

@@ -1,0 +1,7 @@
+pub mod Stops
+pub mod Symbols
+pub mod Work
+pub mod Outputs
+pub mod Cells
+pub mod Runs
+pub mod Commands

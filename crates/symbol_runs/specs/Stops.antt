@@ -1,0 +1,29 @@
+-- Why the work on cells stops, and the counts of faults then.
+use Rattle.std.specs.Prelude.{◌≡◌, ◌≤◌, ℕ, Option, None, Some, Result, Ok, Err}
+use Rattle.station_core.specs.Causes.{Rose}
+use Rattle.station_core.specs.Meaning.{Meaning}
+use Rattle.run_clauses.specs.declared.work.Refusal.{Refusal}
+use Rattle.run_clauses.specs.declared.work.Refusal.TheVariants as refusals
+use Rattle.symbol_runs.specs.declared.stop.Stop.{Stop}
+use Rattle.symbol_runs.specs.declared.stop.Stop.TheVariants.{ReadFault, WriteFault, Limit, Work}
+
+-- the refusal of a run that has stopped so
+abbrev pub stop_refusal : ℕ → Stop → Refusal
+stop_refusal most ReadFault = refusals.ReadFault
+stop_refusal most WriteFault = refusals.WriteFault
+stop_refusal most Limit = refusals.Limit most
+stop_refusal most (Work refusal) = refusal
+
+-- the same of an outcome, if it is one
+abbrev pub refusal_in : ℕ → Result (Unit {0}) Stop → Option Refusal
+refusal_in most (Ok u) = None
+refusal_in most (Err stop) = Some (stop_refusal most stop)
+
+-- A fault is answered only where its count rose. Where the work goes on no count has changed; where it is
+-- refused an output that is then closed may fail, and be counted.
+abbrev pub HasCause : {T : Type 0} → Meaning → Meaning → Result T Stop → Type 0
+HasCause old new (Ok value) = (new.read_faults ≡ old.read_faults) × (new.write_faults ≡ old.write_faults)
+HasCause old new (Err ReadFault) = Rose old.read_faults new.read_faults × (old.read_faults ≤ new.read_faults) × (old.write_faults ≤ new.write_faults)
+HasCause old new (Err WriteFault) = (new.read_faults ≡ old.read_faults) × Rose old.write_faults new.write_faults × (old.write_faults ≤ new.write_faults)
+HasCause old new (Err Limit) = (new.read_faults ≡ old.read_faults) × (old.write_faults ≤ new.write_faults)
+HasCause old new (Err (Work refusal)) = (new.read_faults ≡ old.read_faults) × (old.write_faults ≤ new.write_faults)
