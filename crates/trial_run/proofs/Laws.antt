@@ -1,5 +1,5 @@
 -- The law of what `trial` prints.
-use Rattle.std.proofs.Common.{◌≡◌, ℕ, ◌<◌, ◌≤◌, List, Option, refl, ◌∙◌, sym, ap, subst}
+use Rattle.std.proofs.Common.{ℕ, ◌<◌, ◌≤◌, List, Option, refl, ◌∙◌, sym, ap, subst}
 use Rattle.mode_set.specs.declared.settings.Settings.{Settings}
 use Rattle.trial.specs.Outcome.{at_zero}
 use Rattle.trial_laws.specs.TrialsAlike.{SameGiven, SameCounts}

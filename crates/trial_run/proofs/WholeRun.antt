@@ -1,9 +1,9 @@
 -- What a run of `trial` leaves, and the promise of the whole run.
-use Rattle.std.proofs.Common.{◌≡◌, ◌≢◌, ◌⊎◌, inl, inr, true, ℕ, ◌+◌, ◌<◌, ◌≤◌, Bool, List, [], ◌++◌, take, drop, Option, Some, None, Result, Ok, Err, refl, ◌∙◌, sym, ap, subst, arith, if◌then◌else◌}
-use Rattle.std.specs.Prelude.{is_some, option_and_then}
+use Rattle.std.proofs.Common.{◌≡◌, ◌≢◌, ◌⊎◌, inl, inr, true, ℕ, ◌<◌, ◌≤◌, Bool, List, [], ◌++◌, take, drop, Option, Some, None, Result, Ok, Err, refl, ◌∙◌, sym, ap, subst, arith, if◌then◌else◌}
+use Rattle.std.specs.Prelude.{option_and_then}
 use Rattle.std.specs.Option.{option_or}
 use Rattle.std.proofs.lemmas.Bool.{le-ltb, lt-ltb, true≢false}
-use Rattle.station_core.specs.Meaning.{Meaning, Source, Sink, IsFresh, source_at, sink_at}
+use Rattle.station_core.specs.Meaning.{Meaning, Source, IsFresh, source_at, sink_at}
 use Rattle.station_core.specs.declared.ports.InPort.{InPort}
 use Rattle.station_core.specs.declared.ports.InPort.TheVariants as ins
 use Rattle.station_core.specs.declared.ports.OutPort.{OutPort}
@@ -12,9 +12,8 @@ use Rattle.mode_set.specs.declared.settings.Settings.{Settings as TheSettings}
 use Rattle.trial.specs.Outcome.{at_zero, trial_counts}
 use Rattle.run_clauses.specs.declared.work.Refusal.{Refusal}
 use Rattle.run_clauses.specs.declared.work.Refusal.TheVariants.{Usage, Settings, ReadFault, WriteFault, NotSync, Memory, Limit}
-use Rattle.run_clauses.specs.Command.{Command, Files, Unread, IsInput, IsOutput, is_among, refusal_of, input_file}
+use Rattle.run_clauses.specs.Command.{Command, IsInput, is_among, refusal_of, input_file}
 use Rattle.run_clauses.specs.Run.{Run, AsksSettingsAlone}
-use Rattle.run_clauses.specs.SettingsFile.{settings_refusal}
 use Rattle.run_clauses.specs.StatedSettings.{settings_of}
 use Rattle.run_clauses.specs.Text.{refusal_status, refusal_text, status_of}
 use Rattle.run_clauses.proofs.Stated.{stated}
@@ -24,7 +23,7 @@ use Rattle.run_steps.specs.SettingsStep.{AsksSettings, ReadsSettings}
 use Rattle.run_steps.specs.Ended.{Ended, IsCaused, IsExact, Leaves}
 use Rattle.run_steps.proofs.Early.{RefusedEarly, refused_early, early_ended}
 use Rattle.run_steps.proofs.Whole.{run_done, run_refused}
-use Rattle.trial_run.specs.Steps.{IsReady, Ran, ReportOnly, RunsTrial, RunsOrLacks, Tells, outcome_status}
+use Rattle.trial_run.specs.Steps.{IsReady, Ran, ReportOnly, RunsOrLacks, Tells, outcome_status}
 use Rattle.trial_run.proofs.Laws.{Laws, own_laws}
 use Rattle.trial_run.specs.TrialCommand.{trial_command, trial_lines, trial_refusal, trial_symbols, TrialPrints, AreTrialLines}
 

@@ -11,7 +11,7 @@ use Rattle.trial.specs.declared.counts.StreamReturn.{StreamReturn}
 use Rattle.trial.specs.declared.counts.TrialCounts.{TrialCounts}
 use Rattle.trial.specs.Outcome.{TrialGives, at_zero, trial_counts}
 use Rattle.worker_laws.specs.Alike.{DifferInWorkers}
-use Rattle.run_clauses.specs.Command.{Command, Files}
+use Rattle.run_clauses.specs.Command.{Command}
 use Rattle.run_clauses.specs.SettingsFile.{most_settings, settings_refusal}
 use Rattle.run_clauses.specs.StatedSettings.{settings_of}
 use Rattle.run_clauses.specs.declared.work.Refusal.{Refusal}
