@@ -1,8 +1,7 @@
 -- `receive` is a command on cells: what it comes to is what its work gives.
-use Rattle.std.proofs.Common.{◌≡◌, inl, inr, true, false, ℕ, ◌<◌, ◌≤◌, Bool, List, [], ◌++◌, take, Option, Some, None, refl, ◌∙◌, sym, ap, subst, arith, if◌then◌else◌}
+use Rattle.std.proofs.Common.{◌≡◌, inl, inr, true, false, ℕ, Bool, List, [], ◌++◌, Option, Some, None, refl, ◌∙◌, sym, ap, subst, arith, if◌then◌else◌}
 use Rattle.std.specs.Prelude.{◌⊎◌, is_some, flat_map, option_and_then}
 use Rattle.std.proofs.lemmas.Bool.{lt-ltb, le-ltb, true≢false}
-use Rattle.std.proofs.lemmas.List.{append-nil}
 use Rattle.std.proofs.Math.Nat.{div-eq_of_lt}
 use Rattle.station_core.specs.Meaning.{Meaning}
 use Rattle.station_core.specs.declared.ports.InPort.TheVariants as ins
@@ -13,18 +12,18 @@ use Rattle.mode_set.specs.declared.settings.Settings.{Settings as TheSettings}
 use Rattle.rx_report.specs.Text.{event_line}
 use Rattle.rx_report.specs.declared.counts.Event.{Event}
 use Rattle.reception.specs.Cells.{symbol_length, symbols}
-use Rattle.reception.specs.Streams.{Reception, Live, Final}
+use Rattle.reception.specs.Streams.{Reception}
 use Rattle.reception.specs.Lines.{events, event_lines}
 use Rattle.reception.specs.Laws.{NoEvents, nothing}
 use Rattle.run_clauses.specs.declared.work.Refusal.{Refusal}
 use Rattle.run_clauses.specs.declared.work.Refusal.TheVariants.{Limit}
-use Rattle.run_clauses.specs.Command.{Command, Files, IsOutput, Unread}
+use Rattle.run_clauses.specs.Command.{Command, Files, IsOutput}
 use Rattle.run_clauses.specs.StatedSettings.{settings_of}
-use Rattle.symbol_runs.specs.Work.{Work, Written}
+use Rattle.symbol_runs.specs.Work.{Written}
 use Rattle.symbol_runs.specs.Outputs.{stream_names}
 use Rattle.symbol_runs.specs.Cells.{GivenUpTo}
-use Rattle.symbol_runs.specs.Commands.{CellCommand, Come, ComeSoFar, ComesTo, Continues}
-use Rattle.receive_run.specs.Received.{IsAll, IsCutOff, IsSoFar, LinesCome, LinesSoFar, OutputComes, OutputSoFar, packets_at, reception_refusal}
+use Rattle.symbol_runs.specs.Commands.{CellCommand, Come, ComesTo, Continues}
+use Rattle.receive_run.specs.Received.{IsAll, IsCutOff, IsSoFar, LinesCome, LinesSoFar, packets_at, reception_refusal}
 use Rattle.receive_run.specs.ReceiveCommand.{most_cells, receive_command}
 use Rattle.receive_run.specs.Working.{ReceivedUpTo, lines_up_to, live_at, reception_work, writes_at, written_at}
 use Rattle.receive_run.proofs.Parts.{some_bytes}

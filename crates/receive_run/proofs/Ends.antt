@@ -3,7 +3,7 @@ use Rattle.std.proofs.Common.{◌≡◌, ℕ, Bool, true, false, List, [], ◌++
 use Rattle.std.specs.Prelude.{flat_map}
 use Rattle.std.proofs.lemmas.List.{append-nil, take_all}
 use Rattle.std.proofs.lemmas.List.Concat.{flat_map-append}
-use Rattle.station_core.specs.Meaning.{Meaning, sink_at}
+use Rattle.station_core.specs.Meaning.{Meaning}
 use Rattle.station_core.specs.declared.ports.OutPort.{OutPort}
 use Rattle.station_core.specs.declared.ports.OutPort.TheVariants as outs
 use Rattle.mode_set.specs.declared.modes.Stream.{Stream}
@@ -12,14 +12,14 @@ use Rattle.mode_set.specs.declared.settings.Settings.{Settings}
 use Rattle.rx_report.specs.Text.{event_line}
 use Rattle.rx_report.specs.declared.counts.Event.{Event}
 use Rattle.reception.specs.Cells.{symbols}
-use Rattle.reception.specs.Streams.{Reception, Live, Final}
+use Rattle.reception.specs.Streams.{Reception, Final}
 use Rattle.reception.specs.Lines.{events, event_lines, closing_lines}
 use Rattle.reception.specs.Feeds.{Output, packets_of}
 use Rattle.reception.specs.Laws.{Ends}
 use Rattle.symbol_runs.specs.declared.stop.Stop.{Stop}
 use Rattle.symbol_runs.specs.declared.stop.Stop.TheVariants.{WriteFault}
 use Rattle.symbol_runs.specs.Outputs.{IsWriting}
-use Rattle.symbol_runs.specs.Work.{ Finishes, Follows, Holds, HoldsFront, Written}
+use Rattle.symbol_runs.specs.Work.{Finishes, Follows, Holds, HoldsFront, Written}
 use Rattle.symbol_runs.specs.Work.{Takes as TakesPiece}
 use Rattle.symbol_runs.proofs.Fronts.{all_of, none_of}
 use Rattle.receive_run.specs.Writing.{Appends, IsPartlyWritten, IsWritten, ReportOnly, WritesOnly, WritesOut, event_text, lp_bytes}
@@ -136,6 +136,7 @@ module _ (s : Settings) (two : Bool) (bytes : List ℕ) (r : Reception) (given :
       fronts w outs.Report =
           none_of m.report.written (closing_lines s bytes after) m'.report.written
           (w.report.1 ∙ ap (λ (l : List ℕ). m.report.written ++ take w.report.0 l) no_text ∙ ap (λ (l : List ℕ). m.report.written ++ l) (take_none w.report.0) ∙ append-nil m.report.written)
+
   -- the closing lines were written, or were not
   module _ (m'' : Meaning) (report_only : ReportOnly m' m'') (written : m.tells ≡ true → WritesOut two out m m' (Ok tt)) where
     tells' : m.tells ≡ true → m'.tells ≡ true

@@ -18,11 +18,7 @@ use symbol_runs::Stop;
 type EventText = ArrayString<2048>;
 
 // Writes the bytes at the port by one write, if there are any.
-fn write_some<'a, S: Station<'a>>(
-    port: OutPort,
-    bytes: &[u8],
-    station: &mut S,
-) -> Result<(), Stop>
+fn write_some<'a, S: Station<'a>>(port: OutPort, bytes: &[u8], station: &mut S) -> Result<(), Stop>
     requires created { (sink_at port (S.meaning station.old)).created ≡ true }
     requires open { (sink_at port (S.meaning station.old)).closed ≡ false }
     ensures kind { IsWriting result }
@@ -131,10 +127,7 @@ pub(crate) fn write_out<'a, X: CellReceiver, S: Station<'a>>(
 }
 
 /// Writes the closing lines to Report, each by one write.
-pub(crate) fn write_lines<'a, S: Station<'a>>(
-    counts: &Counts,
-    station: &mut S,
-) -> Result<(), Stop>
+pub(crate) fn write_lines<'a, S: Station<'a>>(counts: &Counts, station: &mut S) -> Result<(), Stop>
     requires printing { IsPrinting (S.meaning station.old) }
     ensures kind { IsWriting result }
     ensures cause { HasCause (S.meaning station.old) (S.meaning station.new) result }

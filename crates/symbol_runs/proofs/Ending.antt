@@ -1,6 +1,6 @@
 -- What a run on cells leaves whose settings were accepted, before the text of a refusal is written; and from it
 -- the promise of the run.
-use Rattle.std.proofs.Common.{◌≡◌, ◌≢◌, ◌⊎◌, inl, inr, true, false, ℕ, ◌+◌, ◌*◌, ◌<◌, ◌≤◌, Bool, List, [], ◌++◌, take, drop, Option, Some, None, Result, Ok, Err, refl, ◌∙◌, sym, ap, subst, arith, if◌then◌else◌}
+use Rattle.std.proofs.Common.{◌≡◌, ◌≢◌, ◌⊎◌, inl, inr, true, false, ℕ, ◌+◌, ◌*◌, ◌≤◌, Bool, List, [], ◌++◌, take, drop, Option, Some, None, Result, Ok, Err, refl, ◌∙◌, sym, ap, subst, arith, if◌then◌else◌}
 use Rattle.std.specs.Prelude.{is_some}
 use Rattle.std.specs.Option.{option_or}
 use Rattle.std.proofs.lemmas.Bool.{true≢false}
@@ -24,9 +24,9 @@ use Rattle.symbol_runs.specs.Stops.{HasCause, refusal_in, stop_refusal}
 use Rattle.symbol_runs.specs.Symbols.{symbols}
 use Rattle.symbol_runs.specs.Work.{HasReason, Holds, Work, Written}
 use Rattle.symbol_runs.specs.Outputs.{Names, made}
-use Rattle.symbol_runs.specs.Cells.{GivenUpTo, IsCutShort, IsPast, IsStopped, Works}
-use Rattle.symbol_runs.specs.Runs.{AsksOutputs, CanBegin, IsReady, IsUnmade, IsUnopened, IsWorked, PortsOnly, Ran, RunsCells, TakesCells, Tells, opened, outcome_status}
-use Rattle.symbol_runs.specs.Commands.{CellCommand, Come, ComeSoFar, ComesTo, Continues, Refuses, SettingsDone, reads_at}
+use Rattle.symbol_runs.specs.Cells.{IsCutShort, IsStopped}
+use Rattle.symbol_runs.specs.Runs.{AsksOutputs, IsReady, IsUnmade, IsUnopened, IsWorked, PortsOnly, Ran, RunsCells, TakesCells, Tells, opened, outcome_status}
+use Rattle.symbol_runs.specs.Commands.{CellCommand, Come, ComeSoFar, Continues, SettingsDone, reads_at}
 use Rattle.symbol_runs.proofs.Fronts.{front_of}
 use Rattle.symbol_runs.proofs.Runs.{name_at}
 

@@ -1,5 +1,5 @@
 -- The beginning and the end of the work.
-use Rattle.std.proofs.Common.{◌≡◌, ℕ, ◌+◌, ◌*◌, ◌<◌, ◌≤◌, true, List, [], ◌++◌, inl, inr, length, drop, refl, ◌∙◌, sym, ap, subst, arith, Result, Ok, Err}
+use Rattle.std.proofs.Common.{◌≡◌, ℕ, ◌+◌, ◌*◌, ◌<◌, ◌≤◌, true, List, [], ◌++◌, inr, length, drop, refl, ◌∙◌, sym, ap, subst, arith, Result, Ok, Err}
 use Rattle.std.proofs.lemmas.List.{append-nil, drop-drop, drop_at}
 use Rattle.std.proofs.lemmas.Nat.{mul-le}
 use Rattle.station_core.specs.Meaning.{Meaning, sink_at}

@@ -1,5 +1,5 @@
 -- The ports of a run, from the making of the outputs to their closing.
-use Rattle.std.proofs.Common.{◌≡◌, inl, inr, ℕ, Bool, true, false, List, [], ◌++◌, take, Option, Some, None, Result, Ok, Err, refl, ◌∙◌, sym, ap, subst}
+use Rattle.std.proofs.Common.{◌≡◌, inl, inr, ℕ, Bool, true, List, [], ◌++◌, Option, Some, None, Result, Ok, Err, refl, ◌∙◌, sym, ap, subst}
 use Rattle.std.specs.Prelude.{◌⊎◌, is_some}
 use Rattle.std.proofs.lemmas.Bool.{true≢false}
 use Rattle.std.proofs.lemmas.List.{append-nil}
@@ -9,11 +9,10 @@ use Rattle.station_core.specs.declared.ports.OutPort.TheVariants as outs
 use Rattle.symbol_runs.specs.declared.stop.Stop.{Stop}
 use Rattle.symbol_runs.specs.declared.stop.Stop.TheVariants.{ReadFault, WriteFault, Limit}
 use Rattle.symbol_runs.specs.declared.stop.Stop.TheVariants as stops
-use Rattle.symbol_runs.specs.Symbols.{symbols}
 use Rattle.symbol_runs.specs.Work.{AreOpen, Work}
-use Rattle.symbol_runs.specs.Outputs.{AreClosed, AreMade, AreUnmade, ClosesOnly, IsWriting, Names, made}
-use Rattle.symbol_runs.specs.Cells.{IsCutShort, IsWhole, KeepsOthers, Stopped, Works}
-use Rattle.symbol_runs.specs.Runs.{AsksOutputs, CanBegin, IsUnmade, IsWorked, PortsOnly, RanBehind}
+use Rattle.symbol_runs.specs.Outputs.{AreClosed, AreMade, AreUnmade, ClosesOnly, IsWriting, Names}
+use Rattle.symbol_runs.specs.Cells.{IsCutShort, KeepsOthers, Stopped, Works}
+use Rattle.symbol_runs.specs.Runs.{AsksOutputs, CanBegin, RanBehind}
 use Rattle.symbol_runs.proofs.Fronts.{all_of}
 use Rattle.symbol_runs.proofs.Sinks.{kept_sink}
 

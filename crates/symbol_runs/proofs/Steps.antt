@@ -3,15 +3,14 @@ use Rattle.std.proofs.Common.{◌≡◌, ℕ, ◌+◌, ◌*◌, ◌<◌, ◌≤�
 use Rattle.std.proofs.lemmas.List.{take-append-drop, drop_all, length-take-le}
 use Rattle.std.proofs.Math.Seq.{take-append_seam, take-append-add}
 use Rattle.station_core.specs.Meaning.{Meaning, Sink, sink_at}
-use Rattle.station_core.specs.declared.ports.OutPort.{OutPort}
 use Rattle.symbol_runs.specs.declared.stop.Stop.{Stop}
 use Rattle.symbol_runs.specs.declared.stop.Stop.TheVariants.{ReadFault, WriteFault, Limit}
 use Rattle.symbol_runs.specs.declared.stop.Stop.TheVariants as stops
 use Rattle.symbol_runs.specs.Symbols.{symbols, tail, within_limit}
-use Rattle.symbol_runs.specs.Work.{Does, Gave, GaveFront, Holds, HoldsFront, Takes, Work, WritesOnly, Written}
-use Rattle.symbol_runs.specs.Cells.{IsCutShort, IsPast, IsStopped, IsWorking, Next, Stopped, TakesAll}
-use Rattle.symbol_runs.proofs.Counting.{at_least, longer, no_tail, not_longer, one_more, symbols_are}
-use Rattle.symbol_runs.proofs.Sinks.{fault_sink, keeps_written, read_sink}
+use Rattle.symbol_runs.specs.Work.{Gave, GaveFront, Holds, HoldsFront, Takes, Work, WritesOnly, Written}
+use Rattle.symbol_runs.specs.Cells.{IsPast, IsStopped, IsWorking, Next, Stopped, TakesAll}
+use Rattle.symbol_runs.proofs.Counting.{at_least, longer, no_tail, not_longer, one_more}
+use Rattle.symbol_runs.proofs.Sinks.{fault_sink, read_sink}
 
 -- bytes that end no symbol give no more
 abbrev pub PartLaw : Work → Type 0

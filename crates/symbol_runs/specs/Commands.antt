@@ -1,6 +1,6 @@
 -- What makes a command one that reads cells: its settings and its cells are read, and what it comes to is what
 -- its work gives.
-use Rattle.std.specs.Prelude.{◌≡◌, ◌<◌, ◌≤◌, ◌+◌, ◌*◌, ℕ, true, List, [], ◌∷◌, ◌++◌, drop, Option, None, Some, Err}
+use Rattle.std.specs.Prelude.{◌≡◌, ◌<◌, ◌≤◌, ◌+◌, ◌*◌, ℕ, true, List, [], ◌++◌, drop, Option, None, Some, Err}
 use Rattle.station_core.specs.Meaning.{Meaning, Source}
 use Rattle.station_core.specs.declared.ports.InPort.{InPort}
 use Rattle.station_core.specs.declared.ports.InPort.TheVariants as ins

@@ -1,6 +1,6 @@
 -- The outputs of a command that reads cells: made before the work, and closed behind it. `names` has the file
 -- that is written at each port, if there is one.
-use Rattle.std.specs.Prelude.{◌≡◌, ◌≢◌, ◌⊎◌, ℕ, Bool, true, false, List, [], Option, Some, None, is_some, if◌then◌else◌, Result, Ok, Err}
+use Rattle.std.specs.Prelude.{◌≡◌, ◌⊎◌, ℕ, Bool, true, false, List, [], Option, Some, None, is_some, if◌then◌else◌, Result, Ok, Err}
 use Rattle.station_core.specs.Meaning.{Meaning, Sink, sink_at, IsUntouched}
 use Rattle.station_core.specs.declared.ports.OutPort.{OutPort}
 use Rattle.station_core.specs.declared.ports.OutPort.TheVariants as outs

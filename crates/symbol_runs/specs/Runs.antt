@@ -1,6 +1,6 @@
 -- The steps of a run on cells behind its settings, each as a relation of what the station stood for before and
 -- after it. The promise of the run as a whole follows from them.
-use Rattle.std.specs.Prelude.{◌≡◌, ◌⊎◌, ◌≤◌, ◌+◌, ◌*◌, ℕ, true, false, List, [], drop, Result, Ok, Err, Option, Some, None, is_some}
+use Rattle.std.specs.Prelude.{◌≡◌, ◌⊎◌, ◌≤◌, ◌+◌, ◌*◌, ℕ, true, false, List, [], drop, Result, Ok, Err, Some, None, is_some}
 use Rattle.station_core.specs.Meaning.{Meaning, IsUnasked, sink_at}
 use Rattle.station_core.specs.declared.ports.OutPort.{OutPort}
 use Rattle.station_core.specs.declared.ports.OutPort.TheVariants as outs

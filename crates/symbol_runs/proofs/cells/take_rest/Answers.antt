@@ -1,4 +1,4 @@
-use Rattle.std.proofs.Common.{◌≡◌, ◌≢◌, ◌*◌, ◌<◌, ◌≤◌, true, ℕ, List, ◌++◌, length, take, length-take-le, sym, ◌∙◌, ap, arith}
+use Rattle.std.proofs.Common.{◌≡◌, ◌≢◌, ◌<◌, ◌≤◌, true, ℕ, List, ◌++◌, length, take, length-take-le, sym, ◌∙◌, ap, arith}
 use Rattle.station_core.specs.Meaning.{Meaning}
 use Rattle.symbol_runs.specs.Symbols.{symbols, tail}
 use Rattle.symbol_runs.specs.Work.{Work}

@@ -1,5 +1,5 @@
-use Rattle.std.proofs.Common.{refl, ◌∙◌, ap, List, ℕ}
-use Rattle.std.specs.Prelude.{Option, is_some}
+use Rattle.std.proofs.Common.{refl, ◌∙◌, ap}
+use Rattle.std.specs.Prelude.{is_some}
 use Rattle.std.specs.Option.{option_copied}
 use Rattle.station_core.specs.Meaning.{Meaning}
 use Rattle.station_core.specs.declared.ports.OutPort.TheVariants as outs
