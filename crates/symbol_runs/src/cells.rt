@@ -158,8 +158,6 @@ pub(crate) fn work_on_cells<'a, X: SymbolWork<'a, S>, S: Station<'a>>(
     ensures taken { TakesAtMost ((max_symbols + 1) * (X.work (X.setup work.old)).size) (S.meaning station.old) (S.meaning station.new) }
     ensures works { Works (X.work (X.setup work.old)) max_symbols (S.meaning station.old).cells.left (S.meaning station.old) (S.meaning station.new) result }
 {
-    match take_all(max_symbols, work, symbol, station) {
-        Ok(()) => end(work, station),
-        Err(stop) => Err(stop),
-    }
+    take_all(max_symbols, work, symbol, station)?;
+    end(work, station)
 }

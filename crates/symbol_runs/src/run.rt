@@ -37,10 +37,7 @@ fn run_behind<'a, F: OutputFiles<'a, S>, X: SymbolWork<'a, S>, S: Station<'a>>(
     ensures ran { RanBehind (X.work (X.setup work.old)) max_symbols (F.names files.now) (S.meaning station.old) (S.meaning station.new) result }
     ensures taken { TakesAtMost ((max_symbols + 1) * (X.work (X.setup work.old)).size) (S.meaning station.old) (S.meaning station.new) }
 {
-    match files.create(station) {
-        Ok(()) => {}
-        Err(stop) => return Err(stop),
-    }
+    files.create(station)?;
     match work_on_cells(max_symbols, work, symbol, station) {
         Ok(()) => files.close(station),
         Err(stop) => {

@@ -41,7 +41,8 @@ pub trait SymbolWork<'a, S: Station<'a>> {
         ensures later_report { (S.meaning station.old).report_faults ≤ (S.meaning station.new).report_faults }
         ensures begins { Takes (work (setup self.old)) (stands self.new) [] [] none_written (S.meaning station.old) (S.meaning station.new) result };
 
-    /// Takes a piece of the cells that goes no further than the current symbol, and writes what that gives.
+    /// Takes the next symbol or, where the cells end within it, what there is of it, and writes what that gives.
+    /// No symbol is unfinished before.
     fn take(&mut self, piece: &[u8], station: &mut S) -> Result<(), Stop>
         requires able { able }
         requires open { AreOpen (outputs (setup self.old)) (S.meaning station.old) }
@@ -52,7 +53,7 @@ pub trait SymbolWork<'a, S: Station<'a>> {
         ensures reason { HasReason (work (setup self.old)) result }
         ensures later_report { (S.meaning station.old).report_faults ≤ (S.meaning station.new).report_faults }
         ensures takes { (bytes : List ℕ) (before : Written) → stands self.old bytes before → (work (setup self.old)).Gives bytes before
-            → tail (work (setup self.old)).size bytes + length piece.now ≤ (work (setup self.old)).size
+            → tail (work (setup self.old)).size bytes ≡ 0 → length piece.now ≤ (work (setup self.old)).size
             → Takes (work (setup self.old)) (stands self.new) bytes piece.now before (S.meaning station.old) (S.meaning station.new) result };
 
     /// Ends the work, where the cells have ended, and writes what is still to be given and the closing lines.

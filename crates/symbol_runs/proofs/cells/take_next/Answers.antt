@@ -32,7 +32,7 @@ returns-in-Err-take-clause-next g c = λ most file bytes given start within size
     let some : 0 < w.size = omega (arith, c.requires.some, c.requires.size) in
     let count : length piece ≡ k = length-take-le k buffer bound in
     let none : tail w.size bytes ≡ 0 = no_tail w.size some bytes c.args.number size in
-    let takes = c.in-Err-take.ensures.takes bytes given was.stands was.gives (omega (arith, none, count, bound, whole)) in
+    let takes = c.in-Err-take.ensures.takes bytes given was.stands was.gives none (omega (arith, count, bound, whole)) in
     let front = c.in-Ok.ensures.bytes in
     let more : symbols w.size (bytes ++ piece) ≤ c.args.number + 1 = little_longer w.size some bytes piece c.args.number size (omega (arith, count, bound, whole)) in
     fails w most file bytes given (g.X.SymbolWork.stands c.take.new.self) start m m' m'' k was.are was.holds c.in-Ok.ensures.ok piece (λ t. (front t).front) c.in-Err-take.ensures.others
@@ -54,7 +54,7 @@ returns-in-Ok-take-clause-next g c = λ most file bytes given start within size 
     let count : length piece ≡ k = length-take-le k buffer bound in
     let none : tail w.size bytes ≡ 0 = no_tail w.size some bytes c.args.number size in
     let standing' = g.X.SymbolWork.stands c.take.new.self in
-    let takes = c.in-Ok-take.ensures.takes bytes given was.stands was.gives (omega (arith, none, count, bound, whole)) in
+    let takes = c.in-Ok-take.ensures.takes bytes given was.stands was.gives none (omega (arith, count, bound, whole)) in
     let front = c.in-Ok.ensures.bytes in
     let others = c.in-Ok-take.ensures.others in
     let cases = whole_or_less k (length buffer) bound in

@@ -46,7 +46,7 @@ returns-clause-rest g c = λ file bytes given start size was.
     let count : length piece ≡ k = length-take-le k buffer bound in
     let none : tail w.size bytes ≡ 0 = no_tail w.size some bytes c.args.max_symbols size in
     let standing' = g.X.SymbolWork.stands c.take.new.self in
-    let takes = c.take.ensures.takes bytes given was.stands was.gives (omega (arith, none, count, short)) in
+    let takes = c.take.ensures.takes bytes given was.stands was.gives none (omega (arith, count, short)) in
     let front = c.in-Ok.ensures.bytes in
     let few : symbols w.size (bytes ++ piece) ≤ c.args.max_symbols = not_longer w.size some bytes piece c.args.max_symbols size (omega (arith, count, short)) in
     rest_of w c.args.max_symbols file bytes given standing' start m m' m'' k was.are was.holds c.in-Ok.ensures.ok piece (λ t. (front t).front) c.take.ensures.others

@@ -5,12 +5,12 @@ use Rattle.std.proofs.Common.{◌≤◌, sym}
 use Rattle.symbol_runs.proofs.Steps.{moved}
 use Rattle.symbol_runs.proofs.cells.work_on_cells.Goals as goal
 
-pub returns-in-Ok-clause-works : goal.returns-in-Ok-clause-works
-returns-in-Ok-clause-works g c =
+pub returns-clause-works : goal.returns-clause-works
+returns-clause-works g c =
     let m : Meaning = g.S.Station.meaning c.args.station.now in
     let m' : Meaning = g.S.Station.meaning c.take_all.new.station in
     let m'' : Meaning = g.S.Station.meaning c.end.new.station in
-    let e = c.in-Ok.ensures in
+    let e = c.in_ok-take_all.ensures in
     let all = e.all in
     let s0 = g.X.SymbolWork.setup c.args.work.now in
     let s1 = g.X.SymbolWork.setup c.take_all.new.work in

@@ -1,4 +1,4 @@
-use Rattle.std.proofs.Common.{◌++◌, Bool, refl, sym}
+use Rattle.std.proofs.Common.{◌++◌, Bool, refl, sym, arith}
 use Rattle.station_core.specs.Meaning.{Meaning}
 use Rattle.station_core.specs.declared.ports.OutPort.TheVariants as outs
 use Rattle.mode_set.specs.declared.settings.Settings.{Settings}
@@ -23,7 +23,7 @@ write_out-requires g c κs =
     )
 
 pub returns-clause-takes : goal.returns-clause-takes
-returns-clause-takes g c = λ bytes before stood gives fits.
+returns-clause-takes g c = λ bytes before stood gives none fits.
     let m : Meaning = g.S.Station.meaning c.args.station.now in
     let m' : Meaning = g.S.Station.meaning c.write_out.new.station in
     let s : Settings = g.X.CellReceiver.settings c.args.self.now.receiver in
@@ -32,7 +32,7 @@ returns-clause-takes g c = λ bytes before stood gives fits.
     let stands' = g.X.CellReceiver.stands c.feed.new.self so_far in
     let out : Output = g.X.CellReceiver.gave c.feed.new.self in
     let piece = c.args.piece.now in
-    let takes = c.feed.ensures.takes bytes stood.0 stood.1 fits in
+    let takes = c.feed.ensures.takes bytes stood.0 stood.1 (omega (arith, none, fits)) in
     let given = live_at s two (bytes ++ piece) takes.after in
     let standing : ReceiverStands stands' s' two (bytes ++ piece) given =
     moved s' s (λ (x : Settings). ReceiverStands stands' x two (bytes ++ piece) given) (sym c.feed.ensures.settings) (takes.after, takes.stands, takes.live, (λ port. refl)) in
