@@ -1,6 +1,8 @@
 // What is sent, read back: a symbol cut into pieces, and the costs of the modulator's own symbols.
 ghost use Rattle.std.specs.Prelude.{◌≡◌, ◌≤◌, ◌*◌, false, length, IfOk};
 ghost use Rattle.mode_set.specs.Kept.{is_flat, is_qpsk};
+ghost use Rattle.mode_set.specs.StreamTable.{carriers};
+ghost use Rattle.inner_chain.specs.CostTables.{AreWeights};
 
 use crate::cells::write;
 use bit_pack::WaitBuf;
@@ -125,6 +127,18 @@ fn pairs_fit(rt: &impl Abort, pairs: &[CostPair], rate: Rate, coded: &mut Coded)
     }
 }
 
+// The whole weight of each carrier, of which there are so many.
+fn whole_weights<M: Carriers>(
+    alloc: Global,
+    rx: &InnerRx<M>,
+    number: usize,
+) -> Result<Vec<u8>, AllocError>
+    requires number { number ≡ carriers rx.now.mode }
+    ensures { IfOk result (λ weights. AreWeights rx.now.mode weights.items) }
+{
+    vec![in alloc; 15u8; number]
+}
+
 // The cost pairs of a stream in a symbol fit what was sent.
 fn stream_fits<M: Carriers>(
     rt: &impl Abort,
@@ -142,8 +156,8 @@ fn stream_fits<M: Carriers>(
     if settings.has_stream(stream) {
         let steps = rx.steps(stream) as usize;
         let mut pairs = Vec::with_capacity(alloc, steps)?;
-        let weights = vec![in alloc; 15u8; settings.mode.carriers() as usize]?;
         assert!(rt; l < 68 && cells.len() == settings.mode.carriers() as usize);
+        let weights = whole_weights(alloc, rx, cells.len())?;
         rx.pairs(cells, &weights, l, stream, &mut pairs);
         assert!(rt; pairs.len() == steps);
         pairs_fit(rt, &pairs, settings.rate(stream), coded);

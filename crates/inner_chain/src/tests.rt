@@ -3,6 +3,7 @@ ghost use Rattle.std.specs.Prelude.{◌≡◌, ◌≤◌, IfOk};
 ghost use Rattle.std.specs.Prelude.{length};
 ghost use Rattle.mode_set.specs.StreamTable.{carriers, need};
 ghost use Rattle.mode_set.specs.declared.modes.Stream.TheVariants.{Hp};
+ghost use Rattle.inner_chain.specs.CostTables.{AreWeights};
 
 use crate::{InnerRx, InnerTx};
 use bit_pack::WaitBuf;
@@ -114,6 +115,18 @@ fn pairs_fit(rt: &impl Abort, pairs: &[CostPair], mut state: u32, unsent: usize)
     assert!(rt; missing == unsent);
 }
 
+// The whole weight of each carrier, of which there are so many.
+fn whole_weights<M: Carriers>(
+    alloc: Global,
+    rx: &InnerRx<M>,
+    number: usize,
+) -> Result<Vec<u8>, AllocError>
+    requires number { number ≡ carriers rx.now.mode }
+    ensures { IfOk result (λ weights. AreWeights rx.now.mode weights.items) }
+{
+    vec![in alloc; 15u8; number]
+}
+
 // Cells of the weight 0 cost nothing.
 fn none_left<M: Carriers>(
     rt: &impl Abort,
@@ -161,7 +174,7 @@ fn check<M: Carriers>(
     )?;
     let mut cells = vec![in alloc; Cell::default(); settings.mode.carriers() as usize]?;
     place_cells(rt, settings, 0, &labels, &mut cells);
-    let weights = vec![in alloc; 15u8; settings.mode.carriers() as usize]?;
+    let weights = whole_weights(alloc, &rx, cells.len())?;
     let mut pairs = Vec::with_capacity(alloc, settings.need(Stream::Hp) as usize)?;
     rx.pairs(&cells, &weights, 0, Stream::Hp, &mut pairs);
     let coded = settings.coded(Stream::Hp) as usize;
@@ -170,6 +183,7 @@ fn check<M: Carriers>(
     pairs_fit(rt, &pairs, 1, 2 * steps - coded);
     none_left(rt, alloc, &mut rx, &cells, steps)?;
     if settings.has_stream(Stream::Lp) {
+        let weights = whole_weights(alloc, &rx, cells.len())?;
         let mut pairs = Vec::with_capacity(alloc, settings.need(Stream::Lp) as usize)?;
         rx.pairs(&cells, &weights, 0, Stream::Lp, &mut pairs);
         let coded = settings.coded(Stream::Lp) as usize;
