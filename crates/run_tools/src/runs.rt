@@ -118,7 +118,7 @@ fn run_words<'a, R: Threads + Sync>(
     run_within(rt, alloc, words, Limits { packets }, station)
 }
 
-// The same through this gate.
+// The same through this gate, at a limit of a thousand packets.
 fn run_words_gated<'a, R: Threads + Sync, G: Gate>(
     rt: &R,
     alloc: Global,
@@ -128,7 +128,7 @@ fn run_words_gated<'a, R: Threads + Sync, G: Gate>(
 ) -> u8
     requires fresh { IsFresh (memory_meaning station.old) }
 {
-    run_gated(rt, alloc, words, Limits::shipped(), gate, station)
+    run_gated(rt, alloc, words, Limits { packets: 1000 }, gate, station)
 }
 
 /// Runs the words over the settings, named `s`, and two files, named `a` and `b`, with this limit of
@@ -152,7 +152,7 @@ pub fn run_files<R: Threads + Sync>(
     Ran::new(alloc, status, &station)
 }
 
-/// The same through this gate, with the limits of the program, in a station with room for a super-frame of
+/// The same through this gate, at a limit of a thousand packets, in a station with room for a super-frame of
 /// the 2K mode.
 pub fn run_gated_files<R: Threads + Sync, G: Gate>(
     rt: &R,
