@@ -38,13 +38,9 @@ fn run_behind<'a, F: OutputFiles<'a, S>, X: SymbolWork<'a, S>, S: Station<'a>>(
     ensures taken { TakesAtMost ((max_symbols + 1) * (X.work (X.setup work.old)).size) (S.meaning station.old) (S.meaning station.new) }
 {
     files.create(station)?;
-    match work_on_cells(max_symbols, work, symbol, station) {
-        Ok(()) => files.close(station),
-        Err(stop) => {
-            let _ = files.close(station);
-            Err(stop)
-        }
-    }
+    let worked = work_on_cells(max_symbols, work, symbol, station);
+    let closed = files.close(station);
+    worked.and(closed)
 }
 
 // From the opening of the cells to the closing of the outputs.
