@@ -5,7 +5,7 @@ use Rattle.station_core.specs.declared.ports.InPort.{InPort}
 use Rattle.station_core.specs.declared.ports.InPort.TheVariants as ins
 use Rattle.mode_set.specs.declared.settings.Settings.{Settings as TheSettings}
 use Rattle.run_clauses.specs.declared.work.Refusal.{Refusal}
-use Rattle.run_clauses.specs.declared.work.Refusal.TheVariants.{Usage, Settings, ReadFault, WriteFault, NotSync, Memory, Limit}
+use Rattle.run_clauses.specs.declared.work.Refusal.TheVariants.{Usage, Settings, ReadFault, WriteFault, NotSync, Memory, Limit, Cells}
 use Rattle.std.specs.Prelude.{is_some, if◌then◌else◌}
 use Rattle.std.specs.Option.{option_or}
 use Rattle.run_clauses.specs.StreamForm.{form_refusal}
@@ -45,6 +45,7 @@ module _ (limit : ℕ) (name cells hp : List ℕ) (lp : Option (List ℕ)) (star
 
   refused_at : (r : Refusal) → Accepts name lp start mid (Err r) → Ended c limit start mid (Some r)
   refused_at Usage a = absurd a
+  refused_at (Cells reason) a = absurd a
   refused_at (Settings reason) a = early (Settings reason) a refl
   refused_at ReadFault a = early ReadFault (a, asks.later) refl
   refused_at WriteFault a = absurd a
