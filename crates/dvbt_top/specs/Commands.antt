@@ -16,6 +16,7 @@ no_command = record {
   writes = λ port. None;
   statuses = 2 ∷ [];
   early_refusal = λ file. Some Usage;
+  header = λ file. None;
   work_refusal = λ limit file. None;
   most_taken = λ limit file port. 0;
   Comes = λ limit file port bytes. bytes ≡ [];

@@ -23,7 +23,7 @@ use Rattle.pilots.specs.Reference.{reference}
 use Rattle.qam_map.specs.declared.cell.Cell.{Cell}
 use Rattle.qam_map.specs.Points.{map_cell, value_of, real_bits, imaginary_bits}
 use Rattle.tps_word.specs.Tps.{tps_word, signalled}
-use Rattle.frame_build.specs.Symbol.{real, tps_sign, frame_of, cell_of_kind, cell_at, cell_bytes, symbol_bytes, bits_of, Agree}
+use Rattle.frame_build.specs.Symbol.{real, tps_sign, frame_of, cell_of_kind, cell_at, sent_bytes, symbol_bytes, bits_of, Agree}
 use Rattle.frame_build.specs.State.{NextSymbol, is_turned, IsLabelTable, AreSources, labels_before, labels_of, source_of, IsReady}
 use Rattle.frame_build.specs.declared.source.Source.{Source}
 use Rattle.frame_build.specs.declared.source.Source.TheVariants.{Label, Pilot, OppositePilot, Signalling, OppositeSignalling}
@@ -147,30 +147,30 @@ labels_more m l k source e =
 -- the bytes of what a carrier sends
 abbrev pub bytes_sent : Source → Bool → List ℕ → List ℕ
 bytes_sent Label turned label = label
-bytes_sent Pilot turned label = cell_bytes (real 21845 false)
-bytes_sent OppositePilot turned label = cell_bytes (real 21845 true)
-bytes_sent Signalling turned label = cell_bytes (real 16384 turned)
-bytes_sent OppositeSignalling turned label = cell_bytes (real 16384 (not turned))
+bytes_sent Pilot turned label = sent_bytes (real 21845 false)
+bytes_sent OppositePilot turned label = sent_bytes (real 21845 true)
+bytes_sent Signalling turned label = sent_bytes (real 16384 turned)
+bytes_sent OppositeSignalling turned label = sent_bytes (real 16384 (not turned))
 
-pilot_bytes : (r turned : Bool) (label : List ℕ) → bytes_sent (if r then OppositePilot else Pilot) turned label ≡ cell_bytes (real 21845 r)
+pilot_bytes : (r turned : Bool) (label : List ℕ) → bytes_sent (if r then OppositePilot else Pilot) turned label ≡ sent_bytes (real 21845 r)
 pilot_bytes true turned label = refl
 pilot_bytes false turned label = refl
 
-signal_bytes : (r turned : Bool) (label : List ℕ) → bytes_sent (if r then OppositeSignalling else Signalling) turned label ≡ cell_bytes (real 16384 (xor turned r))
+signal_bytes : (r turned : Bool) (label : List ℕ) → bytes_sent (if r then OppositeSignalling else Signalling) turned label ≡ sent_bytes (real 16384 (xor turned r))
 signal_bytes true true label = refl
 signal_bytes true false label = refl
 signal_bytes false true label = refl
 signal_bytes false false label = refl
 
 kind_sent : (m : Mode) (s : Settings) (frame l : ℕ) (word : List Bool) (turned : Bool) (cells : List (List ℕ)) (lists : List (List Source)) (labels : List ℕ) (k q : ℕ) (kd : CarrierKind) (label : List ℕ)
-    → IsReady m s frame l word turned cells lists → (kd ≡ Payload q → label ≡ cell_bytes (map_cell s.shape s.hierarchy (bits_of labels q))) → ((p : ℕ) → kd ≡ Payload p → p ≡ q)
-    → bytes_sent (source_of kd (reference k)) turned label ≡ cell_bytes (cell_of_kind s (number frame l) (bits_of labels) k kd)
-kind_sent m s frame l word turned cells lists labels k q Continual label ready is same = pilot_bytes (reference k) turned label ∙ ap cell_bytes (pilot s (number frame l) (bits_of labels) k)
-kind_sent m s frame l word turned cells lists labels k q Scattered label ready is same = pilot_bytes (reference k) turned label ∙ ap cell_bytes (scattered s (number frame l) (bits_of labels) k)
-kind_sent m s frame l word turned cells lists labels k q Tps label ready is same = signal_bytes (reference k) turned label ∙ ap cell_bytes (signal m s frame l word turned cells lists (bits_of labels) k ready)
+    → IsReady m s frame l word turned cells lists → (kd ≡ Payload q → label ≡ sent_bytes (map_cell s.shape s.hierarchy (bits_of labels q))) → ((p : ℕ) → kd ≡ Payload p → p ≡ q)
+    → bytes_sent (source_of kd (reference k)) turned label ≡ sent_bytes (cell_of_kind s (number frame l) (bits_of labels) k kd)
+kind_sent m s frame l word turned cells lists labels k q Continual label ready is same = pilot_bytes (reference k) turned label ∙ ap sent_bytes (pilot s (number frame l) (bits_of labels) k)
+kind_sent m s frame l word turned cells lists labels k q Scattered label ready is same = pilot_bytes (reference k) turned label ∙ ap sent_bytes (scattered s (number frame l) (bits_of labels) k)
+kind_sent m s frame l word turned cells lists labels k q Tps label ready is same = signal_bytes (reference k) turned label ∙ ap sent_bytes (signal m s frame l word turned cells lists (bits_of labels) k ready)
 kind_sent m s frame l word turned cells lists labels k q (Payload p) label ready is same =
     let number_is : p ≡ q = same p refl in
-    is (ap Payload number_is) ∙ ap (λ (z : ℕ). cell_bytes (map_cell s.shape s.hierarchy (bits_of labels z))) (sym number_is) ∙ ap cell_bytes (data_cell s (number frame l) labels k p)
+    is (ap Payload number_is) ∙ ap (λ (z : ℕ). sent_bytes (map_cell s.shape s.hierarchy (bits_of labels z))) (sym number_is) ∙ ap sent_bytes (data_cell s (number frame l) labels k p)
 
 number_in : CarrierKind → ℕ
 number_in Continual = 0
@@ -185,8 +185,8 @@ payload_same p q e = ap number_in e
 -- a carrier's bytes are those of its cell
 pub carrier_sent : (m : Mode) (s : Settings) (frame l : ℕ) (word : List Bool) (turned : Bool) (cells : List (List ℕ)) (lists : List (List Source)) (v : NextSymbol) (labels : List ℕ) (k next : ℕ) (source : Source) (label : List ℕ)
     → IsReady m s frame l word turned cells lists → record { settings = s; number = number frame l } ≡ v → source ≡ source_of (kind m (v.number % 68) k) (reference k) → next ≡ labels_before m (v.number % 68) k
-    → (source ≡ Label → label ≡ cell_bytes (map_cell s.shape s.hierarchy (bits_of labels next)))
-    → bytes_sent source turned label ≡ cell_bytes (cell_at v.settings v.number (bits_of labels) k)
+    → (source ≡ Label → label ≡ sent_bytes (map_cell s.shape s.hierarchy (bits_of labels next)))
+    → bytes_sent source turned label ≡ sent_bytes (cell_at v.settings v.number (bits_of labels) k)
 carrier_sent m s frame l word turned cells lists v labels k next source label ready seen e en is =
     let in_frame : v.number % 68 ≡ l = ap (λ (z : NextSymbol). z.number % 68) (sym seen) ∙ (omega (arith, ready.symbol)) in
     let here : source ≡ source_of (kind m l k) (reference k) = e ∙ ap (λ (z : ℕ). source_of (kind m z k) (reference k)) in_frame in
@@ -195,7 +195,7 @@ carrier_sent m s frame l word turned cells lists v labels k next source label re
     ∙ kind_sent m s frame l word turned cells lists labels k next (kind m l k) label ready (λ p. is (here ∙ ap (λ (z : CarrierKind). source_of z (reference k)) p))
     (λ p ep. let label_source : source ≡ Label = here ∙ ap (λ (z : CarrierKind). source_of z (reference k)) ep in
     payload_same p next (sym ep ∙ is_next_label m l k source here label_source ∙ ap Payload (sym before)))
-    ∙ ap cell_bytes (by_kind m s frame l word turned cells lists v (bits_of labels) k (kind m l k) ready seen refl)
+    ∙ ap sent_bytes (by_kind m s frame l word turned cells lists v (bits_of labels) k (kind m l k) ready seen refl)
 
 pub in_frame : (m : Mode) (s : Settings) (frame l : ℕ) (word : List Bool) (turned : Bool) (cells : List (List ℕ)) (lists : List (List Source)) (v : NextSymbol)
     → IsReady m s frame l word turned cells lists → record { settings = s; number = number frame l } ≡ v → v.number % 68 ≡ l
@@ -228,13 +228,13 @@ sources_more m l list n source a within is k d less = go (cases_lt k n)
     go (inr ge) = let same : n ≡ k = omega (arith, less, ge) in
         subst (λ (z : ℕ). get_or (set list n source) z d ≡ source_of (kind m l z) (reference z)) same (get_or-set_same list n source d within ∙ is)
 
-pub labels_table_more : (s : Settings) (cells : List (List ℕ)) (n : ℕ) (bytes : List ℕ) → IsLabelTable s cells n → n < length cells → bytes ≡ cell_bytes (map_cell s.shape s.hierarchy (is_set n)) → IsLabelTable s (set cells n bytes) (n + 1)
+pub labels_table_more : (s : Settings) (cells : List (List ℕ)) (n : ℕ) (bytes : List ℕ) → IsLabelTable s cells n → n < length cells → bytes ≡ sent_bytes (map_cell s.shape s.hierarchy (is_set n)) → IsLabelTable s (set cells n bytes) (n + 1)
 labels_table_more s cells n bytes t within is k d less = go (cases_lt k n)
   where
-    go : (k < n) ⊎ (n ≤ k) → get_or (set cells n bytes) k d ≡ cell_bytes (map_cell s.shape s.hierarchy (is_set k))
+    go : (k < n) ⊎ (n ≤ k) → get_or (set cells n bytes) k d ≡ sent_bytes (map_cell s.shape s.hierarchy (is_set k))
     go (inl lt) = let other : k ≢ n = omega (arith, lt) in get_or-set_other cells n k bytes d other ∙ t k d lt
     go (inr ge) = let same : n ≡ k = omega (arith, less, ge) in
-        subst (λ (z : ℕ). get_or (set cells n bytes) z d ≡ cell_bytes (map_cell s.shape s.hierarchy (is_set z))) same (get_or-set_same cells n bytes d within ∙ is)
+        subst (λ (z : ℕ). get_or (set cells n bytes) z d ≡ sent_bytes (map_cell s.shape s.hierarchy (is_set z))) same (get_or-set_same cells n bytes d within ∙ is)
 
 -- the next symbol of the frame
 pub within_frame : (m : Mode) (s : Settings) (frame l : ℕ) (word : List Bool) (turned : Bool) (cells : List (List ℕ)) (lists : List (List Source)) → IsReady m s frame l word turned cells lists → l < 67 → IsReady m s frame (l + 1) word (xor turned (get_or word l false)) cells lists
@@ -260,22 +260,22 @@ next_frame m s frame l word new turned cells lists ready is =
 
 -- the bytes of the first n carriers of a symbol
 unfoldable pub carrier_bytes : Settings → ℕ → (ℕ → ℕ → Bool) → ℕ → List ℕ
-carrier_bytes s m labels n = flat_map (λ k. cell_bytes (cell_at s m labels k)) (numbers n)
+carrier_bytes s m labels n = flat_map (λ k. sent_bytes (cell_at s m labels k)) (numbers n)
 
 pub no_carriers : (s : Settings) (m : ℕ) (labels : ℕ → ℕ → Bool) → carrier_bytes s m labels 0 ≡ []
 unfolding carrier_bytes numbers
 no_carriers s m labels = refl
 
-pub one_carrier : (s : Settings) (m : ℕ) (labels : ℕ → ℕ → Bool) (n : ℕ) → carrier_bytes s m labels (n + 1) ≡ carrier_bytes s m labels n ++ cell_bytes (cell_at s m labels n)
+pub one_carrier : (s : Settings) (m : ℕ) (labels : ℕ → ℕ → Bool) (n : ℕ) → carrier_bytes s m labels (n + 1) ≡ carrier_bytes s m labels n ++ sent_bytes (cell_at s m labels n)
 unfolding carrier_bytes
 one_carrier s m labels n =
-    ap (flat_map (λ k. cell_bytes (cell_at s m labels k))) (numbers_end n)
-    ∙ flat_map-append (λ k. cell_bytes (cell_at s m labels k)) (numbers n) (n ∷ [])
-    ∙ ap (λ (z : List ℕ). flat_map (λ k. cell_bytes (cell_at s m labels k)) (numbers n) ++ z) (append-nil (cell_bytes (cell_at s m labels n)))
+    ap (flat_map (λ k. sent_bytes (cell_at s m labels k))) (numbers_end n)
+    ∙ flat_map-append (λ k. sent_bytes (cell_at s m labels k)) (numbers n) (n ∷ [])
+    ∙ ap (λ (z : List ℕ). flat_map (λ k. sent_bytes (cell_at s m labels k)) (numbers n) ++ z) (append-nil (sent_bytes (cell_at s m labels n)))
 
 pub whole_symbol : (s : Settings) (m : ℕ) (labels : ℕ → ℕ → Bool) (n : ℕ) → n ≡ carriers s.mode → carrier_bytes s m labels n ≡ symbol_bytes s m labels
 unfolding carrier_bytes symbol_bytes
-whole_symbol s m labels n e = ap (λ (z : ℕ). flat_map (λ k. cell_bytes (cell_at s m labels k)) (numbers z)) e
+whole_symbol s m labels n e = ap (λ (z : ℕ). flat_map (λ k. sent_bytes (cell_at s m labels k)) (numbers z)) e
 
 -- the first symbol of a super-frame
 pub at_start : (m : Mode) (s : Settings) (word : List Bool) (cells : List (List ℕ)) (a b c d : List Source) → s.mode ≡ m → word ≡ tps_word (signalled s 1) → IsLabelTable s cells (2 ^ label_bits s.shape)
@@ -294,21 +294,24 @@ pub few_carriers : (m : Mode) → carriers m ≤ 6817
 few_carriers M2k = omega arith
 few_carriers M8k = omega arith
 
-four_are : (p : List ℕ) → length p ≡ 4 → p ≡ get_or p 0 0 ∷ get_or p 1 0 ∷ get_or p 2 0 ∷ get_or p 3 0 ∷ []
-four_are [] e = absurd (omega (arith, e))
-four_are (a ∷ []) e = absurd (omega (arith, e))
-four_are (a ∷ b ∷ []) e = absurd (omega (arith, e))
-four_are (a ∷ b ∷ c ∷ []) e = absurd (omega (arith, e))
-four_are (a ∷ b ∷ c ∷ d ∷ []) e = refl
-four_are (a ∷ b ∷ c ∷ d ∷ f ∷ p) e = absurd (omega (arith, e))
+five_are : (p : List ℕ) → length p ≡ 5 → p ≡ get_or p 0 0 ∷ get_or p 1 0 ∷ get_or p 2 0 ∷ get_or p 3 0 ∷ get_or p 4 0 ∷ []
+five_are [] e = absurd (omega (arith, e))
+five_are (a ∷ []) e = absurd (omega (arith, e))
+five_are (a ∷ b ∷ []) e = absurd (omega (arith, e))
+five_are (a ∷ b ∷ c ∷ []) e = absurd (omega (arith, e))
+five_are (a ∷ b ∷ c ∷ d ∷ []) e = absurd (omega (arith, e))
+five_are (a ∷ b ∷ c ∷ d ∷ f ∷ []) e = refl
+five_are (a ∷ b ∷ c ∷ d ∷ f ∷ g ∷ p) e = absurd (omega (arith, e))
 
--- four pushes append four bytes
-pub four_pushed : (old p xs ys zs new : List ℕ) → length p ≡ 4 → xs ≡ old ++ get_or p 0 0 ∷ [] → ys ≡ xs ++ get_or p 1 0 ∷ [] → zs ≡ ys ++ get_or p 2 0 ∷ [] → new ≡ zs ++ get_or p 3 0 ∷ [] → new ≡ old ++ p
-four_pushed old p xs ys zs new four ex ey ez en =
-    en ∙ ap (λ (z : List ℕ). z ++ d ∷ []) ez ∙ append_assoc ys (c ∷ []) (d ∷ [])
-    ∙ ap (λ (z : List ℕ). z ++ c ∷ d ∷ []) ey ∙ append_assoc xs (b ∷ []) (c ∷ d ∷ [])
-    ∙ ap (λ (z : List ℕ). z ++ b ∷ c ∷ d ∷ []) ex ∙ append_assoc old (a ∷ []) (b ∷ c ∷ d ∷ [])
-    ∙ ap (λ (z : List ℕ). old ++ z) (sym (four_are p four))
+-- five pushes append five bytes
+pub five_pushed : (old p ws xs ys zs new : List ℕ) → length p ≡ 5 → ws ≡ old ++ get_or p 0 0 ∷ [] → xs ≡ ws ++ get_or p 1 0 ∷ [] → ys ≡ xs ++ get_or p 2 0 ∷ [] → zs ≡ ys ++ get_or p 3 0 ∷ []
+    → new ≡ zs ++ get_or p 4 0 ∷ [] → new ≡ old ++ p
+five_pushed old p ws xs ys zs new five ew ex ey ez en =
+    en ∙ ap (λ (z : List ℕ). z ++ f ∷ []) ez ∙ append_assoc ys (d ∷ []) (f ∷ [])
+    ∙ ap (λ (z : List ℕ). z ++ d ∷ f ∷ []) ey ∙ append_assoc xs (c ∷ []) (d ∷ f ∷ [])
+    ∙ ap (λ (z : List ℕ). z ++ c ∷ d ∷ f ∷ []) ex ∙ append_assoc ws (b ∷ []) (c ∷ d ∷ f ∷ [])
+    ∙ ap (λ (z : List ℕ). z ++ b ∷ c ∷ d ∷ f ∷ []) ew ∙ append_assoc old (a ∷ []) (b ∷ c ∷ d ∷ f ∷ [])
+    ∙ ap (λ (z : List ℕ). old ++ z) (sym (five_are p five))
   where
     a : ℕ
     a = get_or p 0 0
@@ -322,10 +325,13 @@ four_pushed old p xs ys zs new four ex ey ez en =
     d : ℕ
     d = get_or p 3 0
 
+    f : ℕ
+    f = get_or p 4 0
+
 -- the bytes of a label
 pub label_sent : (m : Mode) (s : Settings) (frame l : ℕ) (word : List Bool) (turned : Bool) (cells : List (List ℕ)) (lists : List (List Source)) (v : NextSymbol) (labels : List ℕ) (k next : ℕ) (source : Source) (d : List ℕ)
     → IsReady m s frame l word turned cells lists → record { settings = s; number = number frame l } ≡ v → source ≡ source_of (kind m (v.number % 68) k) (reference k) → next ≡ labels_before m (v.number % 68) k
-    → source ≡ Label → get_or labels next 0 < 2 ^ label_bits s.shape → get_or cells (get_or labels next 0) d ≡ cell_bytes (cell_at v.settings v.number (bits_of labels) k)
+    → source ≡ Label → get_or labels next 0 < 2 ^ label_bits s.shape → get_or cells (get_or labels next 0) d ≡ sent_bytes (cell_at v.settings v.number (bits_of labels) k)
 label_sent m s frame l word turned cells lists v labels k next source d ready seen e en is small =
     ap (λ (z : Source). bytes_sent z turned (get_or cells (get_or labels next 0) d)) (sym is)
     ∙ carrier_sent m s frame l word turned cells lists v labels k next source (get_or cells (get_or labels next 0) d) ready seen e en (λ same. ready.table (get_or labels next 0) d small)
@@ -351,7 +357,7 @@ unfolding symbol_bytes
 repeats s m labels =
     let symbols : m % 68 ≡ m % 272 % 68 = omega arith in
     let frames : frame_of m ≡ frame_of (m % 272) = omega arith in
-    same_flat_map (λ k. cell_bytes (cell_at s m labels k)) (λ k. cell_bytes (cell_at s (m % 272) labels k)) (λ k. ap cell_bytes (same_cells s m (m % 272) labels k symbols frames)) (numbers (carriers s.mode))
+    same_flat_map (λ k. sent_bytes (cell_at s m labels k)) (λ k. sent_bytes (cell_at s (m % 272) labels k)) (λ k. ap sent_bytes (same_cells s m (m % 272) labels k symbols frames)) (numbers (carriers s.mode))
 
 -- functions that agree below n
 same_below : (f g : ℕ → List ℕ) (a n : ℕ) → ((i : ℕ) → i < n → f (a + i) ≡ g (a + i)) → flat_map f (range_with_len a n) ≡ flat_map g (range_with_len a n)
@@ -396,5 +402,5 @@ follows_kind s m labels more k (Payload q) few same = same_map_cell s.shape s.hi
 pub follows : (s : Settings) (m : ℕ) → AreNumbered s.mode (m % 68) → (labels more : ℕ → ℕ → Bool) → Agree s labels more → symbol_bytes s m labels ≡ symbol_bytes s m more
 unfolding symbol_bytes numbers cell_at
 follows s m numbered labels more same =
-    same_below (λ k. cell_bytes (cell_at s m labels k)) (λ k. cell_bytes (cell_at s m more k)) 0 (carriers s.mode)
-    (λ i l. ap cell_bytes (follows_kind s m labels more (0 + i) (kind s.mode (m % 68) (0 + i)) (λ q e. ((numbered (0 + i) q (omega (arith, l))).0 e).0) same))
+    same_below (λ k. sent_bytes (cell_at s m labels k)) (λ k. sent_bytes (cell_at s m more k)) 0 (carriers s.mode)
+    (λ i l. ap sent_bytes (follows_kind s m labels more (0 + i) (kind s.mode (m % 68) (0 + i)) (λ q e. ((numbered (0 + i) q (omega (arith, l))).0 e).0) same))

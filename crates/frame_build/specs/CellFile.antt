@@ -1,4 +1,4 @@
--- The cell file (this project's own): its header.
+-- The cell file (this project's own): a header of eight bytes, then the cells of symbol after symbol, five bytes each. This is the header.
 use Rattle.std.specs.Prelude.{ℕ, List, [], ◌∷◌}
 use Rattle.mode_set.specs.declared.modes.Mode.{Mode}
 use Rattle.mode_set.specs.declared.modes.Mode.TheVariants.{M2k, M8k}

@@ -12,7 +12,7 @@ use Rattle.pilots.specs.Reference.{reference}
 use Rattle.qam_map.specs.declared.cell.Cell.{Cell}
 use Rattle.qam_map.specs.Points.{map_cell}
 use Rattle.tps_word.specs.Tps.{tps_word, signalled}
-use Rattle.frame_build.specs.Symbol.{cell_bytes, cells_from, weights_from}
+use Rattle.frame_build.specs.Symbol.{sent_bytes, cells_from, weights_from}
 use Rattle.frame_build.specs.declared.source.Source.{Source}
 use Rattle.frame_build.specs.declared.source.Source.TheVariants.{Label, Pilot, OppositePilot, Signalling, OppositeSignalling}
 
@@ -28,7 +28,7 @@ is_turned word (suc l) = xor (is_turned word l) (bit word l)
 
 -- the bytes of the cells of all labels
 abbrev pub IsLabelTable : Settings → List (List ℕ) → ℕ → Type 0
-IsLabelTable s cells n = (label : ℕ) (d : List ℕ) → label < n → get_or cells label d ≡ cell_bytes (map_cell s.shape s.hierarchy (is_set label))
+IsLabelTable s cells n = (label : ℕ) (d : List ℕ) → label < n → get_or cells label d ≡ sent_bytes (map_cell s.shape s.hierarchy (is_set label))
 
 -- what a carrier sends, by its kind and by its bit of the reference sequence
 abbrev pub source_of : CarrierKind → Bool → Source
@@ -66,8 +66,9 @@ pub record IsReady (m : Mode) (s : Settings) (frame l : ℕ) (word : List Bool) 
 
 -- a symbol of k carriers of which some bytes were taken; a whole one has its cells and their weights
 pub record IsTaking (k filled : ℕ) (bytes : List ℕ) (cells : List Cell) (weights : List ℕ) : Type 0 where
-  pub bytes_of : length bytes ≡ 4 * k
+  pub bytes_of : length bytes ≡ 5 * k
   pub cells_of : length cells ≡ k
-  pub within : filled ≤ 4 * k
-  pub whole : filled ≡ 4 * k → cells ≡ cells_from bytes k
-  pub weighed : weights ≡ weights_from bytes k
+  pub weights_of : length weights ≡ k
+  pub within : filled ≤ 5 * k
+  pub whole : filled ≡ 5 * k → cells ≡ cells_from bytes k
+  pub weighed : filled ≡ 5 * k → weights ≡ weights_from bytes k

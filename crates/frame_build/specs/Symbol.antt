@@ -1,5 +1,5 @@
--- The cells of an OFDM symbol, and their bytes (EN 300 744, 4.4 to 4.6; the bytes are this project's own).
-use Rattle.std.specs.Prelude.{ℕ, zero, suc, ◌+◌, ◌*◌, ◌/◌, ◌%◌, Bool, if◌then◌else◌, List, ◌++◌, map, flat_map, drop, replicate, pos, neg_ℤ, ◌≡◌, ◌<◌}
+-- The cells of an OFDM symbol, and their bytes and weights (EN 300 744, 4.4 to 4.6; the bytes and weights are this project's own).
+use Rattle.std.specs.Prelude.{ℕ, zero, suc, ◌+◌, ◌*◌, ◌/◌, ◌%◌, Bool, if◌then◌else◌, List, ◌++◌, map, [], ◌∷◌, flat_map, drop, slice_index, pos, neg_ℤ, ◌≡◌, ◌<◌}
 use Rattle.std.specs.Int.{cast_unsigned, cast_signed, w16}
 use Rattle.std.specs.Prelude.{get_or}
 use Rattle.byteorder.specs.Endian.{big_bytes, big_number}
@@ -13,6 +13,7 @@ use Rattle.pilots.specs.Carriers.{kind}
 use Rattle.pilots.specs.Reference.{reference}
 use Rattle.qam_map.specs.declared.cell.Cell.{Cell}
 use Rattle.qam_map.specs.Points.{map_cell}
+use Rattle.soft_metric.specs.Weights.{full_weight, weight_of_byte}
 use Rattle.tps_word.specs.Tps.{tps_word, signalled}
 
 -- a value on the real axis, or its opposite
@@ -39,13 +40,17 @@ cell_of_kind s m labels k (Payload q) = map_cell s.shape s.hierarchy (labels q)
 unfoldable pub cell_at : Settings → ℕ → (ℕ → ℕ → Bool) → ℕ → Cell
 cell_at s m labels k = cell_of_kind s m labels k (kind s.mode (m % 68) k)
 
--- both parts of a cell, the real one first, the high byte first
-unfoldable pub cell_bytes : Cell → List ℕ
-cell_bytes c = big_bytes 2 (cast_unsigned w16 c.re) ++ big_bytes 2 (cast_unsigned w16 c.im)
+-- the five bytes of a cell: both parts, the real one first, the high byte first, and behind them its weight
+unfoldable pub cell_bytes : Cell → ℕ → List ℕ
+cell_bytes c weight = big_bytes 2 (cast_unsigned w16 c.re) ++ (big_bytes 2 (cast_unsigned w16 c.im) ++ weight ∷ [])
+
+-- those of a cell that is sent: each counts whole
+unfoldable pub sent_bytes : Cell → List ℕ
+sent_bytes c = cell_bytes c full_weight
 
 -- the bytes of symbol m, carriers rising
 unfoldable pub symbol_bytes : Settings → ℕ → (ℕ → ℕ → Bool) → List ℕ
-symbol_bytes s m labels = flat_map (λ k. cell_bytes (cell_at s m labels k)) (numbers (carriers s.mode))
+symbol_bytes s m labels = flat_map (λ k. sent_bytes (cell_at s m labels k)) (numbers (carriers s.mode))
 
 -- labels that agree on every payload place and bit
 abbrev pub Agree : Settings → (ℕ → ℕ → Bool) → (ℕ → ℕ → Bool) → Type 0
@@ -57,12 +62,16 @@ bits_of labels q = is_set (get_or labels q 0)
 
 -- cell k of bytes
 unfoldable pub cell_from : List ℕ → ℕ → Cell
-cell_from bytes k = record { re = cast_signed w16 (big_number 2 (drop (4 * k) bytes)); im = cast_signed w16 (big_number 2 (drop (4 * k + 2) bytes)) }
+cell_from bytes k = record { re = cast_signed w16 (big_number 2 (drop (5 * k) bytes)); im = cast_signed w16 (big_number 2 (drop (5 * k + 2) bytes)) }
 
 -- the first n cells of bytes
 unfoldable pub cells_from : List ℕ → ℕ → List Cell
 cells_from bytes n = map (cell_from bytes) (numbers n)
 
--- the weights of the first n cells of bytes, which have none: every cell counts whole
-abbrev pub weights_from : List ℕ → ℕ → List ℕ
-weights_from bytes n = replicate n 15
+-- the weight behind cell k of bytes: a byte above 15 counts as 15
+unfoldable pub weight_from : List ℕ → ℕ → ℕ
+weight_from bytes k = weight_of_byte (slice_index bytes (5 * k + 4))
+
+-- the weights of the first n cells of bytes
+unfoldable pub weights_from : List ℕ → ℕ → List ℕ
+weights_from bytes n = map (weight_from bytes) (numbers n)

@@ -1,8 +1,9 @@
 //! The cells of OFDM symbols: from labels to a symbol's bytes, with its pilots and TPS cells, and from
-//! bytes that were cut anywhere back to cells.
+//! bytes that were cut anywhere back to cells and their weights.
 //!
 //! EN 300 744, 4.4 to 4.6. A cell is written as its real and then its imaginary part, 16 bits each in
-//! two's complement, the high byte first.
+//! two's complement, the high byte first, and one byte of weight: how far it can be trusted, from 0 to
+//! 15. What is sent has weight 15 throughout.
 #![tactic(auto)]
 
 mod cell_file;

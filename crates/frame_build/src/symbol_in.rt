@@ -1,6 +1,6 @@
-// From bytes that were cut anywhere to the cells of symbols.
+// From bytes that were cut anywhere to the cells of symbols and their weights.
 ghost use Rattle.std.specs.Prelude.{◌≡◌, ℕ, ◌+◌, ◌*◌, ◌≢◌, ◌<◌, ◌≤◌, ◌++◌, ◌↔◌, [], ◌-◌, min, take, drop, length, slice_index, IfOk, IsTrue};
-ghost use Rattle.frame_build.specs.Symbol.{cell_from, cells_from, weights_from};
+ghost use Rattle.frame_build.specs.Symbol.{cell_from, cells_from, weight_from, weights_from};
 
 use byteorder::{BigEndian, ByteOrder};
 use mode_set::Carriers;
@@ -8,33 +8,47 @@ use qam_map::Cell;
 use std::alloc::{AllocError, Global};
 use std::marker::{Model, PhantomData};
 
-// The cell of four bytes.
+// The cell in the first four of five bytes.
 fn read_cell(bytes: &[u8], k: usize) -> Cell
-    requires { 4 * k + 4 ≤ length bytes.now }
+    requires { 5 * k + 5 ≤ length bytes.now }
     ensures { result ≡ cell_from bytes.now k }
 {
     Cell {
-        re: BigEndian::read_i16(&bytes[4 * k..]),
-        im: BigEndian::read_i16(&bytes[4 * k + 2..]),
+        re: BigEndian::read_i16(&bytes[5 * k..]),
+        im: BigEndian::read_i16(&bytes[5 * k + 2..]),
     }
 }
 
-fn read_cells(bytes: &[u8], cells: &mut [Cell])
-    requires { length bytes.now ≡ 4 * length cells.old }
-    ensures { cells.new ≡ cells_from bytes.now (length cells.old) }
+// The weight in the fifth of them.
+#[tactic(auto, unfolding(crate::specs::Symbol::weight_from))]
+fn read_weight(bytes: &[u8], k: usize) -> u8
+    requires { 5 * k + 5 ≤ length bytes.now }
+    ensures { result ≡ weight_from bytes.now k }
 {
-    for (k, cell) in cells.iter_mut().enumerate() {
-        *cell = read_cell(bytes, k);
+    bytes[5 * k + 4].min(15)
+}
+
+// The cells of all carriers and their weights, in one pass.
+fn read_symbol(bytes: &[u8], cells: &mut [Cell], weights: &mut [u8])
+    requires bytes { length bytes.now ≡ 5 * length cells.old }
+    requires weights { length weights.old ≡ length cells.old }
+    ensures cells { cells.new ≡ cells_from bytes.now (length cells.old) }
+    ensures weights { weights.new ≡ weights_from bytes.now (length cells.old) }
+{
+    for k in 0..cells.len() {
+        cells[k] = read_cell(bytes, k);
+        weights[k] = read_weight(bytes, k);
     }
 }
 
-/// Takes bytes, cut anywhere, as the cells of symbol after symbol.
+/// Takes bytes, cut anywhere, as the cells of symbol after symbol and their weights: five bytes a cell,
+/// the weight last.
 ///
 /// It is seen as the bytes of the current symbol that were taken so far.
 #[derive(Drop)]
 pub struct SymbolIn<M: Carriers> {
-    // The bytes of the current symbol, of which the first `filled` were taken, and its cells once it
-    // is whole. Every cell counts whole.
+    // The bytes of the current symbol, of which the first `filled` were taken, and its cells and their
+    // weights once it is whole.
     bytes: Vec<u8>,
     filled: usize,
     cells: Vec<Cell>,
@@ -58,9 +72,9 @@ impl<M: Carriers> SymbolIn<M> {
     pub fn new(alloc: Global) -> Result<Self, AllocError>
         ensures { IfOk result (λ symbol. symbol ≡ []) }
     {
-        let bytes = vec![in alloc; 0u8; 4 * M::K as usize]?;
+        let bytes = vec![in alloc; 0u8; 5 * M::K as usize]?;
         let cells = vec![in alloc; Cell { re: 0, im: 0 }; M::K as usize]?;
-        let weights = vec![in alloc; 15u8; M::K as usize]?;
+        let weights = vec![in alloc; 0u8; M::K as usize]?;
         Ok(SymbolIn {
             bytes,
             filled: 0,
@@ -73,14 +87,14 @@ impl<M: Carriers> SymbolIn<M> {
     /// The bytes of the current symbol taken so far.
     pub fn waiting(&self) -> u32
         ensures is { result ≡ length self.now }
-        ensures most { result ≤ 4 * M.K }
+        ensures most { result ≤ 5 * M.K }
     {
         self.filled as u32
     }
 
     /// Whether a whole symbol waits.
     pub fn whole(&self) -> bool
-        ensures { IsTrue result ↔ (length self.now ≡ 4 * M.K) }
+        ensures { IsTrue result ↔ (length self.now ≡ 5 * M.K) }
     {
         self.filled == self.bytes.len()
     }
@@ -88,8 +102,8 @@ impl<M: Carriers> SymbolIn<M> {
     /// Takes bytes from the front of the piece, as many as it has or the current symbol wants, and
     /// answers how many.
     pub fn take(&mut self, piece: &[u8]) -> usize
-        requires { length self.old ≢ 4 * M.K }
-        ensures count { result ≡ min (length piece.now) (4 * M.K - length self.old) }
+        requires { length self.old ≢ 5 * M.K }
+        ensures count { result ≡ min (length piece.now) (5 * M.K - length self.old) }
         ensures taken { self.new ≡ self.old ++ take result piece.now }
     {
         let missing = self.bytes.len() - self.filled;
@@ -98,23 +112,23 @@ impl<M: Carriers> SymbolIn<M> {
         self.bytes[self.filled..end].copy_from_slice(&piece[..count]);
         self.filled = end;
         if count == missing {
-            read_cells(&self.bytes, &mut self.cells);
+            read_symbol(&self.bytes, &mut self.cells, &mut self.weights);
         }
         count
     }
 
     /// The cells of the whole symbol that waits.
     pub fn cells(&self) -> &[Cell]
-        requires { length self.now ≡ 4 * M.K }
+        requires { length self.now ≡ 5 * M.K }
         ensures cells { result.now ≡ cells_from self.now M.K }
         ensures count { length result.now ≡ M.K }
     {
         &self.cells
     }
 
-    /// The weights of these cells, each at most 15.
+    /// The weights of these cells, each at most 15: a byte above it counts as 15.
     pub fn weights(&self) -> &[u8]
-        requires { length self.now ≡ 4 * M.K }
+        requires { length self.now ≡ 5 * M.K }
         ensures weights { result.now ≡ weights_from self.now M.K }
         ensures count { length result.now ≡ M.K }
         ensures small { (k : ℕ) → k < M.K → slice_index result.now k ≤ 15 }
@@ -124,7 +138,7 @@ impl<M: Carriers> SymbolIn<M> {
 
     /// Passes on to the following symbol, of which no byte was taken yet.
     pub fn next(&mut self)
-        requires { length self.old ≡ 4 * M.K }
+        requires { length self.old ≡ 5 * M.K }
         ensures { self.new ≡ [] }
     {
         self.filled = 0;

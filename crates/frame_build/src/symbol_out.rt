@@ -4,7 +4,7 @@ ghost use Rattle.mode_set.specs.StreamTable.{carriers, payload, label_bits};
 ghost use Rattle.mode_set.specs.declared.settings.Settings.{Settings as TheSettings};
 ghost use Rattle.pilots.specs.Carriers.{kind};
 ghost use Rattle.pilots.specs.Reference.{reference};
-ghost use Rattle.frame_build.specs.Symbol.{bits_of, cell_at, cell_bytes, real, symbol_bytes};
+ghost use Rattle.frame_build.specs.Symbol.{bits_of, cell_at, real, sent_bytes, symbol_bytes};
 ghost use Rattle.frame_build.specs.State.{IsLabelTable, labels_before, source_of};
 
 use crate::source::{Source, sources};
@@ -25,28 +25,29 @@ fn on_real_axis(value: i16, opposite: bool) -> Cell
     }
 }
 
-// Both parts of a cell, the high byte of each first.
-#[tactic(auto, unfolding(crate::specs::Symbol::cell_bytes))]
-fn bytes_of(cell: Cell) -> [u8; 4]
-    ensures { result ≡ cell_bytes cell }
+// Both parts of a cell, the high byte of each first, and the weight 15: what is sent counts whole.
+#[tactic(auto, unfolding(crate::specs::Symbol::cell_bytes, crate::specs::Symbol::sent_bytes))]
+fn bytes_of(cell: Cell) -> [u8; 5]
+    ensures { result ≡ sent_bytes cell }
 {
-    let mut bytes = [0; 4];
+    let mut bytes = [0, 0, 0, 0, 15];
     BigEndian::write_i16(&mut bytes, cell.re);
     BigEndian::write_i16(&mut bytes[2..], cell.im);
     bytes
 }
 
-// Appends four bytes, which fit the spare.
-fn push_four(bytes: [u8; 4], to: &mut Vec<u8>)
-    requires { vec_len to.old + 4 ≤ vec_capacity to.old }
+// Appends five bytes, which fit the spare.
+fn push_five(bytes: [u8; 5], to: &mut Vec<u8>)
+    requires { vec_len to.old + 5 ≤ vec_capacity to.old }
     ensures bytes { to.new.items ≡ to.old.items ++ bytes }
-    ensures len { vec_len to.new ≡ vec_len to.old + 4 }
+    ensures len { vec_len to.new ≡ vec_len to.old + 5 }
     ensures capacity { vec_capacity to.new ≡ vec_capacity to.old }
 {
     to.push_reserved(bytes[0]);
     to.push_reserved(bytes[1]);
     to.push_reserved(bytes[2]);
     to.push_reserved(bytes[3]);
+    to.push_reserved(bytes[4]);
 }
 
 fn label_count(shape: Shape) -> u8
@@ -61,10 +62,10 @@ fn label_count(shape: Shape) -> u8
 }
 
 // The bytes of the cells of all labels of a constellation, by label.
-fn label_cells(settings: &Settings) -> [[u8; 4]; 64]
+fn label_cells(settings: &Settings) -> [[u8; 5]; 64]
     ensures { IsLabelTable settings.now result (2 ^ label_bits settings.now.shape) }
 {
-    let mut cells = [[0; 4]; 64];
+    let mut cells = [[0; 5]; 64];
     for label in 0..label_count(settings.shape) {
         cells[label as usize] = bytes_of(map(settings.shape, settings.hierarchy, label));
     }
@@ -86,7 +87,7 @@ pub struct SymbolOut<M: Carriers> {
     // Whether the TPS bits so far turn the sign of the TPS cells.
     turned: bool,
     // The bytes of the cells of the labels, and what the carriers of the symbols 0 to 3 send, which the others repeat.
-    cells: [[u8; 4]; 64],
+    cells: [[u8; 5]; 64],
     sources: [[Source; 6817]; 4],
     of: PhantomData<M>,
 }
@@ -136,11 +137,11 @@ impl<M: Carriers> SymbolOut<M> {
     }
 
     // The bytes of a carrier that sends this, behind those that sent the first `next` labels.
-    fn bytes(&self, source: Source, labels: &[u8], next: usize) -> [u8; 4]
+    fn bytes(&self, source: Source, labels: &[u8], next: usize) -> [u8; 5]
         requires next { source ≡ Source.Label → next < length labels.now }
         requires small { source ≡ Source.Label → get_or labels.now next 0 < 2 ^ label_bits self.now.settings.shape }
         ensures { (k : ℕ) → source ≡ source_of (kind M.MODE (self.now.number % 68) k) (reference k) → next ≡ labels_before M.MODE (self.now.number % 68) k
-            → result ≡ cell_bytes (cell_at self.now.settings self.now.number (bits_of labels.now) k) }
+            → result ≡ sent_bytes (cell_at self.now.settings self.now.number (bits_of labels.now) k) }
     {
         match source {
             Source::Label => self.cells[labels[next] as usize],
@@ -169,13 +170,13 @@ impl<M: Carriers> SymbolOut<M> {
     }
 
     /// Appends the next symbol, whose payload carriers carry the labels in rising order: bit e of a
-    /// label is y_e of EN 300 744, 4.3.5. The spare of `to` has room for the four bytes of each carrier.
+    /// label is y_e of EN 300 744, 4.3.5. The spare of `to` has room for the five bytes of each carrier.
     pub fn write(&mut self, labels: &[u8], to: &mut Vec<u8>)
         requires count { length labels.now ≡ M.NMAX }
         requires small { (q : ℕ) → q < M.NMAX → get_or labels.now q 0 < 2 ^ label_bits self.old.settings.shape }
-        requires spare { vec_len to.old + 4 * M.K ≤ vec_capacity to.old }
+        requires spare { vec_len to.old + 5 * M.K ≤ vec_capacity to.old }
         ensures bytes { to.new.items ≡ to.old.items ++ symbol_bytes self.old.settings self.old.number (bits_of labels.now) }
-        ensures len { vec_len to.new ≡ vec_len to.old + 4 * M.K }
+        ensures len { vec_len to.new ≡ vec_len to.old + 5 * M.K }
         ensures capacity { vec_capacity to.new ≡ vec_capacity to.old }
         ensures settings { self.new.settings ≡ self.old.settings }
         ensures number { self.new.number ≡ (self.old.number + 1) % 272 }
@@ -184,7 +185,7 @@ impl<M: Carriers> SymbolOut<M> {
         let mut next = 0;
         for k in 0..M::K {
             let source = self.source(k);
-            push_four(self.bytes(source, labels, next), to);
+            push_five(self.bytes(source, labels, next), to);
             next = source.after(next);
         }
         self.advance();

@@ -13,9 +13,10 @@ use Rattle.mode_set.specs.declared.modes.Stream.TheVariants.{Hp, Lp}
 use Rattle.mode_set.specs.declared.settings.Settings.{Settings as TheSettings}
 use Rattle.run_clauses.specs.declared.work.Refusal.{Refusal}
 use Rattle.run_clauses.specs.declared.work.SettingsRefusal.TheVariants.{Form}
-use Rattle.run_clauses.specs.declared.work.Refusal.TheVariants.{Usage, Settings, ReadFault, WriteFault, NotSync, Memory, Limit}
+use Rattle.run_clauses.specs.declared.work.Refusal.TheVariants.{Usage, Settings, ReadFault, WriteFault, NotSync, Memory, Limit, Cells}
 use Rattle.run_clauses.specs.Command.{Command, Files, IsInput, IsOutput, input_file, is_among, named, refusal_of, unread}
 use Rattle.run_clauses.specs.Run.{IsUntaken}
+use Rattle.run_steps.proofs.Taken.{all_unread}
 use Rattle.run_clauses.specs.SettingsFile.{most_settings, settings_refusal}
 use Rattle.run_clauses.specs.StatedSettings.{settings_of}
 use Rattle.run_clauses.specs.StreamForm.{fits_form, form_refusal}
@@ -242,10 +243,10 @@ module _ (limit : ℕ) (name hp : List ℕ) (lp : Option (List ℕ)) (cells : Li
 
     untaken : IsWhole end.hp (start.file hp) × IsWhole end.lp (named start.file lp) → (port : InPort) → port ≢ ins.Settings → IsInput c port → IsUntaken c end port
     untaken whole ins.Settings other is = absurd (other refl)
-    untaken whole ins.Hp other is =
-        ap (λ (f : Files). if end.hp.attached then end.hp.left else f hp) file_same ∙ unread_whole end.hp (start.file hp) whole.0 ∙ sym (ap (λ (f : Files). f hp) file_same)
-    untaken whole ins.Lp other is =
-        ap (λ (f : Files). if end.lp.attached then end.lp.left else named f lp) file_same ∙ unread_whole end.lp (named start.file lp) whole.1 ∙ sym (ap (λ (f : Files). named f lp) file_same)
+    untaken whole ins.Hp other is = all_unread c end ins.Hp (
+        ap (λ (f : Files). if end.hp.attached then end.hp.left else f hp) file_same ∙ unread_whole end.hp (start.file hp) whole.0 ∙ sym (ap (λ (f : Files). f hp) file_same))
+    untaken whole ins.Lp other is = all_unread c end ins.Lp (
+        ap (λ (f : Files). if end.lp.attached then end.lp.left else named f lp) file_same ∙ unread_whole end.lp (named start.file lp) whole.1 ∙ sym (ap (λ (f : Files). named f lp) file_same))
     untaken whole ins.Cells other is = absurd (true≢false (sym is))
 
     work_behind : (port : InPort) → port ≢ ins.Settings → IsInput c port → IsUntaken c end port ⊎ AreMade c end
@@ -276,6 +277,7 @@ module _ (limit : ℕ) (name hp : List ℕ) (lp : Option (List ℕ)) (cells : Li
       settings_first = λ is. inr (ap (λ (x : Source). x.attached) settings_is ∙ settings.attached, λ t. (ap (λ (x : Source). x.left) settings_is ∙ settings.left t, early_none t));
       lp_behind_hp = ports.lp_behind_hp;
       outputs_behind_inputs = behind;
+      outputs_behind_header = λ t out. inr tt;
       lp_made_behind_hp = inl (ap (λ (x : Meaning). x.lp_out.asked) ports.others ∙ fresh.lp_out.asked);
       work_behind_outputs = λ t port other is. work_behind port other is;
       taken = took;
@@ -342,6 +344,7 @@ module _ (limit : ℕ) (name hp : List ℕ) (lp : Option (List ℕ)) (cells : Li
 
     by_refusal : (r : Refusal) → HasCause {T = TransmissionCounts} before end (Err r) → OpensAll hp lp cells before end (Err r) ⊎ Worked s limit hp lp cells before end (Err r) → Ended c limit start end (Some r)
     by_refusal Usage cause ran = absurd cause
+    by_refusal (Cells reason) cause ran = absurd cause
     by_refusal (Settings reason) cause ran = absurd cause
     by_refusal Memory cause ran = absurd cause
     by_refusal ReadFault cause ran = refused end ports ReadFault refl cause.0 cause.1 cause.2 tt (record {

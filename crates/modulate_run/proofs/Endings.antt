@@ -9,18 +9,17 @@ use Rattle.mode_set.specs.StreamTable.{has_stream}
 use Rattle.mode_set.specs.declared.modes.Stream.{Stream}
 use Rattle.mode_set.specs.declared.modes.Stream.TheVariants.{Lp}
 use Rattle.mode_set.specs.declared.settings.Settings.{Settings as TheSettings}
-use Rattle.transmission.specs.Transmission.{Inputs, first_symbols}
+use Rattle.transmission.specs.Transmission.{Inputs}
 use Rattle.transmission.specs.AgendaLaws.{IsAt, WorkBegins}
-use Rattle.transmission.specs.Laws.{NoSymbol}
 use Rattle.modulate_run.specs.declared.counts.TransmissionCounts.{TransmissionCounts}
 use Rattle.run_clauses.specs.declared.work.Refusal.{Refusal}
-use Rattle.run_clauses.specs.declared.work.Refusal.TheVariants.{Usage, Settings, ReadFault, WriteFault, NotSync, Memory, Limit}
+use Rattle.run_clauses.specs.declared.work.Refusal.TheVariants.{Usage, Settings, ReadFault, WriteFault, NotSync, Memory, Limit, Cells}
 use Rattle.run_clauses.specs.Command.{named}
 use Rattle.run_clauses.specs.StreamForm.{fits_form}
-use Rattle.modulate_run.specs.ModulateCommand.{files_of, inputs_of, lines_before, modulation_lines, modulation_refusal, transmission_counts, transmission_lines}
+use Rattle.modulate_run.specs.ModulateCommand.{files_of, inputs_of, lines_before, modulation_lines, modulation_refusal, transmission_counts, transmission_lines, file_of_symbols}
 use Rattle.modulate_run.specs.Inputs.{Reads, left_of, lp_left}
 use Rattle.modulate_run.specs.Seen.{Seen}
-use Rattle.modulate_run.specs.Work.{Ends, IsWritten, KeepsOthers, Modulates, TakeFew}
+use Rattle.modulate_run.specs.Work.{Ends, IsAtWork, KeepsOthers, Modulates, TakeFew}
 use Rattle.modulate_run.specs.Reporting.{Finishes, IsFinish}
 use Rattle.modulate_run.specs.Steps.{ClosesRefused, HasPrinted, IsClosed, IsNew, OpensAll, Ran, first_inputs, lp_source}
 
@@ -61,19 +60,17 @@ module _ (s : TheSettings) (limit : ℕ) (hp : List ℕ) (lp : Option (List ℕ)
   tells : mid.tells ≡ old.tells
   tells = ap (λ (x : Meaning). x.tells) opened
 
-  pub starts : WorkBegins → NoSymbol → old.lp.attached ≡ false → (t : Seen) (put : Inputs → Type 0) → IsNew t → put (inputs_of files) → IsWritten limit files mid (first_inputs (is_some lp)) t put
-  starts begins none closed t put new stands = record {
-    work = record {
-      at = at;
-      stands = stands;
-      read = record {
-        hp = record { within = omega arith; rest = (ap (λ (x : Meaning). x.hp.left) opened, new.hp) };
-        lp = lp_reads lp old mid t.lp new.lp closed (ap (λ (x : Meaning). x.lp) opened);
-      };
+  pub unwritten : mid.cells_out.written ≡ []
+  unwritten = ap (λ (x : Meaning). x.cells_out.written) opened
+
+  pub starts : WorkBegins → old.lp.attached ≡ false → (t : Seen) (put : Inputs → Type 0) → IsNew t → put (inputs_of files) → IsAtWork limit files mid (first_inputs (is_some lp)) t put
+  starts begins closed t put new stands = record {
+    at = at;
+    stands = stands;
+    read = record {
+      hp = record { within = omega arith; rest = (ap (λ (x : Meaning). x.hp.left) opened, new.hp) };
+      lp = lp_reads lp old mid t.lp new.lp closed (ap (λ (x : Meaning). x.lp) opened);
     };
-    written =
-        ap (λ (x : Meaning). x.cells_out.written) opened ∙ sym (none t.settings (inputs_of files))
-        ∙ ap (λ (n : ℕ). first_symbols t.settings (inputs_of files) n) (sym new.made);
   }
     where
       at : IsAt t.settings limit (inputs_of files) t.made t.hp t.lp
@@ -99,6 +96,7 @@ module _ (s : TheSettings) (limit : ℕ) (hp : List ℕ) (lp : Option (List ℕ)
     -- what holds of the cells and of what is left holds also when Cells is closed
     ends_same : (n : ℕ) (r : Refusal) → Ends s limit files fin r → Ends s limit files (record fin { cells_out = record fin.cells_out { closed = true }; write_faults = n }) r
     ends_same n Usage e = e
+    ends_same n (Cells reason) e = e
     ends_same n (Settings reason) e = e
     ends_same n ReadFault e = e
     ends_same n WriteFault e = e
@@ -120,6 +118,7 @@ module _ (s : TheSettings) (limit : ℕ) (hp : List ℕ) (lp : Option (List ℕ)
 
         none : (r : Refusal) → HasPrinted (modulation_lines s limit (is_some lp) files) old new (Err r)
         none Usage = report_same
+        none (Cells reason) = report_same
         none (Settings reason) = report_same
         none ReadFault = report_same
         none WriteFault = (0, report_same ∙ sym (append-nil old.report.written))

@@ -10,7 +10,7 @@ use Rattle.transmission.specs.Transmission.{Inputs, by_stream}
 use Rattle.transmission.specs.Agenda.{packet_refusal}
 use Rattle.transmission.specs.Agenda as agenda
 use Rattle.run_clauses.specs.declared.work.Refusal.{Refusal}
-use Rattle.run_clauses.specs.declared.work.Refusal.TheVariants.{Usage, Settings, ReadFault, WriteFault, NotSync, Memory, Limit}
+use Rattle.run_clauses.specs.declared.work.Refusal.TheVariants.{Usage, Settings, ReadFault, WriteFault, NotSync, Memory, Limit, Cells}
 use Rattle.run_clauses.specs.Packets.{accepted, is_accepted, is_sync, whole_packets}
 use Rattle.run_clauses.proofs.Accepting.{accepted_from}
 use Rattle.modulate_run.specs.declared.inputs.PacketInputs.{PacketInputs}
@@ -119,6 +119,7 @@ module _ (limit : ℕ) (files : Stream → List ℕ) (t : Seen) (m m' : Meaning)
       record { hp = g.2; lp = lp_near },
     )
     gives_of_hp (Err Usage) g = (g.0, record { hp = g.1; lp = lp_near })
+    gives_of_hp (Err (Cells reason)) g = (g.0, record { hp = g.1; lp = lp_near })
     gives_of_hp (Err (Settings reason)) g = (g.0, record { hp = g.1; lp = lp_near })
     gives_of_hp (Err WriteFault) g = (g.0, record { hp = g.1; lp = lp_near })
     gives_of_hp (Err (NotSync σ p)) g = (g.0, record { hp = g.1; lp = lp_near })
@@ -144,6 +145,7 @@ module _ (limit : ℕ) (files : Stream → List ℕ) (t : Seen) (m m' : Meaning)
       record { hp = hp_near; lp = g.2 },
     )
     gives_of_lp (Err Usage) g = (g.0, record { hp = hp_near; lp = g.1 })
+    gives_of_lp (Err (Cells reason)) g = (g.0, record { hp = hp_near; lp = g.1 })
     gives_of_lp (Err (Settings reason)) g = (g.0, record { hp = hp_near; lp = g.1 })
     gives_of_lp (Err WriteFault) g = (g.0, record { hp = hp_near; lp = g.1 })
     gives_of_lp (Err (NotSync σ p)) g = (g.0, record { hp = hp_near; lp = g.1 })

@@ -3,6 +3,8 @@ pub mod Taking
 pub mod Few
 pub mod Stopping
 pub mod Sending
+pub mod Fronts
+pub mod Heading
 pub mod WholeWork
 pub mod Keeping
 pub mod Lines

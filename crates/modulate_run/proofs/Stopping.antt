@@ -8,14 +8,14 @@ use Rattle.mode_set.specs.declared.modes.Stream.{Stream}
 use Rattle.mode_set.specs.declared.modes.Stream.TheVariants.{Hp, Lp}
 use Rattle.mode_set.specs.declared.settings.Settings.{Settings as TheSettings}
 use Rattle.outer_chain.specs.Sent.{packet_at}
-use Rattle.transmission.specs.Transmission.{Inputs, by_stream, first_symbols}
+use Rattle.transmission.specs.Transmission.{Inputs, by_stream}
 use Rattle.transmission.specs.SuperFrames.{packets_for, symbols_of}
 use Rattle.transmission.specs.Agenda.{IsEnoughFor, first_refusal, next_stream, packet_refusal, symbols_sent}
 use Rattle.transmission.specs.Agenda as agenda
 use Rattle.transmission.specs.AgendaLaws.{IsAt, StopsAt, TakesOfHp, TakesOfLp, StopsAtPacket, SentSoFar, SentAtFault}
 use Rattle.run_clauses.specs.declared.work.Refusal.{Refusal}
-use Rattle.run_clauses.specs.declared.work.Refusal.TheVariants.{Usage, Settings, ReadFault, WriteFault, NotSync, Memory, Limit}
-use Rattle.modulate_run.specs.ModulateCommand.{HoldsSymbolsSoFar, cells_sent, inputs_of, modulation_refusal, refused_by, sent_by, taken_of}
+use Rattle.run_clauses.specs.declared.work.Refusal.TheVariants.{Usage, Settings, ReadFault, WriteFault, NotSync, Memory, Limit, Cells}
+use Rattle.modulate_run.specs.ModulateCommand.{HoldsSymbolsSoFar, cells_sent, inputs_of, modulation_refusal, refused_by, sent_by, taken_of, file_of_symbols}
 use Rattle.modulate_run.specs.Inputs.{left_of}
 use Rattle.modulate_run.specs.declared.inputs.PacketInputs.{PacketInputs}
 use Rattle.modulate_run.specs.Seen.{Seen, wanted, with_one}
@@ -39,8 +39,8 @@ is_short s m hp lp Lp e = ltb-true lp (packets_for s Lp (m + 1)) (lp_only (nat_l
 
 -- ---- the work is refused
 -- the cells of the symbols before a refusal
-pub cells_at : (s : TheSettings) (limit : ℕ) (inputs : Inputs) (r : agenda.Refusal) (m : ℕ) → StopsAt s limit inputs r m → cells_sent s limit inputs ≡ first_symbols s inputs m
-cells_at s limit inputs r m stops = ap (sent_by s limit inputs) stops.first ∙ ap (first_symbols s inputs) stops.sent
+pub cells_at : (s : TheSettings) (limit : ℕ) (inputs : Inputs) (r : agenda.Refusal) (m : ℕ) → StopsAt s limit inputs r m → cells_sent s limit inputs ≡ file_of_symbols s inputs m
+cells_at s limit inputs r m stops = ap (sent_by s limit inputs) stops.first ∙ ap (file_of_symbols s inputs) stops.sent
 
 not_write_fault : (a : agenda.Refusal) → Some (refused_by a) ≡ Some WriteFault → ⊥
 not_write_fault (agenda.Limit n) e = cc
@@ -51,11 +51,11 @@ module _ (at_packet : StopsAtPacket) (so_far : SentSoFar) (at_fault : SentAtFaul
     (at : IsAt t.settings limit (inputs_of files) t.made t.hp t.lp) where
   -- a packet that is refused
   refused : (r : Refusal) → option_map refused_by (packet_refusal limit (inputs_of files) σ (by_stream t.hp t.lp σ)) ≡ Some r
-      → (modulation_refusal t.settings limit (inputs_of files) ≡ Some r) × (cells_sent t.settings limit (inputs_of files) ≡ first_symbols t.settings (inputs_of files) t.made)
+      → (modulation_refusal t.settings limit (inputs_of files) ≡ Some r) × (cells_sent t.settings limit (inputs_of files) ≡ file_of_symbols t.settings (inputs_of files) t.made)
   refused r is = go (packet_refusal limit (inputs_of files) σ (by_stream t.hp t.lp σ)) refl is
     where
       go : (o : Option agenda.Refusal) → packet_refusal limit (inputs_of files) σ (by_stream t.hp t.lp σ) ≡ o → option_map refused_by o ≡ Some r
-          → (modulation_refusal t.settings limit (inputs_of files) ≡ Some r) × (cells_sent t.settings limit (inputs_of files) ≡ first_symbols t.settings (inputs_of files) t.made)
+          → (modulation_refusal t.settings limit (inputs_of files) ≡ Some r) × (cells_sent t.settings limit (inputs_of files) ≡ file_of_symbols t.settings (inputs_of files) t.made)
       go None e is = absurd (let e' : None ≡ Some r = is in cc)
       go (Some a) e is =
           let stops = at_packet t.settings limit (inputs_of files) t.made t.hp t.lp σ a at due.more due.within is_wanted e in
@@ -103,7 +103,7 @@ module _ (at_packet : StopsAtPacket) (so_far : SentSoFar) (at_fault : SentAtFaul
     at_end Lp = tell.lp.none
 
     -- a read that has failed
-    failed : HoldsSymbolsSoFar t.settings limit files (left_of m) (first_symbols t.settings (inputs_of files) t.made)
+    failed : HoldsSymbolsSoFar t.settings limit files (left_of m) (file_of_symbols t.settings (inputs_of files) t.made)
     failed = record {
       met = met;
       at_end = at_end;
@@ -119,6 +119,7 @@ module _ (at_packet : StopsAtPacket) (so_far : SentSoFar) (at_fault : SentAtFaul
 
   pub stops : (m : Meaning) (inputs : PacketInputs) (r : Refusal) → GivesOf limit files σ t m inputs (Err r) → Stops limit files m t r
   stops m inputs Usage g = refused Usage g.0
+  stops m inputs (Cells reason) g = refused (Cells reason) g.0
   stops m inputs (Settings reason) g = refused (Settings reason) g.0
   stops m inputs ReadFault g = failed m inputs g.0 g.1
   stops m inputs WriteFault g = never_write_fault g.0
@@ -129,6 +130,7 @@ module _ (at_packet : StopsAtPacket) (so_far : SentSoFar) (at_fault : SentAtFaul
 -- whatever the reason, no more than one packet was taken behind those that were put
 pub are_near : (limit : ℕ) (files : Stream → List ℕ) (σ : Stream) (t : Seen) (m : Meaning) (inputs : PacketInputs) (r : Refusal) → GivesOf limit files σ t m inputs (Err r) → AreNear files m t
 are_near limit files σ t m inputs Usage g = g.1
+are_near limit files σ t m inputs (Cells reason) g = g.1
 are_near limit files σ t m inputs (Settings reason) g = g.1
 are_near limit files σ t m inputs ReadFault g = g.2
 are_near limit files σ t m inputs WriteFault g = g.1

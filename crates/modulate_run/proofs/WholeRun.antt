@@ -3,7 +3,7 @@ use Rattle.std.proofs.Common.{◌≡◌, inl, inr, true, ℕ, List, Option, Some
 use Rattle.station_core.specs.Meaning.{Meaning, IsFresh}
 use Rattle.mode_set.specs.declared.settings.Settings.{Settings as TheSettings}
 use Rattle.run_clauses.specs.declared.work.Refusal.{Refusal}
-use Rattle.run_clauses.specs.declared.work.Refusal.TheVariants.{Usage, Settings, ReadFault, WriteFault, NotSync, Memory, Limit}
+use Rattle.run_clauses.specs.declared.work.Refusal.TheVariants.{Usage, Settings, ReadFault, WriteFault, NotSync, Memory, Limit, Cells}
 use Rattle.run_clauses.specs.Command.{Command, is_among}
 use Rattle.run_clauses.specs.Run.{Run}
 use Rattle.run_clauses.specs.Text.{refusal_status, refusal_text, status_of}
@@ -26,6 +26,7 @@ module _ (limit : ℕ) (name hp : List ℕ) (lp : Option (List ℕ)) (cells : Li
   -- ---- refused before another port is asked
   early : (r : Refusal) → Accepts name lp start mid (Err r) → RefusedEarly c limit start mid r
   early Usage a = absurd a
+  early (Cells reason) a = absurd a
   early (Settings reason) a = a
   early ReadFault a = (a, asks.later)
   early WriteFault a = a
@@ -35,6 +36,7 @@ module _ (limit : ℕ) (name hp : List ℕ) (lp : Option (List ℕ)) (cells : Li
 
   known : (r : Refusal) → Accepts name lp start mid (Err r) → is_among (status_of (Some r)) c.statuses ≡ true
   known Usage a = absurd a
+  known (Cells reason) a = absurd a
   known (Settings reason) a = refl
   known ReadFault a = refl
   known WriteFault a = absurd a

@@ -8,7 +8,7 @@ use Rattle.mode_set.specs.StreamTable.{has_stream, words_per_super_frame}
 use Rattle.mode_set.specs.declared.modes.Stream.{Stream}
 use Rattle.mode_set.specs.declared.modes.Stream.TheVariants.{Hp, Lp}
 use Rattle.mode_set.specs.declared.settings.Settings.{Settings as TheSettings}
-use Rattle.transmission.specs.Transmission.{Inputs, by_stream, first_symbols}
+use Rattle.transmission.specs.Transmission.{Inputs, by_stream}
 use Rattle.transmission.specs.SuperFrames.{packets_for, super_frames, symbols_of}
 use Rattle.transmission.specs.Agenda as agenda
 use Rattle.transmission.specs.AgendaLaws.{EndsUnrefused, StopsAtLimit}
@@ -16,7 +16,7 @@ use Rattle.transmission.specs.Laws.{PacketsOfSuperFrames, TheFormulaIsLeast}
 use Rattle.modulate_run.specs.declared.counts.TransmissionCounts.{TransmissionCounts}
 use Rattle.run_clauses.specs.declared.work.Refusal.TheVariants.{Limit}
 use Rattle.run_clauses.specs.Packets.{packets_of, tail_of, whole_packets}
-use Rattle.modulate_run.specs.ModulateCommand.{inputs_of, refused_by, sent_by, transmission_counts}
+use Rattle.modulate_run.specs.ModulateCommand.{inputs_of, refused_by, sent_by, transmission_counts, file_of_symbols}
 use Rattle.modulate_run.specs.Inputs.{left_of}
 use Rattle.run_clauses.proofs.FilePackets.{count_is}
 use Rattle.modulate_run.specs.declared.inputs.PacketInputs.{PacketInputs}
@@ -92,7 +92,7 @@ module _ (limit : ℕ) (files : Stream → List ℕ) (m : Meaning) (inputs : Pac
         hp.0,
         lp.0,
         ap (option_map refused_by) through.none,
-        w.written ∙ ap (first_symbols t.settings (inputs_of files)) all ∙ sym (ap (sent_by t.settings limit (inputs_of files)) through.none),
+        w.written ∙ ap (file_of_symbols t.settings (inputs_of files)) all ∙ sym (ap (sent_by t.settings limit (inputs_of files)) through.none),
         few,
       )
 

@@ -9,6 +9,7 @@ use Rattle.station_core.specs.declared.ports.OutPort.TheVariants as outs
 use Rattle.mode_set.specs.declared.modes.Stream.{Stream}
 use Rattle.mode_set.specs.declared.modes.Stream.TheVariants.{Hp, Lp}
 use Rattle.mode_set.specs.declared.settings.Settings.{Settings as TheSettings}
+use Rattle.frame_build.specs.CellFile.{header}
 use Rattle.transmission.specs.Transmission.{Inputs, by_stream, first_symbols}
 use Rattle.transmission.specs.SuperFrames.{super_frames, tx}
 use Rattle.transmission.specs.Agenda.{IsEnoughFor, first_refusal, symbols_sent, packet_refusal}
@@ -41,10 +42,14 @@ refused_by (agenda.NotSync σ p) = NotSync σ p
 abbrev pub modulation_refusal : TheSettings → ℕ → Inputs → Option Refusal
 modulation_refusal s limit inputs = option_map refused_by (first_refusal s limit inputs)
 
--- the cells that are sent: all of the transmission, or those of the symbols before the refusal
+-- the cell file of the first n symbols: the header of the mode, and the symbols behind it
+abbrev pub file_of_symbols : TheSettings → Inputs → ℕ → List ℕ
+file_of_symbols s inputs n = header s.mode ++ first_symbols s inputs n
+
+-- the cell file that is sent: with all cells of the transmission, or with those of the symbols before the refusal
 abbrev pub sent_by : TheSettings → ℕ → Inputs → Option agenda.Refusal → List ℕ
-sent_by s limit inputs None = tx s inputs
-sent_by s limit inputs (Some refusal) = first_symbols s inputs (symbols_sent s limit inputs)
+sent_by s limit inputs None = header s.mode ++ tx s inputs
+sent_by s limit inputs (Some refusal) = file_of_symbols s inputs (symbols_sent s limit inputs)
 
 abbrev pub cells_sent : TheSettings → ℕ → Inputs → List ℕ
 cells_sent s limit inputs = sent_by s limit inputs (first_refusal s limit inputs)
@@ -89,14 +94,14 @@ left_unread unread σ = unread (port_of σ)
 abbrev pub taken_of : (files left : Stream → List ℕ) → Stream → ℕ
 taken_of files left σ = (length (files σ) - length (left σ)) / 188
 
--- After a failed read Cells holds as many symbols as the whole packets taken suffice for, where null
+-- After a failed read Cells holds its header and as many symbols as the whole packets taken suffice for, where null
 -- packets follow those of an input whose end was met. Nothing before them is refused.
 pub record HoldsSymbolsSoFar (s : TheSettings) (limit : ℕ) (files left : Stream → List ℕ) (written : List ℕ) : Type 0 where
   pub met : Stream → Bool
   pub at_end : (σ : Stream) → met σ ≡ true → left σ ≡ []
   pub symbols : ℕ
   pub enough : IsEnoughFor s (taken_of files left) met symbols
-  pub is : written ≡ first_symbols s (inputs_of files) symbols
+  pub is : written ≡ file_of_symbols s (inputs_of files) symbols
   pub in_order : symbols ≤ symbols_sent s limit (inputs_of files)
   pub accepted : (σ : Stream) (p : ℕ) → p < taken_of files left σ → packet_refusal limit (inputs_of files) σ p ≡ None
 
@@ -126,7 +131,7 @@ modulate_takes hp lp limit file ins.Hp = most_packets_taken limit (file hp)
 modulate_takes hp lp limit file ins.Lp = most_packets_taken limit (named file lp)
 modulate_takes hp lp limit file ins.Cells = 0
 
--- Cells comes to the cells that are sent by the settings that the file states; no other output is written.
+-- Cells comes to the cell file that is sent by the settings that the file states; no other output is written.
 abbrev pub ModulateComes : List ℕ → List ℕ → Option (List ℕ) → ℕ → Files → OutPort → List ℕ → Type 0
 ModulateComes settings hp lp limit file outs.Cells bytes =
     (s : TheSettings) × (settings_of (file settings) ≡ Some s) × (bytes ≡ cells_sent s limit (inputs_of (files_of file hp lp)))
@@ -137,7 +142,7 @@ abbrev pub ModulatePrints : List ℕ → List ℕ → Option (List ℕ) → ℕ 
 ModulatePrints settings hp lp limit file lines =
     (s : TheSettings) × (settings_of (file settings) ≡ Some s) × (lines ≡ modulation_lines s limit (is_some lp) (files_of file hp lp))
 
--- After a failed read Cells holds the symbols of the packets taken, by the settings that the file states.
+-- After a failed read Cells holds the header and the symbols of the packets taken, by the settings that the file states.
 abbrev pub ModulateComesSoFar : List ℕ → List ℕ → Option (List ℕ) → ℕ → Files → Unread → OutPort → List ℕ → Type 0
 ModulateComesSoFar settings hp lp limit file unread outs.Cells bytes =
     (s : TheSettings) × (settings_of (file settings) ≡ Some s) × HoldsSymbolsSoFar s limit (files_of file hp lp) (left_unread unread) bytes
@@ -149,6 +154,7 @@ modulate_command settings hp lp cells = record {
   writes = modulate_writes cells;
   statuses = 0 ∷ 3 ∷ 4 ∷ 5 ∷ 6 ∷ 7 ∷ 8 ∷ [];
   early_refusal = λ file. fitting_refusal (file settings) lp;
+  header = λ file. None;
   work_refusal = modulate_refusal settings hp lp;
   most_taken = modulate_takes hp lp;
   Comes = ModulateComes settings hp lp;

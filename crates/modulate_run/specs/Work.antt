@@ -5,7 +5,7 @@ use Rattle.station_core.specs.Meaning.{Meaning}
 use Rattle.mode_set.specs.declared.modes.Stream.{Stream}
 use Rattle.mode_set.specs.declared.modes.Stream.TheVariants.{Hp, Lp}
 use Rattle.mode_set.specs.declared.settings.Settings.{Settings}
-use Rattle.transmission.specs.Transmission.{Inputs, by_stream, first_symbols}
+use Rattle.transmission.specs.Transmission.{Inputs, by_stream}
 use Rattle.transmission.specs.SuperFrames.{super_frames, symbols_of}
 use Rattle.outer_chain.specs.Sent.{packet_at}
 use Rattle.transmission.specs.Agenda.{packet_refusal}
@@ -13,7 +13,7 @@ use Rattle.transmission.specs.AgendaLaws.{IsAt}
 use Rattle.run_clauses.specs.declared.work.Refusal.{Refusal}
 use Rattle.run_clauses.specs.declared.work.Refusal.TheVariants.{ReadFault, WriteFault}
 use Rattle.run_clauses.specs.Packets.{most_packets_taken}
-use Rattle.modulate_run.specs.ModulateCommand.{HoldsSymbolsSoFar, cells_sent, inputs_of, modulation_refusal, refused_by, transmission_counts}
+use Rattle.modulate_run.specs.ModulateCommand.{HoldsSymbolsSoFar, cells_sent, inputs_of, modulation_refusal, refused_by, transmission_counts, file_of_symbols}
 use Rattle.modulate_run.specs.declared.counts.TransmissionCounts.{TransmissionCounts}
 use Rattle.modulate_run.specs.declared.inputs.PacketInputs.{PacketInputs}
 use Rattle.modulate_run.specs.declared.input.PacketInput.{PacketInput}
@@ -95,10 +95,10 @@ pub record IsDue (files : Stream → List ℕ) (t : Seen) : Type 0 where
 
 -- why the work stops before a symbol: for the first refusal of all, or a failed read
 abbrev pub Stops : ℕ → (Stream → List ℕ) → Meaning → Seen → Refusal → Type 0
-Stops limit files m t ReadFault = HoldsSymbolsSoFar t.settings limit files (left_of m) (first_symbols t.settings (inputs_of files) t.made)
+Stops limit files m t ReadFault = HoldsSymbolsSoFar t.settings limit files (left_of m) (file_of_symbols t.settings (inputs_of files) t.made)
 Stops limit files m t WriteFault = ⊥
 Stops limit files m t refusal =
-    (modulation_refusal t.settings limit (inputs_of files) ≡ Some refusal) × (cells_sent t.settings limit (inputs_of files) ≡ first_symbols t.settings (inputs_of files) t.made)
+    (modulation_refusal t.settings limit (inputs_of files) ≡ Some refusal) × (cells_sent t.settings limit (inputs_of files) ≡ file_of_symbols t.settings (inputs_of files) t.made)
 
 -- the work goes on, or stops
 abbrev pub GoesOn : ℕ → (Stream → List ℕ) → Meaning → PacketInputs → Seen → (Inputs → Type 0) → Result (Unit {0}) Refusal → Type 0
@@ -116,15 +116,15 @@ Ends s limit files m refusal =
 abbrev pub WritesCells : Meaning → Meaning → Type 0
 WritesCells old new = new ≡ record old { cells_out = record old.cells_out { written = new.cells_out.written }; write_faults = new.write_faults }
 
--- a symbol was written, or a front of it
-abbrev pub WritesSymbol : List ℕ → Meaning → Meaning → Result (Unit {0}) Refusal → Type 0
-WritesSymbol symbol old new (Ok u) = new.cells_out.written ≡ old.cells_out.written ++ symbol
-WritesSymbol symbol old new (Err refusal) = (refusal ≡ WriteFault) × (k : ℕ) × (new.cells_out.written ≡ old.cells_out.written ++ take k symbol)
+-- these bytes were written, or a front of them
+abbrev pub WritesBytes : List ℕ → Meaning → Meaning → Result (Unit {0}) Refusal → Type 0
+WritesBytes bytes old new (Ok u) = new.cells_out.written ≡ old.cells_out.written ++ bytes
+WritesBytes bytes old new (Err refusal) = (refusal ≡ WriteFault) × (k : ℕ) × (new.cells_out.written ≡ old.cells_out.written ++ take k bytes)
 
--- the symbols made were written
+-- the header and the symbols made were written
 pub record IsWritten (limit : ℕ) (files : Stream → List ℕ) (m : Meaning) (inputs : PacketInputs) (t : Seen) (put : Inputs → Type 0) : Type 0 where
   pub work : IsAtWork limit files m inputs t put
-  pub written : m.cells_out.written ≡ first_symbols t.settings (inputs_of files) t.made
+  pub written : m.cells_out.written ≡ file_of_symbols t.settings (inputs_of files) t.made
 
 -- a symbol more, or a refusal
 abbrev pub Sends : ℕ → (Stream → List ℕ) → Meaning → PacketInputs → Seen → (Inputs → Type 0) → Result (Unit {0}) Refusal → Type 0

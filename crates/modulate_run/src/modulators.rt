@@ -12,7 +12,7 @@ impl<M: Carriers> Transmitter for Modulator<M> {
 
     ghost stands = { λ tx inputs. HasPut tx inputs };
 
-    ghost symbol_len = { 4 * M.K };
+    ghost symbol_len = { 5 * M.K };
 
     fn wants(&self) -> Option<Stream> {
         match self.wants() {

@@ -9,13 +9,13 @@ ghost use Rattle.modulate_run.specs.Steps.{IsNew, IsReady, Ran, RunsModulation};
 use crate::counts::TransmissionCounts;
 use crate::inputs::PacketInputs;
 use crate::steps::{close_refused, finish, open};
-use crate::symbols::send_all;
+use crate::symbols::send_file;
 use crate::transmitter::Transmitter;
 use mode_set::Settings;
 use run_clauses::{Limits, Refusal};
 use run_steps::refuse;
 use station_core::Station;
-use transmission::laws::{symbols, work};
+use transmission::laws::work;
 
 /// The names of the files of a modulation.
 #[derive(Clone, Copy)]
@@ -48,13 +48,12 @@ fn modulate_all<'a, T: Transmitter, S: Station<'a>>(
     ensures ran { Ran (T.seen tx.old).settings limits.now.packets names.entry.hp.now (option_copied names.entry.lp) names.entry.cells.now (S.meaning station.old) (S.meaning station.new) result }
 {
     work();
-    symbols();
     match open(names.hp, names.lp, names.cells, station) {
         Ok(()) => {}
         Err(refusal) => return Err(refusal),
     }
     let two = names.lp.is_some();
-    match send_all(
+    match send_file(
         limits,
         settings,
         PacketInputs::first(two),

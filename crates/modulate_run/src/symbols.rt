@@ -3,18 +3,34 @@ ghost use Rattle.std.specs.Prelude.{◌≡◌, ◌≤◌, ◌<◌, ◌*◌, ◌+
 ghost use Rattle.mode_set.specs.StreamTable.{has_stream};
 ghost use Rattle.mode_set.specs.declared.modes.Stream.TheVariants.{Lp};
 ghost use Rattle.mode_set.specs.declared.modes.Stream.{Stream as AnyStream};
+ghost use Rattle.frame_build.specs.CellFile.{header as header_of};
 ghost use Rattle.transmission.specs.Transmission.{Inputs, tx_symbol};
 ghost use Rattle.run_steps.specs.Causes.{HasCause};
 ghost use Rattle.modulate_run.specs.Seen.{wanted};
-ghost use Rattle.modulate_run.specs.Work.{AreOpen, AreWithin, GoesOn, IsAtWork, IsDue, IsWritten, KeepsOthers, KeepsOutputs, Modulates, Sends, WritesCells, WritesSymbol};
+ghost use Rattle.modulate_run.specs.Work.{AreOpen, AreWithin, GoesOn, IsAtWork, IsDue, IsWritten, KeepsOthers, KeepsOutputs, Modulates, Sends, WritesCells, WritesBytes};
 
 use crate::counts::TransmissionCounts;
 use crate::inputs::PacketInputs;
 use crate::transmitter::Transmitter;
-use mode_set::Settings;
+use frame_build::header;
+use mode_set::{Mode, Settings};
 use run_clauses::{Limits, Refusal};
 use station_core::{OutPort, Station};
 use transmission::laws::{packets, super_frames, symbols, work};
+
+// Writes the header of the cell file.
+fn write_header<'a, S: Station<'a>>(mode: Mode, station: &mut S) -> Result<(), Refusal>
+    requires created { (S.meaning station.old).cells_out.created ≡ true }
+    requires open { (S.meaning station.old).cells_out.closed ≡ false }
+    ensures cause { HasCause (S.meaning station.old) (S.meaning station.new) result }
+    ensures others { WritesCells (S.meaning station.old) (S.meaning station.new) }
+    ensures written { IsTrue (S.meaning station.old).tells → WritesBytes (header_of mode) (S.meaning station.old) (S.meaning station.new) result }
+{
+    match station.write(OutPort::Cells, &header(mode)) {
+        Ok(()) => Ok(()),
+        Err(_) => Err(Refusal::WriteFault),
+    }
+}
 
 // Puts packets until they suffice for the next symbol.
 fn put_wanted<'a, T: Transmitter, S: Station<'a>>(
@@ -63,7 +79,7 @@ fn send_symbol<'a, T: Transmitter, S: Station<'a>>(
     ensures others { WritesCells (S.meaning station.old) (S.meaning station.new) }
     ensures stands { (inputs : Inputs) → T.stands tx.old inputs → T.stands tx.new inputs }
     ensures written { IsTrue (S.meaning station.old).tells → (inputs : Inputs) → T.stands tx.old inputs
-        → WritesSymbol (tx_symbol (T.seen tx.old).settings inputs (T.seen tx.old).made) (S.meaning station.old) (S.meaning station.new) result }
+        → WritesBytes (tx_symbol (T.seen tx.old).settings inputs (T.seen tx.old).made) (S.meaning station.old) (S.meaning station.new) result }
 {
     bytes.clear();
     tx.symbol(bytes);
@@ -107,12 +123,9 @@ fn next_symbol<'a, T: Transmitter, S: Station<'a>>(
     }
 }
 
-/// Sends all symbols of the transmission: it ends with the first super-frame at whose end all inputs
-/// have ended and their packets, and eleven words more, were carried.
-///
-/// It answers what was counted, or the first refusal: one more symbol than the limit, one more packet
-/// than the limit, a packet without its sync byte, a fault.
-pub(crate) fn send_all<'a, T: Transmitter, S: Station<'a>>(
+// Sends all symbols of the transmission: it ends with the first super-frame at whose end all inputs
+// have ended and their packets, and eleven words more, were carried.
+fn send_all<'a, T: Transmitter, S: Station<'a>>(
     limits: &Limits,
     settings: &Settings,
     mut inputs: PacketInputs,
@@ -149,4 +162,40 @@ pub(crate) fn send_all<'a, T: Transmitter, S: Station<'a>>(
         }
     }
     Err(Refusal::Limit(settings.max_symbols as u64))
+}
+
+/// Sends the cell file: its header, and then all symbols of the transmission. It ends with the first
+/// super-frame at whose end all inputs have ended and their packets, and eleven words more, were carried.
+///
+/// It answers what was counted, or the first refusal: one more symbol than the limit, one more packet
+/// than the limit, a packet without its sync byte, a fault.
+pub(crate) fn send_file<'a, T: Transmitter, S: Station<'a>>(
+    limits: &Limits,
+    settings: &Settings,
+    inputs: PacketInputs,
+    tx: &mut T,
+    bytes: &mut Vec<u8>,
+    station: &mut S,
+) -> Result<TransmissionCounts, Refusal>
+    requires few { limits.now.packets ≤ 100000000 }
+    requires same { (T.seen tx.old).settings ≡ settings.now }
+    requires two { inputs.lp.tail ≡ None → IsTrue (has_stream (T.seen tx.old).settings.hierarchy Lp) }
+    requires none_made { (T.seen tx.old).made ≡ 0 }
+    requires room { T.symbol_len ≤ vec_capacity bytes.old }
+    requires created { (S.meaning station.old).cells_out.created ≡ true }
+    requires open { (S.meaning station.old).cells_out.closed ≡ false }
+    requires inputs_open { AreOpen inputs (S.meaning station.old) }
+    requires within { AreWithin limits.now.packets inputs }
+    ensures others { KeepsOthers (S.meaning station.old) (S.meaning station.new) }
+    ensures cause { HasCause (S.meaning station.old) (S.meaning station.new) result }
+    ensures modulates { IsTrue (S.meaning station.old).tells → (files : AnyStream → List ℕ)
+        → IsAtWork limits.now.packets files (S.meaning station.old) inputs (T.seen tx.old) (T.stands tx.old)
+        → (S.meaning station.old).cells_out.written ≡ []
+        → Modulates (T.seen tx.old).settings limits.now.packets files (S.meaning station.new) result }
+{
+    symbols();
+    match write_header(settings.mode, station) {
+        Ok(()) => send_all(limits, settings, inputs, tx, bytes, station),
+        Err(refusal) => Err(refusal),
+    }
 }

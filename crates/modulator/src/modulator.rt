@@ -123,12 +123,13 @@ impl<M: Carriers> Modulator<M> {
         }
     }
 
-    /// Makes the next symbol of the transmission and appends its bytes, four for each carrier. The spare
-    /// of `to` has room for them.
+    /// Makes the next symbol of the transmission and appends its bytes, five for each carrier: its cell
+    /// and the weight 15. They are those behind the header of a cell file. The spare of `to` has room for
+    /// them.
     pub fn symbol(&mut self, to: &mut Vec<u8>)
         requires wanted { wanted self.old ≡ None }
         requires few { self.old.made < 2 ^ 32 }
-        requires spare { vec_len to.old + 4 * M.K ≤ vec_capacity to.old }
+        requires spare { vec_len to.old + 5 * M.K ≤ vec_capacity to.old }
         ensures settings { self.new.settings ≡ self.old.settings }
         ensures made { self.new.made ≡ self.old.made + 1 }
         ensures hp { self.new.hp ≡ self.old.hp }
@@ -138,7 +139,7 @@ impl<M: Carriers> Modulator<M> {
 
         // The bytes are those of the next symbol of every transmission that begins with the packets put.
         ensures bytes { (inputs : Inputs) → HasPut self.old inputs → to.new.items ≡ to.old.items ++ tx_symbol self.old.settings inputs self.old.made }
-        ensures len { vec_len to.new ≡ vec_len to.old + 4 * M.K }
+        ensures len { vec_len to.new ≡ vec_len to.old + 5 * M.K }
         ensures capacity { vec_capacity to.new ≡ vec_capacity to.old }
     {
         symbols_repeat(&self.settings, self.made);

@@ -12,10 +12,11 @@ use Rattle.station_core.specs.declared.ports.OutPort.TheVariants as outs
 use Rattle.mode_set.specs.declared.modes.Stream.{Stream}
 use Rattle.run_clauses.specs.declared.work.Counts.{Counts}
 use Rattle.run_clauses.specs.declared.work.Refusal.{Refusal}
-use Rattle.run_clauses.specs.declared.work.Refusal.TheVariants.{Usage, Settings, ReadFault, WriteFault, NotSync, Memory, Limit}
+use Rattle.run_clauses.specs.declared.work.Refusal.TheVariants.{Usage, Settings, ReadFault, WriteFault, NotSync, Memory, Limit, Cells}
 use Rattle.run_clauses.specs.Command.{Command, Files, IsInput, IsOutput, is_among, refusal_of, named, unread}
 use Rattle.run_clauses.specs.Packets.{whole_packets, first_packets, packets_of, accepted, AcceptsFirst, packet_refusal, most_packets_taken, closing_line, counts_of}
 use Rattle.run_clauses.specs.Run.{Run, IsUntaken}
+use Rattle.run_steps.proofs.Taken.{all_unread}
 use Rattle.run_clauses.specs.Text.{status_of}
 use Rattle.run_clauses.proofs.Accepting.{all_accepted, no_refusal, not_sync_at, not_sync, past_limit_at, past_limit, accepted_from}
 use Rattle.run_steps.specs.Causes.{HasCause}
@@ -163,6 +164,7 @@ module _ (settings : Option (List ℕ)) (statuses : List ℕ) (knows : KnowsStat
     known_by : (o : Result Counts Refusal) → HasCause old mid o → is_among (status_of (reason o)) statuses ≡ true
     known_by (Ok counts) cause = knows.done
     known_by (Err Usage) cause = absurd cause
+    known_by (Err (Cells reason)) cause = absurd cause
     known_by (Err (Settings why)) cause = absurd cause
     known_by (Err ReadFault) cause = knows.read_fault
     known_by (Err WriteFault) cause = knows.write_fault
@@ -173,6 +175,7 @@ module _ (settings : Option (List ℕ)) (statuses : List ℕ) (knows : KnowsStat
     caused_by : (o : Result Counts Refusal) → HasCause old mid o → IsCaused start mid (reason o)
     caused_by (Ok counts) cause = (cause.reads, cause.writes)
     caused_by (Err Usage) cause = absurd cause
+    caused_by (Err (Cells reason)) cause = absurd cause
     caused_by (Err (Settings why)) cause = absurd cause
     caused_by (Err ReadFault) cause = cause.0
     caused_by (Err WriteFault) cause = (cause.0, cause.1)
@@ -183,6 +186,7 @@ module _ (settings : Option (List ℕ)) (statuses : List ℕ) (knows : KnowsStat
     later_reads_by : (o : Result Counts Refusal) → HasCause old mid o → start.read_faults ≤ mid.read_faults
     later_reads_by (Ok counts) cause = omega (arith, cause.reads)
     later_reads_by (Err Usage) cause = absurd cause
+    later_reads_by (Err (Cells reason)) cause = absurd cause
     later_reads_by (Err (Settings why)) cause = absurd cause
     later_reads_by (Err ReadFault) cause = cause.1
     later_reads_by (Err WriteFault) cause = omega (arith, cause.0)
@@ -193,6 +197,7 @@ module _ (settings : Option (List ℕ)) (statuses : List ℕ) (knows : KnowsStat
     later_writes_by : (o : Result Counts Refusal) → HasCause old mid o → start.write_faults ≤ mid.write_faults
     later_writes_by (Ok counts) cause = omega (arith, cause.writes)
     later_writes_by (Err Usage) cause = absurd cause
+    later_writes_by (Err (Cells reason)) cause = absurd cause
     later_writes_by (Err (Settings why)) cause = absurd cause
     later_writes_by (Err ReadFault) cause = cause.2
     later_writes_by (Err WriteFault) cause = cause.2
@@ -206,6 +211,7 @@ module _ (settings : Option (List ℕ)) (statuses : List ℕ) (knows : KnowsStat
     exact_by : (o : Result Counts Refusal) → HasCause old mid o → Ran gives ends limit input old mid o → IsExact c limit start (reason o)
     exact_by (Ok counts) cause ran = λ t. refusal_is t ∙ no_refusal limit file (ran.1 t).1
     exact_by (Err Usage) cause ran = absurd cause
+    exact_by (Err (Cells reason)) cause ran = absurd cause
     exact_by (Err (Settings why)) cause ran = absurd cause
     exact_by (Err ReadFault) cause ran = tt
     exact_by (Err WriteFault) cause ran = tt
@@ -269,9 +275,9 @@ module _ (settings : Option (List ℕ)) (statuses : List ℕ) (knows : KnowsStat
     work_behind : (b : Bool) → mid.hp.attached ≡ b → IsUntaken c mid ins.Hp ⊎ AreMade c mid
     work_behind true is = elim (asks.untaken is) [
       | inl made ↦ inr (only (λ out. (sink_at out mid).created ≡ true) made)
-      | inr untaken ↦ inl (left_is is ∙ untaken ∙ sym same_file)
+      | inr untaken ↦ inl (all_unread c mid ins.Hp (left_is is ∙ untaken ∙ sym same_file))
     ]
-    work_behind false is = inl (ap (λ (b : Bool). if b then mid.hp.left else mid.file input) is)
+    work_behind false is = inl (all_unread c mid ins.Hp (ap (λ (b : Bool). if b then mid.hp.left else mid.file input) is))
 
     -- at most the packets that are accepted and one packet more are taken
     abbrev Taken : Type 0
@@ -286,6 +292,7 @@ module _ (settings : Option (List ℕ)) (statuses : List ℕ) (knows : KnowsStat
     taken_by : (o : Result Counts Refusal) → HasCause old mid o → Ran gives ends limit input old mid o → start.tells ≡ true → mid.bytes_out.created ≡ true → Taken
     taken_by (Ok counts) cause ran t made = let e = ran.1 t in all_taken e.1 e.2
     taken_by (Err Usage) cause ran t made = absurd cause
+    taken_by (Err (Cells reason)) cause ran t made = absurd cause
     taken_by (Err (Settings why)) cause ran t made = absurd cause
     taken_by (Err ReadFault) cause ran t made =
         let e = ran.1 t made in
@@ -349,6 +356,7 @@ module _ (settings : Option (List ℕ)) (statuses : List ℕ) (knows : KnowsStat
       report = λ t. inl (all_accepted limit file (ran.1 t).1, ran.0.report t ∙ empty (closing_line counts) t ∙ ap closing_line (ran.1 t).0);
     }
     leaves_by (Err Usage) cause ran = absurd cause
+    leaves_by (Err (Cells reason)) cause ran = absurd cause
     leaves_by (Err (Settings why)) cause ran = absurd cause
     leaves_by (Err Memory) cause ran = absurd cause
     leaves_by (Err (NotSync stream n)) cause ran = record {
@@ -411,6 +419,7 @@ module _ (settings : Option (List ℕ)) (statuses : List ℕ) (knows : KnowsStat
       );
       lp_behind_hp = inl (ap (λ (x : Meaning). x.lp.asked) asks.others ∙ fresh.lp.asked);
       outputs_behind_inputs = behind_inputs;
+      outputs_behind_header = λ t out. inr tt;
       lp_made_behind_hp = inl (ap (λ (x : Meaning). x.lp_out.asked) asks.others ∙ fresh.lp_out.asked);
       work_behind_outputs = λ t port other is. work_of port other is;
       taken = taken o cause ran;

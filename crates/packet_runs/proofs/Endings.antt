@@ -5,7 +5,7 @@ use Rattle.std.proofs.Math.Seq.{take-append-add}
 use Rattle.station_core.specs.Meaning.{Meaning, Sink}
 use Rattle.run_clauses.specs.declared.work.Counts.{Counts}
 use Rattle.run_clauses.specs.declared.work.Refusal.{Refusal}
-use Rattle.run_clauses.specs.declared.work.Refusal.TheVariants.{Usage, Settings, ReadFault, WriteFault, NotSync, Memory, Limit}
+use Rattle.run_clauses.specs.declared.work.Refusal.TheVariants.{Usage, Settings, ReadFault, WriteFault, NotSync, Memory, Limit, Cells}
 use Rattle.run_clauses.specs.Packets.{whole_packets, first_packets, closing_line}
 use Rattle.packet_runs.specs.Coding.{Codes, CodesWhole, EndsCoding, KeepsOthers}
 use Rattle.packet_runs.specs.Steps.{Ran, OpensAll, Finishes, ClosesRefused}
@@ -33,6 +33,7 @@ module _ (coded ended : List (List ℕ) → List ℕ) (limit : ℕ) (input outpu
 
       cases : (r : Refusal) → (old.tells ≡ true → CodesWhole coded ended limit (old.file input) [] new.hp.left new.bytes_out.written (Err r)) → Ran coded ended limit input old new (Err r)
       cases Usage d = (report', created', d)
+      cases (Cells reason) d = (report', created', d)
       cases (Settings reason) d = (report', created', d)
       cases ReadFault d = (report', (λ t is. d t))
       cases WriteFault d = ((λ t is. d t), (λ t. inl (ap (λ (x : Sink). x.written) report')))
@@ -66,6 +67,7 @@ module _ (coded ended : List (List ℕ) → List ℕ) (limit : ℕ) (input outpu
       where
         by : (r : Refusal) → old.tells ≡ true → EndsCoding piece done.hp.left done.bytes_out.written fin.hp.left fin.bytes_out.written (Err r) → CodesWhole coded ended limit (old.file input) [] fin.hp.left fin.bytes_out.written (Err r)
         by Usage t e = absurd e
+        by (Cells reason) t e = absurd e
         by (Settings reason) t e = absurd e
         by ReadFault t e = absurd e
         by WriteFault t e =

@@ -10,7 +10,7 @@ use Rattle.outer_chain.specs.SendingLaws.{MorePacketsSent}
 use Rattle.puncture.specs.Laws.{StepsSendInOrder, StepsAreNumbered, SentBitsAreRuns}
 use Rattle.puncture.specs.SentBits.{path_of}
 use Rattle.run_clauses.specs.declared.work.Refusal.{Refusal}
-use Rattle.run_clauses.specs.declared.work.Refusal.TheVariants.{Usage, Settings, ReadFault, WriteFault, NotSync, Memory, Limit}
+use Rattle.run_clauses.specs.declared.work.Refusal.TheVariants.{Usage, Settings, ReadFault, WriteFault, NotSync, Memory, Limit, Cells}
 use Rattle.run_clauses.specs.Command.{Command, is_among}
 use Rattle.run_clauses.specs.Run.{Run}
 use Rattle.run_clauses.specs.Text.{status_of, refusal_status, refusal_text}
@@ -98,6 +98,7 @@ module _ (name input output : List ℕ) (limit : ℕ) (old mid new : Meaning) (f
     where
       known : (r : Refusal) → ReadsSettings name old mid (Err r) → is_among (status_of (Some r)) c.statuses ≡ true
       known Usage h = absurd h
+      known (Cells reason) h = absurd h
       known (Settings reason) h = refl
       known ReadFault h = refl
       known WriteFault h = absurd h

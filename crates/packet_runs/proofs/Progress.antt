@@ -7,7 +7,7 @@ use Rattle.std.proofs.lemmas.List.{drop-drop, append-nil}
 use Rattle.std.proofs.lemmas.Bool.{lt-ltb}
 use Rattle.run_clauses.specs.declared.work.Counts.{Counts}
 use Rattle.run_clauses.specs.declared.work.Refusal.{Refusal}
-use Rattle.run_clauses.specs.declared.work.Refusal.TheVariants.{Usage, Settings, ReadFault, WriteFault, NotSync, Memory, Limit}
+use Rattle.run_clauses.specs.declared.work.Refusal.TheVariants.{Usage, Settings, ReadFault, WriteFault, NotSync, Memory, Limit, Cells}
 use Rattle.run_clauses.specs.Packets.{file_packet, whole_packets, first_packets, is_sync, is_accepted, AcceptsFirst}
 use Rattle.packet_runs.specs.Coding.{OnTaken, Step, EndsAtLimit, Codes}
 
@@ -109,6 +109,7 @@ module _ (coded : List (List ℕ) → List ℕ) (limit n : ℕ) (input before le
 
   pub refused : (piece : List ℕ) (r : Refusal) (left' after' : List ℕ) → n < limit → (r ≡ WriteFault → Gives piece) → Step n piece left after left' after' (Err r) → Codes coded limit input before left' after' (Err r)
   refused piece Usage left' after' lt gives s = s
+  refused piece (Cells reason) left' after' lt gives s = s
   refused piece (Settings reason) left' after' lt gives s = s
   refused piece Memory left' after' lt gives s = s
   refused piece (Limit m) left' after' lt gives s = absurd s
@@ -159,6 +160,7 @@ module _ (coded : List (List ℕ) → List ℕ) (limit : ℕ) (input before left
         e.4 ∙ p.written ∙ ap (λ (k : ℕ). before ++ coded (first_packets k input)) whole,
       )
   ended (Err Usage) left' after' e = e
+  ended (Err (Cells reason)) left' after' e = e
   ended (Err (Settings reason)) left' after' e = e
   ended (Err Memory) left' after' e = e
   ended (Err WriteFault) left' after' e = absurd e

@@ -5,7 +5,7 @@ use Rattle.station_core.specs.Meaning.{Meaning}
 use Rattle.mode_set.specs.declared.modes.Stream.TheVariants.{Hp}
 use Rattle.run_clauses.specs.declared.work.Counts.{Counts}
 use Rattle.run_clauses.specs.declared.work.Refusal.{Refusal}
-use Rattle.run_clauses.specs.declared.work.Refusal.TheVariants.{Usage, Settings, ReadFault, WriteFault, NotSync, Memory, Limit}
+use Rattle.run_clauses.specs.declared.work.Refusal.TheVariants.{Usage, Settings, ReadFault, WriteFault, NotSync, Memory, Limit, Cells}
 use Rattle.run_clauses.specs.Packets.{first_packets, whole_packets, is_sync, AcceptsFirst, counts_of}
 
 -- nothing but what is left of HP, what is written to Bytes and the counts has changed
@@ -31,6 +31,7 @@ Step number piece input before left after (Err ReadFault) =
 Step number piece input before left after (Err WriteFault) =
     (k : ℕ) × (188 ≤ length input) × (is_sync input 0 ≡ true) × (left ≡ drop 188 input) × (after ≡ before ++ take k piece)
 Step number piece input before left after (Err Usage) = ⊥
+Step number piece input before left after (Err (Cells reason)) = ⊥
 Step number piece input before left after (Err (Settings reason)) = ⊥
 Step number piece input before left after (Err Memory) = ⊥
 
@@ -50,6 +51,7 @@ EndsAtLimit limit input before left after (Err ReadFault) =
     (k : ℕ) × (k < 188) × (k ≤ length input) × (left ≡ drop k input) × (after ≡ before)
 EndsAtLimit limit input before left after (Err WriteFault) = ⊥
 EndsAtLimit limit input before left after (Err Usage) = ⊥
+EndsAtLimit limit input before left after (Err (Cells reason)) = ⊥
 EndsAtLimit limit input before left after (Err (Settings reason)) = ⊥
 EndsAtLimit limit input before left after (Err Memory) = ⊥
 
@@ -71,6 +73,7 @@ Codes coded limit input before left after (Err WriteFault) =
     (n : ℕ) × (k : ℕ) × (n ≤ whole_packets input) × AcceptsFirst limit input n
     × (left ≡ drop (188 * n) input) × (after ≡ before ++ take k (coded (first_packets n input)))
 Codes coded limit input before left after (Err Usage) = ⊥
+Codes coded limit input before left after (Err (Cells reason)) = ⊥
 Codes coded limit input before left after (Err (Settings reason)) = ⊥
 Codes coded limit input before left after (Err Memory) = ⊥
 

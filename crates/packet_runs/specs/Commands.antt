@@ -105,6 +105,7 @@ coding_command settings statuses k input output = record {
   writes = coding_writes output;
   statuses = statuses;
   early_refusal = coding_early settings;
+  header = λ file. None;
   work_refusal = λ limit file. packet_refusal limit (file input);
   most_taken = coding_taken settings input;
   Comes = λ limit file port bytes. CodesTo k limit file input bytes;

@@ -4,7 +4,7 @@ use Rattle.std.specs.Prelude.{◌≡◌, ◌⊎◌, ◌≤◌, ◌++◌, ℕ, tr
 use Rattle.station_core.specs.Meaning.{Meaning}
 use Rattle.run_clauses.specs.declared.work.Counts.{Counts}
 use Rattle.run_clauses.specs.declared.work.Refusal.{Refusal}
-use Rattle.run_clauses.specs.declared.work.Refusal.TheVariants.{Usage, Settings, ReadFault, WriteFault, NotSync, Memory, Limit}
+use Rattle.run_clauses.specs.declared.work.Refusal.TheVariants.{Usage, Settings, ReadFault, WriteFault, NotSync, Memory, Limit, Cells}
 use Rattle.run_steps.specs.Causes.{HasCause}
 use Rattle.packet_runs.specs.Coding.{CodesWhole}
 use Rattle.run_clauses.specs.Packets.{AcceptsFirst, closing_line, counts_of, whole_packets}
@@ -83,6 +83,7 @@ OpensAll input output old new (Err WriteFault) =
 OpensAll input output old new (Err (NotSync stream n)) = ⊥
 OpensAll input output old new (Err (Limit n)) = ⊥
 OpensAll input output old new (Err Usage) = ⊥
+OpensAll input output old new (Err (Cells reason)) = ⊥
 OpensAll input output old new (Err (Settings reason)) = ⊥
 OpensAll input output old new (Err Memory) = ⊥
 

@@ -33,7 +33,7 @@ costs_grow s bytes more σ =
     let n = symbols s bytes in
     let l = symbols s (bytes ++ more) in
     let f = symbol_costs s (bytes ++ more) σ in
-    let counts : n ≤ l = omega (arith, more_count s.mode (length bytes) (length more), ap (λ k. k / (4 * carriers s.mode)) (length-append bytes more)) in
+    let counts : n ≤ l = omega (arith, more_count s.mode (length bytes) (length more), ap (λ k. k / (5 * carriers s.mode)) (length-append bytes more)) in
     let r = more_parts f n (l - n) in
     let e : l ≡ l - n + n = omega (arith, counts) in
     (r.0, ap (λ k. flat_map f (numbers k)) e ∙ r.1 ∙ ap (λ z. z ++ r.0) (costs_before s bytes more σ))

@@ -14,7 +14,7 @@ use Rattle.reception.specs.Frames.{tps_cells}
 use Rattle.reception.specs.Laws.{SameSymbols, OneSymbolMore, TailIsUnfinished, MoreUnfinished, EndedSymbol, CellsStay, WeightsStay, TpsCellsStay, unfinished}
 
 abbrev pub width : Mode → ℕ
-width m = 4 * carriers m
+width m = 5 * carriers m
 
 -- ---- counting
 

@@ -1,10 +1,12 @@
 -- What a command is, with its words: the files that it reads and writes, and what they come to.
-use Rattle.std.specs.Prelude.{◌≡◌, ◌==◌, ◌||◌, ℕ, Bool, false, true, IsTrue, List, [], ◌∷◌, Option, None, Some, is_some, if◌then◌else◌, option_map}
+use Rattle.std.specs.Prelude.{◌≡◌, ◌==◌, ◌||◌, ℕ, Bool, false, true, IsTrue, List, [], ◌∷◌, Option, None, Some, is_some, if◌then◌else◌}
 use Rattle.std.specs.Option.{option_or}
 use Rattle.station_core.specs.Meaning.{Meaning, source_at}
 use Rattle.station_core.specs.declared.ports.InPort.{InPort}
+use Rattle.station_core.specs.declared.ports.InPort.TheVariants.{Cells}
 use Rattle.station_core.specs.declared.ports.OutPort.{OutPort}
 use Rattle.run_clauses.specs.declared.work.Refusal.{Refusal}
+use Rattle.run_clauses.specs.Header.{header_refusal}
 
 -- the bytes that a station has under a name
 abbrev pub Files : Type 0
@@ -22,6 +24,8 @@ pub record Command : Type 1 where
   pub statuses : List ℕ
   -- why its words or its settings are refused, if they are
   pub early_refusal : Files → Option Refusal
+  -- the header with which the cells that it reads must begin, if they must begin with one
+  pub header : Files → Option (List ℕ)
   -- why its work is refused, if it is; the number is the most packets that a run takes of a transport file
   pub work_refusal : ℕ → Files → Option Refusal
   -- the most bytes that it takes of an input
@@ -48,10 +52,6 @@ abbrev pub is_among : ℕ → List ℕ → Bool
 is_among n [] = false
 is_among n (m ∷ ms) = (n == m) || is_among n ms
 
--- the refusal that a run comes to where nothing fails: that of the settings before that of the work
-abbrev pub refusal_of : ℕ → Files → Command → Option Refusal
-refusal_of limit file c = option_or (c.early_refusal file) (c.work_refusal limit file)
-
 -- the whole file that a command reads at a port
 abbrev pub named : Files → Option (List ℕ) → List ℕ
 named file None = []
@@ -59,6 +59,11 @@ named file (Some name) = file name
 
 abbrev pub input_file : Files → Command → InPort → List ℕ
 input_file file c port = named file (c.reads port)
+
+-- the refusal that a run comes to where nothing fails: that of the settings before that of the header, and this
+-- before that of the work
+abbrev pub refusal_of : ℕ → Files → Command → Option Refusal
+refusal_of limit file c = option_or (c.early_refusal file) (option_or (header_refusal (c.header file) (input_file file c Cells)) (c.work_refusal limit file))
 
 -- what is left to be read of an input: all of it where it was not opened
 abbrev pub unread : Command → Meaning → Unread

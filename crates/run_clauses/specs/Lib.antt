@@ -5,5 +5,6 @@ pub mod FitKept
 pub mod StatedSettings
 pub mod StreamForm
 pub mod Text
+pub mod Header
 pub mod Command
 pub mod Run

@@ -4,12 +4,13 @@
 -- A station tells the contents of its files, or it does not; what speaks of contents is promised where it does.
 -- A count of faults rose in the run where it is greater behind it than before, or stands at its greatest number.
 use Rattle.std.specs.Prelude.{◌≡◌, ◌≢◌, ◌≤◌, ◌⊎◌, ◌++◌, ℕ, true, List, [], ◌∷◌, take, drop, None}
-use Rattle.station_core.specs.Meaning.{Meaning, source_at, sink_at}
+use Rattle.station_core.specs.Meaning.{Meaning, IsUntouched, source_at, sink_at}
 use Rattle.station_core.specs.Causes.{Rose}
 use Rattle.station_core.specs.declared.ports.InPort.{InPort}
-use Rattle.station_core.specs.declared.ports.InPort.TheVariants.{Settings}
+use Rattle.station_core.specs.declared.ports.InPort.TheVariants.{Settings, Hp, Lp, Cells}
 use Rattle.station_core.specs.declared.ports.OutPort.{OutPort}
 use Rattle.run_clauses.specs.Command.{Command, IsInput, IsOutput, is_among, refusal_of, input_file, unread}
+use Rattle.run_clauses.specs.Header.{header_size, IsHeaderTaken}
 use Rattle.run_clauses.specs.Text.{status_of, text_at}
 
 -- Report holds the lines and then the text: all of it, or a front of it where a write to Report failed.
@@ -22,9 +23,16 @@ pub record AsksSettingsAlone (m : Meaning) : Type 0 where
   pub sources : (port : InPort) → port ≢ Settings → (source_at port m).asked ≡ None
   pub sinks : (port : OutPort) → (sink_at port m).asked ≡ None
 
--- Nothing was taken of the input at the port.
+-- The bytes of the header with which an input begins: only cells have one.
+abbrev pub header_at : Command → Meaning → InPort → ℕ
+header_at c m Settings = 0
+header_at c m Hp = 0
+header_at c m Lp = 0
+header_at c m Cells = header_size (c.header m.file)
+
+-- Nothing was taken of the input at the port behind its header.
 abbrev pub IsUntaken : Command → Meaning → InPort → Type 0
-IsUntaken c m port = unread c m port ≡ input_file m.file c port
+IsUntaken c m port = (k : ℕ) × (k ≤ header_at c m port) × (unread c m port ≡ drop k (input_file m.file c port))
 
 pub record Run (c : Command) (limit : ℕ) (old new : Meaning) (status : ℕ) : Type 0 where
   -- STATUSES
@@ -54,7 +62,9 @@ pub record Run (c : Command) (limit : ℕ) (old new : Meaning) (status : ℕ) : 
   pub outputs_behind_inputs : (out : OutPort) → ((sink_at out new).asked ≡ None) ⊎ ((port : InPort) → IsInput c port → (source_at port new).attached ≡ true)
   -- LP's output is asked for only where HP's was made.
   pub lp_made_behind_hp : (new.lp_out.asked ≡ None) ⊎ (new.hp_out.created ≡ true)
-  -- Nothing is taken of another input than the settings before every output was made.
+  -- And (where contents are told) only where the cells begin with their header, and it was read.
+  pub outputs_behind_header : old.tells ≡ true → (out : OutPort) → ((sink_at out new).asked ≡ None) ⊎ IsHeaderTaken (c.header old.file) (input_file old.file c Cells) (unread c new Cells)
+  -- Nothing is taken of another input than the settings, but for the header of the cells, before every output was made.
   pub work_behind_outputs : old.tells ≡ true → (port : InPort) → port ≢ Settings → IsInput c port
       → IsUntaken c new port ⊎ ((out : OutPort) → IsOutput c out → (sink_at out new).created ≡ true)
   -- What is taken of an input are its first bytes, and no more of them than the command says.
@@ -78,6 +88,11 @@ pub record Run (c : Command) (limit : ℕ) (old new : Meaning) (status : ℕ) : 
   -- No file but the settings was asked for, so no output was made. Report holds the text.
   pub early : is_among status (2 ∷ 3 ∷ 7 ∷ []) ≡ true → AsksSettingsAlone new
   pub early_report : old.tells ≡ true → is_among status (2 ∷ 3 ∷ 7 ∷ []) ≡ true → Reports old new [] (text_at c limit old.file status)
+  -- AT 9: cells without their header
+  -- No output was asked for or made. Of the cells no more was taken than the header. Report holds the text.
+  pub unheaded : status ≡ 9 → (out : OutPort) → IsOutput c out → IsUntouched (sink_at out new)
+  pub unheaded_taken : old.tells ≡ true → status ≡ 9 → (port : InPort) → port ≢ Settings → IsInput c port → IsUntaken c new port
+  pub unheaded_report : old.tells ≡ true → status ≡ 9 → Reports old new [] (text_at c limit old.file status)
   -- AT 4 AND 8: a refused packet, more than a limit
   -- Each output holds what comes before the refusal. Report holds the lines before it, and the text.
   pub refused : old.tells ≡ true → is_among status (4 ∷ 8 ∷ []) ≡ true → (out : OutPort) → IsOutput c out → c.Comes limit old.file out (sink_at out new).written

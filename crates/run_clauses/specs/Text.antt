@@ -6,7 +6,9 @@ use Rattle.mode_set.specs.Keys.{key_text}
 use Rattle.run_clauses.specs.Command.{Command, Files, refusal_of}
 use Rattle.run_clauses.specs.declared.work.SettingsRefusal.{SettingsRefusal}
 use Rattle.run_clauses.specs.declared.work.SettingsRefusal.TheVariants as settings
-use Rattle.run_clauses.specs.declared.work.Refusal.TheVariants.{Usage, Settings, ReadFault, WriteFault, NotSync, Memory, Limit}
+use Rattle.run_clauses.specs.declared.work.Refusal.TheVariants.{Usage, Settings, ReadFault, WriteFault, NotSync, Memory, Limit, Cells}
+use Rattle.run_clauses.specs.declared.work.CellsRefusal.{CellsRefusal}
+use Rattle.run_clauses.specs.declared.work.CellsRefusal.TheVariants as cells
 
 -- what is wrong with refused settings
 abbrev pub settings_text : SettingsRefusal → List ℕ
@@ -18,6 +20,10 @@ settings_text (settings.Value key) = codes "value " ++ key_text key
 settings_text (settings.Clash key) = codes "clash " ++ key_text key
 settings_text settings.Form = codes "form"
 
+-- what is wrong with refused cells
+abbrev pub cells_text : CellsRefusal → List ℕ
+cells_text cells.Header = codes "cells header"
+
 -- the text of a refusal
 abbrev pub refusal_text : Refusal → List ℕ
 refusal_text Usage = codes "usage\n"
@@ -27,11 +33,15 @@ refusal_text WriteFault = codes "write fault\n"
 refusal_text (NotSync stream n) = stream_text stream ++ codes " packet " ++ decimal n ++ codes "\n"
 refusal_text Memory = codes "memory\n"
 refusal_text (Limit n) = codes "limit " ++ decimal n ++ codes "\n"
+refusal_text (Cells reason) = cells_text reason ++ codes "\n"
 
 -- the text of a run that may have been refused
 abbrev pub text_if_refused : Option Refusal → List ℕ
 text_if_refused None = []
 text_if_refused (Some refusal) = refusal_text refusal
+
+abbrev pub cells_status : CellsRefusal → ℕ
+cells_status cells.Header = 9
 
 abbrev pub refusal_status : Refusal → ℕ
 refusal_status Usage = 2
@@ -41,6 +51,7 @@ refusal_status WriteFault = 6
 refusal_status (NotSync stream n) = 4
 refusal_status Memory = 7
 refusal_status (Limit n) = 8
+refusal_status (Cells reason) = cells_status reason
 
 -- the status of a run that was refused, or done
 abbrev pub status_of : Option Refusal → ℕ

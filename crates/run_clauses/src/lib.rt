@@ -11,4 +11,4 @@ mod work;
 
 pub use report_line::Line;
 pub use text::{closing_line_of, packets_line_of, text_of};
-pub use work::{Counts, Limits, Refusal, SettingsRefusal};
+pub use work::{CellsRefusal, Counts, Limits, Refusal, SettingsRefusal};

@@ -5,7 +5,7 @@ ghost use Rattle.arrayvec.specs.ArrayString.{array_string_len};
 ghost use Rattle.run_clauses.specs.Text.{refusal_text, settings_text};
 ghost use Rattle.run_clauses.specs.Packets.{closing_line, packets_line};
 
-use crate::{Counts, Refusal, SettingsRefusal};
+use crate::{CellsRefusal, Counts, Refusal, SettingsRefusal};
 use mode_set::{Key, Stream};
 use report_line::{Line, name_of, push_count};
 
@@ -56,6 +56,7 @@ pub fn text_of(refusal: &Refusal) -> Line
             push_count(&mut line, " packet ", *number);
         }
         Refusal::Limit(number) => push_count(&mut line, "limit ", *number),
+        Refusal::Cells(CellsRefusal::Header) => line.push_str("cells header"),
     }
     line.push_str("\n");
     line

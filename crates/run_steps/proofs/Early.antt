@@ -12,8 +12,9 @@ use Rattle.station_core.specs.declared.ports.OutPort.{OutPort}
 use Rattle.station_core.specs.declared.ports.OutPort.TheVariants as outs
 use Rattle.run_clauses.specs.declared.work.Refusal.{Refusal}
 use Rattle.run_clauses.specs.declared.work.SettingsRefusal.{SettingsRefusal}
-use Rattle.run_clauses.specs.declared.work.Refusal.TheVariants.{Usage, Settings, ReadFault, WriteFault, NotSync, Memory, Limit}
+use Rattle.run_clauses.specs.declared.work.Refusal.TheVariants.{Usage, Settings, ReadFault, WriteFault, NotSync, Memory, Limit, Cells}
 use Rattle.run_clauses.specs.Command.{Command, Files, IsInput, IsOutput, is_among, refusal_of, input_file, named, Unread, unread}
+use Rattle.run_clauses.specs.Header.{header_refusal}
 use Rattle.run_clauses.specs.Run.{AsksSettingsAlone}
 use Rattle.run_clauses.specs.SettingsFile.{most_settings, settings_refusal}
 use Rattle.run_clauses.specs.Text.{status_of}
@@ -30,6 +31,7 @@ RefusedEarly c limit old mid WriteFault = ⊥
 RefusedEarly c limit old mid (NotSync stream n) = ⊥
 RefusedEarly c limit old mid Memory = mid.read_faults ≡ old.read_faults
 RefusedEarly c limit old mid (Limit n) = ⊥
+RefusedEarly c limit old mid (Cells reason) = ⊥
 
 -- what the settings are refused for is a refusal of the run
 pub refused_early : (c : Command) (limit : ℕ) (name : List ℕ) (old mid : Meaning) (r : Refusal)
@@ -42,6 +44,7 @@ refused_early c limit name old mid WriteFault same later reads = reads
 refused_early c limit name old mid (NotSync stream n) same later reads = reads
 refused_early c limit name old mid Memory same later reads = reads
 refused_early c limit name old mid (Limit n) same later reads = reads
+refused_early c limit name old mid (Cells reason) same later reads = reads
 
 module _ (c : Command) (limit : ℕ) (name : List ℕ) (old mid : Meaning) (no_report : c.writes outs.Report ≡ None)
     (reads : (mid.settings ≡ old.settings) ⊎ ((c.reads ins.Settings ≡ Some name) × (c.most_taken limit old.file ins.Settings ≡ most_settings + 1)))
@@ -137,6 +140,7 @@ module _ (c : Command) (limit : ℕ) (name : List ℕ) (old mid : Meaning) (no_r
   caused (NotSync stream n) h = absurd h
   caused Memory h = h
   caused (Limit n) h = absurd h
+  caused (Cells reason) h = absurd h
 
   later : (r : Refusal) → RefusedEarly c limit old mid r → old.read_faults ≤ mid.read_faults
   later Usage h = omega (arith, h.0)
@@ -146,10 +150,11 @@ module _ (c : Command) (limit : ℕ) (name : List ℕ) (old mid : Meaning) (no_r
   later (NotSync stream n) h = absurd h
   later Memory h = omega (arith, h)
   later (Limit n) h = absurd h
+  later (Cells reason) h = absurd h
 
   -- what is refused for the settings is what the run comes to
   comes_to : (reason : Refusal) → c.early_refusal old.file ≡ Some reason → refusal_of limit old.file c ≡ Some reason
-  comes_to reason is = ap (λ (x : Option Refusal). option_or x (c.work_refusal limit old.file)) is
+  comes_to reason is = ap (λ (x : Option Refusal). option_or x (option_or (header_refusal (c.header old.file) (input_file old.file c ins.Cells)) (c.work_refusal limit old.file))) is
 
   exact : (r : Refusal) → RefusedEarly c limit old mid r → IsExact c limit old (Some r)
   exact Usage h = λ t. comes_to Usage (h.1 t)
@@ -159,6 +164,7 @@ module _ (c : Command) (limit : ℕ) (name : List ℕ) (old mid : Meaning) (no_r
   exact (NotSync stream n) h = absurd h
   exact Memory h = tt
   exact (Limit n) h = absurd h
+  exact (Cells reason) h = absurd h
 
   holds_nothing : HoldNothing old mid
   holds_nothing = record { asks = alone; report = report_is }
@@ -174,6 +180,7 @@ module _ (c : Command) (limit : ℕ) (name : List ℕ) (old mid : Meaning) (no_r
   leaves (NotSync stream n) h = absurd h
   leaves Memory h = holds_nothing
   leaves (Limit n) h = absurd h
+  leaves (Cells reason) h = absurd h
 
   pub early_ended : (r : Refusal) → RefusedEarly c limit old mid r → is_among (status_of (Some r)) c.statuses ≡ true → Ended c limit old mid (Some r)
   early_ended r h known = record {
@@ -188,8 +195,9 @@ module _ (c : Command) (limit : ℕ) (name : List ℕ) (old mid : Meaning) (no_r
     settings_first = λ is. inl alone;
     lp_behind_hp = inl (alone.sources ins.Lp (λ is. cc));
     outputs_behind_inputs = λ out. inl (unasked out);
+    outputs_behind_header = λ t out. inl (unasked out);
     lp_made_behind_hp = inl (unasked outs.Lp);
-    work_behind_outputs = λ t port other is. inl (whole port other ∙ ap (λ (f : Files). input_file f c port) (sym files_same));
+    work_behind_outputs = λ t port other is. inl (0, omega arith, whole port other ∙ ap (λ (f : Files). input_file f c port) (sym files_same));
     taken = λ t port is attached. took t port attached;
     opened = λ is. absurd (let e : Some r ≡ None = is in cc);
     read_out = λ is. absurd (let e : Some r ≡ None = is in cc);

@@ -5,3 +5,4 @@ pub mod ReportLines
 pub mod Fitting
 pub mod Whole
 pub mod Early
+pub mod Taken

@@ -4,7 +4,7 @@ use Rattle.std.proofs.lemmas.List.{drop_all}
 use Rattle.station_core.specs.Meaning.{Meaning}
 use Rattle.mode_set.specs.declared.settings.Settings.{Settings as TheSettings}
 use Rattle.run_clauses.specs.declared.work.Refusal.{Refusal}
-use Rattle.run_clauses.specs.declared.work.Refusal.TheVariants.{Usage, Settings, ReadFault, WriteFault, NotSync, Memory, Limit}
+use Rattle.run_clauses.specs.declared.work.Refusal.TheVariants.{Usage, Settings, ReadFault, WriteFault, NotSync, Memory, Limit, Cells}
 use Rattle.run_clauses.specs.SettingsFile.{most_settings}
 use Rattle.run_steps.specs.Reading.{ReadsFront}
 use Rattle.run_steps.specs.SettingsStep.{IsCheck, Checks, ReadsSettings}
@@ -25,6 +25,7 @@ answered name old new n bytes faults asked attached left reads (Ok settings) is 
       (left ∙ drop_all n (old.file name) (omega (arith, all)), accepted)),
 )
 answered name old new n bytes faults asked attached left reads (Err Usage) is checks = is
+answered name old new n bytes faults asked attached left reads (Err (Cells reason)) is checks = is
 answered name old new n bytes faults asked attached left reads (Err (Settings reason)) is checks = (faults, (λ t. checks (old.file name) (reads t)))
 answered name old new n bytes faults asked attached left reads (Err ReadFault) is checks = absurd is
 answered name old new n bytes faults asked attached left reads (Err WriteFault) is checks = is

@@ -2,19 +2,21 @@
 use Rattle.std.proofs.Common.{◌≡◌, ◌≢◌, ◌⊎◌, inl, inr, true, false, ℕ, ◌≤◌, Bool, List, [], ◌∷◌, ◌++◌, take, drop, refl, ◌∙◌, sym, ap, subst, arith, Option, None, Some}
 use Rattle.std.specs.Prelude.{is_some, if◌then◌else◌}
 use Rattle.std.proofs.lemmas.Bool.{true≢false}
-use Rattle.station_core.specs.Meaning.{Meaning, Source, Sink, source_at, sink_at}
+use Rattle.station_core.specs.Meaning.{Meaning, IsUntouched, Source, Sink, source_at, sink_at}
 use Rattle.station_core.specs.Causes.{Rose}
 use Rattle.station_core.specs.declared.ports.InPort.{InPort}
 use Rattle.station_core.specs.declared.ports.InPort.TheVariants as ins
 use Rattle.station_core.specs.declared.ports.OutPort.{OutPort}
 use Rattle.station_core.specs.declared.ports.OutPort.TheVariants as outs
 use Rattle.run_clauses.specs.declared.work.Refusal.{Refusal}
-use Rattle.run_clauses.specs.declared.work.Refusal.TheVariants.{Usage, Settings, ReadFault, WriteFault, NotSync, Memory, Limit}
+use Rattle.run_clauses.specs.declared.work.Refusal.TheVariants.{Usage, Settings, ReadFault, WriteFault, NotSync, Memory, Limit, Cells}
 use Rattle.run_clauses.specs.Command.{Command, Files, Unread, IsInput, IsOutput, is_among, refusal_of, input_file, unread}
-use Rattle.run_clauses.specs.Run.{Run, Reports, AsksSettingsAlone, IsUntaken}
+use Rattle.run_clauses.specs.declared.work.CellsRefusal.TheVariants.{Header}
+use Rattle.run_clauses.specs.Header.{header_size, IsHeaderTaken}
+use Rattle.run_clauses.specs.Run.{Run, header_at, Reports, AsksSettingsAlone, IsUntaken}
 use Rattle.run_clauses.specs.Text.{status_of, refusal_status, refusal_text, text_at, text_if_refused}
 use Rattle.run_steps.specs.Report.{WritesText}
-use Rattle.run_steps.specs.Ended.{Ended, Hold, HoldSoFar, HoldFronts, HoldNothing, AreMade}
+use Rattle.run_steps.specs.Ended.{Ended, Hold, HoldSoFar, HoldFronts, HoldNothing, HoldUnheaded, AreMade}
 
 pub run_done : (c : Command) (limit : ℕ) (old new : Meaning) → Ended c limit old new None → Run c limit old new 0
 run_done c limit old new e = record {
@@ -30,6 +32,7 @@ run_done c limit old new e = record {
   settings_first = e.settings_first;
   lp_behind_hp = e.lp_behind_hp;
   outputs_behind_inputs = e.outputs_behind_inputs;
+  outputs_behind_header = e.outputs_behind_header;
   lp_made_behind_hp = e.lp_made_behind_hp;
   work_behind_outputs = e.work_behind_outputs;
   taken = e.taken;
@@ -44,6 +47,9 @@ run_done c limit old new e = record {
   done_report = λ t is. e.leaves.report t;
   early = λ is. absurd (true≢false (sym is));
   early_report = λ t is. absurd (true≢false (sym is));
+  unheaded = λ is. absurd (omega arith);
+  unheaded_taken = λ t is. absurd (omega arith);
+  unheaded_report = λ t is. absurd (omega arith);
   refused = λ t is. absurd (true≢false (sym is));
   refused_report = λ t is. absurd (true≢false (sym is));
   stopped = λ t is. absurd (omega arith);
@@ -91,6 +97,19 @@ module _ (c : Command) (limit : ℕ) (old mid new : Meaning) (text : List ℕ) (
           ap (λ (s : Source). if s.attached then s.left else input_file new.file c port) (source_same port)
           ∙ ap (λ (f : Files). if (source_at port mid).attached then (source_at port mid).left else input_file f c port) files_same
 
+  header_same : (port : InPort) → header_at c new port ≡ header_at c mid port
+  header_same ins.Settings = refl
+  header_same ins.Hp = refl
+  header_same ins.Lp = refl
+  header_same ins.Cells = ap (λ (f : Files). header_size (c.header f)) files_same
+
+  untaken_same : (port : InPort) → IsUntaken c mid port → IsUntaken c new port
+  untaken_same port none = (
+    none.0,
+    omega (arith, none.1, header_same port),
+    ap (λ (u : Unread). u port) unread_same ∙ none.2 ∙ ap (λ (f : Files). drop none.0 (input_file f c port)) (sym files_same),
+  )
+
   alone_same : AsksSettingsAlone mid → AsksSettingsAlone new
   alone_same a = record {
     sources = λ port other. ap (λ (s : Source). s.asked) (source_same port) ∙ a.sources port other;
@@ -129,8 +148,9 @@ module _ (c : Command) (limit : ℕ) (old mid new : Meaning) (text : List ℕ) (
         → (is_among status (2 ∷ 3 ∷ 7 ∷ []) ≡ true → HoldNothing old mid)
         → (status ≡ 5 → HoldSoFar c limit old mid)
         → (status ≡ 6 → HoldFronts c limit old mid)
+        → (status ≡ 9 → HoldUnheaded c old mid)
         → Run c limit old new status
-    run_at status known read write kept undone exact complete named held work nothing stopped fronts = record {
+    run_at status known read write kept undone exact complete named held work nothing stopped fronts unheaded = record {
       known = known;
       read_fault = λ is. subst (λ (n : ℕ). Rose old.read_faults n) (sym reads_same) (read is);
       write_fault = λ is. risen (write is);
@@ -144,6 +164,7 @@ module _ (c : Command) (limit : ℕ) (old mid new : Meaning) (text : List ℕ) (
       lp_behind_hp = subst (λ (s : Source). (s.asked ≡ None) ⊎ (new.hp.attached ≡ true)) (sym (source_same ins.Lp))
           (subst (λ (s : Source). (mid.lp.asked ≡ None) ⊎ (s.attached ≡ true)) (sym (source_same ins.Hp)) e.lp_behind_hp);
       outputs_behind_inputs = λ out. behind out (e.outputs_behind_inputs out);
+      outputs_behind_header = λ t out. headed t out (e.outputs_behind_header t out);
       lp_made_behind_hp = subst (λ (m : Meaning). (m.lp_out.asked ≡ None) ⊎ (m.hp_out.created ≡ true)) (sym tells.others) e.lp_made_behind_hp;
       work_behind_outputs = λ t port other is. untaken port (e.work_behind_outputs t port other is);
       taken = λ t port is attached. took t port is attached;
@@ -158,6 +179,9 @@ module _ (c : Command) (limit : ℕ) (old mid new : Meaning) (text : List ℕ) (
       done_report = λ t is. absurd (undone is);
       early = λ is. alone_same (nothing is).asks;
       early_report = λ t is. told_after t e.same_telling e.later_report [] ((nothing is).report t) (text_at c limit old.file status) (named t);
+      unheaded = λ is out output. subst IsUntouched (sym (sink_same e.no_report out output)) ((unheaded is).outputs out output);
+      unheaded_taken = λ t is port other reads. untaken_same port ((unheaded is).taken t port other reads);
+      unheaded_report = λ t is. told_after t e.same_telling e.later_report [] ((unheaded is).report t) (text_at c limit old.file status) (named t);
       refused = λ t is out output. subst (λ (s : Sink). c.Comes limit old.file out s.written) (sym (sink_same e.no_report out output)) ((work is).outputs t out output);
       refused_report = λ t is. (
         mid.report.written,
@@ -197,8 +221,13 @@ module _ (c : Command) (limit : ℕ) (old mid new : Meaning) (text : List ℕ) (
         behind out (inl unasked) = inl (asked_same out ∙ unasked)
         behind out (inr all) = inr (all_attached all)
 
+        headed : (t : old.tells ≡ true) (out : OutPort) → ((sink_at out mid).asked ≡ None) ⊎ IsHeaderTaken (c.header old.file) (input_file old.file c ins.Cells) (unread c mid ins.Cells)
+            → ((sink_at out new).asked ≡ None) ⊎ IsHeaderTaken (c.header old.file) (input_file old.file c ins.Cells) (unread c new ins.Cells)
+        headed t out (inl unasked) = inl (asked_same out ∙ unasked)
+        headed t out (inr taken) = inr (subst (λ (u : Unread). IsHeaderTaken (c.header old.file) (input_file old.file c ins.Cells) (u ins.Cells)) (sym unread_same) taken)
+
         untaken : (port : InPort) → IsUntaken c mid port ⊎ AreMade c mid → IsUntaken c new port ⊎ AreMade c new
-        untaken port (inl none) = inl (ap (λ (u : Unread). u port) unread_same ∙ none ∙ ap (λ (f : Files). input_file f c port) (sym files_same))
+        untaken port (inl none) = inl (untaken_same port none)
         untaken port (inr all) = inr (made_same all)
 
         took : old.tells ≡ true → (port : InPort) → IsInput c port → (source_at port new).attached ≡ true
@@ -225,34 +254,39 @@ module _ (c : Command) (limit : ℕ) (old mid new : Meaning) where
       (λ is. absurd (omega arith)) (λ is. absurd (omega arith)) (λ other. e.caused) (λ is. absurd (omega arith))
       (λ t a b d. ap status_of (sym (e.exact t))) (λ t none a b. absurd (refuted Usage (e.exact t) none))
       (λ t. named_by Usage (e.exact t))
-      (λ is. absurd (true≢false (sym is))) (λ is. absurd (true≢false (sym is))) (λ is. e.leaves) (λ is. absurd (omega arith)) (λ is. absurd (omega arith))
+      (λ is. absurd (true≢false (sym is))) (λ is. absurd (true≢false (sym is))) (λ is. e.leaves) (λ is. absurd (omega arith)) (λ is. absurd (omega arith)) (λ is. absurd (omega arith))
   run_refused (Settings reason) e tells = run_at c limit old mid new (refusal_text (Settings reason)) tells (Settings reason) e 3 e.known
       (λ is. absurd (omega arith)) (λ is. absurd (omega arith)) (λ other. e.caused) (λ is. absurd (omega arith))
       (λ t a b d. ap status_of (sym (e.exact t))) (λ t none a b. absurd (refuted (Settings reason) (e.exact t) none))
       (λ t. named_by (Settings reason) (e.exact t))
-      (λ is. absurd (true≢false (sym is))) (λ is. absurd (true≢false (sym is))) (λ is. e.leaves) (λ is. absurd (omega arith)) (λ is. absurd (omega arith))
+      (λ is. absurd (true≢false (sym is))) (λ is. absurd (true≢false (sym is))) (λ is. e.leaves) (λ is. absurd (omega arith)) (λ is. absurd (omega arith)) (λ is. absurd (omega arith))
   run_refused (NotSync stream n) e tells = run_at c limit old mid new (refusal_text (NotSync stream n)) tells (NotSync stream n) e 4 e.known
       (λ is. absurd (omega arith)) (λ is. absurd (omega arith)) (λ other. e.caused) (λ is. absurd (omega arith))
       (λ t a b d. ap status_of (sym (e.exact t))) (λ t none a b. absurd (refuted (NotSync stream n) (e.exact t) none))
       (λ t. named_by (NotSync stream n) (e.exact t))
-      (λ is. e.leaves) (λ is. e.leaves) (λ is. absurd (true≢false (sym is))) (λ is. absurd (omega arith)) (λ is. absurd (omega arith))
+      (λ is. e.leaves) (λ is. e.leaves) (λ is. absurd (true≢false (sym is))) (λ is. absurd (omega arith)) (λ is. absurd (omega arith)) (λ is. absurd (omega arith))
   run_refused ReadFault e tells = run_at c limit old mid new (refusal_text ReadFault) tells ReadFault e 5 e.known
       (λ is. e.caused) (λ is. absurd (omega arith)) (λ other. absurd (other refl)) (λ is. absurd (omega arith))
       (λ t a b d. absurd (a refl)) (λ t none a b. absurd (a e.caused))
       (λ t. refl)
-      (λ is. absurd (true≢false (sym is))) (λ is. absurd (true≢false (sym is))) (λ is. absurd (true≢false (sym is))) (λ is. e.leaves) (λ is. absurd (omega arith))
+      (λ is. absurd (true≢false (sym is))) (λ is. absurd (true≢false (sym is))) (λ is. absurd (true≢false (sym is))) (λ is. e.leaves) (λ is. absurd (omega arith)) (λ is. absurd (omega arith))
   run_refused WriteFault e tells = run_at c limit old mid new (refusal_text WriteFault) tells WriteFault e 6 e.known
       (λ is. absurd (omega arith)) (λ is. e.caused.1) (λ other. e.caused.0) (λ is. absurd (omega arith))
       (λ t a b d. absurd (b refl)) (λ t none a b. absurd (b e.caused.1))
       (λ t. refl)
-      (λ is. absurd (true≢false (sym is))) (λ is. absurd (true≢false (sym is))) (λ is. absurd (true≢false (sym is))) (λ is. absurd (omega arith)) (λ is. e.leaves)
+      (λ is. absurd (true≢false (sym is))) (λ is. absurd (true≢false (sym is))) (λ is. absurd (true≢false (sym is))) (λ is. absurd (omega arith)) (λ is. e.leaves) (λ is. absurd (omega arith))
   run_refused Memory e tells = run_at c limit old mid new (refusal_text Memory) tells Memory e 7 e.known
       (λ is. absurd (omega arith)) (λ is. absurd (omega arith)) (λ other. e.caused) (λ is. absurd (omega arith))
       (λ t a b d. absurd (d refl)) (λ t none a b. inr refl)
       (λ t. refl)
-      (λ is. absurd (true≢false (sym is))) (λ is. absurd (true≢false (sym is))) (λ is. e.leaves) (λ is. absurd (omega arith)) (λ is. absurd (omega arith))
+      (λ is. absurd (true≢false (sym is))) (λ is. absurd (true≢false (sym is))) (λ is. e.leaves) (λ is. absurd (omega arith)) (λ is. absurd (omega arith)) (λ is. absurd (omega arith))
   run_refused (Limit n) e tells = run_at c limit old mid new (refusal_text (Limit n)) tells (Limit n) e 8 e.known
       (λ is. absurd (omega arith)) (λ is. absurd (omega arith)) (λ other. e.caused) (λ is. absurd (omega arith))
       (λ t a b d. ap status_of (sym (e.exact t))) (λ t none a b. absurd (refuted (Limit n) (e.exact t) none))
       (λ t. named_by (Limit n) (e.exact t))
-      (λ is. e.leaves) (λ is. e.leaves) (λ is. absurd (true≢false (sym is))) (λ is. absurd (omega arith)) (λ is. absurd (omega arith))
+      (λ is. e.leaves) (λ is. e.leaves) (λ is. absurd (true≢false (sym is))) (λ is. absurd (omega arith)) (λ is. absurd (omega arith)) (λ is. absurd (omega arith))
+  run_refused (Cells Header) e tells = run_at c limit old mid new (refusal_text (Cells Header)) tells (Cells Header) e 9 e.known
+      (λ is. absurd (omega arith)) (λ is. absurd (omega arith)) (λ other. e.caused) (λ is. absurd (omega arith))
+      (λ t a b d. ap status_of (sym (e.exact t))) (λ t none a b. absurd (refuted (Cells Header) (e.exact t) none))
+      (λ t. named_by (Cells Header) (e.exact t))
+      (λ is. absurd (true≢false (sym is))) (λ is. absurd (true≢false (sym is))) (λ is. absurd (true≢false (sym is))) (λ is. absurd (omega arith)) (λ is. absurd (omega arith)) (λ is. e.leaves)

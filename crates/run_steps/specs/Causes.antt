@@ -3,7 +3,7 @@ use Rattle.std.specs.Prelude.{◌≡◌, ◌≤◌, Result, Ok, Err}
 use Rattle.station_core.specs.Meaning.{Meaning}
 use Rattle.station_core.specs.Causes.{Rose}
 use Rattle.run_clauses.specs.declared.work.Refusal.{Refusal}
-use Rattle.run_clauses.specs.declared.work.Refusal.TheVariants.{Usage, Settings, ReadFault, WriteFault, NotSync, Memory, Limit}
+use Rattle.run_clauses.specs.declared.work.Refusal.TheVariants.{Usage, Settings, ReadFault, WriteFault, NotSync, Memory, Limit, Cells}
 
 -- both counts of faults are as before
 pub record IsFaultless (old new : Meaning) : Type 0 where
@@ -19,5 +19,6 @@ HasCause old new (Err WriteFault) = (new.read_faults ≡ old.read_faults) × Ros
 HasCause old new (Err (NotSync stream n)) = (new.read_faults ≡ old.read_faults) × (old.write_faults ≤ new.write_faults)
 HasCause old new (Err (Limit n)) = (new.read_faults ≡ old.read_faults) × (old.write_faults ≤ new.write_faults)
 HasCause old new (Err Usage) = ⊥
+HasCause old new (Err (Cells reason)) = ⊥
 HasCause old new (Err (Settings reason)) = ⊥
 HasCause old new (Err Memory) = ⊥

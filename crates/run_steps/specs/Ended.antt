@@ -1,14 +1,16 @@
 -- What a command leaves when its work has ended and its outputs are closed, before the text of a refusal is
 -- written: `r` is why the run was refused, or none. The promise of the run follows from it, for any command.
 use Rattle.std.specs.Prelude.{◌≡◌, ◌≢◌, ◌≤◌, ◌⊎◌, ℕ, ⊤, true, List, [], take, drop, Option, None, Some}
-use Rattle.station_core.specs.Meaning.{Meaning, source_at, sink_at}
+use Rattle.station_core.specs.Meaning.{Meaning, IsUntouched, source_at, sink_at}
 use Rattle.station_core.specs.Causes.{Rose}
 use Rattle.station_core.specs.declared.ports.InPort.{InPort}
 use Rattle.station_core.specs.declared.ports.InPort.TheVariants as ins
 use Rattle.station_core.specs.declared.ports.OutPort.{OutPort}
 use Rattle.station_core.specs.declared.ports.OutPort.TheVariants as outs
 use Rattle.run_clauses.specs.declared.work.Refusal.{Refusal}
-use Rattle.run_clauses.specs.declared.work.Refusal.TheVariants.{Usage, Settings, ReadFault, WriteFault, NotSync, Memory, Limit}
+use Rattle.run_clauses.specs.declared.work.Refusal.TheVariants.{Usage, Settings, ReadFault, WriteFault, NotSync, Memory, Limit, Cells}
+use Rattle.run_clauses.specs.declared.work.CellsRefusal.TheVariants.{Header}
+use Rattle.run_clauses.specs.Header.{IsHeaderTaken}
 use Rattle.run_clauses.specs.Command.{Command, IsInput, IsOutput, is_among, refusal_of, input_file, unread}
 use Rattle.run_clauses.specs.Run.{AsksSettingsAlone, IsUntaken}
 use Rattle.run_clauses.specs.Text.{status_of}
@@ -23,6 +25,7 @@ IsCaused old mid (Some (Settings reason)) = mid.read_faults ≡ old.read_faults
 IsCaused old mid (Some (NotSync stream n)) = mid.read_faults ≡ old.read_faults
 IsCaused old mid (Some Memory) = mid.read_faults ≡ old.read_faults
 IsCaused old mid (Some (Limit n)) = mid.read_faults ≡ old.read_faults
+IsCaused old mid (Some (Cells reason)) = mid.read_faults ≡ old.read_faults
 
 -- A refusal that is no fault and no want of memory is the one that the words and the files come to.
 abbrev pub IsExact : Command → ℕ → Meaning → Option Refusal → Type 0
@@ -34,6 +37,7 @@ IsExact c limit old (Some Usage) = old.tells ≡ true → refusal_of limit old.f
 IsExact c limit old (Some (Settings reason)) = old.tells ≡ true → refusal_of limit old.file c ≡ Some (Settings reason)
 IsExact c limit old (Some (NotSync stream n)) = old.tells ≡ true → refusal_of limit old.file c ≡ Some (NotSync stream n)
 IsExact c limit old (Some (Limit n)) = old.tells ≡ true → refusal_of limit old.file c ≡ Some (Limit n)
+IsExact c limit old (Some (Cells reason)) = old.tells ≡ true → refusal_of limit old.file c ≡ Some (Cells reason)
 
 -- every output was made
 abbrev pub AreMade : Command → Meaning → Type 0
@@ -62,6 +66,12 @@ pub record HoldNothing (old mid : Meaning) : Type 0 where
   pub asks : AsksSettingsAlone mid
   pub report : old.tells ≡ true → mid.report.written ≡ []
 
+-- no output was asked for or made, of the cells no more was taken than their header, and nothing was written to Report
+pub record HoldUnheaded (c : Command) (old mid : Meaning) : Type 0 where
+  pub outputs : (out : OutPort) → IsOutput c out → IsUntouched (sink_at out mid)
+  pub taken : old.tells ≡ true → (port : InPort) → port ≢ ins.Settings → IsInput c port → IsUntaken c mid port
+  pub report : old.tells ≡ true → mid.report.written ≡ []
+
 abbrev pub Leaves : Command → ℕ → Meaning → Meaning → Option Refusal → Type 0
 Leaves c limit old mid None = Hold c limit old mid
 Leaves c limit old mid (Some (NotSync stream n)) = Hold c limit old mid
@@ -71,6 +81,7 @@ Leaves c limit old mid (Some WriteFault) = HoldFronts c limit old mid
 Leaves c limit old mid (Some Usage) = HoldNothing old mid
 Leaves c limit old mid (Some (Settings reason)) = HoldNothing old mid
 Leaves c limit old mid (Some Memory) = HoldNothing old mid
+Leaves c limit old mid (Some (Cells Header)) = HoldUnheaded c old mid
 
 pub record Ended (c : Command) (limit : ℕ) (old mid : Meaning) (r : Option Refusal) : Type 0 where
   pub known : is_among (status_of r) c.statuses ≡ true
@@ -87,6 +98,7 @@ pub record Ended (c : Command) (limit : ℕ) (old mid : Meaning) (r : Option Ref
       ⊎ ((mid.settings.attached ≡ true) × (old.tells ≡ true → (mid.settings.left ≡ []) × (c.early_refusal old.file ≡ None)))
   pub lp_behind_hp : (mid.lp.asked ≡ None) ⊎ (mid.hp.attached ≡ true)
   pub outputs_behind_inputs : (out : OutPort) → ((sink_at out mid).asked ≡ None) ⊎ ((port : InPort) → IsInput c port → (source_at port mid).attached ≡ true)
+  pub outputs_behind_header : old.tells ≡ true → (out : OutPort) → ((sink_at out mid).asked ≡ None) ⊎ IsHeaderTaken (c.header old.file) (input_file old.file c ins.Cells) (unread c mid ins.Cells)
   pub lp_made_behind_hp : (mid.lp_out.asked ≡ None) ⊎ (mid.hp_out.created ≡ true)
   pub work_behind_outputs : old.tells ≡ true → (port : InPort) → port ≢ ins.Settings → IsInput c port → IsUntaken c mid port ⊎ AreMade c mid
   pub taken : old.tells ≡ true → (port : InPort) → IsInput c port → (source_at port mid).attached ≡ true

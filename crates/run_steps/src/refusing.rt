@@ -3,7 +3,7 @@ ghost use Rattle.std.specs.Prelude.{◌≡◌, true, false};
 ghost use Rattle.run_clauses.specs.Text.{refusal_text, refusal_status};
 ghost use Rattle.run_steps.specs.Report.{WritesText};
 
-use run_clauses::{Refusal, text_of};
+use run_clauses::{CellsRefusal, Refusal, text_of};
 use station_core::{OutPort, Station};
 
 /// Writes the text of a refusal and gives its status, which stays where the writing fails.
@@ -23,5 +23,6 @@ pub fn refuse<'a, S: Station<'a>>(refusal: &Refusal, station: &mut S) -> u8
         Refusal::WriteFault => 6,
         Refusal::Memory => 7,
         Refusal::Limit(_) => 8,
+        Refusal::Cells(CellsRefusal::Header) => 9,
     }
 }

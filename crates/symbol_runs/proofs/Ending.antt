@@ -1,9 +1,11 @@
 -- What a run on cells leaves whose settings were accepted, before the text of a refusal is written; and from it
 -- the promise of the run.
-use Rattle.std.proofs.Common.{◌≡◌, ◌≢◌, ◌⊎◌, inl, inr, true, false, ℕ, ◌+◌, ◌*◌, ◌≤◌, Bool, List, [], ◌++◌, take, drop, Option, Some, None, Result, Ok, Err, refl, ◌∙◌, sym, ap, subst, arith, if◌then◌else◌}
-use Rattle.std.specs.Prelude.{is_some}
+use Rattle.std.proofs.Common.{◌≡◌, ◌≢◌, ◌⊎◌, inl, inr, true, false, ℕ, ◌+◌, ◌*◌, ◌≤◌, Bool, List, [], ◌++◌, length, take, drop, Option, Some, None, Result, Ok, Err, refl, ◌∙◌, sym, ap, subst, arith, append_assoc, if◌then◌else◌}
+use Rattle.std.specs.Prelude.{is_some, bytes_eq}
 use Rattle.std.specs.Option.{option_or}
 use Rattle.std.proofs.lemmas.Bool.{true≢false}
+use Rattle.std.proofs.lemmas.List.{drop-drop, take-append-drop}
+use Rattle.std.proofs.lemmas.Slice.Eq.{bytes_eq-Decides}
 use Rattle.std.proofs.Math.Nat.{div-eq_of_lt}
 use Rattle.station_core.specs.Meaning.{Meaning, Source, Sink, IsFresh, IsUntouched, source_at, sink_at}
 use Rattle.station_core.specs.declared.ports.InPort.{InPort}
@@ -13,9 +15,13 @@ use Rattle.station_core.specs.declared.ports.OutPort.TheVariants as outs
 use Rattle.run_clauses.specs.declared.work.Refusal.{Refusal}
 use Rattle.run_clauses.specs.declared.work.Refusal.TheVariants as refusals
 use Rattle.run_clauses.specs.Command.{Command, Files, IsInput, IsOutput, is_among, named, refusal_of, input_file, unread}
+use Rattle.run_clauses.specs.declared.work.CellsRefusal.TheVariants.{Header}
+use Rattle.run_clauses.specs.Header.{IsHeaderTaken, behind_header, header_refusal, header_size}
 use Rattle.run_clauses.specs.Run.{IsUntaken, Run}
-use Rattle.run_clauses.specs.Text.{status_of}
-use Rattle.run_steps.specs.Ended.{AreMade, Ended, Hold, HoldFronts, HoldSoFar, IsCaused, IsExact, Leaves}
+use Rattle.run_clauses.specs.Text.{refusal_status, refusal_text, status_of}
+use Rattle.run_steps.specs.Report.{WritesText}
+use Rattle.run_steps.proofs.Taken.{all_unread}
+use Rattle.run_steps.specs.Ended.{AreMade, Ended, Hold, HoldFronts, HoldSoFar, HoldUnheaded, IsCaused, IsExact, Leaves}
 use Rattle.run_steps.proofs.Whole.{run_done, run_refused}
 use Rattle.symbol_runs.specs.declared.stop.Stop.{Stop}
 use Rattle.symbol_runs.specs.declared.stop.Stop.TheVariants.{ReadFault, WriteFault, Limit}
@@ -24,11 +30,16 @@ use Rattle.symbol_runs.specs.Stops.{HasCause, refusal_in, stop_refusal}
 use Rattle.symbol_runs.specs.Symbols.{symbols}
 use Rattle.symbol_runs.specs.Work.{HasReason, Holds, Work, Written}
 use Rattle.symbol_runs.specs.Outputs.{Names, made}
-use Rattle.symbol_runs.specs.Cells.{IsCutShort, IsStopped}
-use Rattle.symbol_runs.specs.Runs.{AsksOutputs, IsReady, IsUnmade, IsUnopened, IsWorked, PortsOnly, Ran, RunsCells, TakesCells, Tells, opened, outcome_status}
+use Rattle.symbol_runs.specs.Cells.{IsCutShort, IsStopped, TakesAtMost}
+use Rattle.symbol_runs.specs.Opening.{CellsOnly, IsUnopened, Opens, TakesHeader, opened}
+use Rattle.symbol_runs.specs.Runs.{AsksOutputs, IsReady, IsUnmade, IsWorked, PortsOnly, RanBehind, RefusesCells, RunsBehind, RunsCells, Tells, outcome_status}
 use Rattle.symbol_runs.specs.Commands.{CellCommand, Come, ComeSoFar, Continues, SettingsDone, reads_at}
 use Rattle.symbol_runs.proofs.Fronts.{front_of}
 use Rattle.symbol_runs.proofs.Runs.{name_at}
+
+-- a refusal is not none
+no_refusal : (r : Refusal) → Some r ≡ None → ⊥
+no_refusal r e = cc
 
 -- no port is written at the beginning
 pub untouched : (m : Meaning) → IsFresh m → (port : OutPort) → port ≢ outs.Report → IsUntouched (sink_at port m)
@@ -54,16 +65,43 @@ settings_sink m source outs.Lp = refl
 settings_sink m source outs.Bytes = refl
 settings_sink m source outs.Report = refl
 
-opened_sink : (cells : List ℕ) (m : Meaning) (port : OutPort) → sink_at port (opened cells m) ≡ sink_at port m
-opened_sink cells m outs.Cells = refl
-opened_sink cells m outs.Hp = refl
-opened_sink cells m outs.Lp = refl
-opened_sink cells m outs.Bytes = refl
-opened_sink cells m outs.Report = refl
+opened_sink : (cells : List ℕ) (header : Option (List ℕ)) (m : Meaning) (port : OutPort) → sink_at port (opened cells header m) ≡ sink_at port m
+opened_sink cells header m outs.Cells = refl
+opened_sink cells header m outs.Hp = refl
+opened_sink cells header m outs.Lp = refl
+opened_sink cells header m outs.Bytes = refl
+opened_sink cells header m outs.Report = refl
 
--- a refusal is not none
-no_refusal : (r : Refusal) → Some r ≡ None → ⊥
-no_refusal r e = cc
+-- nor does what was asked at Cells
+cells_sink : (m m' : Meaning) → CellsOnly m m' → (port : OutPort) → sink_at port m' ≡ sink_at port m
+cells_sink m m' p outs.Cells = ap (λ (x : Meaning). x.cells_out) p
+cells_sink m m' p outs.Hp = ap (λ (x : Meaning). x.hp_out) p
+cells_sink m m' p outs.Lp = ap (λ (x : Meaning). x.lp_out) p
+cells_sink m m' p outs.Bytes = ap (λ (x : Meaning). x.bytes_out) p
+cells_sink m m' p outs.Report = ap (λ (x : Meaning). x.report) p
+
+cells_ports : (m m' : Meaning) → CellsOnly m m' → PortsOnly m m'
+cells_ports m m' p = subst (λ (x : Meaning). PortsOnly m x) (sym p) refl
+
+-- a file that has its header is that, what was taken behind it, and the rest
+header_taken : (header : Option (List ℕ)) (file left : List ℕ) (k : ℕ) → header_refusal header file ≡ None → left ≡ drop k (behind_header header file) → IsHeaderTaken header file left
+header_taken None file left k fits is = tt
+header_taken (Some h) file left k fits is =
+    let rest : List ℕ = behind_header (Some h) file in (
+      take k rest,
+      sym (take-append-drop (length h) file) ∙ ap (λ (l : List ℕ). l ++ rest) (front (bytes_eq (take (length h) file) h) refl fits)
+          ∙ ap (λ (l : List ℕ). h ++ l) (sym (take-append-drop k rest) ∙ ap (λ (l : List ℕ). take k rest ++ l) (sym is))
+          ∙ sym (append_assoc h (take k rest) left),
+    )
+  where
+    front : (b : Bool) → bytes_eq (take (length h) file) h ≡ b → (if b then None else Some (refusals.Cells Header)) ≡ None → take (length h) file ≡ h
+    front true same e = (bytes_eq-Decides (take (length h) file) h).0 same
+    front false same e = absurd (no_refusal (refusals.Cells Header) e)
+
+-- what lies behind a header and more
+behind_more : (header : Option (List ℕ)) (file : List ℕ) (k : ℕ) → drop k (behind_header header file) ≡ drop (header_size header + k) file
+behind_more None file k = let same : k ≡ 0 + k = omega arith in ap (λ (n : ℕ). drop n file) same
+behind_more (Some h) file k = drop-drop k (length h) file
 
 -- an output is not Report
 pub not_report : (names : Names) → names outs.Report ≡ None → (port : OutPort) → is_some (names port) ≡ true → port ≢ outs.Report
@@ -81,14 +119,15 @@ ready names none start at fresh = record {
   };
 }
 
-module _ (c : Command) (limit : ℕ) (name cells : List ℕ) (names : Names) (w : Work) (most : ℕ) (start mid : Meaning) (at : Source) (fresh : IsFresh start) (settings : SettingsDone c limit name start at)
-    (command : CellCommand c limit name cells names w most start) (others : PortsOnly (record start { settings = at }) mid) (cells_asked : mid.cells.asked ≡ Some cells) (asks : AsksOutputs names (record start { settings = at }) mid)
-    (taken : TakesCells ((most + 1) * w.size) cells (record start { settings = at }) mid) (later_report : start.report_faults ≤ mid.report_faults) where
+module _ (c : Command) (limit : ℕ) (name cells : List ℕ) (header : Option (List ℕ)) (names : Names) (w : Work) (most : ℕ) (start mid : Meaning) (at : Source) (fresh : IsFresh start) (settings : SettingsDone c limit name start at)
+    (command : CellCommand c limit name cells header names w most start) (others : PortsOnly (record start { settings = at }) mid) (cells_asked : mid.cells.asked ≡ Some cells) (asks : AsksOutputs names (record start { settings = at }) mid)
+    (taken : start.tells ≡ true → mid.cells.attached ≡ true → (k : ℕ) × (k ≤ header_size header + (most + 1) * w.size) × (mid.cells.left ≡ drop k (start.file cells))) (later_report : start.report_faults ≤ mid.report_faults) where
   abbrev old : Meaning
   old = record start { settings = at }
 
+  -- the cells behind their header
   abbrev file : List ℕ
-  file = start.file cells
+  file = behind_header header (start.file cells)
 
   told : start.tells ≡ true → mid.tells ≡ true
   told t = ap (λ (x : Meaning). x.tells) others ∙ t
@@ -97,8 +136,16 @@ module _ (c : Command) (limit : ℕ) (name cells : List ℕ) (names : Names) (w 
   files_same = ap (λ (x : Meaning). x.file) others
 
   -- ---- the refusal of the files
-  refusal_is : (r : Option Refusal) → c.work_refusal limit start.file ≡ r → start.tells ≡ true → refusal_of limit start.file c ≡ r
-  refusal_is r is t = ap (λ (o : Option Refusal). option_or o (c.work_refusal limit start.file)) (settings.accepted t) ∙ is
+  abbrev of_header : Option Refusal
+  of_header = header_refusal (c.header start.file) (input_file start.file c ins.Cells)
+
+  of_header_is : start.tells ≡ true → of_header ≡ header_refusal header (start.file cells)
+  of_header_is t = ap (λ (h : Option (List ℕ)). header_refusal h (input_file start.file c ins.Cells)) (command.header_is t) ∙ ap (λ (o : Option (List ℕ)). header_refusal header (named start.file o)) (command.reads ins.Cells)
+
+  refusal_by : (r h : Option Refusal) → header_refusal header (start.file cells) ≡ h → option_or h (c.work_refusal limit start.file) ≡ r → start.tells ≡ true → refusal_of limit start.file c ≡ r
+  refusal_by r h fits is t =
+      ap (λ (o : Option Refusal). option_or o (option_or of_header (c.work_refusal limit start.file))) (settings.accepted t)
+      ∙ ap (λ (o : Option Refusal). option_or o (c.work_refusal limit start.file)) (of_header_is t ∙ fits) ∙ is
 
   -- ---- the ports
   settings_is : mid.settings ≡ at
@@ -157,55 +204,48 @@ module _ (c : Command) (limit : ℕ) (name cells : List ℕ) (names : Names) (w 
   -- ---- the order, and the closing, however far the run came
   record InOrder : Type 0 where
     behind_inputs : (out : OutPort) → ((sink_at out mid).asked ≡ None) ⊎ ((port : InPort) → IsInput c port → (source_at port mid).attached ≡ true)
+    behind_header : start.tells ≡ true → (out : OutPort) → ((sink_at out mid).asked ≡ None) ⊎ IsHeaderTaken (c.header start.file) (input_file start.file c ins.Cells) (unread c mid ins.Cells)
     made_behind_hp : (mid.lp_out.asked ≡ None) ⊎ (mid.hp_out.created ≡ true)
-    behind_outputs : IsUntaken c mid ins.Cells ⊎ AreMade c mid
+    behind_outputs : start.tells ≡ true → IsUntaken c mid ins.Cells ⊎ AreMade c mid
     closed : (out : OutPort) → IsOutput c out → (sink_at out mid).created ≡ true → (sink_at out mid).closed ≡ true
 
-  same_sink : IsUnopened old mid → (out : OutPort) → sink_at out mid ≡ sink_at out start
-  same_sink none out = none.outputs out ∙ settings_sink start at out
+  same_sink : IsUnopened cells header old mid → (out : OutPort) → sink_at out mid ≡ sink_at out start
+  same_sink none out = cells_sink old mid none.others out ∙ settings_sink start at out
 
-  unmade_yet : IsUnopened old mid → (out : OutPort) → IsOutput c out → (sink_at out mid).created ≡ true → ⊥
-  unmade_yet none out is made =
-      true≢false (sym made ∙ ap (λ (x : Sink). x.created) (same_sink none out) ∙ (untouched start fresh out (not_report names command.no_report out (is_output out is))).created)
+  untouched_yet : IsUnopened cells header old mid → (out : OutPort) → IsOutput c out → IsUntouched (sink_at out mid)
+  untouched_yet none out is = subst IsUntouched (sym (same_sink none out)) (untouched start fresh out (not_report names command.no_report out (is_output out is)))
 
-  unopened_order : IsUnopened old mid → InOrder
+  unmade_yet : IsUnopened cells header old mid → (out : OutPort) → IsOutput c out → (sink_at out mid).created ≡ true → ⊥
+  unmade_yet none out is made = true≢false (sym made ∙ (untouched_yet none out is).created)
+
+  unasked_yet : IsUnopened cells header old mid → (out : OutPort) → (sink_at out mid).asked ≡ None
+  unasked_yet none out = ap (λ (x : Sink). x.asked) (same_sink none out) ∙ unasked start fresh out
+
+  -- no more than the header was taken
+  header_alone : IsUnopened cells header old mid → start.tells ≡ true → TakesHeader header (start.file cells) (unread c mid ins.Cells)
+  header_alone none t = elim none.taken [
+    | inl shut ↦ (0, omega arith, unread_shut shut ∙ input_cells mid.file ∙ ap (λ (f : Files). f cells) files_same)
+    | inr those ↦ let r = those.1 t in (r.0, r.1, unread_open those.0 ∙ r.2)
+  ]
+
+  untaken : (k : ℕ) → k ≤ header_size header → unread c mid ins.Cells ≡ drop k (start.file cells) → start.tells ≡ true → IsUntaken c mid ins.Cells
+  untaken k few is t = (
+    k,
+    (let same : header_size (c.header mid.file) ≡ header_size header = ap (λ (f : Files). header_size (c.header f)) files_same ∙ ap header_size (command.header_is t) in omega (arith, few, same)),
+    is ∙ ap (drop k) (ap (λ (f : Files). f cells) (sym files_same) ∙ sym (input_cells mid.file)),
+  )
+
+  untaken_yet : IsUnopened cells header old mid → start.tells ≡ true → IsUntaken c mid ins.Cells
+  untaken_yet none t = let r = header_alone none t in untaken r.0 r.1 r.2 t
+
+  unopened_order : IsUnopened cells header old mid → InOrder
   unopened_order none = record {
-    behind_inputs = λ out. inl (ap (λ (x : Sink). x.asked) (same_sink none out) ∙ unasked start fresh out);
-    made_behind_hp = inl (ap (λ (x : Sink). x.asked) (same_sink none outs.Lp) ∙ fresh.lp_out.asked);
-    behind_outputs = inl (unread_shut none.unread);
+    behind_inputs = λ out. inl (unasked_yet none out);
+    behind_header = λ t out. inl (unasked_yet none out);
+    made_behind_hp = inl (unasked_yet none outs.Lp);
+    behind_outputs = λ t. inl (untaken_yet none t);
     closed = λ out is made. absurd (unmade_yet none out is made);
   }
-
-  unmade_order : IsUnmade names (opened cells old) mid → InOrder
-  unmade_order none = record {
-    behind_inputs = λ out. inr (all_opened (ap (λ (x : Source). x.attached) none.cells));
-    made_behind_hp = elim none.lp_behind [
-      | inl same ↦ inl (ap (λ (x : Sink). x.asked) same ∙ fresh.lp_out.asked)
-      | inr made ↦ inr made
-    ];
-    behind_outputs = inl (unread_open (ap (λ (x : Source). x.attached) none.cells) ∙ ap (λ (x : Source). x.left) none.cells ∙ ap (λ (f : Files). f cells) (sym files_same) ∙ sym (input_cells mid.file));
-    closed = λ out is made. (none.shut out (is_output out is) made).0;
-  }
-
-  all_made : (result : Result (Unit {0}) Stop) → IsWorked w most names (opened cells old) mid result → AreMade c mid
-  all_made result done out is = done.created out (is_output out is)
-
-  lp_order : (result : Result (Unit {0}) Stop) → IsWorked w most names (opened cells old) mid result → (mid.lp_out.asked ≡ None) ⊎ (mid.hp_out.created ≡ true)
-  lp_order result done = elim done.lp_behind [ inl same ↦ inl (same ∙ fresh.lp_out.asked) | inr is ↦ inr is ]
-
-  worked_order : (result : Result (Unit {0}) Stop) → IsWorked w most names (opened cells old) mid result → InOrder
-  worked_order result done = record {
-    behind_inputs = λ out. inr (all_opened done.attached);
-    made_behind_hp = lp_order result done;
-    behind_outputs = inr (all_made result done);
-    closed = λ out is made. done.closed out (is_output out is);
-  }
-
-  order : (result : Result (Unit {0}) Stop) → Ran w most cells names old mid result → InOrder
-  order result ran = elim ran [
-    | inl p ↦ unopened_order p.1
-    | inr q ↦ elim q [ inl p ↦ unmade_order p.1 | inr p ↦ worked_order result p ]
-  ]
 
   -- ---- all of it, by the refusal
   ended_by : (r : Option Refusal) → is_among (status_of r) c.statuses ≡ true → IsCaused start mid r → start.read_faults ≤ mid.read_faults → start.write_faults ≤ mid.write_faults
@@ -223,8 +263,9 @@ module _ (c : Command) (limit : ℕ) (name cells : List ℕ) (names : Names) (w 
     settings_first = λ is. inr (ap (λ (x : Source). x.attached) settings_is ∙ settings.attached, λ t. (ap (λ (x : Source). x.left) settings_is ∙ settings.left t, settings.accepted t));
     lp_behind_hp = inl lp_unasked;
     outputs_behind_inputs = order.behind_inputs;
+    outputs_behind_header = order.behind_header;
     lp_made_behind_hp = order.made_behind_hp;
-    work_behind_outputs = λ t port other is. both (λ port. port ≢ ins.Settings → IsUntaken c mid port ⊎ AreMade c mid) (λ other. absurd (other refl)) (λ other. order.behind_outputs) port is other;
+    work_behind_outputs = λ t port other is. both (λ port. port ≢ ins.Settings → IsUntaken c mid port ⊎ AreMade c mid) (λ other. absurd (other refl)) (λ other. order.behind_outputs t) port is other;
     taken = takes;
     opened = λ is. all_opened (is_open is);
     read_out = λ is t. both (λ port. (source_at port mid).left ≡ []) (ap (λ (x : Source). x.left) settings_is ∙ settings.left t) (read is t);
@@ -237,127 +278,222 @@ module _ (c : Command) (limit : ℕ) (name cells : List ℕ) (names : Names) (w 
     own = command.own;
   }
 
-  -- ---- what is left by each outcome
-  module _ (result : Result (Unit {0}) Stop) (done : IsWorked w most names (opened cells old) mid result) where
-    -- the outputs were empty before the work, and so was Report
-    base : (out : OutPort) → IsOutput c out → (sink_at out done.start).written ≡ []
-    base out is = let n = name_at names out (is_output out is) in ap (λ (x : Sink). x.written) (done.made out n.0 n.1)
+  none_printed : IsUnopened cells header old mid → start.tells ≡ true → mid.report.written ≡ []
+  none_printed none t = ap (λ (k : Sink). k.written) (same_sink none outs.Report) ∙ fresh.report_empty t
 
-    base_report : start.tells ≡ true → done.start.report.written ≡ []
-    base_report t = ap (λ (x : Sink). x.written) done.report ∙ fresh.report_empty t
+  same_writes : IsUnopened cells header old mid → start.write_faults ≤ mid.write_faults
+  same_writes none = let same : mid.write_faults ≡ start.write_faults = ap (λ (x : Meaning). x.write_faults) none.others in omega (arith, same)
 
-    holds_at : (given : Written) → Holds done.start mid given → (out : OutPort) → IsOutput c out → (sink_at out mid).written ≡ given out
-    holds_at given holds out is = holds out ∙ ap (λ (l : List ℕ). l ++ given out) (base out is)
-
-    holds_report : (given : Written) → Holds done.start mid given → start.tells ≡ true → mid.report.written ≡ given outs.Report
-    holds_report given holds t = holds outs.Report ∙ ap (λ (l : List ℕ). l ++ given outs.Report) (base_report t)
-
-    hold_by : (start.tells ≡ true → (given : Written) × Come c limit start.file given × Holds done.start mid given) → Hold c limit start mid
-    hold_by by = record {
-      made = all_made result done;
-      outputs = λ t out is. let p = by t in subst (λ (l : List ℕ). c.Comes limit start.file out l) (sym (holds_at p.0 p.2 out is)) (p.1.outputs out is);
-      report = λ t. let p = by t in subst (λ (l : List ℕ). c.Prints limit start.file l) (sym (holds_report p.0 p.2 t)) p.1.report;
-    }
-
-    stopped_left : (start.tells ≡ true → IsStopped w most file done.start mid) → HoldSoFar c limit start mid
-    stopped_left stopped = record {
-      outputs = λ t out is made. let p = stopped t in
-          subst (λ (l : List ℕ). c.ComesSoFar limit start.file (unread c mid) out l) (sym (holds_at p.given p.holds out is)) ((come t).outputs out is);
-      report = λ t. let p = stopped t in subst (λ (l : List ℕ). c.PrintsSoFar limit start.file (unread c mid) l) (sym (holds_report p.given p.holds t)) (come t).report;
-    }
-      where
-        come : (t : start.tells ≡ true) → ComeSoFar c limit start.file (unread c mid) (stopped t).given
-        come t = let p = stopped t in
-            (command.comes t).so_far (unread c mid) p.taken p.given (p.are ∙ ap (λ (l : List ℕ). p.taken ++ l) (sym (unread_open done.attached))) p.within p.gives
-
-    -- a front of what was given is a front of what begins with it
-    front_at : (base given all w : List ℕ) (k : ℕ) → base ≡ [] → (rest : List ℕ) × (all ≡ given ++ rest) → w ≡ base ++ take k given → (j : ℕ) × (w ≡ take j all)
-    front_at base given all w k none more is =
-        let f = front_of given more.0 k in (f.0, is ∙ ap (λ (l : List ℕ). l ++ take k given) none ∙ f.1 ∙ ap (take f.0) (sym more.1))
-
-    fronts_left : (start.tells ≡ true → IsCutShort w most file done.start mid) → HoldFronts c limit start mid
-    fronts_left cut = record {
-      outputs = λ t out is made. let p = cut t in let all = (command.comes t).begun p.given p.up in
-          (all.all out, all.come.outputs out is, front_at (sink_at out done.start).written (p.given out) (all.all out) (sink_at out mid).written (p.holds out).0 (base out is) (all.begins out) (p.holds out).1);
-      report = λ t. let p = cut t in let all = (command.comes t).begun p.given p.up in
-          (all.all outs.Report, all.come.report, front_at done.start.report.written (p.given outs.Report) (all.all outs.Report) mid.report.written (p.holds outs.Report).0 (base_report t) (all.begins outs.Report) (p.holds outs.Report).1);
-    }
-
-  shut_left : IsUnopened old mid → HoldSoFar c limit start mid
+  -- ---- the cells were not opened, or have not their header
+  shut_left : IsUnopened cells header old mid → HoldSoFar c limit start mid
   shut_left none = record {
     outputs = λ t out is made. absurd (unmade_yet none out is made);
-    report = λ t. subst (λ (l : List ℕ). c.PrintsSoFar limit start.file (unread c mid) l) (sym (ap (λ (k : Sink). k.written) (same_sink none outs.Report) ∙ fresh.report_empty t))
-        ((command.comes t).unread (unread c mid) (unread_shut none.unread ∙ input_cells mid.file ∙ ap (λ (f : Files). f cells) files_same));
+    report = λ t. subst (λ (l : List ℕ). c.PrintsSoFar limit start.file (unread c mid) l) (sym (none_printed none t)) (command.unread t (unread c mid) (header_alone none t));
   }
 
-  -- where an output was not made nothing was written
-  unmade_left : IsUnmade names (opened cells old) mid → HoldFronts c limit start mid
-  unmade_left none = record {
-    outputs = λ t out is made. let all = begun t in (all.all out, all.come.outputs out is, (0, (none.shut out (is_output out is) made).1));
-    report = λ t. let all = begun t in (all.all outs.Report, all.come.report, (0, ap (λ (k : Sink). k.written) none.report ∙ fresh.report_empty t));
+  unheaded_left : IsUnopened cells header old mid → HoldUnheaded c start mid
+  unheaded_left none = record {
+    outputs = untouched_yet none;
+    taken = λ t port other is. both (λ port. port ≢ ins.Settings → IsUntaken c mid port) (λ other. absurd (other refl)) (λ other. untaken_yet none t) port is other;
+    report = none_printed none;
   }
-    where
-      begun : (t : start.tells ≡ true) → Continues c limit start.file ((command.comes t).first.0)
-      begun t = (command.comes t).begun (command.comes t).first.0 (record {
-        taken = [];
-        rest = file;
-        are = refl;
-        within = let zero : symbols w.size [] ≡ 0 = div-eq_of_lt {n = 0} {m = w.size} command.some in omega (arith, zero);
-        gives = inl (command.comes t).first.1;
-      })
 
-  -- ---- by the outcome
-  abbrev tag : Result (Unit {0}) Stop → ℕ
-  tag (Ok u) = 0
-  tag (Err ReadFault) = 1
-  tag (Err WriteFault) = 2
-  tag (Err Limit) = 3
-  tag (Err (stops.Work r)) = 4
+  pub unopened_ended : (r : Refusal) → Opens cells header old mid (Err r) → Ended c limit start mid (Some r)
+  unopened_ended refusals.ReadFault opens =
+      ended_by (Some refusals.ReadFault) command.read_fault opens.1 opens.2 (same_writes opens.0) tt (unopened_order opens.0) (λ is. absurd (no_refusal _ is)) (λ is t. absurd (no_refusal _ is)) (shut_left opens.0)
+  unopened_ended (refusals.Cells Header) opens =
+      ended_by (Some (refusals.Cells Header)) (command.unheaded opens.1) opens.2 (omega (arith, opens.2)) (same_writes opens.0)
+      (λ t. refusal_by (Some (refusals.Cells Header)) (Some (refusals.Cells Header)) (opens.3 t) refl t) (unopened_order opens.0) (λ is. absurd (no_refusal _ is)) (λ is t. absurd (no_refusal _ is)) (unheaded_left opens.0)
+  unopened_ended refusals.Usage opens = absurd opens
+  unopened_ended (refusals.Settings reason) opens = absurd opens
+  unopened_ended refusals.WriteFault opens = absurd opens
+  unopened_ended (refusals.NotSync stream n) opens = absurd opens
+  unopened_ended refusals.Memory opens = absurd opens
+  unopened_ended (refusals.Limit n) opens = absurd opens
 
-  worked_if : (result : Result (Unit {0}) Stop) → tag result ≢ 1 → tag result ≢ 2 → Ran w most cells names old mid result → IsWorked w most names (opened cells old) mid result
-  worked_if result not_read not_written ran = elim ran [
-    | inl p ↦ absurd (not_read (ap tag p.0))
-    | inr q ↦ elim q [ inl p ↦ absurd (not_written (ap tag p.0)) | inr p ↦ p ]
-  ]
+  -- ---- behind the opening of the cells
+  module _ (fits : start.tells ≡ true → header_refusal header (start.file cells) ≡ None) (taken_so : TakesAtMost ((most + 1) * w.size) (opened cells header old) mid) where
+    -- the header was read
+    taken_behind : start.tells ≡ true → (k : ℕ) → mid.cells.left ≡ drop k file → mid.cells.attached ≡ true → IsHeaderTaken (c.header start.file) (input_file start.file c ins.Cells) (unread c mid ins.Cells)
+    taken_behind t k is is_open =
+        subst (λ (h : Option (List ℕ)). IsHeaderTaken h (input_file start.file c ins.Cells) (unread c mid ins.Cells)) (sym (command.header_is t))
+        (subst (λ (l : List ℕ). IsHeaderTaken header l (unread c mid ins.Cells)) (sym (input_cells start.file)) (header_taken header (start.file cells) (unread c mid ins.Cells) k (fits t) (unread_open is_open ∙ is)))
 
-  pub ended_of : (o : Result (Unit {0}) Stop) → HasCause old mid o → HasReason w o → Ran w most cells names old mid o → Ended c limit start mid (refusal_in most o)
-  ended_of (Ok u) cause reason ran =
-      let done = worked_if (Ok u) (λ e. omega (arith, e)) (λ e. omega (arith, e)) ran in
-      ended_by None command.done (cause.0, cause.1) (omega (arith, cause.0)) (omega (arith, cause.1))
-      (λ t. let d = done.works (told t) in refusal_is None ((command.comes t).whole d.2.given d.1 d.2.ends).1 t) (order (Ok u) ran)
-      (λ is. done.attached) (λ is t. (done.works (told t)).0)
-      (hold_by (Ok u) done (λ t. let d = done.works (told t) in (d.2.given, ((command.comes t).whole d.2.given d.1 d.2.ends).0, d.2.holds)))
-  ended_of (Err ReadFault) cause reason ran =
-      ended_by (Some refusals.ReadFault) command.read_fault cause.0 cause.1 cause.2 tt (order (Err ReadFault) ran) (λ is. absurd (no_refusal _ is)) (λ is t. absurd (no_refusal _ is))
-      (elim ran [
-        | inl p ↦ shut_left p.1
-        | inr q ↦ elim q [ inl p ↦ (let e : 1 ≡ 2 = ap tag p.0 in absurd (omega (arith, e))) | inr p ↦ stopped_left (Err ReadFault) p (λ t. p.works (told t)) ]
-      ])
-  ended_of (Err WriteFault) cause reason ran =
-      ended_by (Some refusals.WriteFault) command.write_fault (cause.0, cause.1) (omega (arith, cause.0)) cause.2 tt (order (Err WriteFault) ran) (λ is. absurd (no_refusal _ is)) (λ is t. absurd (no_refusal _ is))
-      (elim ran [
-        | inl p ↦ let e : 2 ≡ 1 = ap tag p.0 in absurd (omega (arith, e))
-        | inr q ↦ elim q [ inl p ↦ unmade_left p.1 | inr p ↦ fronts_left (Err WriteFault) p (λ t. p.works (told t)) ]
-      ])
-  ended_of (Err Limit) cause reason ran =
-      let done = worked_if (Err Limit) (λ e. omega (arith, e)) (λ e. omega (arith, e)) ran in
-      ended_by (Some (refusals.Limit most)) command.limit_passed cause.0 (omega (arith, cause.0)) cause.1
-      (λ t. let d = done.works (told t) in refusal_is (Some (refusals.Limit most)) ((command.comes t).past d.given d.past d.gives).1 t) (order (Err Limit) ran)
-      (λ is. absurd (no_refusal _ is)) (λ is t. absurd (no_refusal _ is))
-      (hold_by (Err Limit) done (λ t. let d = done.works (told t) in (d.given, ((command.comes t).past d.given d.past d.gives).0, d.holds)))
-  ended_of (Err (stops.Work r)) cause reason ran =
-      let done = worked_if (Err (stops.Work r)) (λ e. omega (arith, e)) (λ e. omega (arith, e)) ran in
-      let its = command.its (opened cells old) mid r reason refl refl done in
-      ended_by (Some r) its.known its.caused (omega (arith, cause.0)) cause.1 its.exact (order (Err (stops.Work r)) ran)
-      (λ is. absurd (no_refusal _ is)) (λ is t. absurd (no_refusal _ is)) its.leaves
+    unmade_order : IsUnmade names (opened cells header old) mid → InOrder
+    unmade_order none = record {
+      behind_inputs = λ out. inr (all_opened (ap (λ (x : Source). x.attached) none.cells));
+      made_behind_hp = elim none.lp_behind [
+        | inl same ↦ inl (ap (λ (x : Sink). x.asked) same ∙ fresh.lp_out.asked)
+        | inr made ↦ inr made
+      ];
+      behind_header = λ t out. inr (taken_behind t 0 (ap (λ (x : Source). x.left) none.cells) (ap (λ (x : Source). x.attached) none.cells));
+      behind_outputs = λ t. inl (untaken (header_size header) (omega arith) (unread_open (ap (λ (x : Source). x.attached) none.cells) ∙ ap (λ (x : Source). x.left) none.cells ∙ behind_more header (start.file cells) 0 ∙ ap (λ (k : ℕ). drop k (start.file cells)) (omega arith)) t);
+      closed = λ out is made. (none.shut out (is_output out is) made).0;
+    }
+
+    all_made : (result : Result (Unit {0}) Stop) → IsWorked w most names (opened cells header old) mid result → AreMade c mid
+    all_made result done out is = done.created out (is_output out is)
+
+    lp_order : (result : Result (Unit {0}) Stop) → IsWorked w most names (opened cells header old) mid result → (mid.lp_out.asked ≡ None) ⊎ (mid.hp_out.created ≡ true)
+    lp_order result done = elim done.lp_behind [ inl same ↦ inl (same ∙ fresh.lp_out.asked) | inr is ↦ inr is ]
+
+    worked_order : (result : Result (Unit {0}) Stop) → IsWorked w most names (opened cells header old) mid result → InOrder
+    worked_order result done = record {
+      behind_inputs = λ out. inr (all_opened done.attached);
+      made_behind_hp = lp_order result done;
+      behind_header = λ t out. inr (let r = taken_so t in taken_behind t r.0 r.2 done.attached);
+      behind_outputs = λ t. inr (all_made result done);
+      closed = λ out is made. done.closed out (is_output out is);
+    }
+
+    order : (result : Result (Unit {0}) Stop) → RanBehind w most names (opened cells header old) mid result → InOrder
+    order result ran = elim ran [ inl p ↦ unmade_order p.1 | inr p ↦ worked_order result p ]
+
+    -- ---- what is left by each outcome
+    module _ (result : Result (Unit {0}) Stop) (done : IsWorked w most names (opened cells header old) mid result) where
+      -- the outputs were empty before the work, and so was Report
+      base : (out : OutPort) → IsOutput c out → (sink_at out done.start).written ≡ []
+      base out is = let n = name_at names out (is_output out is) in ap (λ (x : Sink). x.written) (done.made out n.0 n.1)
+
+      base_report : start.tells ≡ true → done.start.report.written ≡ []
+      base_report t = ap (λ (x : Sink). x.written) done.report ∙ fresh.report_empty t
+
+      holds_at : (given : Written) → Holds done.start mid given → (out : OutPort) → IsOutput c out → (sink_at out mid).written ≡ given out
+      holds_at given holds out is = holds out ∙ ap (λ (l : List ℕ). l ++ given out) (base out is)
+
+      holds_report : (given : Written) → Holds done.start mid given → start.tells ≡ true → mid.report.written ≡ given outs.Report
+      holds_report given holds t = holds outs.Report ∙ ap (λ (l : List ℕ). l ++ given outs.Report) (base_report t)
+
+      hold_by : (start.tells ≡ true → (given : Written) × Come c limit start.file given × Holds done.start mid given) → Hold c limit start mid
+      hold_by by = record {
+        made = all_made result done;
+        outputs = λ t out is. let p = by t in subst (λ (l : List ℕ). c.Comes limit start.file out l) (sym (holds_at p.0 p.2 out is)) (p.1.outputs out is);
+        report = λ t. let p = by t in subst (λ (l : List ℕ). c.Prints limit start.file l) (sym (holds_report p.0 p.2 t)) p.1.report;
+      }
+
+      stopped_left : (start.tells ≡ true → IsStopped w most file done.start mid) → HoldSoFar c limit start mid
+      stopped_left stopped = record {
+        outputs = λ t out is made. let p = stopped t in
+            subst (λ (l : List ℕ). c.ComesSoFar limit start.file (unread c mid) out l) (sym (holds_at p.given p.holds out is)) ((come t).outputs out is);
+        report = λ t. let p = stopped t in subst (λ (l : List ℕ). c.PrintsSoFar limit start.file (unread c mid) l) (sym (holds_report p.given p.holds t)) (come t).report;
+      }
+        where
+          come : (t : start.tells ≡ true) → ComeSoFar c limit start.file (unread c mid) (stopped t).given
+          come t = let p = stopped t in
+              (command.comes t).so_far (unread c mid) p.taken p.given (p.are ∙ ap (λ (l : List ℕ). p.taken ++ l) (sym (unread_open done.attached))) p.within p.gives
+
+      -- a front of what was given is a front of what begins with it
+      front_at : (base given all w : List ℕ) (k : ℕ) → base ≡ [] → (rest : List ℕ) × (all ≡ given ++ rest) → w ≡ base ++ take k given → (j : ℕ) × (w ≡ take j all)
+      front_at base given all w k none more is =
+          let f = front_of given more.0 k in (f.0, is ∙ ap (λ (l : List ℕ). l ++ take k given) none ∙ f.1 ∙ ap (take f.0) (sym more.1))
+
+      fronts_left : (start.tells ≡ true → IsCutShort w most file done.start mid) → HoldFronts c limit start mid
+      fronts_left cut = record {
+        outputs = λ t out is made. let p = cut t in let all = (command.comes t).begun p.given p.up in
+            (all.all out, all.come.outputs out is, front_at (sink_at out done.start).written (p.given out) (all.all out) (sink_at out mid).written (p.holds out).0 (base out is) (all.begins out) (p.holds out).1);
+        report = λ t. let p = cut t in let all = (command.comes t).begun p.given p.up in
+            (all.all outs.Report, all.come.report, front_at done.start.report.written (p.given outs.Report) (all.all outs.Report) mid.report.written (p.holds outs.Report).0 (base_report t) (all.begins outs.Report) (p.holds outs.Report).1);
+      }
+
+    -- where an output was not made nothing was written
+    unmade_left : IsUnmade names (opened cells header old) mid → HoldFronts c limit start mid
+    unmade_left none = record {
+      outputs = λ t out is made. let all = begun t in (all.all out, all.come.outputs out is, (0, (none.shut out (is_output out is) made).1));
+      report = λ t. let all = begun t in (all.all outs.Report, all.come.report, (0, ap (λ (k : Sink). k.written) none.report ∙ fresh.report_empty t));
+    }
+      where
+        begun : (t : start.tells ≡ true) → Continues c limit start.file ((command.comes t).first.0)
+        begun t = (command.comes t).begun (command.comes t).first.0 (record {
+          taken = [];
+          rest = file;
+          are = refl;
+          within = let zero : symbols w.size [] ≡ 0 = div-eq_of_lt {n = 0} {m = w.size} command.some in omega (arith, zero);
+          gives = inl (command.comes t).first.1;
+        })
+
+    -- ---- by the outcome
+    abbrev tag : Result (Unit {0}) Stop → ℕ
+    tag (Ok u) = 0
+    tag (Err ReadFault) = 1
+    tag (Err WriteFault) = 2
+    tag (Err Limit) = 3
+    tag (Err (stops.Work r)) = 4
+
+    worked_if : (result : Result (Unit {0}) Stop) → tag result ≢ 2 → RanBehind w most names (opened cells header old) mid result → IsWorked w most names (opened cells header old) mid result
+    worked_if result not_written ran = elim ran [ inl p ↦ absurd (not_written (ap tag p.0)) | inr p ↦ p ]
+
+    pub ended_of : (o : Result (Unit {0}) Stop) → HasCause old mid o → HasReason w o → RanBehind w most names (opened cells header old) mid o → Ended c limit start mid (refusal_in most o)
+    ended_of (Ok u) cause reason ran =
+        let done = worked_if (Ok u) (λ e. omega (arith, e)) ran in
+        ended_by None command.done (cause.0, cause.1) (omega (arith, cause.0)) (omega (arith, cause.1))
+        (λ t. let d = done.works (told t) in refusal_by None None (fits t) ((command.comes t).whole d.2.given d.1 d.2.ends).1 t) (order (Ok u) ran)
+        (λ is. done.attached) (λ is t. (done.works (told t)).0)
+        (hold_by (Ok u) done (λ t. let d = done.works (told t) in (d.2.given, ((command.comes t).whole d.2.given d.1 d.2.ends).0, d.2.holds)))
+    ended_of (Err ReadFault) cause reason ran =
+        ended_by (Some refusals.ReadFault) command.read_fault cause.0 cause.1 cause.2 tt (order (Err ReadFault) ran) (λ is. absurd (no_refusal _ is)) (λ is t. absurd (no_refusal _ is))
+        (let p = worked_if (Err ReadFault) (λ e. omega (arith, e)) ran in stopped_left (Err ReadFault) p (λ t. p.works (told t)))
+    ended_of (Err WriteFault) cause reason ran =
+        ended_by (Some refusals.WriteFault) command.write_fault (cause.0, cause.1) (omega (arith, cause.0)) cause.2 tt (order (Err WriteFault) ran) (λ is. absurd (no_refusal _ is)) (λ is t. absurd (no_refusal _ is))
+        (elim ran [ inl p ↦ unmade_left p.1 | inr p ↦ fronts_left (Err WriteFault) p (λ t. p.works (told t)) ])
+    ended_of (Err Limit) cause reason ran =
+        let done = worked_if (Err Limit) (λ e. omega (arith, e)) ran in
+        ended_by (Some (refusals.Limit most)) command.limit_passed cause.0 (omega (arith, cause.0)) cause.1
+        (λ t. let d = done.works (told t) in refusal_by (Some (refusals.Limit most)) None (fits t) ((command.comes t).past d.given d.past d.gives).1 t) (order (Err Limit) ran)
+        (λ is. absurd (no_refusal _ is)) (λ is t. absurd (no_refusal _ is))
+        (hold_by (Err Limit) done (λ t. let d = done.works (told t) in (d.given, ((command.comes t).past d.given d.past d.gives).0, d.holds)))
+    ended_of (Err (stops.Work r)) cause reason ran =
+        let done = worked_if (Err (stops.Work r)) (λ e. omega (arith, e)) ran in
+        let its = command.its (opened cells header old) mid r reason refl refl done in
+        ended_by (Some r) its.known its.caused (omega (arith, cause.0)) cause.1 its.exact (order (Err (stops.Work r)) ran)
+        (λ is. absurd (no_refusal _ is)) (λ is t. absurd (no_refusal _ is)) its.leaves
 
 -- the promise of a run on cells, behind its settings
-pub run_of : (c : Command) (limit : ℕ) (name cells : List ℕ) (names : Names) (w : Work) (most : ℕ) (start new : Meaning) (at : Source) (status : ℕ) → IsFresh start → SettingsDone c limit name start at
-    → CellCommand c limit name cells names w most start → RunsCells w most cells names (record start { settings = at }) new status → Run c limit start new status
-run_of c limit name cells names w most start new at status fresh settings command runs =
-    let e = ended_of c limit name cells names w most start runs.mid at fresh settings command runs.others runs.cells_asked runs.asks runs.taken runs.later_report runs.outcome runs.cause runs.reason runs.ran in
-    subst (λ (n : ℕ). Run c limit start new n) (sym runs.status_is) (closing runs.mid runs.outcome e runs.tells)
-  where
-    closing : (m : Meaning) (o : Result (Unit {0}) Stop) → Ended c limit start m (refusal_in most o) → Tells most m new o → Run c limit start new (outcome_status most o)
-    closing m (Ok u) e tells = run_done c limit start new (subst (λ (x : Meaning). Ended c limit start x None) (sym tells) e)
-    closing m (Err stop) e tells = run_refused c limit start m new (stop_refusal most stop) e tells
+module _ (c : Command) (limit : ℕ) (name cells : List ℕ) (header : Option (List ℕ)) (names : Names) (w : Work) (most : ℕ) (start new : Meaning) (at : Source) (status : ℕ) (fresh : IsFresh start)
+    (settings : SettingsDone c limit name start at) (command : CellCommand c limit name cells header names w most start) where
+  abbrev accepted : Meaning
+  accepted = record start { settings = at }
+
+  -- no more was taken than the command says
+  few_taken : (m : Meaning) → m.cells.attached ≡ true → (m.cells.attached ≡ false) ⊎ ((m.cells.attached ≡ true) × (start.tells ≡ true → TakesHeader header (start.file cells) m.cells.left)) → start.tells ≡ true
+      → (k : ℕ) × (k ≤ header_size header + (most + 1) * w.size) × (m.cells.left ≡ drop k (start.file cells))
+  few_taken m is (inl shut) t = absurd (true≢false (sym is ∙ shut))
+  few_taken m is (inr those) t = let r = those.1 t in (r.0, omega (arith, r.1), r.2)
+
+  unopened_run : RefusesCells cells header accepted new status → Run c limit start new status
+  unopened_run runs = subst (λ (n : ℕ). Run c limit start new n) (sym runs.status_is) (closing runs.mid runs.refusal runs.opens (none_of runs.refusal runs.opens) runs.tells)
+    where
+      none_of : (r : Refusal) → Opens cells header accepted runs.mid (Err r) → IsUnopened cells header accepted runs.mid
+      none_of refusals.ReadFault o = o.0
+      none_of (refusals.Cells Header) o = o.0
+      none_of refusals.Usage o = absurd o
+      none_of (refusals.Settings reason) o = absurd o
+      none_of refusals.WriteFault o = absurd o
+      none_of (refusals.NotSync stream n) o = absurd o
+      none_of refusals.Memory o = absurd o
+      none_of (refusals.Limit n) o = absurd o
+
+      closing : (m : Meaning) (r : Refusal) → Opens cells header accepted m (Err r) → IsUnopened cells header accepted m → WritesText (refusal_text r) m new → Run c limit start new (refusal_status r)
+      closing m r opens none tells =
+          let same : m.report_faults ≡ start.report_faults = ap (λ (x : Meaning). x.report_faults) none.others in
+          run_refused c limit start m new r
+          (unopened_ended c limit name cells header names w most start m at fresh settings command (cells_ports accepted m none.others) none.asked (λ port. inl (ap (λ (x : Sink). x.asked) (cells_sink accepted m none.others port)))
+          (λ t is. few_taken m is none.taken t) (omega (arith, same)) r opens) tells
+
+  opened_run : (start.tells ≡ true → header_refusal header (start.file cells) ≡ None) → RunsBehind w most names (opened cells header accepted) new status → Run c limit start new status
+  opened_run fits runs =
+      let e = ended_of c limit name cells header names w most start runs.mid at fresh settings command runs.others runs.cells_asked (λ port. asked port (runs.asks port))
+      (λ t is. let r = runs.taken t in (header_size header + r.0, omega (arith, r.1), r.2 ∙ behind_more header (start.file cells) r.0)) runs.later_report fits runs.taken
+      runs.outcome runs.cause runs.reason runs.ran in
+      subst (λ (n : ℕ). Run c limit start new n) (sym runs.status_is) (closing runs.mid runs.outcome e runs.tells)
+    where
+      asked : (port : OutPort) → ((sink_at port runs.mid).asked ≡ (sink_at port (opened cells header accepted)).asked) ⊎ ((sink_at port runs.mid).asked ≡ names port)
+          → ((sink_at port runs.mid).asked ≡ (sink_at port accepted).asked) ⊎ ((sink_at port runs.mid).asked ≡ names port)
+      asked port (inl same) = inl (same ∙ ap (λ (x : Sink). x.asked) (opened_sink cells header accepted port))
+      asked port (inr is) = inr is
+
+      closing : (m : Meaning) (o : Result (Unit {0}) Stop) → Ended c limit start m (refusal_in most o) → Tells most m new o → Run c limit start new (outcome_status most o)
+      closing m (Ok u) e tells = run_done c limit start new (subst (λ (x : Meaning). Ended c limit start x None) (sym tells) e)
+      closing m (Err stop) e tells = run_refused c limit start m new (stop_refusal most stop) e tells
+
+  pub run_of : RunsCells w most cells header names accepted new status → Run c limit start new status
+  run_of runs = elim runs [ inl r ↦ unopened_run r | inr r ↦ opened_run r.0 r.1 ]

@@ -1,6 +1,7 @@
 -- The ports of a run, from the making of the outputs to their closing.
 use Rattle.std.proofs.Common.{◌≡◌, inl, inr, ℕ, Bool, true, List, [], ◌++◌, Option, Some, None, Result, Ok, Err, refl, ◌∙◌, sym, ap, subst}
 use Rattle.std.specs.Prelude.{◌⊎◌, is_some}
+use Rattle.std.specs.Result.{result_and}
 use Rattle.std.proofs.lemmas.Bool.{true≢false}
 use Rattle.std.proofs.lemmas.List.{append-nil}
 use Rattle.station_core.specs.Meaning.{Meaning, Sink, sink_at}
@@ -58,7 +59,7 @@ module _ (w : Work) (most : ℕ) (file : List ℕ) (start m m' : Meaning) (p : C
     holds = λ port. written port ∙ s.holds port;
   }
 
-  pub works_closed : (result : Result (Unit {0}) Stop) → Works w most file start m result → Works w most file start m' result
+  works_closed : (result : Result (Unit {0}) Stop) → Works w most file start m result → Works w most file start m' result
   works_closed (Ok u) f = λ t. let d = f (tells_are t) in (left_is ∙ d.0, d.1, record { given = d.2.given; ends = d.2.ends; holds = λ port. written port ∙ d.2.holds port })
   works_closed (Err stop) f = λ t. stop_closed stop (f (tells_are t))
 
@@ -70,9 +71,14 @@ module _ (w : Work) (most : ℕ) (file : List ℕ) (start m m' : Meaning) (p : C
     holds = λ port. all_of (sink_at port start).written (d.2.given port) (sink_at port m').written (written port ∙ d.2.holds port);
   }
 
-  pub works_unclosed : (result : Result (Unit {0}) Stop) → IsWriting result → Works w most file start m (Ok tt) → Works w most file start m' result
+  works_unclosed : (result : Result (Unit {0}) Stop) → IsWriting result → Works w most file start m (Ok tt) → Works w most file start m' result
   works_unclosed (Ok u) kind f = works_closed (Ok u) f
   works_unclosed (Err stop) kind f = λ t. subst (Stopped w most file start m') (sym kind) (whole_cut f t)
+
+  -- the outputs were closed behind the work, whatever it came to
+  pub works_then_closed : (worked closing : Result (Unit {0}) Stop) → IsWriting closing → Works w most file start m worked → Works w most file start m' (result_and worked closing)
+  works_then_closed (Ok u) closing kind f = works_unclosed closing kind f
+  works_then_closed (Err stop) closing kind f = works_closed (Err stop) f
 
 module _ (names : Names) (old m1 : Meaning) (makes : AreMade names old m1) (begin : CanBegin names old) where
   pub report_same : m1.report ≡ old.report

@@ -1,6 +1,6 @@
 -- What makes a command one that reads cells: its settings and its cells are read, and what it comes to is what
 -- its work gives.
-use Rattle.std.specs.Prelude.{◌≡◌, ◌<◌, ◌≤◌, ◌+◌, ◌*◌, ℕ, true, List, [], ◌++◌, drop, Option, None, Some, Err}
+use Rattle.std.specs.Prelude.{◌≡◌, ◌<◌, ◌≤◌, ◌+◌, ◌*◌, ℕ, true, List, [], ◌++◌, drop, Option, None, Some, is_some, Err}
 use Rattle.station_core.specs.Meaning.{Meaning, Source}
 use Rattle.station_core.specs.declared.ports.InPort.{InPort}
 use Rattle.station_core.specs.declared.ports.InPort.TheVariants as ins
@@ -9,6 +9,7 @@ use Rattle.station_core.specs.declared.ports.OutPort.TheVariants as outs
 use Rattle.run_clauses.specs.declared.work.Refusal.{Refusal}
 use Rattle.run_clauses.specs.declared.work.Refusal.TheVariants.{Limit}
 use Rattle.run_clauses.specs.Command.{Command, Files, IsOutput, Unread, is_among}
+use Rattle.run_clauses.specs.Header.{behind_header, header_size}
 use Rattle.run_clauses.specs.Text.{refusal_status}
 use Rattle.run_steps.specs.Ended.{IsCaused, IsExact, Leaves}
 use Rattle.symbol_runs.specs.declared.stop.Stop.TheVariants as stops
@@ -16,6 +17,7 @@ use Rattle.symbol_runs.specs.Symbols.{symbols, within_limit}
 use Rattle.symbol_runs.specs.Work.{Work, Written}
 use Rattle.symbol_runs.specs.Outputs.{Names}
 use Rattle.symbol_runs.specs.Cells.{GivenUpTo}
+use Rattle.symbol_runs.specs.Opening.{TakesHeader}
 use Rattle.symbol_runs.specs.Runs.{IsWorked}
 
 -- the settings and the cells are read
@@ -49,15 +51,14 @@ pub record Continues (c : Command) (limit : ℕ) (file : Files) (given : Written
   pub come : Come c limit file all
   pub begins : (port : OutPort) → (rest : List ℕ) × (all port ≡ given port ++ rest)
 
--- What the files come to by the command is what the cells, `bytes`, give by the work.
+-- What the files come to by the command is what the cells, `bytes` behind their header, give by the work.
 pub record ComesTo (c : Command) (limit : ℕ) (file : Files) (w : Work) (most : ℕ) (bytes : List ℕ) : Type 0 where
   -- all cells, where they hold no more symbols than the limit
   pub whole : (given : Written) → symbols w.size bytes ≤ most → w.Ends bytes given → Come c limit file given × (c.work_refusal limit file ≡ None)
   -- the cells within the limit, where they hold more
   pub past : (given : Written) → most < symbols w.size bytes → w.Gives (within_limit most w.size bytes) given → Come c limit file given × (c.work_refusal limit file ≡ Some (Limit most))
-  -- the cells so far as a failed read, and where none was read
+  -- the cells so far as a failed read
   pub so_far : (unread : Unread) (taken : List ℕ) (given : Written) → bytes ≡ taken ++ unread ins.Cells → symbols w.size taken ≤ most → w.Gives taken given → ComeSoFar c limit file unread given
-  pub unread : (unread : Unread) → unread ins.Cells ≡ bytes → c.PrintsSoFar limit file unread []
   -- first cells give what begins that
   pub begun : (given : Written) → GivenUpTo w most bytes given → Continues c limit file given
   pub first : (given : Written) × w.Gives [] given
@@ -69,16 +70,21 @@ pub record Refuses (c : Command) (limit : ℕ) (start mid : Meaning) (r : Refusa
   pub exact : IsExact c limit start (Some r)
   pub leaves : Leaves c limit start mid (Some r)
 
-pub record CellCommand (c : Command) (limit : ℕ) (settings cells : List ℕ) (names : Names) (w : Work) (most : ℕ) (start : Meaning) : Type 0 where
+-- a command on cells that must begin with this header, if with any
+pub record CellCommand (c : Command) (limit : ℕ) (settings cells : List ℕ) (header : Option (List ℕ)) (names : Names) (w : Work) (most : ℕ) (start : Meaning) : Type 0 where
   pub reads : (port : InPort) → c.reads port ≡ reads_at settings cells port
   pub writes : (port : OutPort) → c.writes port ≡ names port
+  pub header_is : start.tells ≡ true → c.header start.file ≡ header
   pub no_report : names outs.Report ≡ None
   pub some : 0 < w.size
   pub done : is_among 0 c.statuses ≡ true
   pub read_fault : is_among 5 c.statuses ≡ true
   pub write_fault : is_among 6 c.statuses ≡ true
+  pub unheaded : is_some header ≡ true → is_among 9 c.statuses ≡ true
   pub limit_passed : is_among 8 c.statuses ≡ true
-  pub most_taken : start.tells ≡ true → (most + 1) * w.size ≤ c.most_taken limit start.file ins.Cells
-  pub comes : start.tells ≡ true → ComesTo c limit start.file w most (start.file cells)
-  pub its : (old mid : Meaning) (r : Refusal) → w.Reasons r → old.tells ≡ start.tells → old.cells.left ≡ start.file cells → IsWorked w most names old mid (Err (stops.Work r)) → Refuses c limit start mid r
+  pub most_taken : start.tells ≡ true → header_size header + (most + 1) * w.size ≤ c.most_taken limit start.file ins.Cells
+  pub comes : start.tells ≡ true → ComesTo c limit start.file w most (behind_header header (start.file cells))
+  -- where the reading stops within the header no line is printed
+  pub unread : start.tells ≡ true → (unread : Unread) → TakesHeader header (start.file cells) (unread ins.Cells) → c.PrintsSoFar limit start.file unread []
+  pub its : (old mid : Meaning) (r : Refusal) → w.Reasons r → old.tells ≡ start.tells → old.cells.left ≡ behind_header header (start.file cells) → IsWorked w most names old mid (Err (stops.Work r)) → Refuses c limit start mid r
   pub own : c.Own limit start.file

@@ -4,5 +4,6 @@ pub mod Work
 pub mod Outputs
 pub mod Writing
 pub mod Cells
+pub mod Opening
 pub mod Runs
 pub mod Commands

@@ -1,17 +1,20 @@
 -- The steps of a run on cells behind its settings, each as a relation of what the station stood for before and
 -- after it. The promise of the run as a whole follows from them.
-use Rattle.std.specs.Prelude.{◌≡◌, ◌⊎◌, ◌≤◌, ◌+◌, ◌*◌, ℕ, true, false, List, [], drop, Result, Ok, Err, Some, None, is_some}
+use Rattle.std.specs.Prelude.{◌≡◌, ◌⊎◌, ◌≤◌, ◌+◌, ◌*◌, ℕ, true, false, List, [], Option, Result, Ok, Err, Some, None, is_some}
 use Rattle.station_core.specs.Meaning.{Meaning, IsUnasked, sink_at}
 use Rattle.station_core.specs.declared.ports.OutPort.{OutPort}
 use Rattle.station_core.specs.declared.ports.OutPort.TheVariants as outs
+use Rattle.run_clauses.specs.declared.work.Refusal.{Refusal}
+use Rattle.run_clauses.specs.Header.{header_refusal}
 use Rattle.run_clauses.specs.Text.{refusal_text, refusal_status}
 use Rattle.run_steps.specs.Report.{WritesText}
 use Rattle.symbol_runs.specs.declared.stop.Stop.{Stop}
-use Rattle.symbol_runs.specs.declared.stop.Stop.TheVariants.{ReadFault, WriteFault}
+use Rattle.symbol_runs.specs.declared.stop.Stop.TheVariants.{WriteFault}
 use Rattle.symbol_runs.specs.Stops.{HasCause, stop_refusal}
 use Rattle.symbol_runs.specs.Work.{HasReason, Work}
 use Rattle.symbol_runs.specs.Outputs.{AreUntouched, Names, made}
-use Rattle.symbol_runs.specs.Cells.{Works}
+use Rattle.symbol_runs.specs.Cells.{TakesAtMost, Works}
+use Rattle.symbol_runs.specs.Opening.{Opens, opened}
 
 -- the outputs can be made, and Report is open; none of them is written at Report
 pub record CanBegin (names : Names) (m : Meaning) : Type 0 where
@@ -68,23 +71,6 @@ pub record IsWorked (w : Work) (most : ℕ) (names : Names) (old new : Meaning) 
 abbrev pub RanBehind : Work → ℕ → Names → Meaning → Meaning → Result (Unit {0}) Stop → Type 0
 RanBehind w most names old new result = ((result ≡ Err WriteFault) × IsUnmade names old new) ⊎ IsWorked w most names old new result
 
--- the cells could not be opened: nothing else was asked for
-pub record IsUnopened (old new : Meaning) : Type 0 where
-  pub unread : new.cells.attached ≡ false
-  pub outputs : (port : OutPort) → sink_at port new ≡ sink_at port old
-
--- the cells were opened, and nothing was taken of them yet
-abbrev pub opened : List ℕ → Meaning → Meaning
-opened cells m = record m { cells = record { asked = Some cells; attached = true; left = m.file cells } }
-
--- how far a run came, and what it leaves by its outcome
-abbrev pub Ran : Work → ℕ → List ℕ → Names → Meaning → Meaning → Result (Unit {0}) Stop → Type 0
-Ran w most cells names old new result = ((result ≡ Err ReadFault) × IsUnopened old new) ⊎ RanBehind w most names (opened cells old) new result
-
--- of the cells no more was taken than the limit and one symbol
-abbrev pub TakesCells : ℕ → List ℕ → Meaning → Meaning → Type 0
-TakesCells n cells old new = old.tells ≡ true → new.cells.attached ≡ true → (k : ℕ) × (k ≤ n) × (new.cells.left ≡ drop k (old.file cells))
-
 abbrev pub outcome_status : ℕ → Result (Unit {0}) Stop → ℕ
 outcome_status most (Ok u) = 0
 outcome_status most (Err stop) = refusal_status (stop_refusal most stop)
@@ -94,17 +80,31 @@ abbrev pub Tells : ℕ → Meaning → Meaning → Result (Unit {0}) Stop → Ty
 Tells most mid new (Ok u) = new ≡ mid
 Tells most mid new (Err stop) = WritesText (refusal_text (stop_refusal most stop)) mid new
 
--- a run has one outcome: the status, the ports and the report are that outcome's
-pub record RunsCells (w : Work) (most : ℕ) (cells : List ℕ) (names : Names) (old new : Meaning) (status : ℕ) : Type 0 where
+-- a run has one outcome behind the opening of the cells: the status, the ports and the report are that outcome's
+pub record RunsBehind (w : Work) (most : ℕ) (names : Names) (old new : Meaning) (status : ℕ) : Type 0 where
   pub outcome : Result (Unit {0}) Stop
   pub mid : Meaning
   pub status_is : status ≡ outcome_status most outcome
   pub others : PortsOnly old mid
-  pub cells_asked : mid.cells.asked ≡ Some cells
+  pub cells_asked : mid.cells.asked ≡ old.cells.asked
   pub asks : AsksOutputs names old mid
   pub cause : HasCause old mid outcome
   pub reason : HasReason w outcome
   pub later_report : old.report_faults ≤ mid.report_faults
-  pub ran : Ran w most cells names old mid outcome
-  pub taken : TakesCells ((most + 1) * w.size) cells old mid
+  pub ran : RanBehind w most names old mid outcome
+  pub taken : TakesAtMost ((most + 1) * w.size) old mid
   pub tells : Tells most mid new outcome
+
+-- the cells could not be opened, or their header not read, or they have none
+pub record RefusesCells (cells : List ℕ) (header : Option (List ℕ)) (old new : Meaning) (status : ℕ) : Type 0 where
+  pub refusal : Refusal
+  pub mid : Meaning
+  pub status_is : status ≡ refusal_status refusal
+  pub opens : Opens cells header old mid (Err refusal)
+  pub tells : WritesText (refusal_text refusal) mid new
+
+-- a run on cells
+abbrev pub RunsCells : Work → ℕ → List ℕ → Option (List ℕ) → Names → Meaning → Meaning → ℕ → Type 0
+RunsCells w most cells header names old new status =
+    RefusesCells cells header old new status
+    ⊎ ((old.tells ≡ true → header_refusal header (old.file cells) ≡ None) × RunsBehind w most names (opened cells header old) new status)

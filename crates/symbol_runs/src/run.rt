@@ -1,17 +1,18 @@
 // A run of a command that reads cells, behind its settings.
-ghost use Rattle.std.specs.Prelude.{◌≡◌, ◌≤◌, ◌<◌, ◌+◌, ◌*◌, ℕ, Some, true, length, is_some};
+ghost use Rattle.std.specs.Prelude.{◌≡◌, ◌≤◌, ◌<◌, ◌+◌, ◌*◌, true, length, is_some};
 ghost use Rattle.station_core.specs.declared.ports.OutPort.{OutPort};
 ghost use Rattle.symbol_runs.specs.Stops.{HasCause};
 ghost use Rattle.symbol_runs.specs.Work.{HasReason};
 ghost use Rattle.symbol_runs.specs.Cells.{TakesAtMost};
-ghost use Rattle.symbol_runs.specs.Runs.{AsksOutputs, CanBegin, IsReady, PortsOnly, Ran, RanBehind, RunsCells, TakesCells};
+ghost use Rattle.symbol_runs.specs.Runs.{AsksOutputs, CanBegin, IsReady, PortsOnly, RanBehind, RunsBehind, RunsCells};
 
 use crate::cells::work_on_cells;
+use crate::opening::open_cells;
 use crate::outputs::OutputFiles;
 use crate::stop::Stop;
 use crate::work::SymbolWork;
 use run_steps::refuse;
-use station_core::{InPort, Station};
+use station_core::Station;
 
 // Makes the outputs, does the work on what is left of Cells, and closes the outputs, whatever the work came to.
 fn run_behind<'a, F: OutputFiles<'a, S>, X: SymbolWork<'a, S>, S: Station<'a>>(
@@ -38,53 +39,44 @@ fn run_behind<'a, F: OutputFiles<'a, S>, X: SymbolWork<'a, S>, S: Station<'a>>(
     ensures taken { TakesAtMost ((max_symbols + 1) * (X.work (X.setup work.old)).size) (S.meaning station.old) (S.meaning station.new) }
 {
     files.create(station)?;
-    match work_on_cells(max_symbols, work, symbol, station) {
-        Ok(()) => files.close(station),
-        Err(stop) => {
-            let _ = files.close(station);
-            Err(stop)
-        }
-    }
+    let worked = work_on_cells(max_symbols, work, symbol, station);
+    let closed = files.close(station);
+    worked.and(closed)
 }
 
-// From the opening of the cells to the closing of the outputs.
-fn run_all<'a, F: OutputFiles<'a, S>, X: SymbolWork<'a, S>, S: Station<'a>>(
+// The run behind the opening of the cells, to its status.
+fn run_opened<'a, F: OutputFiles<'a, S>, X: SymbolWork<'a, S>, S: Station<'a>>(
     max_symbols: u32,
-    cells: &'a str,
     files: &F,
     work: &mut X,
     symbol: &mut [u8],
     station: &mut S,
-) -> Result<(), Stop>
+) -> u8
     requires able { X.able }
-    requires ready { IsReady (F.names files.now) (S.meaning station.old) }
+    requires attached { (S.meaning station.old).cells.attached ≡ true }
+    requires begin { CanBegin (F.names files.now) (S.meaning station.old) }
     requires outputs { (port : OutPort) → X.outputs (X.setup work.old) port ≡ is_some (F.names files.now port) }
     requires size { length symbol.old ≡ (X.work (X.setup work.old)).size }
     requires some { 0 < length symbol.old }
     requires new { X.is_new work.old }
-    ensures others { PortsOnly (S.meaning station.old) (S.meaning station.new) }
-    ensures cells_asked { (S.meaning station.new).cells.asked ≡ Some cells.now }
-    ensures asks { AsksOutputs (F.names files.now) (S.meaning station.old) (S.meaning station.new) }
-    ensures cause { HasCause (S.meaning station.old) (S.meaning station.new) result }
-    ensures reason { HasReason (X.work (X.setup work.old)) result }
-    ensures later_report { (S.meaning station.old).report_faults ≤ (S.meaning station.new).report_faults }
-    ensures ran { Ran (X.work (X.setup work.old)) max_symbols cells.now (F.names files.now) (S.meaning station.old) (S.meaning station.new) result }
-    ensures taken { TakesCells ((max_symbols + 1) * (X.work (X.setup work.old)).size) cells.now (S.meaning station.old) (S.meaning station.new) }
+    ensures runs { RunsBehind (X.work (X.setup work.old)) max_symbols (F.names files.now) (S.meaning station.old) (S.meaning station.new) result }
 {
-    match station.attach(InPort::Cells, cells) {
-        Ok(()) => run_behind(max_symbols, files, work, symbol, station),
-        Err(_) => Err(Stop::ReadFault),
+    match run_behind(max_symbols, files, work, symbol, station) {
+        Ok(()) => 0,
+        Err(stop) => refuse(&stop.refusal(max_symbols), station),
     }
 }
 
 /// Runs a command on the cells of the file of this name, by its work and with its outputs, and gives the
 /// status.
 ///
-/// The cells are opened before an output is made. `symbol` has the size of a symbol of the work, and the
-/// limit is in whole symbols. The outputs are those that the work writes.
+/// The cells are opened and, where they must begin with a header, that is read before an output is made:
+/// cells that do not begin with it are refused. `symbol` has the size of a symbol of the work, and the
+/// limit is in whole symbols behind the header. The outputs are those that the work writes.
 pub fn run_cells<'a, F: OutputFiles<'a, S>, X: SymbolWork<'a, S>, S: Station<'a>>(
     max_symbols: u32,
     cells: &'a str,
+    header: Option<[u8; 8]>,
     files: &F,
     work: &mut X,
     symbol: &mut [u8],
@@ -96,10 +88,10 @@ pub fn run_cells<'a, F: OutputFiles<'a, S>, X: SymbolWork<'a, S>, S: Station<'a>
     requires size { length symbol.old ≡ (X.work (X.setup work.old)).size }
     requires some { 0 < length symbol.old }
     requires new { X.is_new work.old }
-    ensures runs { RunsCells (X.work (X.setup work.old)) max_symbols cells.now (F.names files.now) (S.meaning station.old) (S.meaning station.new) result }
+    ensures runs { RunsCells (X.work (X.setup work.old)) max_symbols cells.now header (F.names files.now) (S.meaning station.old) (S.meaning station.new) result }
 {
-    match run_all(max_symbols, cells, files, work, symbol, station) {
-        Ok(()) => 0,
-        Err(stop) => refuse(&stop.refusal(max_symbols), station),
+    match open_cells(cells, header, station) {
+        Ok(()) => run_opened(max_symbols, files, work, symbol, station),
+        Err(refusal) => refuse(&refusal, station),
     }
 }

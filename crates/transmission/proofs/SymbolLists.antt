@@ -10,7 +10,7 @@ use Rattle.spec_words.proofs.Counting.{numbers_end}
 use Rattle.mode_set.specs.StreamTable.{carriers}
 use Rattle.mode_set.specs.declared.settings.Settings.{Settings}
 use Rattle.qam_map.specs.declared.cell.Cell.{Cell}
-use Rattle.frame_build.specs.Symbol.{cell_bytes, symbol_bytes, cell_at}
+use Rattle.frame_build.specs.Symbol.{cell_bytes, sent_bytes, symbol_bytes, cell_at}
 use Rattle.transmission.specs.Transmission.{Inputs, tx_label, tx_cell, tx_symbol, first_symbols}
 use Rattle.transmission.specs.Laws.{SymbolsAreCells, SymbolsAreLong, NoSymbol, OneSymbolMore, FrontOfSymbols, PartOfSymbols}
 
@@ -18,9 +18,9 @@ pub symbols_are_cells : SymbolsAreCells
 unfolding tx_symbol tx_cell symbol_bytes
 symbols_are_cells s inputs m = refl
 
-four : (c : Cell) → length (cell_bytes c) ≡ 4
-unfolding cell_bytes
-four c = refl
+five : (c : Cell) → length (sent_bytes c) ≡ 5
+unfolding sent_bytes cell_bytes
+five c = refl
 
 all_long : (f : ℕ → List ℕ) (c a n : ℕ) → ((k : ℕ) → length (f k) ≡ c) → length (flat_map f (range_with_len a n)) ≡ c * n
 all_long f c a zero each = omega arith
@@ -32,7 +32,7 @@ all_long f c a (suc n) each =
 
 pub symbols_are_long : SymbolsAreLong
 unfolding tx_symbol symbol_bytes numbers
-symbols_are_long s inputs m = all_long (λ k. cell_bytes (cell_at s m (tx_label s inputs m) k)) 4 0 (carriers s.mode) (λ k. four (cell_at s m (tx_label s inputs m) k))
+symbols_are_long s inputs m = all_long (λ k. sent_bytes (cell_at s m (tx_label s inputs m) k)) 5 0 (carriers s.mode) (λ k. five (cell_at s m (tx_label s inputs m) k))
 
 pub no_symbol : NoSymbol
 unfolding first_symbols numbers

@@ -5,17 +5,17 @@ use Rattle.mode_set.specs.StreamTable.{carriers, has_stream, words_per_super_fra
 use Rattle.mode_set.specs.declared.modes.Stream.{Stream}
 use Rattle.mode_set.specs.declared.settings.Settings.{Settings}
 use Rattle.outer_chain.specs.Sent.{packet_at}
-use Rattle.frame_build.specs.Symbol.{cell_bytes}
+use Rattle.frame_build.specs.Symbol.{sent_bytes}
 use Rattle.transmission.specs.Transmission.{Inputs, tx_cell, tx_symbol, first_symbols}
 use Rattle.transmission.specs.SuperFrames.{Suffices, AreSuperFrames, super_frames, packets_for, ArePacketsFor}
 
 -- a symbol is its cells, carriers rising
 abbrev pub SymbolsAreCells : Type 0
-SymbolsAreCells = (s : Settings) (inputs : Inputs) (m : ℕ) → tx_symbol s inputs m ≡ flat_map (λ k. cell_bytes (tx_cell s inputs m k)) (numbers (carriers s.mode))
+SymbolsAreCells = (s : Settings) (inputs : Inputs) (m : ℕ) → tx_symbol s inputs m ≡ flat_map (λ k. sent_bytes (tx_cell s inputs m k)) (numbers (carriers s.mode))
 
--- four bytes a carrier
+-- five bytes a carrier
 abbrev pub SymbolsAreLong : Type 0
-SymbolsAreLong = (s : Settings) (inputs : Inputs) (m : ℕ) → length (tx_symbol s inputs m) ≡ 4 * carriers s.mode
+SymbolsAreLong = (s : Settings) (inputs : Inputs) (m : ℕ) → length (tx_symbol s inputs m) ≡ 5 * carriers s.mode
 
 -- symbol after symbol
 abbrev pub NoSymbol : Type 0

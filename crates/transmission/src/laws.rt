@@ -10,7 +10,7 @@ use outer_chain::laws::sending;
 use puncture::sent_bits_have_steps;
 use symbol_interleave::laws::{h_is_a_permutation, places_and_words_agree};
 
-/// Symbols are the bytes of their cells, four a carrier, one symbol after another.
+/// Symbols are the bytes of their cells, five a carrier, one symbol after another.
 pub fn symbols()
     ensures cells { SymbolsAreCells }
     ensures long { SymbolsAreLong }

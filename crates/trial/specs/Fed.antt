@@ -8,7 +8,7 @@ use Rattle.pilots.specs.declared.carrier_kind.CarrierKind.TheVariants.{Continual
 use Rattle.pilots.specs.Carriers.{kind}
 use Rattle.qam_map.specs.declared.cell.Cell.{Cell}
 use Rattle.qam_map.specs.Points.{tolerance}
-use Rattle.frame_build.specs.Symbol.{cell_bytes}
+use Rattle.frame_build.specs.Symbol.{sent_bytes}
 use Rattle.load_gen.specs.Draws.{after, shift_of}
 use Rattle.transmission.specs.Transmission.{tx_cell}
 use Rattle.transmission.specs.SuperFrames.{symbols_of}
@@ -36,9 +36,9 @@ disturbed s number m c (Payload q) = if m % 17 == 16 then negated (moved s numbe
 unfoldable pub fed_cell : Settings → ℕ → ℕ → ℕ → Cell
 fed_cell s number m k = disturbed s number m (tx_cell s (drawn s number) m k) (kind s.mode (m % 68) k)
 
--- the bytes of symbol m, carriers rising
+-- the bytes of symbol m, carriers rising; each cell counts whole
 unfoldable pub fed_symbol : Settings → ℕ → ℕ → List ℕ
-fed_symbol s number m = flat_map (λ k. cell_bytes (fed_cell s number m k)) (numbers (carriers s.mode))
+fed_symbol s number m = flat_map (λ k. sent_bytes (fed_cell s number m k)) (numbers (carriers s.mode))
 
 -- those of all symbols of the transmission
 unfoldable pub fed : Settings → ℕ → List ℕ

@@ -11,7 +11,7 @@ use Rattle.station_core.specs.declared.ports.OutPort.TheVariants as outs
 use Rattle.mode_set.specs.declared.settings.Settings.{Settings as TheSettings}
 use Rattle.trial.specs.Outcome.{at_zero, trial_counts}
 use Rattle.run_clauses.specs.declared.work.Refusal.{Refusal}
-use Rattle.run_clauses.specs.declared.work.Refusal.TheVariants.{Usage, Settings, ReadFault, WriteFault, NotSync, Memory, Limit}
+use Rattle.run_clauses.specs.declared.work.Refusal.TheVariants.{Usage, Settings, ReadFault, WriteFault, NotSync, Memory, Limit, Cells}
 use Rattle.run_clauses.specs.Command.{Command, IsInput, is_among, refusal_of, input_file}
 use Rattle.run_clauses.specs.Run.{Run, AsksSettingsAlone}
 use Rattle.run_clauses.specs.StatedSettings.{settings_of}
@@ -42,6 +42,7 @@ module _ (limit : ℕ) (name : List ℕ) (number : ℕ) (start mid : Meaning) (l
 
   known_early : (r : Refusal) → ReadsSettings name start mid (Err r) → is_among (status_of (Some r)) c.statuses ≡ true
   known_early Usage reads = absurd reads
+  known_early (Cells reason) reads = absurd reads
   known_early (Settings reason) reads = refl
   known_early ReadFault reads = refl
   known_early WriteFault reads = absurd reads
@@ -150,6 +151,7 @@ module _ (limit : ℕ) (name : List ℕ) (number : ℕ) (start mid : Meaning) (l
         settings_first = λ is. inl alone;
         lp_behind_hp = inl (source_fresh ins.Lp (λ e. cc));
         outputs_behind_inputs = λ out. inl (sink_fresh out);
+        outputs_behind_header = λ t out. inr tt;
         lp_made_behind_hp = inl (sink_fresh outs.Lp);
         work_behind_outputs = λ t port other is. absurd (input_is port other is);
         taken = λ t port is attached. took t port is;
@@ -201,6 +203,7 @@ module _ (limit : ℕ) (name : List ℕ) (number : ℕ) (start mid : Meaning) (l
             );
           })
       by_outcome (Err Usage) cause ran = absurd ran
+      by_outcome (Err (Cells reason)) cause ran = absurd ran
       by_outcome (Err (Settings reason)) cause ran = absurd ran
       by_outcome (Err ReadFault) cause ran = absurd ran
       by_outcome (Err WriteFault) cause ran = ended end others (Some WriteFault) refl (same_reads, omega (arith, cause.1, same_writes)) (omega (arith, cause.2, same_writes)) (omega (arith, ran.writes.later_report, same_reports))

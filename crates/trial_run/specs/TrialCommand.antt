@@ -74,6 +74,7 @@ trial_command settings number = record {
   writes = λ port. None;
   statuses = 0 ∷ 3 ∷ 5 ∷ 6 ∷ 7 ∷ 8 ∷ [];
   early_refusal = λ file. settings_refusal (file settings);
+  header = λ file. None;
   work_refusal = λ limit file. option_and_then trial_refusal (settings_of (file settings));
   most_taken = λ limit file. trial_takes;
   Comes = λ limit file port bytes. bytes ≡ [];

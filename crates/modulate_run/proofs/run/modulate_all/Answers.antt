@@ -6,21 +6,21 @@ use Rattle.mode_set.specs.declared.modes.Stream.{Stream}
 use Rattle.modulate_run.specs.ModulateCommand.{files_of, inputs_of}
 use Rattle.modulate_run.specs.declared.inputs.PacketInputs.{PacketInputs}
 use Rattle.modulate_run.specs.Seen.{Seen}
-use Rattle.modulate_run.specs.Work.{IsWritten}
+use Rattle.modulate_run.specs.Work.{IsAtWork}
 use Rattle.modulate_run.specs.Reporting.{Finishes}
 use Rattle.modulate_run.specs.Steps.{first_inputs}
 use Rattle.run_steps.proofs.Fitting.{copied_some}
-use Rattle.modulate_run.proofs.Endings.{starts, refused_with, finished}
+use Rattle.modulate_run.proofs.Endings.{starts, unwritten, refused_with, finished}
 use Rattle.modulate_run.proofs.run.modulate_all.Goals as goal
 
 pub returns-in-Err-clause-ran : goal.returns-in-Err-clause-ran
 returns-in-Err-clause-ran g c = inl c.in-Err.ensures.opened
 
-pub returns-in-Ok-send_all-clause-ran : goal.returns-in-Ok-send_all-clause-ran
-returns-in-Ok-send_all-clause-ran g c =
+pub returns-in-Ok-send_file-clause-ran : goal.returns-in-Ok-send_file-clause-ran
+returns-in-Ok-send_file-clause-ran g c =
     let old : Meaning = g.S.Station.meaning c.args.station.now in
     let mid : Meaning = g.S.Station.meaning c.open.new.station in
-    let fin : Meaning = g.S.Station.meaning c.send_all.new.station in
+    let fin : Meaning = g.S.Station.meaning c.send_file.new.station in
     let new : Meaning = g.S.Station.meaning c.finish.new.station in
     let t : Seen = g.T.Transmitter.seen c.args.tx.now in
     let put = g.T.Transmitter.stands c.args.tx.now in
@@ -31,17 +31,17 @@ returns-in-Ok-send_all-clause-ran g c =
     let files : Stream → List ℕ = files_of old.file hp lp in
     let two : c.is_some-two.result ≡ is_some lp = c.is_some-two.ensures ∙ copied_some c.args.names.lp in
     let first : c.first.result ≡ first_inputs (is_some lp) = c.first.ensures ∙ ap first_inputs two in
-    let start = starts t.settings limit hp lp cells old mid c.in-Ok.ensures.opened c.work.ensures.begins c.symbols.ensures.none c.requires.ready.lp_attached t put c.requires.new (c.requires.stands (inputs_of files)) in
-    let start' = subst (λ (i : PacketInputs). IsWritten limit files mid i t put) (sym first) start in
-    finished t.settings limit hp lp cells old mid c.in-Ok.ensures.opened fin new c.send_all.ensures.others c.in-Ok-send_all.counts
-    (λ told. c.in-Ok-send_all.ensures.modulates told files start') c.finish.result c.finish.ensures.kind
-    (subst (λ (b : Bool). Finishes b c.in-Ok-send_all.counts fin new c.finish.result) two c.finish.ensures.finished)
+    let start = starts t.settings limit hp lp cells old mid c.in-Ok.ensures.opened c.work.ensures.begins c.requires.ready.lp_attached t put c.requires.new (c.requires.stands (inputs_of files)) in
+    let start' = subst (λ (i : PacketInputs). IsAtWork limit files mid i t put) (sym first) start in
+    finished t.settings limit hp lp cells old mid c.in-Ok.ensures.opened fin new c.send_file.ensures.others c.in-Ok-send_file.counts
+    (λ told. c.in-Ok-send_file.ensures.modulates told files start' (unwritten t.settings limit hp lp cells old mid c.in-Ok.ensures.opened)) c.finish.result c.finish.ensures.kind
+    (subst (λ (b : Bool). Finishes b c.in-Ok-send_file.counts fin new c.finish.result) two c.finish.ensures.finished)
 
-pub returns-in-Err-send_all-clause-ran : goal.returns-in-Err-send_all-clause-ran
-returns-in-Err-send_all-clause-ran g c =
+pub returns-in-Err-send_file-clause-ran : goal.returns-in-Err-send_file-clause-ran
+returns-in-Err-send_file-clause-ran g c =
     let old : Meaning = g.S.Station.meaning c.args.station.now in
     let mid : Meaning = g.S.Station.meaning c.open.new.station in
-    let fin : Meaning = g.S.Station.meaning c.send_all.new.station in
+    let fin : Meaning = g.S.Station.meaning c.send_file.new.station in
     let new : Meaning = g.S.Station.meaning c.close_refused.new.station in
     let t : Seen = g.T.Transmitter.seen c.args.tx.now in
     let put = g.T.Transmitter.stands c.args.tx.now in
@@ -52,7 +52,7 @@ returns-in-Err-send_all-clause-ran g c =
     let files : Stream → List ℕ = files_of old.file hp lp in
     let two : c.is_some-two.result ≡ is_some lp = c.is_some-two.ensures ∙ copied_some c.args.names.lp in
     let first : c.first.result ≡ first_inputs (is_some lp) = c.first.ensures ∙ ap first_inputs two in
-    let start = starts t.settings limit hp lp cells old mid c.in-Ok.ensures.opened c.work.ensures.begins c.symbols.ensures.none c.requires.ready.lp_attached t put c.requires.new (c.requires.stands (inputs_of files)) in
-    let start' = subst (λ (i : PacketInputs). IsWritten limit files mid i t put) (sym first) start in
-    refused_with t.settings limit hp lp cells old mid c.in-Ok.ensures.opened fin new c.send_all.ensures.others c.in-Err-send_all.refusal
-    (λ told. c.in-Err-send_all.ensures.modulates told files start') c.close_refused.ensures.closed
+    let start = starts t.settings limit hp lp cells old mid c.in-Ok.ensures.opened c.work.ensures.begins c.requires.ready.lp_attached t put c.requires.new (c.requires.stands (inputs_of files)) in
+    let start' = subst (λ (i : PacketInputs). IsAtWork limit files mid i t put) (sym first) start in
+    refused_with t.settings limit hp lp cells old mid c.in-Ok.ensures.opened fin new c.send_file.ensures.others c.in-Err-send_file.refusal
+    (λ told. c.in-Err-send_file.ensures.modulates told files start' (unwritten t.settings limit hp lp cells old mid c.in-Ok.ensures.opened)) c.close_refused.ensures.closed

@@ -34,10 +34,10 @@ loop-k-preserved g c =
     let inv = c.loop-k.invariant in
     record {
       bytes =
-          c.push_four.ensures.bytes ∙ ap (λ (z : List ℕ). z ++ c.bytes.result) inv.bytes ∙ append_assoc old (carrier_bytes s m labels k) c.bytes.result
+          c.push_five.ensures.bytes ∙ ap (λ (z : List ℕ). z ++ c.bytes.result) inv.bytes ∙ append_assoc old (carrier_bytes s m labels k) c.bytes.result
           ∙ ap (λ (z : List ℕ). old ++ (carrier_bytes s m labels k ++ z)) (c.bytes.ensures k c.source-source.ensures inv.labels) ∙ ap (λ (z : List ℕ). old ++ z) (sym (one_carrier s m labels k));
-      long = omega (arith, c.push_four.ensures.len, inv.long);
-      room = c.push_four.ensures.capacity ∙ inv.room;
+      long = omega (arith, c.push_five.ensures.len, inv.long);
+      room = c.push_five.ensures.capacity ∙ inv.room;
       labels = c.after-next.ensures ∙ ap (λ (z : ℕ). z + labels_of c.source-source.result) inv.labels ∙ sym (labels_more g.M.Carriers.MODE (m % 68) k c.source-source.result c.source-source.ensures);
     }
 

@@ -9,7 +9,7 @@ use Rattle.frame_build.proofs.symbol_out.SymbolOut.write.Given as goal
 -- so much was appended, and the room stays
 pub record Appended (old new more : List ℕ) (len capacity old_len old_capacity k : ℕ) (next before : ℕ) : Type 0 where
   pub bytes : new ≡ old ++ more
-  pub long : len ≡ old_len + 4 * k
+  pub long : len ≡ old_len + 5 * k
   pub room : capacity ≡ old_capacity
   pub labels : next ≡ before
 
