@@ -2,7 +2,8 @@
 use Rattle.std.proofs.Common.{◌≡◌, [], ◌∷◌, refl}
 use Rattle.spec_words.specs.Words.{numbers}
 use Rattle.mode_set.specs.declared.modes.Mode.TheVariants.{M2k, M8k}
-use Rattle.upgrade_run.specs.Upgrading.{upgraded_cells, upgraded_file}
+use Rattle.upgrade_laws.specs.OldCells.{upgraded_cells}
+use Rattle.upgrade_run.specs.Upgrading.{upgraded_file}
 
 pub first_cells : upgraded_cells 2 (0xAA ∷ 0xAB ∷ 0x00 ∷ 0x00 ∷ 0xD2 ∷ 0xBF ∷ 0x2D ∷ 0x41 ∷ []) ≡ 0xAA ∷ 0xAB ∷ 0x00 ∷ 0x00 ∷ 0x0F ∷ 0xD2 ∷ 0xBF ∷ 0x2D ∷ 0x41 ∷ 0x0F ∷ []
 unfolding upgraded_cells numbers
