@@ -1,5 +1,5 @@
 use Rattle.std.proofs.Common.{◌+◌, ◌<◌, ℕ, get_or}
-use Rattle.rs_erasure.proofs.tests.may_be_erased.Given as goal
+use Rattle.outer_tests.proofs.erasures.may_be_erased.Given as goal
 
 abbrev pub invariant-loop-k : goal.invariant-loop-k
 invariant-loop-k l = record {

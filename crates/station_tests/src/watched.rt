@@ -2,13 +2,13 @@
 use std::alloc::Allocator;
 use std::cell::Cell;
 use std::fmt::Display;
-use std::fs::{File, Metadata, OpenOptions};
+use std::fs::{File, Metadata, OpenFile, OpenOptions};
 use std::io;
-use std::io::{ErrorKind, Read};
+use std::io::{ErrorKind, Read, Seek, SeekFrom, Write};
 use std::rt::Files;
 
 /// The files of the system, and a standard output that counts what it takes. Signals interrupt
-/// its first writes.
+/// its first writes, and the first reads of each file.
 #[derive(Drop)]
 pub struct Watched<'a> {
     pub rt: &'a HostRuntime,
@@ -54,12 +54,16 @@ impl<'a> Print for Watched<'a> {
 }
 
 impl<'a> Files for Watched<'a> {
-    type File = File;
+    type File = Signalled;
 
     type Dir = <HostRuntime as Files>::Dir;
 
-    fn open_file(&self, how: &OpenOptions, path: &str) -> io::Result<File> {
-        self.rt.open_file(how, path)
+    fn open_file(&self, how: &OpenOptions, path: &str) -> io::Result<Signalled> {
+        let file = self.rt.open_file(how, path)?;
+        Ok(Signalled {
+            file,
+            signals: self.signals.get(),
+        })
     }
 
     fn open_dir(&self, path: &str) -> io::Result<<HostRuntime as Files>::Dir> {
@@ -99,19 +103,53 @@ impl<'a> Files for Watched<'a> {
     }
 }
 
-/// A file of sevens, whose first reads signals interrupt.
+/// A file of the system, whose first reads signals interrupt.
 #[derive(Drop)]
-pub struct Interrupted {
-    pub signals: u32,
+pub struct Signalled {
+    file: File,
+    signals: u32,
 }
 
-impl Read for Interrupted {
+impl Read for Signalled {
     fn read(&mut self, buf: &mut [u8]) -> io::Result<usize> {
         if self.signals > 0 {
             self.signals -= 1;
             return Err(io::Error::from(ErrorKind::Interrupted));
         }
-        buf.fill(7);
-        Ok(buf.len())
+        self.file.read(buf)
+    }
+}
+
+impl Write for Signalled {
+    fn write(&mut self, bytes: &[u8]) -> io::Result<usize> {
+        self.file.write(bytes)
+    }
+
+    fn flush(&mut self) -> io::Result<()> {
+        self.file.flush()
+    }
+}
+
+impl Seek for Signalled {
+    fn seek(&mut self, to: SeekFrom) -> io::Result<u64> {
+        self.file.seek(to)
+    }
+}
+
+impl OpenFile for Signalled {
+    fn metadata(&self) -> io::Result<Metadata> {
+        self.file.metadata()
+    }
+
+    fn set_len(&self, size: u64) -> io::Result<()> {
+        self.file.set_len(size)
+    }
+
+    fn sync_all(&self) -> io::Result<()> {
+        self.file.sync_all()
+    }
+
+    fn sync_data(&self) -> io::Result<()> {
+        self.file.sync_data()
     }
 }

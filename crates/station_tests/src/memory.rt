@@ -1,7 +1,7 @@
 // The station in memory, call by call.
 ghost use Rattle.std.specs.Prelude.{◌≡◌, true, false};
 
-use crate::{Failing, InPort, MemoryStation, OutPort, Station};
+use station_core::{Failing, InPort, MemoryStation, OutPort, Station};
 use std::alloc::{AllocError, Global};
 use std::test::Fail;
 

@@ -1,8 +1,9 @@
 // Words against values from outside, and the fast decoder against the plain one.
 
-use crate::{Outcome, decode, encode, plain};
 use gf256::Elem;
+use rs204::{Outcome, decode, encode, plain};
 use std::test::Fail;
+use test_tools::{next_byte, next_number};
 
 // The sixteen bytes behind 187 zeros and a one, which are the generator's coefficients behind its
 // first.
@@ -57,11 +58,6 @@ fn outcomes_of_words(rt: HostRuntime) -> Result<(), Fail> {
     Ok(())
 }
 
-// The next number of a plain congruential sequence.
-fn after(seed: u32) -> u32 {
-    seed.wrapping_mul(1664525).wrapping_add(1013904223)
-}
-
 // Codewords of drawn messages with 0 to 12 drawn errors, by both decoders.
 #[test]
 fn drawn_errors_by_both_decoders(rt: HostRuntime) -> Result<(), Fail> {
@@ -69,13 +65,12 @@ fn drawn_errors_by_both_decoders(rt: HostRuntime) -> Result<(), Fail> {
     for errors in 0..13usize {
         let mut message = [0u8; 188];
         for i in 0..188usize {
-            seed = after(seed);
-            message[i] = (seed >> 24) as u8;
+            message[i] = next_byte(&mut seed);
         }
         let sent = encode(&message);
         let mut word = sent;
         for k in 0..errors {
-            seed = after(seed);
+            let seed = next_number(&mut seed);
             word[16 * k + (seed >> 28) as usize] ^= 1 + ((seed >> 16) % 255) as u8;
         }
         let mut slow = word;

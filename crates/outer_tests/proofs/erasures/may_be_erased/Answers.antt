@@ -1,6 +1,6 @@
 use Rattle.std.proofs.Common.{◌≡◌, ◌<◌, arith}
 use Rattle.std.proofs.lemmas.List.Elements.{All-from_get_or}
-use Rattle.rs_erasure.proofs.tests.may_be_erased.Goals as goal
+use Rattle.outer_tests.proofs.erasures.may_be_erased.Goals as goal
 
 pub returns-clause-rising : goal.returns-clause-rising
 returns-clause-rising c = λ t k l.

@@ -2,16 +2,14 @@
 ghost use Rattle.std.specs.Prelude.{◌≡◌, ◌≤◌, ◌*◌};
 ghost use Rattle.mode_set.specs.StreamTable.{label_bits};
 
-mod documents;
-mod examples;
-
-use crate::{
-    Carriers, Constellation, Guard, Hierarchy, Key, Mode, Mode2k, Mode8k, Qam16A1, Qam16A2,
-    Qam16A4, Qam64A1, Qam64A2, Qam64A4, Qpsk, Rate, Settings, SettingsError, Shape, Start, Stream,
+use crate::documents::{BASE, DOCUMENTS};
+use crate::examples::EXAMPLES;
+use mode_set::{
+    Carriers, Constellation, Key, Mode, Mode2k, Mode8k, Qam16A1, Qam16A2, Qam16A4, Qam64A1,
+    Qam64A2, Qam64A4, Qpsk, Rate, Settings, SettingsError, Shape, Stream,
 };
-use documents::{BASE, DOCUMENTS};
-use examples::EXAMPLES;
 use std::alloc::{AllocError, Global};
+use test_tools::flat;
 
 // A generic call knows the mode's numbers by the trait's laws.
 fn symbol_bytes<M: Carriers>(settings: &Settings) -> (u32, u32)
@@ -23,27 +21,10 @@ fn symbol_bytes<M: Carriers>(settings: &Settings) -> (u32, u32)
     (4 * M::K, settings.coded(Stream::Hp))
 }
 
-fn plain(mode: Mode, shape: Shape, rate: Rate) -> Settings
-    ensures mode { result.mode ≡ mode }
-{
-    Settings {
-        mode,
-        shape,
-        hierarchy: Hierarchy::Flat,
-        rate_hp: rate,
-        rate_lp: None,
-        guard: Guard::G1of32,
-        cell_id: None,
-        start: Start::Zero,
-        workers: 1,
-        max_symbols: 1,
-    }
-}
-
 #[test]
 fn carriers_of_each_mode(rt: HostRuntime) {
-    let small = symbol_bytes::<Mode2k>(&plain(Mode::M2k, Shape::Qpsk, Rate::R1of2));
-    let large = symbol_bytes::<Mode8k>(&plain(Mode::M8k, Shape::Qam64, Rate::R7of8));
+    let small = symbol_bytes::<Mode2k>(&flat(Mode::M2k, Shape::Qpsk, Rate::R1of2));
+    let large = symbol_bytes::<Mode8k>(&flat(Mode::M8k, Shape::Qam64, Rate::R7of8));
     assert_eq!(rt; (small, large), ((6820, 3024), (27268, 36288)));
     assert_eq!(rt;
         (Mode2k::NR, Mode2k::BLOCKS, Mode8k::NR, Mode8k::BLOCKS),
@@ -94,8 +75,8 @@ fn words_of_a_super_frame(rt: HostRuntime) {
         .into_iter()
         .zip(words)
         {
-            let small = plain(Mode::M2k, shape, rate).words_per_super_frame(Stream::Hp);
-            let large = plain(Mode::M8k, shape, rate).words_per_super_frame(Stream::Hp);
+            let small = flat(Mode::M2k, shape, rate).words_per_super_frame(Stream::Hp);
+            let large = flat(Mode::M8k, shape, rate).words_per_super_frame(Stream::Hp);
             assert_eq!(rt; (small, large), (number, 4 * small));
         }
     }

@@ -1,7 +1,7 @@
 // The outer code of a stream, against values from outside.
 
-use crate::{OuterRx, OuterTx, WordSlot};
 use dispersal::Dispersal;
+use outer_chain::{OuterRx, OuterTx, WordSlot};
 use rs204::{Outcome, encode};
 use std::test::Fail;
 use ts_packet::Packet;

@@ -5,10 +5,11 @@ ghost use Rattle.std.specs.Prelude.{◌<◌, ◌≤◌, IsTrue};
 ghost use Rattle.std.specs.List.{All};
 ghost use Rattle.std.specs.List.Sorted.{IsStrictlyIncreasing};
 
-use crate::{Erased, decode_erased, laws};
 use gf256::Elem;
+use rs_erasure::{Erased, decode_erased, laws};
 use rs204::encode;
 use std::test::Fail;
+use test_tools::next_number;
 
 // Whether places may be erased.
 fn may_be_erased(places: &[u8; 8]) -> bool
@@ -106,8 +107,7 @@ fn draw(seed: &mut u32, n: u32) -> u32
     requires { 0 < n }
     ensures { result < n }
 {
-    *seed = seed.wrapping_mul(1664525).wrapping_add(1013904223);
-    (*seed >> 8) % n
+    (next_number(seed) >> 8) % n
 }
 
 fn drawn_byte(seed: &mut u32) -> u8 {

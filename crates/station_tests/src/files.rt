@@ -1,10 +1,9 @@
 // The station over files, in an empty folder.
 ghost use Rattle.std.specs.Prelude.{◌≡◌, ◌<◌, length, true, false};
 
-use crate::patience::read_patiently;
-use crate::watched::{Interrupted, Watched};
-use crate::{Buffers, FileStation};
+use crate::watched::Watched;
 use station_core::{InPort, OutPort, Station};
+use station_files::{Buffers, FileStation};
 use std::fs;
 use std::test::Fail;
 
@@ -203,16 +202,20 @@ fn a_write_tells_the_fault_that_a_read_met(rt: HostRuntime) -> Result<(), Fail> 
     Ok(())
 }
 
+// A call that signals interrupt is tried a thousand times: a read of a file, and a line.
 #[test]
 fn calls_that_signals_interrupt_are_tried_again(rt: HostRuntime) -> Result<(), Fail> {
+    let mut sevens = FileStation::new(&rt);
+    assert!(rt; sevens.create(OutPort::Bytes, "sevens").is_ok());
+    assert!(rt; put(&mut sevens, &[7; 10]));
     let mut buf = [0u8; 10];
-    assert_eq!(rt;
-        read_patiently(&mut Interrupted { signals: 999 }, &mut buf).unwrap_or(0),
-        10
-    );
-    assert!(rt; read_patiently(&mut Interrupted { signals: 1000 }, &mut buf).is_err());
-    for (signals, printed) in [(999, 5), (1000, 0)] {
+    for (signals, read, printed) in [(999, 10, 5), (1000, 0, 0)] {
         let watched = Watched::new(&rt, signals);
+        let mut station = FileStation::new(&watched);
+        assert!(rt; station.attach(InPort::Hp, "sevens").is_ok());
+        let answer = station.read(InPort::Hp, &mut buf);
+        assert_eq!(rt; answer.is_ok(), read > 0);
+        assert_eq!(rt; answer.unwrap_or(0), read);
         let mut station = FileStation::new(&watched);
         assert_eq!(rt; report(&mut station), printed > 0);
         assert_eq!(rt; watched.printed.get(), printed);
