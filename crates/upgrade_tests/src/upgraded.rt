@@ -62,11 +62,8 @@ fn stands(rt: &impl Abort, ran: &Ran, found: Found<'_>) {
     assert!(rt; is_held, "the new file beside {}", found.1);
 }
 
-// The cells that `modulate` has written, as a file of version 1.
-fn as_old_cells(alloc: Global, written: Vec<u8>) -> Result<Vec<u8>, AllocError> {
-    if !written.starts_with(b"DVTC".as_slice()) {
-        return Ok(written);
-    }
+// The cells that `modulate` has written, as a file of version 1: without header and weights.
+fn as_old_cells(alloc: Global, written: &[u8]) -> Result<Vec<u8>, AllocError> {
     let mut bytes = Vec::new(alloc);
     for (place, byte) in written.iter().skip(8).enumerate() {
         if place % 5 != 4 {
@@ -76,7 +73,7 @@ fn as_old_cells(alloc: Global, written: Vec<u8>) -> Result<Vec<u8>, AllocError> 
     Ok(bytes)
 }
 
-// The super-frame of null packets becomes that of version 2: its first cells, its first scattered pilot past
+// The super-frame of null packets becomes the file that `modulate` has written: its first cells, its first scattered pilot past
 // carrier 0, and a TPS carrier in the first and in the fourth symbol.
 #[test]
 fn null_super_frame(rt: HostRuntime) -> Result<(), Fail> {
@@ -85,11 +82,12 @@ fn null_super_frame(rt: HostRuntime) -> Result<(), Fail> {
     let none = (Vec::new(alloc), Vec::new(alloc));
     let room = ample(NEW_SUPER_FRAME as u32);
     let sent = run_files(&rt, alloc, "modulate s a cells", settings, none, 1, room)?;
-    let old_cells = as_old_cells(alloc, sent.cells)?;
+    let old_cells = as_old_cells(alloc, &sent.cells)?;
     assert_eq!(rt; old_cells.len(), OLD_SUPER_FRAME);
     let ran = upgraded(&rt, alloc, (BASE, ""), old_cells, room)?;
     let report = "symbols 272 tail 0\n";
     stands(&rt, &ran, (0, report, NEW_SUPER_FRAME, 2_468_371_442));
+    assert!(rt; ran.cells.as_slice() == sent.cells.as_slice());
     let begins = [
         0x44u8, 0x56, 0x54, 0x43, 0x02, 0x00, 0x00, 0x00, 0xAA, 0xAB, 0x00, 0x00, 0x0F, 0xD2, 0xBF,
         0x2D, 0x41, 0x0F,
