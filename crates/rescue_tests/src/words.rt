@@ -1,0 +1,147 @@
+// The outer code of disturbed bytes with their margins.
+use load_gen::Load;
+use outer_chain::OuterTx;
+use rescue_words::{RescueCounts, RescueWords};
+use std::alloc::{AllocError, Global};
+use std::test::Fail;
+
+/// More words than any test has.
+const MANY: u64 = 1_000_000;
+
+// Packets that are drawn from this number, and their interleaved bytes.
+fn sent(alloc: Global, number: u32, count: usize) -> Result<(Vec<u8>, Vec<u8>), AllocError> {
+    let mut load = Load::start(number);
+    let mut tx = OuterTx::new(alloc)?;
+    let mut packets = Vec::new(alloc);
+    let mut bytes = Vec::new(alloc);
+    for _ in 0..count {
+        let packet = load.packet();
+        packets.extend_from_slice(packet.bytes().as_slice())?;
+        bytes.extend_from_slice(tx.take(&packet).as_slice())?;
+    }
+    Ok((packets, bytes))
+}
+
+// Takes a byte with its margin, and appends the packet that ends with it.
+fn take(
+    alloc: Global,
+    rx: &mut RescueWords,
+    byte: u8,
+    margin: u32,
+    to: &mut Vec<u8>,
+) -> Result<(), AllocError> {
+    let mut packet = Vec::with_capacity(alloc, 188)?;
+    if rx.counts().words < MANY {
+        rx.take(byte, margin, &mut packet);
+    }
+    to.extend_from_slice(packet.as_slice())?;
+    Ok(())
+}
+
+// The packets and counts of bytes with their margins.
+fn rescued(
+    alloc: Global,
+    bytes: &[u8],
+    margins: &[u32],
+) -> Result<(Vec<u8>, RescueCounts), AllocError> {
+    let mut rx = RescueWords::new(alloc)?;
+    let mut packets = Vec::new(alloc);
+    for (byte, margin) in bytes.iter().zip(margins) {
+        take(alloc, &mut rx, *byte, *margin, &mut packets)?;
+    }
+    Ok((packets, rx.counts()))
+}
+
+// Of forty packets 144 interleaved bytes in a row are inverted, and have margin 0 where all others have 1: twelve bytes in each
+// branch, so eleven words are wrong in twelve places and one in six or seven at either end. All packets come back.
+#[test]
+fn inverted_run_of_144(rt: HostRuntime) -> Result<(), Fail> {
+    let alloc = rt.alloc();
+    let (packets, mut bytes) = sent(alloc, 19, 40)?;
+    let mut margins = Vec::new(alloc);
+    for (place, byte) in bytes.iter_mut().enumerate() {
+        let inverted = 4000 <= place && place < 4144;
+        if inverted {
+            *byte ^= 0xFF;
+        }
+        margins.push(if inverted { 0 } else { 1 })?;
+    }
+    let (found, counts) = rescued(alloc, &bytes, &margins)?;
+    let expected = RescueCounts {
+        words: 29,
+        clean: 16,
+        corrected: 2,
+        rescued: 11,
+        bad: 0,
+        unphased: 0,
+    };
+    assert_eq!(rt; counts, expected);
+    assert!(rt; packets.starts_with(found.as_slice()));
+    assert_eq!(rt; found.len(), 5452);
+    Ok(())
+}
+
+// Bytes that are wrong where a draw says so, and their margins: mostly small where a byte is wrong.
+fn disturbed(
+    alloc: Global,
+    number: u32,
+    limit: i16,
+    bytes: &mut [u8],
+) -> Result<Vec<u32>, AllocError> {
+    let mut load = Load::start(number);
+    let mut margins = Vec::new(alloc);
+    for byte in bytes {
+        let wrong = load.shift(1000) < limit;
+        let mask = load.shift(127).unsigned_abs() as u8 | 1;
+        let size = load.shift(5000).unsigned_abs() as u32;
+        if wrong {
+            *byte ^= mask;
+        }
+        margins.push(if !wrong {
+            size.wrapping_mul(4000).wrapping_add(200)
+        } else if size > 4500 {
+            size.wrapping_mul(3000)
+        } else {
+            size / 8
+        })?;
+    }
+    Ok(margins)
+}
+
+// A number that any other list of bytes hardly has.
+fn sum_of(bytes: &[u8]) -> u32 {
+    let mut sum = 0u32;
+    for byte in bytes {
+        sum = sum.wrapping_mul(31).wrapping_add(*byte as u32);
+    }
+    sum
+}
+
+// Sixty packets, drawn errors: counts and packets are those of an independent program by the definitions, over index formulas
+// and whole lists.
+#[test]
+fn drawn_errors(rt: HostRuntime) -> Result<(), Fail> {
+    let alloc = rt.alloc();
+    let cases = [
+        (1u32, -930i16, [49u64, 0, 32, 17, 0, 0], 1_234_365_269u32),
+        (2, -900, [49, 0, 10, 27, 12, 0], 1_226_404_189),
+        (3, -890, [49, 0, 9, 24, 16, 8], 2_788_504_862),
+        (4, -880, [49, 0, 8, 16, 25, 8], 804_139_997),
+    ];
+    for (number, limit, kinds, sum) in cases {
+        let (_, mut bytes) = sent(alloc, number, 60)?;
+        let margins = disturbed(alloc, number.wrapping_add(1000), limit, &mut bytes)?;
+        let (found, counts) = rescued(alloc, &bytes, &margins)?;
+        let have = [
+            counts.words,
+            counts.clean,
+            counts.corrected,
+            counts.rescued,
+            counts.bad,
+            counts.unphased,
+        ];
+        assert!(rt; have == kinds, "limit {limit}");
+        assert!(rt; sum_of(&found) == sum, "limit {limit}");
+    }
+    Ok(())
+}
