@@ -1,6 +1,7 @@
 //! The layers of the modulator one upon the other, beside what another modulator sends: the TPS words
 //! and the first cells of transmissions with each constellation, hierarchy and mode. And what is sent,
-//! read back: the costs of own symbols in every setting, a symbol cut into pieces.
+//! read back: the costs of own symbols in every setting, a symbol cut into pieces, symbols of given bits
+//! beside a plain model of the standard.
 //!
 //! The crate has tests alone.
 #![tactic(auto)]
@@ -10,6 +11,10 @@ mod carriers;
 #[cfg(test)]
 mod cells;
 #[cfg(test)]
+mod labels;
+#[cfg(test)]
 mod receiving;
+#[cfg(test)]
+mod symbols;
 #[cfg(test)]
 mod tps;
