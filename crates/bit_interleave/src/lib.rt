@@ -4,7 +4,5 @@
 
 pub mod laws;
 mod places;
-#[cfg(test)]
-mod tests;
 
 pub use places::{MOST_WORDS, bit_at, place};

@@ -3,10 +3,11 @@
 ghost use Rattle.std.specs.Prelude.{◌≡◌, ◌<◌, ◌≤◌, ℕ, IsTrue, get_or, length, vec_capacity, ◌^◌};
 ghost use Rattle.mode_set.specs.StreamTable.{label_bits};
 
+use crate::labels::{labels_of, needs};
 use bit_pack::WaitBuf;
 use frame_build::SymbolOut;
 use inner_chain::InnerTx;
-use mode_set::{Carriers, Mode, Mode2k, Mode8k, Settings, Shape, Stream};
+use mode_set::{Carriers, Mode, Mode2k, Mode8k, Settings, Shape};
 use outer_chain::OuterTx;
 use std::alloc::{AllocError, Global};
 use std::process::Abort;
@@ -107,15 +108,10 @@ fn next_labels<M: Carriers>(
     requires { tx.old.settings ≡ settings.now }
     ensures { tx.new.settings ≡ settings.now }
 {
-    let hp_need = tx.need(Stream::Hp) as usize;
-    let lp_need = tx.need(Stream::Lp) as usize;
-    assert!(rt; hp_need <= 36000 && lp_need <= 36000);
-    fill(rt, &mut sources.0, hp_need, &mut waiting.0);
-    fill(rt, &mut sources.1, lp_need, &mut waiting.1);
-    let mut labels = Vec::with_capacity(alloc, settings.mode.payload() as usize)?;
-    assert!(rt; waiting.0.waiting() >= hp_need && waiting.1.waiting() >= lp_need);
-    tx.labels(odd, &mut waiting.0, &mut waiting.1, &mut labels);
-    Ok(labels)
+    let (hp, lp) = needs(rt, tx);
+    fill(rt, &mut sources.0, hp, &mut waiting.0);
+    fill(rt, &mut sources.1, lp, &mut waiting.1);
+    labels_of(rt, alloc, settings, tx, odd, waiting)
 }
 
 pub(crate) fn write<M: Carriers>(

@@ -1,7 +1,8 @@
 //! The layers of the modulator one upon the other, beside what another modulator sends: the TPS words
 //! and the first cells of transmissions with each constellation, hierarchy and mode. And what is sent,
 //! read back: the costs of own symbols in every setting, those of drawn cells and weights, a symbol cut
-//! into pieces. And the coded bits of bytes in a word, beside those in a queue.
+//! into pieces, symbols of given bits beside a plain model of the standard. And the coded bits of bytes in
+//! a word, beside those in a queue.
 //!
 //! The crate has tests alone.
 #![tactic(auto)]
@@ -11,7 +12,11 @@ mod carriers;
 #[cfg(test)]
 mod cells;
 #[cfg(test)]
+mod labels;
+#[cfg(test)]
 mod receiving;
+#[cfg(test)]
+mod symbols;
 #[cfg(test)]
 mod tps;
 #[cfg(test)]

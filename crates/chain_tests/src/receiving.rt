@@ -1,15 +1,13 @@
 // What is sent, read back: a symbol cut into pieces, and the costs of the modulator's own symbols.
-ghost use Rattle.std.specs.Prelude.{◌≡◌, ◌≤◌, ◌*◌, false, length, IfOk};
-ghost use Rattle.mode_set.specs.Kept.{is_flat, is_qpsk};
+ghost use Rattle.std.specs.Prelude.{◌≡◌, ◌*◌, length, IfOk};
 
 use crate::cells::write;
+use crate::labels::drawn_labels;
 use bit_pack::WaitBuf;
 use conv_code::{CostPair, Encoder};
 use frame_build::{SymbolIn, SymbolOut};
 use inner_chain::{InnerRx, InnerTx};
-use mode_set::{
-    Carriers, Guard, Hierarchy, Mode, Mode2k, Mode8k, Rate, Settings, Shape, Start, Stream,
-};
+use mode_set::{Carriers, Hierarchy, Mode, Mode2k, Mode8k, Rate, Settings, Shape, Stream};
 use outer_chain::OuterTx;
 use puncture::{Sent, sent};
 use qam_map::Cell;
@@ -17,64 +15,8 @@ use std::alloc::{AllocError, Global};
 use std::process::Abort;
 use std::rt::HostRuntime;
 use std::test::Fail;
+use test_tools::{flat, hierarchical, next_byte};
 use ts_packet::Packet;
-
-fn flat(mode: Mode, shape: Shape, rate: Rate) -> Settings
-    ensures { result.mode ≡ mode }
-{
-    Settings {
-        mode,
-        shape,
-        hierarchy: Hierarchy::Flat,
-        rate_hp: rate,
-        rate_lp: None,
-        guard: Guard::G1of32,
-        cell_id: None,
-        start: Start::Zero,
-        workers: 1,
-        max_symbols: 1000000,
-    }
-}
-
-fn hierarchical(
-    mode: Mode,
-    shape: Shape,
-    hierarchy: Hierarchy,
-    rate_hp: Rate,
-    rate_lp: Rate,
-) -> Settings
-    requires shape { is_qpsk shape ≡ false }
-    requires hierarchy { is_flat hierarchy ≡ false }
-{
-    Settings {
-        mode,
-        shape,
-        hierarchy,
-        rate_hp,
-        rate_lp: Some(rate_lp),
-        guard: Guard::G1of32,
-        cell_id: None,
-        start: Start::Zero,
-        workers: 1,
-        max_symbols: 1000000,
-    }
-}
-
-// The next byte of a linear congruential generator.
-fn next_byte(state: &mut u32) -> u8 {
-    *state = state.wrapping_mul(1664525).wrapping_add(1013904223);
-    (*state >> 24) as u8
-}
-
-fn fill(state: &mut u32, count: usize, to: &mut WaitBuf)
-    requires { count ≤ 36000 }
-{
-    for _ in 0..4608u32 {
-        if to.waiting() < count {
-            to.push_byte(next_byte(state));
-        }
-    }
-}
 
 // The bits of a stream once more, as they are coded.
 #[derive(Drop)]
@@ -170,30 +112,6 @@ fn stream_fits<M: Carriers>(
         pairs_fit(rt, &pairs, settings.rate(stream), coded);
     }
     Ok(())
-}
-
-// The labels of the next symbol of drawn bits.
-fn drawn_labels<M: Carriers>(
-    rt: &impl Abort,
-    alloc: Global,
-    settings: &Settings,
-    tx: &mut InnerTx<M>,
-    odd: bool,
-    states: &mut (u32, u32),
-    waiting: &mut (WaitBuf, WaitBuf),
-) -> Result<Vec<u8>, AllocError>
-    requires { tx.old.settings ≡ settings.now }
-    ensures { tx.new.settings ≡ settings.now }
-{
-    let hp_need = tx.need(Stream::Hp) as usize;
-    let lp_need = tx.need(Stream::Lp) as usize;
-    assert!(rt; hp_need <= 36000 && lp_need <= 36000);
-    fill(&mut states.0, hp_need, &mut waiting.0);
-    fill(&mut states.1, lp_need, &mut waiting.1);
-    let mut labels = Vec::with_capacity(alloc, settings.mode.payload() as usize)?;
-    assert!(rt; waiting.0.waiting() >= hp_need && waiting.1.waiting() >= lp_need);
-    tx.labels(odd, &mut waiting.0, &mut waiting.1, &mut labels);
-    Ok(labels)
 }
 
 // The next symbol as bytes, and taken as cells.

@@ -1,12 +1,13 @@
 // The TPS words of transmissions beside those of another modulator, with errors and with fields that
 // the standard leaves out.
-use mode_set::Settings;
+use mode_set::{Guard, Hierarchy, Mode, Rate, Settings, Shape};
+use qam_map::Cell;
 use std::alloc::Global;
 use std::process::Abort;
 use std::rt::HostRuntime;
 use std::test::Fail;
 use tps_bch::{TpsOutcome, correct, parity};
-use tps_word::TpsWord;
+use tps_word::{TpsWord, vote};
 
 fn bits_of(text: &[u8; 67]) -> [bool; 67] {
     let mut bits = [false; 67];
@@ -290,4 +291,53 @@ fn words_of_another_modulator(rt: HostRuntime) {
             b"1100101000010001011111111001101001101011100110100000010000111111101",
         ],
     );
+}
+
+// Words of another modulator: fields with a cell identifier and a hierarchy, and without.
+#[test]
+fn words_of_two_transmissions(rt: HostRuntime) {
+    let first = TpsWord {
+        frame: 1,
+        with_cell: true,
+        shape: Shape::Qam64,
+        hierarchy: Hierarchy::Alpha2,
+        rate_hp: Rate::R5of6,
+        rate_lp: Rate::R7of8,
+        guard: Guard::G1of4,
+        mode: Mode::M2k,
+        cell_byte: 0xAB,
+    };
+    let last = TpsWord {
+        frame: 4,
+        with_cell: false,
+        shape: Shape::Qam16,
+        hierarchy: Hierarchy::Flat,
+        rate_hp: Rate::R2of3,
+        rate_lp: Rate::R1of2,
+        guard: Guard::G1of8,
+        mode: Mode::M8k,
+        cell_byte: 0,
+    };
+    let sent = bits_of(b"0011010111101110011111001001001110011001010101100000000001100111101");
+    assert!(&rt; first.write() == sent);
+    assert!(&rt; TpsWord::read(&sent) == Some(first));
+    let sent = bits_of(b"1100101000010001010111110100000100010010000000000000000010001001100");
+    assert!(&rt; last.write() == sent);
+    assert!(&rt; TpsWord::read(&sent) == Some(last));
+    // The last bit flipped, and the sync word of another frame.
+    let flipped = bits_of(b"1100101000010001010111110100000100010010000000000000000010001001101");
+    assert!(&rt; TpsWord::read(&flipped) == None);
+    let other = bits_of(b"0011010111101110010111110100000100010010000000000000000010001001100");
+    assert!(&rt; TpsWord::read(&other) == None);
+}
+
+// Turned cells vote 1, equal ones 0, and so does a sum of 0.
+#[test]
+fn turned_cells(rt: HostRuntime) {
+    let cells = [Cell { re: 16384, im: 0 }, Cell { re: -16384, im: 5 }];
+    let turned = [Cell { re: -16384, im: 0 }, Cell { re: 16384, im: -5 }];
+    let crossed = [Cell { re: 16384, im: 0 }, Cell { re: 16384, im: 0 }];
+    assert!(&rt; vote(&cells, &turned));
+    assert!(&rt; !vote(&cells, &cells));
+    assert!(&rt; !vote(&cells, &crossed));
 }

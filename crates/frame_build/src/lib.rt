@@ -11,8 +11,6 @@ mod laws;
 mod source;
 mod symbol_in;
 mod symbol_out;
-#[cfg(test)]
-mod tests;
 
 pub use cell_file::header;
 pub use laws::{symbols_follow_labels, symbols_repeat};

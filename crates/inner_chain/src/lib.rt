@@ -12,8 +12,6 @@ mod parities;
 mod rx;
 mod sent_parity;
 mod symbol;
-#[cfg(test)]
-mod tests;
 mod tx;
 
 pub use rx::InnerRx;

@@ -33,23 +33,3 @@ pub fn reference(k: u32) -> bool
     let place = k % PERIOD;
     bits()[(place / 64) as usize] >> (place % 64) & 1 == 1
 }
-
-#[cfg(test)]
-mod tests {
-    use super::reference;
-    use std::rt::HostRuntime;
-
-    // Eleven ones, nine zeros, two ones, and two bits further on.
-    #[test]
-    fn head_of_the_sequence(rt: HostRuntime) {
-        for k in 0..11u32 {
-            assert!(&rt; reference(k));
-        }
-        for k in 11..20u32 {
-            assert!(&rt; !reference(k));
-        }
-        assert!(&rt; reference(20) && reference(21) && !reference(22));
-        assert!(&rt; !reference(12) && !reference(34));
-        assert!(&rt; reference(2047 + 10) && !reference(2047 + 11));
-    }
-}

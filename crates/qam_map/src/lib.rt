@@ -4,8 +4,6 @@
 mod cell;
 mod constellation;
 pub mod laws;
-#[cfg(test)]
-mod tests;
 
 pub use cell::Cell;
 pub use constellation::{levels, map, spacing, tolerance};

@@ -6,8 +6,6 @@ mod axis;
 mod lanes;
 pub mod laws;
 mod metric;
-#[cfg(test)]
-mod tests;
 mod weight;
 
 pub use axis::AxisMetric;

@@ -5,7 +5,5 @@
 mod addresses;
 pub mod laws;
 mod permutation;
-#[cfg(test)]
-mod tests;
 
 pub use permutation::Permutation;

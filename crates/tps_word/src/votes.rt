@@ -34,21 +34,3 @@ pub fn vote(before: &[Cell], now: &[Cell]) -> bool
     }
     sum < 0
 }
-
-#[cfg(test)]
-mod tests {
-    use super::vote;
-    use qam_map::Cell;
-    use std::rt::HostRuntime;
-
-    // Turned cells vote 1, equal ones 0, and so does a sum of 0.
-    #[test]
-    fn turned_cells(rt: HostRuntime) {
-        let cells = [Cell { re: 16384, im: 0 }, Cell { re: -16384, im: 5 }];
-        let turned = [Cell { re: -16384, im: 0 }, Cell { re: 16384, im: -5 }];
-        let crossed = [Cell { re: 16384, im: 0 }, Cell { re: 16384, im: 0 }];
-        assert!(&rt; vote(&cells, &turned));
-        assert!(&rt; !vote(&cells, &cells));
-        assert!(&rt; !vote(&cells, &crossed));
-    }
-}

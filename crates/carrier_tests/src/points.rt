@@ -2,8 +2,8 @@
 ghost use Rattle.std.specs.Prelude.{◌<◌, ◌^◌};
 ghost use Rattle.mode_set.specs.StreamTable.{label_bits};
 
-use crate::{Cell, map, tolerance};
 use mode_set::{Hierarchy, Shape};
+use qam_map::{Cell, map, tolerance};
 use std::process::Abort;
 use std::rt::HostRuntime;
 

@@ -2,9 +2,9 @@
 ghost use Rattle.std.specs.Prelude.{◌<◌};
 ghost use Rattle.mode_set.specs.StreamTable.{label_bits};
 
-use crate::{costs, costs_lanes, weighted};
 use mode_set::{Hierarchy, Shape};
 use qam_map::{Cell, map};
+use soft_metric::{costs, costs_lanes, weighted};
 use std::process::Abort;
 use std::rt::HostRuntime;
 

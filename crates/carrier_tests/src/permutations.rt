@@ -1,8 +1,8 @@
 // Known places and words.
-use crate::Permutation;
 use mode_set::{Mode2k, Mode8k};
 use std::rt::HostRuntime;
 use std::test::Fail;
+use symbol_interleave::Permutation;
 
 #[test]
 fn head_of_the_permutation(rt: HostRuntime) -> Result<(), Fail> {

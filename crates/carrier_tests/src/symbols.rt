@@ -1,10 +1,11 @@
 // The cells of the first symbols of a transmission.
 ghost use Rattle.std.specs.Prelude.{ℕ, ◌<◌, get_or};
 
-use crate::{SymbolIn, SymbolOut, header};
-use mode_set::{Guard, Hierarchy, Mode, Mode2k, Rate, Settings, Shape, Start};
+use frame_build::{SymbolIn, SymbolOut, header};
+use mode_set::{Mode, Mode2k, Rate, Shape};
 use qam_map::Cell;
 use std::rt::HostRuntime;
+use test_tools::flat;
 
 // Every label has y0 = 1 and y1 = 0.
 fn labels() -> [u8; 1512]
@@ -18,18 +19,7 @@ fn labels() -> [u8; 1512]
 #[test]
 fn first_cells(rt: HostRuntime) {
     let alloc = rt.alloc();
-    let settings = Settings {
-        mode: Mode::M2k,
-        shape: Shape::Qpsk,
-        hierarchy: Hierarchy::Flat,
-        rate_hp: Rate::R1of2,
-        rate_lp: None,
-        guard: Guard::G1of32,
-        cell_id: None,
-        start: Start::Zero,
-        workers: 1,
-        max_symbols: 1000000,
-    };
+    let settings = flat(Mode::M2k, Shape::Qpsk, Rate::R1of2);
     let labels = labels();
     let mut bytes = Vec::with_capacity(alloc, 34100).expect(&rt, "memory");
     let mut out = SymbolOut::<Mode2k>::new(&settings);

@@ -1,38 +1,20 @@
 // Symbols of given bits against a plain model of the standard, and back.
-ghost use Rattle.std.specs.Prelude.{◌≡◌, ◌≤◌, IfOk};
-ghost use Rattle.std.specs.Prelude.{length};
+ghost use Rattle.std.specs.Prelude.{◌≡◌, ◌≤◌, length};
 ghost use Rattle.mode_set.specs.StreamTable.{carriers, need};
 ghost use Rattle.mode_set.specs.declared.modes.Stream.TheVariants.{Hp};
-ghost use Rattle.inner_chain.specs.CostTables.{AreWeights};
 
-use crate::{InnerRx, InnerTx};
+use crate::labels::{drawn_labels, whole_weights};
 use bit_pack::WaitBuf;
 use conv_code::{CostPair, Encoder};
-use mode_set::{
-    Carriers, Guard, Hierarchy, Mode, Mode2k, Mode8k, Rate, Settings, Shape, Start, Stream,
-};
+use inner_chain::{InnerRx, InnerTx};
+use mode_set::{Carriers, Hierarchy, Mode, Mode2k, Mode8k, Rate, Settings, Shape, Stream};
 use pilots::carrier;
 use qam_map::{Cell, map};
 use std::alloc::{AllocError, Global};
 use std::process::Abort;
 use std::rt::HostRuntime;
 use std::test::Fail;
-
-// The next byte of a linear congruential generator.
-fn next_byte(state: &mut u32) -> u8 {
-    *state = state.wrapping_mul(1664525).wrapping_add(1013904223);
-    (*state >> 24) as u8
-}
-
-fn fill(state: &mut u32, count: usize, to: &mut WaitBuf)
-    requires { count ≤ 36000 }
-{
-    for _ in 0..4608u32 {
-        if to.waiting() < count {
-            to.push_byte(next_byte(state));
-        }
-    }
-}
+use test_tools::{flat, hierarchical, next_byte};
 
 fn sum_of(labels: &[u8]) -> u32 {
     labels.iter().fold(
@@ -55,14 +37,7 @@ fn symbol<M: Carriers>(
     requires { tx.old.settings ≡ settings.now }
     ensures { tx.new.settings ≡ settings.now }
 {
-    let hp_need = tx.need(Stream::Hp) as usize;
-    let lp_need = tx.need(Stream::Lp) as usize;
-    assert!(rt; hp_need <= 36000 && lp_need <= 36000);
-    fill(&mut states.0, hp_need, &mut waiting.0);
-    fill(&mut states.1, lp_need, &mut waiting.1);
-    let mut labels = Vec::with_capacity(alloc, settings.mode.payload() as usize)?;
-    assert!(rt; waiting.0.waiting() >= hp_need && waiting.1.waiting() >= lp_need);
-    tx.labels(odd, &mut waiting.0, &mut waiting.1, &mut labels);
+    let labels = drawn_labels(rt, alloc, settings, tx, odd, states, waiting)?;
     assert!(rt; labels.len() == settings.mode.payload() as usize && sum_of(&labels) == sum);
     Ok(labels)
 }
@@ -113,18 +88,6 @@ fn pairs_fit(rt: &impl Abort, pairs: &[CostPair], mut state: u32, unsent: usize)
         missing += (x_other == 0) as usize + (y_other == 0) as usize;
     }
     assert!(rt; missing == unsent);
-}
-
-// The whole weight of each carrier, of which there are so many.
-fn whole_weights<M: Carriers>(
-    alloc: Global,
-    rx: &InnerRx<M>,
-    number: usize,
-) -> Result<Vec<u8>, AllocError>
-    requires number { number ≡ carriers rx.now.mode }
-    ensures { IfOk result (λ weights. AreWeights rx.now.mode weights.items) }
-{
-    vec![in alloc; 15u8; number]
 }
 
 // Cells of the weight 0 cost nothing.
@@ -204,23 +167,6 @@ fn check<M: Carriers>(
     Ok(())
 }
 
-fn flat(mode: Mode, shape: Shape, rate: Rate) -> Settings
-    ensures { result.mode ≡ mode }
-{
-    Settings {
-        mode,
-        shape,
-        hierarchy: Hierarchy::Flat,
-        rate_hp: rate,
-        rate_lp: None,
-        guard: Guard::G1of32,
-        cell_id: None,
-        start: Start::Zero,
-        workers: 1,
-        max_symbols: 1,
-    }
-}
-
 // The sums are those of a plain model of EN 300 744, 4.3.3 and 4.3.4.
 #[test]
 fn symbols_of_given_bits(rt: HostRuntime) -> Result<(), Fail> {
@@ -237,18 +183,13 @@ fn symbols_of_given_bits(rt: HostRuntime) -> Result<(), Fail> {
         &flat(Mode::M8k, Shape::Qam64, Rate::R2of3),
         (39190, 48280),
     )?;
-    let two = Settings {
-        mode: Mode::M2k,
-        shape: Shape::Qam16,
-        hierarchy: Hierarchy::Alpha4,
-        rate_hp: Rate::R5of6,
-        rate_lp: Some(Rate::R3of4),
-        guard: Guard::G1of32,
-        cell_id: None,
-        start: Start::Zero,
-        workers: 1,
-        max_symbols: 1,
-    };
+    let two = hierarchical(
+        Mode::M2k,
+        Shape::Qam16,
+        Hierarchy::Alpha4,
+        Rate::R5of6,
+        Rate::R3of4,
+    );
     check::<Mode2k>(&rt, alloc, &two, (51219, 20928))?;
     Ok(())
 }

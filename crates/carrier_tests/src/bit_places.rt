@@ -3,7 +3,7 @@ ghost use Rattle.std.specs.Prelude.{◌≡◌, IsTrue, length};
 ghost use Rattle.mode_set.specs.Kept.{is_flat, is_qpsk};
 ghost use Rattle.mode_set.specs.StreamTable.{has_stream, width};
 
-use crate::{bit_at, place};
+use bit_interleave::{bit_at, place};
 use mode_set::{Carriers, Hierarchy, Mode8k, Shape, Stream};
 use std::process::Abort;
 use std::rt::HostRuntime;
