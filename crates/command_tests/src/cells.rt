@@ -1,4 +1,5 @@
 // Cells in their bytes.
+use std::alloc::{AllocError, Global};
 use std::process::Abort;
 
 /// The bytes of a symbol of the 2K mode.
@@ -19,4 +20,9 @@ pub(crate) fn put_number(rt: &impl Abort, cells: &mut [u8], at: usize, number: i
     let bytes = number.to_be_bytes();
     cells[at] = bytes[0];
     cells[at + 1] = bytes[1];
+}
+
+/// A super-frame whose cells are all zero.
+pub(crate) fn zero_cells(alloc: Global) -> Result<Vec<u8>, AllocError> {
+    vec![in alloc; 0u8; SUPER_FRAME]
 }

@@ -2,7 +2,7 @@
 ghost use Rattle.std.specs.Prelude.{◌≡◌, ◌<◌, ◌^◌, false};
 
 use crate::sending::settings;
-use mode_set::{Carriers, Mode2k, Start, Stream};
+use mode_set::{Carriers, Mode, Mode2k, Settings, Start, Stream};
 use receiver::{Receiver, RxOut};
 use rx_report::{Counts, Event};
 use std::alloc::{AllocError, Global};
@@ -18,7 +18,14 @@ pub(crate) struct Reception<M: Carriers> {
 
 /// A receiver that has had no byte.
 pub(crate) fn begin(alloc: Global, start: Start) -> Result<Reception<Mode2k>, AllocError> {
-    let receiver = Receiver::<Mode2k>::new(alloc, &settings(start))?;
+    begin_by(alloc, &settings(start))
+}
+
+/// The same by settings of the 2K mode.
+pub(crate) fn begin_by(alloc: Global, settings: &Settings) -> Result<Reception<Mode2k>, AllocError>
+    requires { settings.now.mode ≡ Mode.M2k }
+{
+    let receiver = Receiver::<Mode2k>::new(alloc, settings)?;
     let out = RxOut::new(alloc)?;
     Ok(Reception { receiver, out })
 }
@@ -70,9 +77,14 @@ pub(crate) fn packets_of<M: Carriers>(reception: &Reception<M>) -> &[u8] {
     reception.out.hp()
 }
 
+/// The packets of LP that the last call gave.
+pub(crate) fn lp_packets_of<M: Carriers>(reception: &Reception<M>) -> &[u8] {
+    reception.out.lp()
+}
+
 /// How many bytes of packets of LP the last call gave.
 pub(crate) fn lp_bytes<M: Carriers>(reception: &Reception<M>) -> usize {
-    reception.out.lp().len()
+    lp_packets_of(reception).len()
 }
 
 /// The reports of the last call.
