@@ -2,7 +2,7 @@
 ghost use Rattle.std.specs.Prelude.{◌≡◌, ◌<◌, ◌^◌, false};
 
 use crate::sending::settings;
-use mode_set::{Carriers, Mode, Mode2k, Settings, Start, Stream};
+use mode_set::{Carriers, Mode2k, Start, Stream};
 use receiver::{Receiver, RxOut};
 use rx_report::{Counts, Event};
 use std::alloc::{AllocError, Global};
@@ -18,14 +18,7 @@ pub(crate) struct Reception<M: Carriers> {
 
 /// A receiver that has had no byte.
 pub(crate) fn begin(alloc: Global, start: Start) -> Result<Reception<Mode2k>, AllocError> {
-    begin_by(alloc, &settings(start))
-}
-
-/// The same by settings of the 2K mode.
-pub(crate) fn begin_by(alloc: Global, settings: &Settings) -> Result<Reception<Mode2k>, AllocError>
-    requires { settings.now.mode ≡ Mode.M2k }
-{
-    let receiver = Receiver::<Mode2k>::new(alloc, settings)?;
+    let receiver = Receiver::<Mode2k>::new(alloc, &settings(start))?;
     let out = RxOut::new(alloc)?;
     Ok(Reception { receiver, out })
 }
@@ -77,14 +70,9 @@ pub(crate) fn packets_of<M: Carriers>(reception: &Reception<M>) -> &[u8] {
     reception.out.hp()
 }
 
-/// The packets of LP that the last call gave.
-pub(crate) fn lp_packets_of<M: Carriers>(reception: &Reception<M>) -> &[u8] {
-    reception.out.lp()
-}
-
 /// How many bytes of packets of LP the last call gave.
 pub(crate) fn lp_bytes<M: Carriers>(reception: &Reception<M>) -> usize {
-    lp_packets_of(reception).len()
+    reception.out.lp().len()
 }
 
 /// The reports of the last call.

@@ -1,10 +1,10 @@
 // Cells that no modulator sends, fed in three ways. The expected reports and counts are those of an independent
 // program.
-use crate::receiving::{
-    Reception, begin_by, counts_of, feed, finish, lp_packets_of, packets_of, reports_of, symbols_of,
-};
+ghost use Rattle.std.specs.Prelude.{◌≡◌, ◌<◌, ◌^◌, false};
+
 use load_gen::Load;
 use mode_set::{Mode, Mode2k, Settings};
+use receiver::{Receiver, RxOut};
 use rx_report::{Counts, Event, StreamCounts};
 use std::alloc::{AllocError, Global};
 use std::process::Abort;
@@ -128,12 +128,39 @@ fn bytes_of(alloc: Global, cells: Cells) -> Result<Vec<u8>, AllocError> {
     Ok(bytes)
 }
 
-// What the last call gave.
-fn given_of(alloc: Global, reception: &Reception<Mode2k>) -> Result<Given, AllocError> {
+// A receiver that has had no byte.
+fn begin(alloc: Global, settings: &Settings) -> Result<Receiver<Mode2k>, AllocError>
+    requires { settings.now.mode ≡ Mode.M2k }
+{
+    Receiver::<Mode2k>::new(alloc, settings)
+}
+
+// Feeds a piece, and answers how many bytes of it were taken. Nothing is told of what is received.
+fn feed<R: Threads + Sync>(
+    rt: &R,
+    receiver: &mut Receiver<Mode2k>,
+    piece: &[u8],
+    out: &mut RxOut,
+) -> usize
+    requires going { receiver.old.ended ≡ false }
+    requires few { receiver.old.taken < 2 ^ 32 }
+{
+    receiver.feed(rt, piece, out)
+}
+
+// Ends the reception. Nothing is told of what is received.
+fn finish<R: Threads + Sync>(rt: &R, receiver: &mut Receiver<Mode2k>, out: &mut RxOut)
+    requires { receiver.old.ended ≡ false }
+{
+    receiver.finish(rt, out);
+}
+
+// What a call gave.
+fn given_of(alloc: Global, out: &RxOut) -> Result<Given, AllocError> {
     Ok(Given {
-        hp: Vec::from_slice(alloc, packets_of(reception))?,
-        lp: Vec::from_slice(alloc, lp_packets_of(reception))?,
-        events: Vec::from_slice(alloc, reports_of(reception))?,
+        hp: Vec::from_slice(alloc, out.hp())?,
+        lp: Vec::from_slice(alloc, out.lp())?,
+        events: Vec::from_slice(alloc, out.events())?,
     })
 }
 
@@ -142,14 +169,16 @@ fn given_of(alloc: Global, reception: &Reception<Mode2k>) -> Result<Given, Alloc
 fn feed_and_note<R: Abort + Threads + Sync>(
     rt: &R,
     alloc: Global,
-    reception: &mut Reception<Mode2k>,
+    receiver: &mut Receiver<Mode2k>,
     piece: &[u8],
+    out: &mut RxOut,
     seen: &mut Vec<Given>,
 ) -> Result<usize, AllocError> {
-    let before = symbols_of(reception);
-    let count = feed(rt, reception, piece);
-    let given = given_of(alloc, reception)?;
-    if symbols_of(reception) == before {
+    let before = receiver.symbols();
+    assert!(rt; !receiver.ended() && before < 4294967296);
+    let count = feed(rt, receiver, piece, out);
+    let given = given_of(alloc, out)?;
+    if receiver.symbols() == before {
         assert!(rt; given.hp.is_empty() && given.lp.is_empty() && given.events.is_empty());
     } else {
         seen.push(given)?;
@@ -176,7 +205,8 @@ fn receive<R: Abort + Threads + Sync>(
     cut: Cut,
 ) -> Result<(Vec<Given>, Counts), AllocError> {
     assert!(rt; settings.mode == Mode::M2k);
-    let mut reception = begin_by(alloc, settings)?;
+    let mut receiver = begin(alloc, settings)?;
+    let mut out = RxOut::new(alloc)?;
     let mut load = Load::start(29);
     let mut seen = Vec::new(alloc);
     let mut at = 0usize;
@@ -184,14 +214,15 @@ fn receive<R: Abort + Threads + Sync>(
         assert!(rt; at <= bytes.len());
         let piece = piece_of(&bytes[at..], cut, &mut load);
         if !piece.is_empty() {
-            let count = feed_and_note(rt, alloc, &mut reception, piece, &mut seen)?;
+            let count = feed_and_note(rt, alloc, &mut receiver, piece, &mut out, &mut seen)?;
             at = at.saturating_add(count);
         }
     }
     assert_eq!(rt; at, bytes.len());
-    finish(rt, &mut reception);
-    seen.push(given_of(alloc, &reception)?)?;
-    Ok((seen, counts_of(&reception)))
+    assert!(rt; !receiver.ended());
+    finish(rt, &mut receiver, &mut out);
+    seen.push(given_of(alloc, &out)?)?;
+    Ok((seen, receiver.counts()))
 }
 
 // Adds what a reception gave.
