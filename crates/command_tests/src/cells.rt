@@ -1,4 +1,5 @@
 // Cells in their bytes.
+use std::alloc::{AllocError, Global};
 use std::process::Abort;
 
 /// The header of a cell file of the 2K mode.
@@ -22,4 +23,11 @@ pub(crate) fn put_number(rt: &impl Abort, cells: &mut [u8], at: usize, number: i
     let bytes = number.to_be_bytes();
     cells[at] = bytes[0];
     cells[at + 1] = bytes[1];
+}
+
+/// The file of a super-frame whose cells are all zero, and their weights.
+pub(crate) fn zero_cells(alloc: Global) -> Result<Vec<u8>, AllocError> {
+    let mut cells = vec![in alloc; 0u8; SUPER_FRAME]?;
+    cells[..8].copy_from_slice(&HEADER);
+    Ok(cells)
 }

@@ -1,5 +1,5 @@
 // The command `receive` of one stream. The expected reports and lengths are those of an independent program.
-use crate::cells::{HEADER, SUPER_FRAME, SYMBOL, number_at, put_number};
+use crate::cells::{HEADER, SUPER_FRAME, SYMBOL, number_at, put_number, zero_cells};
 use mode_set::Mode;
 use pilots::tps_carriers;
 use run_tools::{
@@ -15,6 +15,12 @@ const ONE: &str = "receive s a hp";
 
 const ONE_BAD: &str =
     "symbols 272 tail 0\ntps read 3 bad 1\nhp words 241 clean 241 corrected 0 bad 0 unphased 0 unmerged 0\n";
+
+const CLOSED: &str =
+    "symbols 272 tail 0\ntps read 4 bad 0\nhp words 241 clean 241 corrected 0 bad 0 unphased 0 unmerged 0\nwrite fault\n";
+
+const UNPHASED: &str =
+    "symbols 272 tail 0\ntps read 0 bad 4\nhp words 241 clean 241 corrected 0 bad 0 unphased 241 unmerged 0\n";
 
 // What is to be found: the status, the report, and how many bytes of null packets stand at HP.
 type Found<'a> = (u8, &'a str, usize);
@@ -159,6 +165,7 @@ fn faults_of_the_station(rt: HostRuntime) -> Result<(), Fail> {
             Failing::Write(OutPort::Report, 1),
             (6, "symbols 2write fault\n", 45_308),
         ),
+        (Failing::Close(OutPort::Hp, 1), (6, CLOSED, 45_308)),
     ];
     for (call, found) in faults {
         expect(&rt, alloc, ONE, (BASE, ""), &cells, failing(call), found)?;
@@ -309,5 +316,18 @@ fn unmerged_at_2049(rt: HostRuntime) -> Result<(), Fail> {
         ample(50_000),
         (0, report, 0),
     )?;
+    Ok(())
+}
+
+// A super-frame whose cells are all zero, from the register zero and from any: every cost ties, so the least path is all
+// zeros, and its words are the zero codeword, which has no phase.
+#[test]
+fn cells_of_zeros(rt: HostRuntime) -> Result<(), Fail> {
+    let alloc = rt.alloc();
+    let cells = zero_cells(alloc)?;
+    for lines in ["", "start = \"any\"\n"] {
+        let found = (0, UNPHASED, 0);
+        expect(&rt, alloc, ONE, (BASE, lines), &cells, ample(50_000), found)?;
+    }
     Ok(())
 }

@@ -1,7 +1,10 @@
-//! Bursts in the interleaved bytes of packets, beside what the burst law promises of them.
+//! Bursts in the interleaved bytes of packets, beside what the burst law promises of them, and cells that no
+//! modulator sends.
 //!
 //! The crate has tests alone.
 #![tactic(auto)]
 
 #[cfg(test)]
 mod bursts;
+#[cfg(test)]
+mod cells;

@@ -1,0 +1,16 @@
+//! Each call of the station in memory that a command makes fails once, at its first turn, at its last and at
+//! the one-and-thirtieth: the status, the report and what stands of each output.
+//!
+//! The crate has tests alone.
+#![tactic(auto)]
+
+#[cfg(test)]
+mod cases;
+#[cfg(test)]
+mod cells;
+#[cfg(test)]
+mod received;
+#[cfg(test)]
+mod sent;
+#[cfg(test)]
+mod works;
