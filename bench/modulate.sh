@@ -3,7 +3,7 @@
 # run, all files in memory (/dev/shm, about 400 MB). Prints seconds, processor seconds (user and system), Mbit/s of
 # transport stream a processor second, the ratio of the two, and whether the two cell files are the same. The best of
 # five runs of the program and of one of the reference, which is no part of this repository: it is sought in
-# ../shared/tools/oracle, or where $REFERENCE says (a command that takes the same words behind `v1`).
+# ../shared/tools/oracle, or where $REFERENCE says (a command that takes the same words behind `v2`).
 # usage: bench/modulate.sh [PACKETS] [PROGRAM WORDS..]
 set -eu
 top=$(cd "$(dirname "$0")/.." && pwd)
@@ -27,7 +27,7 @@ rows = [("dvbt modulate", ours)]
 # the tool builds the reference first where it must
 if shutil.which(reference):
     subprocess.run([reference], stdout=subprocess.DEVNULL, stderr=subprocess.DEVNULL)
-    rows.append(("reference", modulate([reference, "v1"], folder + "/theirs", 1)))
+    rows.append(("reference", modulate([reference, "v2"], folder + "/theirs", 1)))
 else:
     print(f"no reference at {reference}")
 print(", ".join(ours[2].splitlines()), f"| {os.path.getsize(folder + '/ours')} bytes of cells")

@@ -1,11 +1,11 @@
 #!/usr/bin/env bash
 # Times `dvbt receive` in 8K, 64-QAM, rate 2/3 on the cells of random packets in 20 super-frames, as they were sent and
-# with Gaussian noise of the standard deviation NOISE on both axes, all files in memory (/dev/shm, about 350 MB). Prints
+# with Gaussian noise of the standard deviation NOISE on both axes, all files in memory (/dev/shm, about 430 MB). Prints
 # the report, seconds, processor seconds (user and system), Mbit/s of packets a processor second, the best of three runs,
 # and the greatest memory in use (by /usr/bin/time -v); then, of the noisy cells, the share of the processor that each
 # function has (where `perf` is there). Beside it the independent reference receives the first super-frame, and the
 # ratio of the two is that of their processor seconds a super-frame; it is no part of this repository: it is sought in
-# ../shared/tools/oracle, or where $REFERENCE says (a command that takes the same words behind `v1`).
+# ../shared/tools/oracle, or where $REFERENCE says (a command that takes the same words behind `v2`).
 # usage: bench/receive.sh [NOISE] [SUPERFRAMES] [PROGRAM WORDS..]
 set -eu
 top=$(cd "$(dirname "$0")/.." && pwd)
@@ -22,7 +22,7 @@ from timing import best, measure
 folder, settings, noise, frames, reference, *program = sys.argv[1:]
 frames = int(frames)
 WORDS = 4032  # of a super-frame of these settings
-SYMBOLS = 272 * 6817 * 4  # the bytes of its cells
+HEADER, SYMBOLS = 8, 272 * 6817 * 5  # the bytes of the header, and of its cells with their weights
 random.seed(1)
 with open(folder + "/in.ts", "wb") as f:
     for _ in range(WORDS * frames - 11):
@@ -32,13 +32,19 @@ measure([*program, "modulate", settings, folder + "/in.ts", folder + "/clean"])
 values = array.array("h", (round(random.gauss(0, float(noise))) for _ in range(1_000_003)))
 with open(folder + "/clean", "rb") as f, open(folder + "/noisy", "wb") as g:
     noise_of = itertools.cycle(values)
+    g.write(f.read(HEADER))
     for _ in range(frames):
-        cells = array.array("h", f.read(SYMBOLS))
+        file = bytearray(f.read(SYMBOLS))
+        del file[4::5]
+        cells = array.array("h", file)
         cells.byteswap()
         moved = (max(-32768, min(32767, v)) for v in map(operator.add, cells, noise_of))
         cells = array.array("h", moved)
         cells.byteswap()
-        cells.tofile(g)
+        parts, file = cells.tobytes(), bytearray(b"\x0F" * SYMBOLS)
+        for place in range(4):
+            file[place::5] = parts[place::4]
+        g.write(file)
 back = folder + "/back.ts"
 def received(words, cells, rounds):
     return best([*words, "receive", settings, cells, back], back, rounds)
@@ -63,8 +69,8 @@ if shutil.which(reference):
     subprocess.run([reference], stdout=subprocess.DEVNULL, stderr=subprocess.DEVNULL)
     for name in ("clean", "noisy"):
         with open(f"{folder}/{name}", "rb") as f, open(folder + "/one", "wb") as g:
-            g.write(f.read(SYMBOLS))
-        cpu = received([reference, "v1"], folder + "/one", 1)[1]
+            g.write(f.read(HEADER + SYMBOLS))
+        cpu = received([reference, "v2"], folder + "/one", 1)[1]
         with open(back, "rb") as f:
             theirs = f.read()
         received(program, folder + "/one", 1)

@@ -28,12 +28,17 @@ write("sent.toml", settings.encode())
 run("modulate", "sent.toml", "hp.ts", "lp.ts", "cells")
 cells = array.array("h")
 with open(os.path.join(folder, "cells"), "rb") as f:
-    cells.frombytes(f.read())
+    head, file = f.read(8), bytearray(f.read())
+del file[4::5]
+cells.frombytes(bytes(file))
 cells.byteswap()
 sigma = float(noise)
 noisy = array.array("h", (max(-32768, min(32767, v + round(random.gauss(0, sigma)))) for v in cells))
 noisy.byteswap()
-write("noisy", noisy.tobytes())
+parts, file = noisy.tobytes(), bytearray(b"\x0F" * (len(noisy) // 2 * 5))
+for place in range(4):
+    file[place::5] = parts[place::4]
+write("noisy", head + bytes(file))
 best, outputs = {}, set()
 for _ in range(5):
     for workers in (1, 2, 4):
