@@ -216,6 +216,8 @@ def what_stands(form, status, before):
         ("modulate", 8): "the symbols before the limit",
         ("receive", 5): "what is decided by the symbols read",
         ("receive", 8): "what is decided by the symbols within the limit",
+        ("upgrade", 5): "the header and the symbols read",
+        ("upgrade", 8): "the header and the symbols within the limit",
     }.get((form.command, status), "what the packets before it give")
     if status == 6:
         what = "a front of what the command comes to"

@@ -21,6 +21,8 @@ pub data Order : Type 0 where
   Modulate : List ℕ → List ℕ → Option (List ℕ) → List ℕ → Order
   -- receive SETTINGS CELLS HP, receive SETTINGS CELLS HP LP
   Receive : List ℕ → List ℕ → List ℕ → Option (List ℕ) → Order
+  -- upgrade SETTINGS OLD NEW
+  Upgrade : List ℕ → List ℕ → List ℕ → Order
   -- trial SETTINGS NUMBER
   Trial : List ℕ → ℕ → Order
 
@@ -34,7 +36,8 @@ order_of (name ∷ first ∷ second ∷ []) = if bytes_eq name (codes "trial") t
     else option_map (λ coding. Code coding first second) (coding_of name)
 order_of (name ∷ settings ∷ input ∷ output ∷ []) = if bytes_eq name (codes "inner") then Some (Code (Inner settings) input output)
     else if bytes_eq name (codes "modulate") then Some (Modulate settings input None output)
-    else if bytes_eq name (codes "receive") then Some (Receive settings input output None) else None
+    else if bytes_eq name (codes "receive") then Some (Receive settings input output None)
+    else if bytes_eq name (codes "upgrade") then Some (Upgrade settings input output) else None
 order_of (name ∷ settings ∷ first ∷ second ∷ third ∷ []) = if bytes_eq name (codes "modulate") then Some (Modulate settings first (Some second) third)
     else if bytes_eq name (codes "receive") then Some (Receive settings first second (Some third)) else None
 order_of words = None

@@ -115,5 +115,12 @@ pub fn form_of<'a>(words: &'a [String]) -> Option<Form<'a>>
             lp: Some(lp),
         });
     }
+    if let Some((settings, old_cells, new_cells)) = three_after(words, "upgrade") {
+        return Some(Form::Upgrade {
+            settings,
+            old_cells,
+            new_cells,
+        });
+    }
     None
 }

@@ -9,7 +9,8 @@ use Rattle.station_core.specs.declared.ports.OutPort.TheVariants as outs
 use Rattle.rx_report.specs.Text.{event_line}
 use Rattle.rx_report.specs.declared.counts.Event.{Event}
 use Rattle.symbol_runs.specs.declared.stop.Stop.{Stop}
-use Rattle.receive_run.specs.Writing.{Appends, WritesAt, event_text}
+use Rattle.symbol_runs.specs.Writing.{WritesAt}
+use Rattle.receive_run.specs.Writing.{Appends, event_text}
 use Rattle.symbol_runs.proofs.Fronts.{front_of}
 use Rattle.receive_run.proofs.Keeping.{report_appends}
 

@@ -3,7 +3,8 @@ use Rattle.std.proofs.Common.{◌≡◌, true, false, Bool, ℕ, List, ◌++◌,
 use Rattle.station_core.specs.Meaning.{Meaning}
 use Rattle.station_core.specs.declared.ports.OutPort.TheVariants as outs
 use Rattle.symbol_runs.specs.declared.stop.Stop.{Stop}
-use Rattle.receive_run.specs.Writing.{Appends, IsPrinting, ReportOnly, WritesAt, WritesLp, WritesOnly}
+use Rattle.symbol_runs.specs.Writing.{WritesAt}
+use Rattle.receive_run.specs.Writing.{Appends, IsPrinting, ReportOnly, WritesLp, WritesOnly}
 
 -- what is written where contents are told, or not
 abbrev pub told : Bool → List ℕ → List ℕ → List ℕ

@@ -6,7 +6,8 @@ use Rattle.station_core.specs.declared.ports.OutPort.TheVariants as outs
 use Rattle.reception.specs.Feeds.{Output}
 use Rattle.symbol_runs.specs.declared.stop.Stop.{Stop}
 use Rattle.symbol_runs.specs.declared.stop.Stop.TheVariants.{WriteFault}
-use Rattle.receive_run.specs.Writing.{Appends, ReportOnly, WritesAt, WritesLp, WritesOut, event_text, lp_bytes}
+use Rattle.symbol_runs.specs.Writing.{WritesAt}
+use Rattle.receive_run.specs.Writing.{Appends, ReportOnly, WritesLp, WritesOut, event_text, lp_bytes}
 use Rattle.symbol_runs.proofs.Fronts.{all_of, none_of}
 use Rattle.receive_run.proofs.Keeping.{hp_appends, lp_appends, hp_only, lp_only}
 

@@ -1,6 +1,6 @@
 -- What is written behind what the outputs of a reception hold.
 use Rattle.std.specs.Prelude.{◌≡◌, ◌⊎◌, ℕ, Bool, true, false, if◌then◌else◌, List, [], ◌++◌, take, flat_map, Result, Ok, Err}
-use Rattle.station_core.specs.Meaning.{Meaning, sink_at, with_sink, written_sink, with_failed_write}
+use Rattle.station_core.specs.Meaning.{Meaning}
 use Rattle.station_core.specs.declared.ports.OutPort.{OutPort}
 use Rattle.station_core.specs.declared.ports.OutPort.TheVariants as outs
 use Rattle.rx_report.specs.Text.{event_line}
@@ -8,14 +8,9 @@ use Rattle.rx_report.specs.declared.counts.Event.{Event}
 use Rattle.reception.specs.Feeds.{Output}
 use Rattle.symbol_runs.specs.declared.stop.Stop.{Stop}
 use Rattle.symbol_runs.specs.declared.stop.Stop.TheVariants.{WriteFault}
+use Rattle.symbol_runs.specs.Writing.{WritesAt}
 
--- bytes were written at a port, or a front of them
-abbrev pub WritesAt : OutPort → List ℕ → Meaning → Meaning → Result (Unit {0}) Stop → Type 0
-WritesAt port bytes old new (Ok u) = new ≡ with_sink port (written_sink old.tells bytes (sink_at port old)) old
-WritesAt port bytes old new (Err r) =
-    (r ≡ WriteFault) × (k : ℕ) × (new ≡ with_failed_write port new.write_faults new.report_faults (with_sink port (written_sink old.tells (take k bytes) (sink_at port old)) old))
-
--- the same at Lp, where there are two streams
+-- bytes were written at Lp, where there are two streams, or a front of them
 abbrev pub WritesLp : Bool → List ℕ → Meaning → Meaning → Result (Unit {0}) Stop → Type 0
 WritesLp true bytes old new result = WritesAt outs.Lp bytes old new result
 WritesLp false bytes old new (Ok u) = new ≡ old

@@ -2,38 +2,19 @@
 ghost use Rattle.std.specs.Prelude.{◌≡◌, ◌≤◌, ℕ, List, true, false, IsTrue, length};
 ghost use Rattle.std.specs.List.{concat};
 ghost use Rattle.arrayvec.specs.ArrayString.{array_string_len};
-ghost use Rattle.station_core.specs.Meaning.{sink_at};
 ghost use Rattle.rx_report.specs.Text.{closing_lines};
 ghost use Rattle.symbol_runs.specs.Stops.{HasCause};
 ghost use Rattle.symbol_runs.specs.Outputs.{IsWriting};
-ghost use Rattle.receive_run.specs.Writing.{AreOpen, Appends, IsPrinting, Pushes, ReportOnly, WritesAt, WritesLp, WritesOnly, WritesOut, event_text};
+ghost use Rattle.receive_run.specs.Writing.{AreOpen, Appends, IsPrinting, Pushes, ReportOnly, WritesLp, WritesOnly, WritesOut, event_text};
 
 use crate::cell_receiver::CellReceiver;
 use arrayvec::ArrayString;
 use rx_report::{Counts, Event, Line};
 use station_core::{OutPort, Station};
-use symbol_runs::Stop;
+use symbol_runs::{Stop, write_some};
 
 // Room for the lines of all events of a symbol.
 type EventText = ArrayString<2048>;
-
-// Writes the bytes at the port by one write, if there are any.
-fn write_some<'a, S: Station<'a>>(port: OutPort, bytes: &[u8], station: &mut S) -> Result<(), Stop>
-    requires created { (sink_at port (S.meaning station.old)).created ≡ true }
-    requires open { (sink_at port (S.meaning station.old)).closed ≡ false }
-    ensures kind { IsWriting result }
-    ensures cause { HasCause (S.meaning station.old) (S.meaning station.new) result }
-    ensures later_report { (S.meaning station.old).report_faults ≤ (S.meaning station.new).report_faults }
-    ensures writes { WritesAt port bytes.now (S.meaning station.old) (S.meaning station.new) result }
-{
-    if bytes.is_empty() {
-        return Ok(());
-    }
-    match station.write(port, bytes) {
-        Ok(()) => Ok(()),
-        Err(_) => Err(Stop::WriteFault),
-    }
-}
 
 // Writes the packets of LP, where there are two streams.
 fn write_lp<'a, S: Station<'a>>(two: bool, bytes: &[u8], station: &mut S) -> Result<(), Stop>

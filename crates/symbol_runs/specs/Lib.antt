@@ -2,6 +2,7 @@ pub mod Stops
 pub mod Symbols
 pub mod Work
 pub mod Outputs
+pub mod Writing
 pub mod Cells
 pub mod Opening
 pub mod Runs

@@ -11,8 +11,10 @@ mod outputs;
 mod run;
 mod stop;
 mod work;
+mod writing;
 
 pub use outputs::{CellFile, OutputFiles, StreamFiles};
 pub use run::run_cells;
 pub use stop::Stop;
 pub use work::SymbolWork;
+pub use writing::write_some;

@@ -2,7 +2,8 @@ use Rattle.std.proofs.Common.{◌+◌, ℕ, List, [], take, drop, refl, sym, ◌
 use Rattle.std.proofs.lemmas.List.{append-nil}
 use Rattle.station_core.specs.Meaning.{Meaning}
 use Rattle.station_core.specs.declared.ports.OutPort.TheVariants as outs
-use Rattle.receive_run.specs.Writing.{WritesAt, event_text}
+use Rattle.symbol_runs.specs.Writing.{WritesAt}
+use Rattle.receive_run.specs.Writing.{event_text}
 use Rattle.receive_run.proofs.Events.{event_more, waits_more, waits_front, events_split, events_written}
 use Rattle.receive_run.proofs.Keeping.{report_again}
 use Rattle.receive_run.proofs.writing.write_events.Goals as goal

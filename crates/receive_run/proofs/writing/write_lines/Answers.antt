@@ -5,7 +5,7 @@ use Rattle.station_core.specs.Meaning.{Meaning}
 use Rattle.station_core.specs.declared.ports.OutPort.TheVariants as outs
 use Rattle.rx_report.specs.Text.{closing_lines}
 use Rattle.symbol_runs.specs.declared.stop.Stop.TheVariants.{WriteFault}
-use Rattle.receive_run.specs.Writing.{WritesAt}
+use Rattle.symbol_runs.specs.Writing.{WritesAt}
 use Rattle.receive_run.proofs.Fronts.{line_more, line_front}
 use Rattle.receive_run.proofs.Keeping.{Printed, line_printed, report_appends}
 use Rattle.receive_run.proofs.writing.write_lines.Goals as goal

@@ -3,7 +3,8 @@ use Rattle.station_core.specs.Meaning.{Meaning}
 use Rattle.station_core.specs.declared.ports.OutPort.TheVariants as outs
 use Rattle.rx_report.specs.declared.counts.Event.{Event}
 use Rattle.reception.specs.Feeds.{Output}
-use Rattle.receive_run.specs.Writing.{Appends, WritesAt, WritesLp, WritesOnly, event_text}
+use Rattle.symbol_runs.specs.Writing.{WritesAt}
+use Rattle.receive_run.specs.Writing.{Appends, WritesLp, WritesOnly, event_text}
 use Rattle.receive_run.proofs.Keeping.{hp_frame, lp_frame, writes_again}
 use Rattle.receive_run.proofs.Lines.{failed_hp, failed_lp, wrote}
 use Rattle.receive_run.proofs.writing.write_out.Goals as goal

@@ -1,0 +1,5 @@
+pub mod OldCells
+pub mod Files
+pub mod Calls
+pub mod Commands
+pub mod WholeRun

@@ -1,0 +1,4 @@
+pub mod Upgrading
+pub mod UpgradeCommand
+pub mod Working
+pub mod Runs

@@ -1,0 +1,74 @@
+// The command.
+ghost use Rattle.std.specs.Prelude.{◌≡◌};
+ghost use Rattle.station_core.specs.Meaning.{IsFresh};
+ghost use Rattle.run_clauses.specs.Run.{Run};
+ghost use Rattle.symbol_runs.specs.Outputs.{cell_names};
+ghost use Rattle.symbol_runs.specs.Runs.{IsReady};
+ghost use Rattle.upgrade_run.specs.Runs.{RunsOrLacks};
+ghost use Rattle.upgrade_run.specs.UpgradeCommand.{upgrade_command};
+
+use crate::work::UpgradeWork;
+use mode_set::Settings;
+use run_clauses::{Limits, Refusal};
+use run_steps::{read_settings, refuse};
+use station_core::Station;
+use std::alloc::Global;
+use symbol_runs::{CellFile, run_cells};
+
+// Takes the memory of a symbol of each version, and upgrades the old cells.
+fn upgrade_accepted<'a, S: Station<'a>>(
+    alloc: Global,
+    settings: &Settings,
+    old_cells: &'a str,
+    new_cells: &'a str,
+    station: &mut S,
+) -> u8
+    requires ready { IsReady (cell_names new_cells.now) (S.meaning station.old) }
+    ensures { RunsOrLacks settings.now old_cells.now new_cells.now (S.meaning station.old) (S.meaning station.new) result }
+{
+    let carriers = settings.mode.carriers() as usize;
+    let Ok(mut symbol) = vec![in alloc; 0u8; 4 * carriers] else {
+        return refuse(&Refusal::Memory, station);
+    };
+    let Ok(room) = vec![in alloc; 0u8; 5 * carriers] else {
+        return refuse(&Refusal::Memory, station);
+    };
+    let mut work = UpgradeWork {
+        mode: settings.mode,
+        room,
+        symbols: 0,
+        tail: 0,
+    };
+    let files = CellFile { name: new_cells };
+    run_cells(
+        settings.max_symbols,
+        old_cells,
+        &files,
+        &mut work,
+        &mut symbol,
+        station,
+    )
+}
+
+/// Runs `upgrade SETTINGS OLD NEW` and gives its status: the cells of OLD, a file of version 1, are written to
+/// NEW as a file of version 2.
+///
+/// What it promises is `Run` of its definition, `upgrade_command`. The settings are read and checked, of which
+/// the mode and the limit of symbols have an effect, and then all memory is taken, before another port is asked.
+/// OLD is opened before NEW is made. The limits of packets do not bound an upgrade.
+pub fn upgrade<'a, S: Station<'a>>(
+    alloc: Global,
+    settings: &'a str,
+    old_cells: &'a str,
+    new_cells: &'a str,
+    limits: &Limits,
+    station: &mut S,
+) -> u8
+    requires fresh { IsFresh (S.meaning station.old) }
+    ensures { Run (upgrade_command settings.now old_cells.now new_cells.now) limits.now.packets (S.meaning station.old) (S.meaning station.new) result }
+{
+    match read_settings(alloc, settings, station) {
+        Ok(accepted) => upgrade_accepted(alloc, &accepted, old_cells, new_cells, station),
+        Err(refusal) => refuse(&refusal, station),
+    }
+}
