@@ -199,108 +199,108 @@ fn cells_of_another_modulator(rt: HostRuntime) {
         &rt,
         alloc,
         b"mode = \"2k\"\nconstellation = \"qpsk\"\nhierarchy = \"none\"\nrate_hp = \"1/2\"\nguard = \"1/32\"\n",
-        3635968092,
+        2066603759,
     );
     check(
         &rt,
         alloc,
         b"mode = \"2k\"\nconstellation = \"16qam\"\nhierarchy = \"none\"\nrate_hp = \"2/3\"\nguard = \"1/16\"\ncell_id = 65535\n",
-        2353036834,
+        4132391269,
     );
     check(
         &rt,
         alloc,
         b"mode = \"2k\"\nconstellation = \"16qam\"\nhierarchy = \"1\"\nrate_hp = \"3/4\"\nrate_lp = \"5/6\"\nguard = \"1/8\"\ncell_id = 43981\n",
-        483430720,
+        1708986249,
     );
     check(
         &rt,
         alloc,
         b"mode = \"2k\"\nconstellation = \"16qam\"\nhierarchy = \"2\"\nrate_hp = \"5/6\"\nrate_lp = \"2/3\"\nguard = \"1/4\"\ncell_id = 0\n",
-        2750436954,
+        2212177677,
     );
     check(
         &rt,
         alloc,
         b"mode = \"2k\"\nconstellation = \"16qam\"\nhierarchy = \"4\"\nrate_hp = \"7/8\"\nrate_lp = \"7/8\"\nguard = \"1/32\"\ncell_id = 4660\n",
-        1802103742,
+        687970301,
     );
     check(
         &rt,
         alloc,
         b"mode = \"2k\"\nconstellation = \"64qam\"\nhierarchy = \"none\"\nrate_hp = \"1/2\"\nguard = \"1/16\"\n",
-        4073565518,
+        3903307431,
     );
     check(
         &rt,
         alloc,
         b"mode = \"2k\"\nconstellation = \"64qam\"\nhierarchy = \"1\"\nrate_hp = \"2/3\"\nrate_lp = \"1/2\"\nguard = \"1/8\"\ncell_id = 65535\n",
-        4180037894,
+        107775759,
     );
     check(
         &rt,
         alloc,
         b"mode = \"2k\"\nconstellation = \"64qam\"\nhierarchy = \"2\"\nrate_hp = \"3/4\"\nrate_lp = \"5/6\"\nguard = \"1/4\"\ncell_id = 43981\n",
-        3592642460,
+        1415201545,
     );
     check(
         &rt,
         alloc,
         b"mode = \"2k\"\nconstellation = \"64qam\"\nhierarchy = \"4\"\nrate_hp = \"5/6\"\nrate_lp = \"2/3\"\nguard = \"1/32\"\ncell_id = 0\n",
-        2476704709,
+        554663886,
     );
     check(
         &rt,
         alloc,
         b"mode = \"8k\"\nconstellation = \"qpsk\"\nhierarchy = \"none\"\nrate_hp = \"7/8\"\nguard = \"1/16\"\ncell_id = 4660\n",
-        3334363721,
+        1497323584,
     );
     check(
         &rt,
         alloc,
         b"mode = \"8k\"\nconstellation = \"16qam\"\nhierarchy = \"none\"\nrate_hp = \"1/2\"\nguard = \"1/8\"\n",
-        1510549555,
+        3714505690,
     );
     check(
         &rt,
         alloc,
         b"mode = \"8k\"\nconstellation = \"16qam\"\nhierarchy = \"1\"\nrate_hp = \"2/3\"\nrate_lp = \"1/2\"\nguard = \"1/4\"\ncell_id = 65535\n",
-        4042232311,
+        3473614346,
     );
     check(
         &rt,
         alloc,
         b"mode = \"8k\"\nconstellation = \"16qam\"\nhierarchy = \"2\"\nrate_hp = \"3/4\"\nrate_lp = \"5/6\"\nguard = \"1/32\"\ncell_id = 43981\n",
-        3137913088,
+        464339759,
     );
     check(
         &rt,
         alloc,
         b"mode = \"8k\"\nconstellation = \"16qam\"\nhierarchy = \"4\"\nrate_hp = \"5/6\"\nrate_lp = \"2/3\"\nguard = \"1/16\"\ncell_id = 0\n",
-        699014882,
+        1124016755,
     );
     check(
         &rt,
         alloc,
         b"mode = \"8k\"\nconstellation = \"64qam\"\nhierarchy = \"none\"\nrate_hp = \"7/8\"\nguard = \"1/8\"\ncell_id = 4660\n",
-        1652237598,
+        2841195205,
     );
     check(
         &rt,
         alloc,
         b"mode = \"8k\"\nconstellation = \"64qam\"\nhierarchy = \"1\"\nrate_hp = \"1/2\"\nrate_lp = \"3/4\"\nguard = \"1/4\"\n",
-        3044285537,
+        46304350,
     );
     check(
         &rt,
         alloc,
         b"mode = \"8k\"\nconstellation = \"64qam\"\nhierarchy = \"2\"\nrate_hp = \"2/3\"\nrate_lp = \"1/2\"\nguard = \"1/32\"\ncell_id = 65535\n",
-        1459667274,
+        2246823937,
     );
     check(
         &rt,
         alloc,
         b"mode = \"8k\"\nconstellation = \"64qam\"\nhierarchy = \"4\"\nrate_hp = \"3/4\"\nrate_lp = \"5/6\"\nguard = \"1/16\"\ncell_id = 43981\n",
-        3523610734,
+        2117276077,
     );
 }

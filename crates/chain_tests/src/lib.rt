@@ -1,6 +1,7 @@
 //! The layers of the modulator one upon the other, beside what another modulator sends: the TPS words
 //! and the first cells of transmissions with each constellation, hierarchy and mode. And what is sent,
-//! read back: the costs of own symbols in every setting, a symbol cut into pieces.
+//! read back: the costs of own symbols in every setting, those of drawn cells and weights, a symbol cut
+//! into pieces.
 //!
 //! The crate has tests alone.
 #![tactic(auto)]

@@ -1,8 +1,6 @@
 // What is sent, read back: a symbol cut into pieces, and the costs of the modulator's own symbols.
 ghost use Rattle.std.specs.Prelude.{◌≡◌, ◌≤◌, ◌*◌, false, length, IfOk};
 ghost use Rattle.mode_set.specs.Kept.{is_flat, is_qpsk};
-ghost use Rattle.mode_set.specs.StreamTable.{carriers};
-ghost use Rattle.inner_chain.specs.CostTables.{AreWeights};
 
 use crate::cells::write;
 use bit_pack::WaitBuf;
@@ -127,16 +125,28 @@ fn pairs_fit(rt: &impl Abort, pairs: &[CostPair], rate: Rate, coded: &mut Coded)
     }
 }
 
-// The whole weight of each carrier, of which there are so many.
-fn whole_weights<M: Carriers>(
+// The cost pairs of a stream in the whole symbol that was taken.
+fn pairs_of<M: Carriers>(
+    rt: &impl Abort,
     alloc: Global,
-    rx: &InnerRx<M>,
-    number: usize,
-) -> Result<Vec<u8>, AllocError>
-    requires number { number ≡ carriers rx.now.mode }
-    ensures { IfOk result (λ weights. AreWeights rx.now.mode weights.items) }
+    settings: &Settings,
+    rx: &mut InnerRx<M>,
+    symbol: &SymbolIn<M>,
+    l: u8,
+    stream: Stream,
+) -> Result<Vec<CostPair>, AllocError>
+    requires mode { settings.now.mode ≡ M.MODE }
+    requires rx { rx.old ≡ settings.now }
+    requires whole { length symbol.now ≡ 5 * M.K }
+    ensures { rx.new ≡ settings.now }
 {
-    vec![in alloc; 15u8; number]
+    let steps = rx.steps(stream) as usize;
+    let mut pairs = Vec::with_capacity(alloc, steps)?;
+    let exists = settings.has_stream(stream);
+    assert!(rt; l < 68 && exists);
+    rx.pairs(symbol.cells(), symbol.weights(), l, stream, &mut pairs);
+    assert!(rt; pairs.len() == steps);
+    Ok(pairs)
 }
 
 // The cost pairs of a stream in a symbol fit what was sent.
@@ -145,21 +155,18 @@ fn stream_fits<M: Carriers>(
     alloc: Global,
     settings: &Settings,
     rx: &mut InnerRx<M>,
-    cells: &[Cell],
+    symbol: &SymbolIn<M>,
     l: u8,
     stream: Stream,
     coded: &mut Coded,
 ) -> Result<(), AllocError>
-    requires { rx.old ≡ settings.now }
+    requires mode { settings.now.mode ≡ M.MODE }
+    requires rx { rx.old ≡ settings.now }
+    requires whole { length symbol.now ≡ 5 * M.K }
     ensures { rx.new ≡ settings.now }
 {
     if settings.has_stream(stream) {
-        let steps = rx.steps(stream) as usize;
-        let mut pairs = Vec::with_capacity(alloc, steps)?;
-        assert!(rt; l < 68 && cells.len() == settings.mode.carriers() as usize);
-        let weights = whole_weights(alloc, rx, cells.len())?;
-        rx.pairs(cells, &weights, l, stream, &mut pairs);
-        assert!(rt; pairs.len() == steps);
+        let pairs = pairs_of(rt, alloc, settings, rx, symbol, l, stream)?;
         pairs_fit(rt, &pairs, settings.rate(stream), coded);
     }
     Ok(())
@@ -200,7 +207,7 @@ fn send<M: Carriers>(
 ) -> Result<(), AllocError>
     requires shape { out.old.settings.shape ≡ shape }
     ensures shape { out.new.settings.shape ≡ shape }
-    ensures whole { IfOk result (λ _. length symbol.new ≡ 4 * M.K) }
+    ensures whole { IfOk result (λ _. length symbol.new ≡ 5 * M.K) }
 {
     let mut bytes = Vec::with_capacity(alloc, 100000)?;
     write(rt, labels, out, shape, &mut bytes);
@@ -239,9 +246,26 @@ fn four_symbols<M: Carriers>(
             &mut waiting,
         )?;
         send(rt, alloc, settings.shape, &labels, &mut out, &mut symbol)?;
-        let cells = symbol.cells();
-        stream_fits(rt, alloc, settings, &mut rx, cells, l, Stream::Hp, &mut hp)?;
-        stream_fits(rt, alloc, settings, &mut rx, cells, l, Stream::Lp, &mut lp)?;
+        stream_fits(
+            rt,
+            alloc,
+            settings,
+            &mut rx,
+            &symbol,
+            l,
+            Stream::Hp,
+            &mut hp,
+        )?;
+        stream_fits(
+            rt,
+            alloc,
+            settings,
+            &mut rx,
+            &symbol,
+            l,
+            Stream::Lp,
+            &mut lp,
+        )?;
         symbol.next();
     }
     Ok(())
@@ -318,9 +342,14 @@ fn null_symbol(rt: &impl Abort, alloc: Global) -> Result<Vec<u8>, AllocError> {
     Ok(bytes)
 }
 
-// The cells of a symbol taken in pieces of this size.
-fn taken_in_pieces(rt: &impl Abort, symbol: &mut SymbolIn<Mode2k>, bytes: &[u8], size: usize)
-    ensures { length symbol.new ≡ 6820 }
+// A symbol taken in pieces of this size.
+fn taken_in_pieces<M: Carriers>(
+    rt: &impl Abort,
+    symbol: &mut SymbolIn<M>,
+    bytes: &[u8],
+    size: usize,
+)
+    ensures { length symbol.new ≡ 5 * M.K }
 {
     let mut from = 0;
     for _ in 0..bytes.len() {
@@ -333,22 +362,115 @@ fn taken_in_pieces(rt: &impl Abort, symbol: &mut SymbolIn<Mode2k>, bytes: &[u8],
     assert!(rt; whole && from == bytes.len());
 }
 
+// Its cells and the weights behind them; pieces of four bytes cut between a cell and its weight.
 #[test]
 fn a_symbol_of_null_packets_in_pieces(rt: HostRuntime) -> Result<(), Fail> {
     let alloc = rt.alloc();
     let bytes = null_symbol(&rt, alloc)?;
-    assert!(rt; bytes.len() == 6820);
-    let begins = [0xAAu8, 0xAB, 0, 0, 0xD2, 0xBF, 0x2D, 0x41];
-    assert_eq!(rt; &bytes[..8], begins.as_slice());
-    for size in [1usize, 3, 6820] {
+    assert!(rt; bytes.len() == 8525);
+    let begins = [0xAAu8, 0xAB, 0, 0, 15, 0xD2, 0xBF, 0x2D, 0x41, 15];
+    assert_eq!(rt; &bytes[..10], begins.as_slice());
+    for size in [1usize, 3, 4, 8525] {
         let mut symbol = SymbolIn::<Mode2k>::new(alloc)?;
         taken_in_pieces(&rt, &mut symbol, &bytes, size);
         for (k, cell) in symbol.cells().iter().enumerate() {
-            assert!(rt; 4 * k < 6820);
-            let re = i16::from_be_bytes([bytes[4 * k], bytes[4 * k + 1]]);
-            let im = i16::from_be_bytes([bytes[4 * k + 2], bytes[4 * k + 3]]);
+            assert!(rt; 5 * k + 4 < 8525);
+            let re = i16::from_be_bytes([bytes[5 * k], bytes[5 * k + 1]]);
+            let im = i16::from_be_bytes([bytes[5 * k + 2], bytes[5 * k + 3]]);
             assert!(rt; *cell == Cell { re, im });
+        }
+        for weight in symbol.weights() {
+            assert!(rt; *weight == 15);
         }
     }
     Ok(())
+}
+
+// A symbol of drawn cells, of which two in five have a weight byte above 15.
+fn drawn_symbol(state: &mut u32, bytes: &mut [u8]) {
+    for (i, byte) in bytes.iter_mut().enumerate() {
+        let drawn = next_byte(state);
+        *byte = if i % 5 == 4 && drawn < 192 {
+            drawn % 20
+        } else {
+            drawn
+        };
+    }
+}
+
+// The costs as the digits of a number to the base 31, modulo 2^32.
+fn with_pairs(sum: u32, pairs: &[CostPair]) -> u32 {
+    pairs.iter().fold(sum, |sum, pair| {
+        let mut sum = sum;
+        for cost in [pair.x0, pair.x1, pair.y0, pair.y1] {
+            sum = sum.wrapping_mul(31).wrapping_add(cost as u32);
+        }
+        sum
+    })
+}
+
+// All costs of four symbols of drawn bytes, which are taken in pieces of seven.
+fn drawn_costs<M: Carriers>(
+    rt: &impl Abort,
+    alloc: Global,
+    settings: &Settings,
+) -> Result<u32, AllocError>
+    requires { settings.now.mode ≡ M.MODE }
+{
+    let mut rx = InnerRx::<M>::new(alloc, settings)?;
+    let mut symbol = SymbolIn::<M>::new(alloc)?;
+    let mut bytes = vec![in alloc; 0u8; 5 * M::K as usize]?;
+    let mut state = 7;
+    let mut sum = 0;
+    for l in 0..4u8 {
+        drawn_symbol(&mut state, &mut bytes);
+        taken_in_pieces(rt, &mut symbol, &bytes, 7);
+        for stream in [Stream::Hp, Stream::Lp] {
+            if settings.has_stream(stream) {
+                let pairs = pairs_of(rt, alloc, settings, &mut rx, &symbol, l, stream)?;
+                sum = with_pairs(sum, &pairs);
+            }
+        }
+        symbol.next();
+    }
+    Ok(sum)
+}
+
+fn check_costs(rt: &impl Abort, alloc: Global, document: &[u8], sum: u32) {
+    let settings = Settings::read(alloc, document).expect(rt, "the settings");
+    let found = match settings.mode {
+        Mode::M2k => drawn_costs::<Mode2k>(rt, alloc, &settings),
+        Mode::M8k => drawn_costs::<Mode8k>(rt, alloc, &settings),
+    };
+    assert!(rt; found.expect(rt, "memory") == sum);
+}
+
+// Drawn cells with drawn weights cost what they cost another receiver.
+#[test]
+fn costs_by_weights_of_another_receiver(rt: HostRuntime) {
+    let alloc = rt.alloc();
+    check_costs(
+        &rt,
+        alloc,
+        b"mode = \"2k\"\nconstellation = \"qpsk\"\nrate_hp = \"1/2\"\nguard = \"1/32\"\n",
+        2726650226,
+    );
+    check_costs(
+        &rt,
+        alloc,
+        b"mode = \"2k\"\nconstellation = \"64qam\"\nhierarchy = \"4\"\nrate_hp = \"2/3\"\nrate_lp = \"3/4\"\nguard = \"1/32\"\n",
+        1262352538,
+    );
+    check_costs(
+        &rt,
+        alloc,
+        b"mode = \"8k\"\nconstellation = \"16qam\"\nhierarchy = \"1\"\nrate_hp = \"7/8\"\nrate_lp = \"5/6\"\nguard = \"1/32\"\n",
+        3677345420,
+    );
+    check_costs(
+        &rt,
+        alloc,
+        b"mode = \"8k\"\nconstellation = \"64qam\"\nrate_hp = \"3/4\"\nguard = \"1/32\"\n",
+        75597504,
+    );
 }

@@ -13,7 +13,8 @@ fn labels() -> [u8; 1512]
     [1; 1512]
 }
 
-// Carriers 0 and 1, 12 and 34 of symbol 0, and carrier 34 of symbol 3, as another modulator sends them.
+// Carriers 0 and 1, 12 and 34 of symbol 0, and carrier 34 of symbol 3, as another modulator sends them:
+// each cell with the weight 15.
 #[test]
 fn first_cells(rt: HostRuntime) {
     let alloc = rt.alloc();
@@ -30,31 +31,39 @@ fn first_cells(rt: HostRuntime) {
         max_symbols: 1000000,
     };
     let labels = labels();
-    let mut bytes = Vec::with_capacity(alloc, 27280).expect(&rt, "memory");
+    let mut bytes = Vec::with_capacity(alloc, 34100).expect(&rt, "memory");
     let mut out = SymbolOut::<Mode2k>::new(&settings);
     out.write(&labels, &mut bytes);
     out.write(&labels, &mut bytes);
     out.write(&labels, &mut bytes);
     out.write(&labels, &mut bytes);
-    assert!(&rt; &bytes[..8] == [0xAA, 0xAB, 0, 0, 0xD2, 0xBF, 0x2D, 0x41u8].as_slice());
-    assert!(&rt; &bytes[48..52] == [0x55, 0x55, 0, 0u8].as_slice());
-    assert!(&rt; &bytes[136..140] == [0x40, 0, 0, 0u8].as_slice());
-    assert!(&rt; &bytes[20596..20600] == [0xC0, 0, 0, 0u8].as_slice());
+    assert!(&rt; &bytes[..10] == [0xAA, 0xAB, 0, 0, 15, 0xD2, 0xBF, 0x2D, 0x41, 15u8].as_slice());
+    assert!(&rt; &bytes[60..65] == [0x55, 0x55, 0, 0, 15u8].as_slice());
+    assert!(&rt; &bytes[170..175] == [0x40, 0, 0, 0, 15u8].as_slice());
+    assert!(&rt; &bytes[25745..25750] == [0xC0, 0, 0, 0, 15u8].as_slice());
 }
 
-// A symbol in pieces of 1, 3 and 6820 bytes, of which four are those of the next one.
+// The bytes of a symbol of another modulator, of which carrier k has the weight byte k mod 256, and five of
+// the next one.
+fn weighted_bytes() -> [u8; 8530] {
+    let mut bytes = [0x12u8; 8530];
+    for k in 0..1706usize {
+        bytes[5 * k + 4] = (k % 256) as u8;
+    }
+    bytes
+}
+
+// A symbol in pieces of 1, 3, 1 and 8525 bytes, of which five are those of the next one: the second cut lies
+// between a cell and its weight. A byte above 15 is the weight 15.
 #[test]
 fn a_symbol_in_pieces(rt: HostRuntime) {
-    let alloc = rt.alloc();
-    let bytes = vec![in alloc; 0x12u8; 6824].expect(&rt, "memory");
-    let mut symbol = SymbolIn::<Mode2k>::new(alloc).expect(&rt, "memory");
-    assert!(&rt; symbol.take(&bytes[..1]) == 1);
-    let whole = symbol.whole();
-    assert!(&rt; !whole);
-    assert!(&rt; symbol.take(&bytes[1..4]) == 3);
-    let whole = symbol.whole();
-    assert!(&rt; !whole);
-    assert!(&rt; symbol.take(&bytes[4..]) == 6816);
+    let bytes = weighted_bytes();
+    let mut symbol = SymbolIn::<Mode2k>::new(rt.alloc()).expect(&rt, "memory");
+    for (from, end, taken) in [(0, 1, 1), (1, 4, 3), (4, 5, 1), (5, 8530, 8520usize)] {
+        let whole = symbol.whole();
+        assert!(&rt; !whole);
+        assert!(&rt; symbol.take(&bytes[from..end]) == taken);
+    }
     let whole = symbol.whole();
     assert!(&rt; whole);
     let cell = symbol.cells()[1704];
@@ -64,7 +73,19 @@ fn a_symbol_in_pieces(rt: HostRuntime) {
             im: 0x1212
         }
     );
-    assert!(&rt; symbol.weights()[1704] == 15);
+    for (carrier, weight) in [
+        (0, 0),
+        (1, 1),
+        (14, 14),
+        (15, 15),
+        (16, 15),
+        (255, 15),
+        (256, 0),
+        (1543, 7),
+        (1704, 15u8),
+    ] {
+        assert!(&rt; symbol.weights()[carrier] == weight);
+    }
     symbol.next();
     assert!(&rt; symbol.waiting() == 0);
 }

@@ -1,11 +1,11 @@
 -- The cells of a transmission are read from its bytes.
-use Rattle.std.proofs.Common.{◌≡◌, ℕ, zero, suc, ◌+◌, ◌*◌, ◌/◌, ◌%◌, ◌^◌, ◌<◌, ◌≤◌, List, [], ◌∷◌, ◌++◌, length, take, drop, refl, sym, ap, ap₂, ◌∙◌, subst, arith, append_assoc, length-append, ltb, Bool, true, false, ◌&&◌, get_or, replicate}
+use Rattle.std.proofs.Common.{◌≡◌, ℕ, zero, suc, ◌+◌, ◌*◌, ◌/◌, ◌%◌, ◌^◌, ◌<◌, ◌≤◌, List, [], ◌∷◌, ◌++◌, length, take, drop, refl, sym, ap, ap₂, ◌∙◌, subst, arith, append_assoc, length-append, ltb, Bool, true, false, ◌&&◌, get_or}
 use Rattle.std.specs.Prelude.{ℤ, pos, unsigned_abs, flat_map}
 use Rattle.std.specs.Int.{cast_signed, cast_unsigned, w16}
 use Rattle.std.specs.List.{range_with_len}
 use Rattle.std.proofs.lemmas.Bool.{and_parts, ltb-true}
 use Rattle.std.proofs.lemmas.Int.{ints, to_z-of_z, fits_signed_from_abs}
-use Rattle.std.proofs.lemmas.List.{drop-drop}
+use Rattle.std.proofs.lemmas.List.{drop-drop, get_or-drop}
 use Rattle.std.proofs.lemmas.List.FromFn.{get_or-map-range_with_len}
 use Rattle.std.proofs.Math.Facts.{Fits-of_z}
 use Rattle.std.proofs.Math.Seq.{drop-append-add, take-append_seam}
@@ -27,7 +27,8 @@ use Rattle.pilots.specs.Reference.{reference}
 use Rattle.qam_map.specs.declared.cell.Cell.{Cell}
 use Rattle.qam_map.specs.Points.{value_of, real_bits, imaginary_bits, distance}
 use Rattle.soft_metric.specs.Costs.{IsNear}
-use Rattle.frame_build.specs.Symbol.{real, cell_of_kind, cell_at, cell_bytes, cell_from, cells_from}
+use Rattle.frame_build.specs.Symbol.{real, cell_of_kind, cell_at, cell_bytes, sent_bytes, cell_from, weight_from, cells_from, weights_from}
+use Rattle.soft_metric.specs.Weights.{weight_of_byte}
 use Rattle.inner_chain.specs.CostPairs.{weight_of}
 use Rattle.transmission.specs.Transmission.{Inputs, tx_label, tx_cell, tx_symbol, first_symbols}
 use Rattle.transmission.specs.SuperFrames.{symbols_of, tx}
@@ -149,23 +150,28 @@ written_small z h = let f = Fits-of_z {w = w16} {z = z} (fits_signed_from_abs w1
 read_from : (z : ℤ) (xs rest : List ℕ) → is_small z ≡ true → xs ≡ big_bytes 2 (cast_unsigned w16 z) ++ rest → cast_signed w16 (big_number 2 xs) ≡ z
 read_from z xs rest h e = ap (λ (y : List ℕ). cast_signed w16 (big_number 2 y)) e ∙ ap (cast_signed w16) (big_number-reads_back 2 (cast_unsigned w16 z) rest (written_small z h)) ∙ small_at z h
 
--- a cell whose bytes stand from 4 k on
-cell_is : (c : Cell) (xs : List ℕ) (k : ℕ) → IsSmallCell c → BeginsWith (drop (4 * k) xs) (cell_bytes c) → cell_from xs k ≡ c
-unfolding cell_from cell_bytes
-cell_is c xs k small b = made (read_from c.re (drop (4 * k) xs) (big_bytes 2 (cast_unsigned w16 c.im) ++ b.rest) small.re first) (read_from c.im (drop (4 * k + 2) xs) b.rest small.im second)
+-- a cell whose bytes stand from 5 k on
+cell_is : (c : Cell) (xs : List ℕ) (k : ℕ) → IsSmallCell c → BeginsWith (drop (5 * k) xs) (sent_bytes c) → cell_from xs k ≡ c
+unfolding cell_from sent_bytes cell_bytes
+cell_is c xs k small b = made (read_from c.re (drop (5 * k) xs) (big_bytes 2 (cast_unsigned w16 c.im) ++ (15 ∷ b.rest)) small.re first) (read_from c.im (drop (5 * k + 2) xs) (15 ∷ b.rest) small.im second)
   where
-    first : drop (4 * k) xs ≡ big_bytes 2 (cast_unsigned w16 c.re) ++ (big_bytes 2 (cast_unsigned w16 c.im) ++ b.rest)
-    first = b.is ∙ append_assoc (big_bytes 2 (cast_unsigned w16 c.re)) (big_bytes 2 (cast_unsigned w16 c.im)) b.rest
+    first : drop (5 * k) xs ≡ big_bytes 2 (cast_unsigned w16 c.re) ++ (big_bytes 2 (cast_unsigned w16 c.im) ++ (15 ∷ b.rest))
+    first = b.is
 
-    second : drop (4 * k + 2) xs ≡ big_bytes 2 (cast_unsigned w16 c.im) ++ b.rest
-    second = sym (drop-drop 2 (4 * k) xs) ∙ ap (drop 2) first
+    second : drop (5 * k + 2) xs ≡ big_bytes 2 (cast_unsigned w16 c.im) ++ (15 ∷ b.rest)
+    second = sym (drop-drop 2 (5 * k) xs) ∙ ap (drop 2) first
 
     made : {re im : ℤ} → re ≡ c.re → im ≡ c.im → ◌≡◌ {A = Cell} (record { re = re; im = im }) c
     made p q = ap₂ (λ (x y : ℤ). record { re = x; im = y }) p q
 
-four : (c : Cell) → length (cell_bytes c) ≡ 4
-unfolding cell_bytes
-four c = refl
+-- its weight stands behind it
+weight_is : (c : Cell) (xs : List ℕ) (k : ℕ) → BeginsWith (drop (5 * k) xs) (sent_bytes c) → weight_from xs k ≡ 15
+unfolding weight_from sent_bytes cell_bytes
+weight_is c xs k b = ap weight_of_byte (sym (get_or-drop (5 * k) xs 4 0) ∙ ap (λ (z : List ℕ). get_or z 4 0) b.is)
+
+five : (c : Cell) → length (sent_bytes c) ≡ 5
+unfolding sent_bytes cell_bytes
+five c = refl
 
 -- ---- all cells
 long_symbols : SymbolsAreLong → (s : Settings) (inputs : Inputs) (a n : ℕ) → length (flat_map (tx_symbol s inputs) (range_with_len a n)) ≡ n * symbol_length s
@@ -176,7 +182,7 @@ long_symbols long s inputs a (suc n) =
     let rest = long_symbols long s inputs (a + 1) n in
     omega (arith, both, here, rest)
 
-whole_of : (m : Mode) (n : ℕ) → n * (4 * carriers m) / (4 * carriers m) ≡ n
+whole_of : (m : Mode) (n : ℕ) → n * (5 * carriers m) / (5 * carriers m) ≡ n
 whole_of M2k n = omega arith
 whole_of M8k n = omega arith
 
@@ -196,13 +202,13 @@ symbol_read long s inputs m l =
     ∙ ap (λ (z : ℕ). take z (tx_symbol s inputs m ++ b.rest)) (sym (long s inputs m))
     ∙ take-append_seam (tx_symbol s inputs m) b.rest
 
-cell_in : SymbolsAreCells → (s : Settings) (inputs : Inputs) (m k : ℕ) → k < carriers s.mode → BeginsWith (drop (4 * k) (tx_symbol s inputs m)) (cell_bytes (tx_cell s inputs m k))
+cell_in : SymbolsAreCells → (s : Settings) (inputs : Inputs) (m k : ℕ) → k < carriers s.mode → BeginsWith (drop (5 * k) (tx_symbol s inputs m)) (sent_bytes (tx_cell s inputs m k))
 unfolding numbers
 cell_in cells s inputs m k l =
     let here : 0 + k ≡ k = omega arith in
-    subst (λ (z : ℕ). BeginsWith (drop (4 * k) (tx_symbol s inputs m)) (cell_bytes (tx_cell s inputs m z))) here
-    (subst (λ (z : List ℕ). BeginsWith (drop (4 * k) z) (cell_bytes (tx_cell s inputs m (0 + k)))) (sym (cells s inputs m))
-    (part_from (λ i. cell_bytes (tx_cell s inputs m i)) 4 0 (carriers s.mode) k (λ i. four (tx_cell s inputs m i)) l))
+    subst (λ (z : ℕ). BeginsWith (drop (5 * k) (tx_symbol s inputs m)) (sent_bytes (tx_cell s inputs m z))) here
+    (subst (λ (z : List ℕ). BeginsWith (drop (5 * k) z) (sent_bytes (tx_cell s inputs m (0 + k)))) (sym (cells s inputs m))
+    (part_from (λ i. sent_bytes (tx_cell s inputs m i)) 5 0 (carriers s.mode) k (λ i. five (tx_cell s inputs m i)) l))
 
 pub cells_are_read : SymbolsAreLong → SymbolsAreCells → CellsAreRead
 unfolding symbol_cells cells_from numbers
@@ -222,21 +228,23 @@ near_itself s h c = record { re = few (no_distance c.re); im = few (no_distance 
     few : {a b : ℕ} → a ≡ 0 → a ≤ b
     few e = omega (arith, e)
 
--- own cells have a weight
-whole : (n k : ℕ) → let weights : List ℕ = replicate n 15 in get_or weights k 15 ≡ 15
-whole zero k = refl
-whole (suc n) zero = refl
-whole (suc n) (suc k) = whole n k
+-- own cells have the whole weight
+weights_are_read : SymbolsAreLong → SymbolsAreCells → (s : Settings) (inputs : Inputs) (m k : ℕ) → m < symbols_of s inputs → k < carriers s.mode → get_or (symbol_weights s (tx s inputs) m) k 15 ≡ 15
+unfolding symbol_weights weights_from numbers
+weights_are_read long cells s inputs m k lm lk =
+    let here : 0 + k ≡ k = omega arith in
+    get_or-map-range_with_len (weight_from (bytes_of_symbol s (tx s inputs) m)) 0 (carriers s.mode) k k 15 lk here
+    ∙ ap (λ (z : List ℕ). weight_from z k) (symbol_read long s inputs m lm)
+    ∙ weight_is (tx_cell s inputs m k) (tx_symbol s inputs m) k (cell_in cells s inputs m k lk)
 
-some_read : (s : Settings) (inputs : Inputs) (m k : ℕ) → 1 ≤ weight_of (symbol_weights s (tx s inputs) m) k
-unfolding symbol_weights
-some_read s inputs m k = omega (arith, whole (carriers s.mode) k)
+some_read : SymbolsAreLong → SymbolsAreCells → (s : Settings) (inputs : Inputs) (m k : ℕ) → m < symbols_of s inputs → k < carriers s.mode → 1 ≤ weight_of (symbol_weights s (tx s inputs) m) k
+some_read long cells s inputs m k lm lk = omega (arith, weights_are_read long cells s inputs m k lm lk)
 
 pub own_are_within : SymbolsAreLong → SymbolsAreCells → OwnAreWithin
 own_are_within long cells s inputs = record {
   all = symbols_read long s inputs;
   near = λ m k lm lk free. subst (IsNear s.shape s.hierarchy (tx_cell s inputs m k)) (sym (cells_are_read long cells s inputs m k lm lk)) (near_itself s.shape s.hierarchy (tx_cell s inputs m k));
-  weight = λ m k lm lk free. some_read s inputs m k;
+  weight = λ m k lm lk free. some_read long cells s inputs m k lm lk;
 }
 
 pub clean_law : SymbolsAreLong → SymbolsAreCells → NoiseLaw → CleanLaw

@@ -74,7 +74,7 @@ same_bits cells longer f h =
     ∙ flat_map_single (frame_bit cells f) (numbers 67)
 
 more_symbols : (s : Settings) (bytes more : List ℕ) → symbols s bytes ≤ symbols s (bytes ++ more)
-more_symbols s bytes more = subst (λ n. symbols s bytes ≤ n / (4 * carriers s.mode)) (sym (length-append bytes more)) (more_count s.mode (length bytes) (length more))
+more_symbols s bytes more = subst (λ n. symbols s bytes ≤ n / (5 * carriers s.mode)) (sym (length-append bytes more)) (more_count s.mode (length bytes) (length more))
 
 frames_grow : (s : Settings) (bytes more : List ℕ) (read bad more_read more_bad : ℕ) → CountsFrames s bytes read bad → CountsFrames s (bytes ++ more) more_read more_bad → (read ≤ more_read) × (bad ≤ more_bad)
 frames_grow s bytes more read bad more_read more_bad x y =

@@ -68,7 +68,7 @@ module _ (later : NewReportsAreLater) (grow : CostsGrow) (steps : CostsAreSteps)
   of_symbol reports m = events_of s reports m Hp ++ events_of s reports m Lp
 
   more_symbols : symbols s bytes ≤ symbols s (bytes ++ more)
-  more_symbols = subst (λ k. symbols s bytes ≤ k / (4 * carriers s.mode)) (sym (length-append bytes more)) (more_count s.mode (length bytes) (length more))
+  more_symbols = subst (λ k. symbols s bytes ≤ k / (5 * carriers s.mode)) (sym (length-append bytes more)) (more_count s.mode (length bytes) (length more))
 
   events_begin : (rest : List Event) × (events s (symbols s (bytes ++ more)) after ≡ events s (symbols s bytes) before ++ rest)
   unfolding events

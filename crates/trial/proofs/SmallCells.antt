@@ -23,7 +23,7 @@ use Rattle.pilots.specs.Carriers.{kind}
 use Rattle.pilots.specs.Reference.{reference}
 use Rattle.qam_map.specs.declared.cell.Cell.{Cell}
 use Rattle.qam_map.specs.Points.{value_of, real_bits, imaginary_bits}
-use Rattle.frame_build.specs.Symbol.{real, cell_of_kind, cell_at, cell_bytes, cell_from}
+use Rattle.frame_build.specs.Symbol.{real, cell_of_kind, cell_at, cell_bytes, sent_bytes, cell_from}
 use Rattle.transmission.specs.Transmission.{Inputs, tx_label, tx_cell, tx_symbol}
 use Rattle.transmission.specs.Laws.{SymbolsAreCells}
 use Rattle.trial.specs.Fed.{fed_cell, fed_symbol}
@@ -147,30 +147,30 @@ read_from z xs rest l e =
     ∙ ap (cast_signed w16) (big_number-reads_back 2 (cast_unsigned w16 z) rest written)
     ∙ to_z-of_z w16 z (fits_signed_from_abs w16 z (within_16 z l))
 
-cell_is : (c : Cell) (xs : List ℕ) (k : ℕ) → IsSmall c → BeginsWith (drop (4 * k) xs) (cell_bytes c) → cell_from xs k ≡ c
-unfolding cell_from cell_bytes
-cell_is c xs k small b = both (read_from c.re (drop (4 * k) xs) (big_bytes 2 (cast_unsigned w16 c.im) ++ b.rest) small.re first) (read_from c.im (drop (4 * k + 2) xs) b.rest small.im second)
+cell_is : (c : Cell) (xs : List ℕ) (k : ℕ) → IsSmall c → BeginsWith (drop (5 * k) xs) (sent_bytes c) → cell_from xs k ≡ c
+unfolding cell_from sent_bytes cell_bytes
+cell_is c xs k small b = both (read_from c.re (drop (5 * k) xs) (big_bytes 2 (cast_unsigned w16 c.im) ++ (15 ∷ b.rest)) small.re first) (read_from c.im (drop (5 * k + 2) xs) (15 ∷ b.rest) small.im second)
   where
-    first : drop (4 * k) xs ≡ big_bytes 2 (cast_unsigned w16 c.re) ++ (big_bytes 2 (cast_unsigned w16 c.im) ++ b.rest)
-    first = b.is ∙ append_assoc (big_bytes 2 (cast_unsigned w16 c.re)) (big_bytes 2 (cast_unsigned w16 c.im)) b.rest
+    first : drop (5 * k) xs ≡ big_bytes 2 (cast_unsigned w16 c.re) ++ (big_bytes 2 (cast_unsigned w16 c.im) ++ (15 ∷ b.rest))
+    first = b.is
 
-    second : drop (4 * k + 2) xs ≡ big_bytes 2 (cast_unsigned w16 c.im) ++ b.rest
-    second = sym (drop-drop 2 (4 * k) xs) ∙ ap (drop 2) first
+    second : drop (5 * k + 2) xs ≡ big_bytes 2 (cast_unsigned w16 c.im) ++ (15 ∷ b.rest)
+    second = sym (drop-drop 2 (5 * k) xs) ∙ ap (drop 2) first
 
     both : {re im : ℤ} → re ≡ c.re → im ≡ c.im → ◌≡◌ {A = Cell} (record { re = re; im = im }) c
     both p q = ap₂ (λ (x y : ℤ). record { re = x; im = y }) p q
 
-four : (c : Cell) → length (cell_bytes c) ≡ 4
-unfolding cell_bytes
-four c = refl
+five : (c : Cell) → length (sent_bytes c) ≡ 5
+unfolding sent_bytes cell_bytes
+five c = refl
 
-cell_in : SymbolsAreCells → (s : Settings) (inputs : Inputs) (m k : ℕ) → k < carriers s.mode → BeginsWith (drop (4 * k) (tx_symbol s inputs m)) (cell_bytes (tx_cell s inputs m k))
+cell_in : SymbolsAreCells → (s : Settings) (inputs : Inputs) (m k : ℕ) → k < carriers s.mode → BeginsWith (drop (5 * k) (tx_symbol s inputs m)) (sent_bytes (tx_cell s inputs m k))
 unfolding numbers
 cell_in cells s inputs m k l =
     let here : 0 + k ≡ k = omega arith in
-    subst (λ (z : ℕ). BeginsWith (drop (4 * k) (tx_symbol s inputs m)) (cell_bytes (tx_cell s inputs m z))) here
-    (subst (λ (z : List ℕ). BeginsWith (drop (4 * k) z) (cell_bytes (tx_cell s inputs m (0 + k)))) (sym (cells s inputs m))
-    (part_from (λ i. cell_bytes (tx_cell s inputs m i)) 4 0 (carriers s.mode) k (λ i. four (tx_cell s inputs m i)) l))
+    subst (λ (z : ℕ). BeginsWith (drop (5 * k) (tx_symbol s inputs m)) (sent_bytes (tx_cell s inputs m z))) here
+    (subst (λ (z : List ℕ). BeginsWith (drop (5 * k) z) (sent_bytes (tx_cell s inputs m (0 + k)))) (sym (cells s inputs m))
+    (part_from (λ i. sent_bytes (tx_cell s inputs m i)) 5 0 (carriers s.mode) k (λ i. five (tx_cell s inputs m i)) l))
 
 pub cells_are_read : SymbolsAreCells → CellsAreRead
 cells_are_read cells s inputs m k l = cell_is (tx_cell s inputs m k) (tx_symbol s inputs m) k (cells_are_small s inputs m k) (cell_in cells s inputs m k l)
@@ -186,4 +186,4 @@ parts_of_one_length f c a (suc n) each =
 
 pub fed_symbols_are_long : FedSymbolsAreLong
 unfolding fed_symbol numbers
-fed_symbols_are_long s number m = parts_of_one_length (λ k. cell_bytes (fed_cell s number m k)) 4 0 (carriers s.mode) (λ k. four (fed_cell s number m k))
+fed_symbols_are_long s number m = parts_of_one_length (λ k. sent_bytes (fed_cell s number m k)) 5 0 (carriers s.mode) (λ k. five (fed_cell s number m k))

@@ -14,7 +14,7 @@ use Rattle.pilots.specs.Carriers.{kind}
 use Rattle.qam_map.specs.declared.cell.Cell.{Cell}
 use Rattle.qam_map.specs.Points.{tolerance}
 use Rattle.inner_chain.specs.Labels.{label_bit, number_at}
-use Rattle.frame_build.specs.Symbol.{cell_at, cell_bytes, cell_of_kind}
+use Rattle.frame_build.specs.Symbol.{cell_at, sent_bytes, cell_of_kind}
 use Rattle.transmission.specs.Transmission.{Inputs, by_stream, tx_cell, tx_label}
 use Rattle.transmission.specs.SuperFrames.{symbols_of}
 use Rattle.reception.specs.Streams.{Reception, Final}
@@ -81,7 +81,7 @@ module _ (s : Settings) (w : ℕ) (k : IsKept s.shape s.hierarchy s.rate_lp w s.
 
   symbols_alike : (m : ℕ) → fed_symbol s number m ≡ fed_symbol t number m
   unfolding fed_symbol
-  symbols_alike m = λ i. flat_map (λ c. cell_bytes (fed_cells_alike m c i)) (numbers (carriers s.mode))
+  symbols_alike m = λ i. flat_map (λ c. sent_bytes (fed_cells_alike m c i)) (numbers (carriers s.mode))
 
   many_alike : (inputs : Inputs) → symbols_of s inputs ≡ symbols_of t inputs
   unfolding symbols_of

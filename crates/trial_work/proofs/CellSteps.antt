@@ -19,7 +19,7 @@ use Rattle.pilots.specs.declared.carrier_kind.CarrierKind.TheVariants.{Continual
 use Rattle.pilots.specs.Carriers.{kind, is_payload, is_continual, is_scattered, is_tps, payload_carriers}
 use Rattle.qam_map.specs.declared.cell.Cell.{Cell}
 use Rattle.qam_map.specs.Points.{tolerance}
-use Rattle.frame_build.specs.Symbol.{cell_bytes}
+use Rattle.frame_build.specs.Symbol.{sent_bytes}
 use Rattle.rand_pcg.specs.Lcg.{Lcg}
 use Rattle.load_gen.specs.Draws.{after, shift_of}
 use Rattle.load_gen.specs.Laws.{DrawsAdd}
@@ -132,13 +132,13 @@ pub no_carriers : (s : Settings) (number m : ℕ) → fed_carriers s number m 0 
 unfolding fed_carriers numbers
 no_carriers s number m = refl
 
-pub one_carrier : (s : Settings) (number m k : ℕ) → fed_carriers s number m (k + 1) ≡ fed_carriers s number m k ++ cell_bytes (fed_cell s number m k)
+pub one_carrier : (s : Settings) (number m k : ℕ) → fed_carriers s number m (k + 1) ≡ fed_carriers s number m k ++ sent_bytes (fed_cell s number m k)
 unfolding fed_carriers
 one_carrier s number m k =
-    ap (flat_map (λ i. cell_bytes (fed_cell s number m i))) (numbers_end k)
-    ∙ flat_map-append (λ i. cell_bytes (fed_cell s number m i)) (numbers k) (k ∷ [])
-    ∙ ap (λ (z : List ℕ). flat_map (λ i. cell_bytes (fed_cell s number m i)) (numbers k) ++ z) (append-nil (cell_bytes (fed_cell s number m k)))
+    ap (flat_map (λ i. sent_bytes (fed_cell s number m i))) (numbers_end k)
+    ∙ flat_map-append (λ i. sent_bytes (fed_cell s number m i)) (numbers k) (k ∷ [])
+    ∙ ap (λ (z : List ℕ). flat_map (λ i. sent_bytes (fed_cell s number m i)) (numbers k) ++ z) (append-nil (sent_bytes (fed_cell s number m k)))
 
 pub all_carriers : (s : Settings) (number m k : ℕ) → k ≡ carriers s.mode → fed_carriers s number m k ≡ fed_symbol s number m
 unfolding fed_carriers fed_symbol
-all_carriers s number m k e = ap (λ (z : ℕ). flat_map (λ i. cell_bytes (fed_cell s number m i)) (numbers z)) e
+all_carriers s number m k e = ap (λ (z : ℕ). flat_map (λ i. sent_bytes (fed_cell s number m i)) (numbers z)) e

@@ -104,7 +104,7 @@ all_fed start now fed whole f l =
     reach a p = omega (arith, l, p)
 
 -- ---- a piece of a symbol
-fits_in : (m : Mode) (n f p : ℕ) → n % (4 * carriers m) ≡ 0 → f < 4 * carriers m → f + p ≤ 4 * carriers m → (n + f) % (4 * carriers m) + p ≤ 4 * carriers m
+fits_in : (m : Mode) (n f p : ℕ) → n % (5 * carriers m) ≡ 0 → f < 5 * carriers m → f + p ≤ 5 * carriers m → (n + f) % (5 * carriers m) + p ≤ 5 * carriers m
 fits_in M2k n f p e l k = omega (arith, e, l, k)
 fits_in M8k n f p e l k = omega (arith, e, l, k)
 

@@ -66,11 +66,11 @@ long_fed : FedSymbolsAreLong → (s : Settings) (number m : ℕ) → length (fir
 unfolding first_fed numbers
 long_fed long s number m = long_from long s number 0 m
 
-whole_of : (m : Mode) (n : ℕ) → n * (4 * carriers m) / (4 * carriers m) ≡ n
+whole_of : (m : Mode) (n : ℕ) → n * (5 * carriers m) / (5 * carriers m) ≡ n
 whole_of M2k n = omega arith
 whole_of M8k n = omega arith
 
-rest_of : (m : Mode) (n : ℕ) → n * (4 * carriers m) % (4 * carriers m) ≡ 0
+rest_of : (m : Mode) (n : ℕ) → n * (5 * carriers m) % (5 * carriers m) ≡ 0
 rest_of M2k n = omega arith
 rest_of M8k n = omega arith
 

@@ -7,7 +7,7 @@ use Rattle.pilots.specs.declared.carrier_kind.CarrierKind.{CarrierKind}
 use Rattle.pilots.specs.declared.carrier_kind.CarrierKind.TheVariants.{Continual, Scattered, Tps, Payload}
 use Rattle.pilots.specs.Carriers.{is_payload}
 use Rattle.qam_map.specs.declared.cell.Cell.{Cell}
-use Rattle.frame_build.specs.Symbol.{cell_bytes}
+use Rattle.frame_build.specs.Symbol.{sent_bytes}
 use Rattle.rand_pcg.specs.Lcg.{Lcg}
 use Rattle.load_gen.specs.Draws.{after, shift_of}
 use Rattle.trial.specs.Fed.{negated, fed_cell}
@@ -41,4 +41,4 @@ payload_below m l k = count_by (is_payload m l) (numbers k)
 
 -- the bytes of the first k carriers of symbol m
 unfoldable pub fed_carriers : Settings → ℕ → ℕ → ℕ → List ℕ
-fed_carriers s number m k = flat_map (λ i. cell_bytes (fed_cell s number m i)) (numbers k)
+fed_carriers s number m k = flat_map (λ i. sent_bytes (fed_cell s number m i)) (numbers k)

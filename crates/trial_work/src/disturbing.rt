@@ -2,7 +2,7 @@
 ghost use Rattle.std.specs.Prelude.{◌≡◌, ◌+◌, ◌*◌, ◌%◌, ◌<◌, ◌≤◌, ◌==◌, ◌++◌, ◌+ℤ◌, if◌then◌else◌, length, nat_abs, vec_len, vec_capacity};
 ghost use Rattle.load_gen.specs.Draws.{after, shift_of};
 ghost use Rattle.qam_map.specs.Points.{tolerance as tolerance_of};
-ghost use Rattle.frame_build.specs.Symbol.{cell_bytes, cell_from};
+ghost use Rattle.frame_build.specs.Symbol.{cell_from, sent_bytes};
 ghost use Rattle.transmission.specs.Transmission.{tx_symbol};
 ghost use Rattle.trial.specs.Drawn.{before, drawn, pieces_from, shifts_from};
 ghost use Rattle.trial.specs.Fed.{fed_cell, fed_symbol, negated};
@@ -19,23 +19,23 @@ use qam_map::{Cell, tolerance};
 use transmission::laws::symbols;
 use trial::laws::cells;
 
-// The cell of four bytes.
+// The cell in the first four of five bytes.
 fn read_cell(bytes: &[u8], k: usize) -> Cell
-    requires { 4 * k + 4 ≤ length bytes.now }
+    requires { 5 * k + 5 ≤ length bytes.now }
     ensures { result ≡ cell_from bytes.now k }
 {
     Cell {
-        re: BigEndian::read_i16(&bytes[4 * k..]),
-        im: BigEndian::read_i16(&bytes[4 * k + 2..]),
+        re: BigEndian::read_i16(&bytes[5 * k..]),
+        im: BigEndian::read_i16(&bytes[5 * k + 2..]),
     }
 }
 
-// Appends a cell, whose four bytes fit the spare.
-#[tactic(auto, unfolding(frame_build::specs::Symbol::cell_bytes))]
+// Appends a cell, whose five bytes fit the spare: it counts whole.
+#[tactic(auto, unfolding(frame_build::specs::Symbol::cell_bytes, frame_build::specs::Symbol::sent_bytes))]
 fn push_cell(cell: Cell, to: &mut Vec<u8>)
-    requires { vec_len to.old + 4 ≤ vec_capacity to.old }
-    ensures bytes { to.new.items ≡ to.old.items ++ cell_bytes cell }
-    ensures len { vec_len to.new ≡ vec_len to.old + 4 }
+    requires { vec_len to.old + 5 ≤ vec_capacity to.old }
+    ensures bytes { to.new.items ≡ to.old.items ++ sent_bytes cell }
+    ensures len { vec_len to.new ≡ vec_len to.old + 5 }
     ensures capacity { vec_capacity to.new ≡ vec_capacity to.old }
 {
     let mut bytes = [0; 4];
@@ -45,6 +45,7 @@ fn push_cell(cell: Cell, to: &mut Vec<u8>)
     to.push_reserved(bytes[1]);
     to.push_reserved(bytes[2]);
     to.push_reserved(bytes[3]);
+    to.push_reserved(15);
 }
 
 // One part of a cell, moved by the next shift.
@@ -135,7 +136,7 @@ pub(crate) fn disturb<M: Carriers>(
     requires mode { settings.now.mode ≡ M.MODE }
     requires sent { sent.now ≡ tx_symbol settings.now (drawn settings.now draws.old.number) symbol }
     requires load { draws.old.load ≡ shifts_from settings.now draws.old.number symbol (before settings.now draws.old.number symbol) }
-    requires room { 4 * M.K ≤ vec_capacity fed.old }
+    requires room { 5 * M.K ≤ vec_capacity fed.old }
     ensures room { vec_capacity fed.new ≡ vec_capacity fed.old }
     ensures fed { fed.new.items ≡ fed_symbol settings.now draws.old.number symbol }
     ensures draws { draws.new ≡ record draws.old { load = pieces_from settings.now draws.old.number symbol (before settings.now draws.old.number symbol) } }

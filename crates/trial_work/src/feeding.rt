@@ -71,7 +71,7 @@ impl<M: Carriers> SummedReceiver<M> {
         load: &mut Load,
     )
         requires going { self.old.receiver.ended ≡ false }
-        requires long { length symbol.now ≤ 27268 }
+        requires long { length symbol.now ≤ 34085 }
         requires few { self.old.receiver.taken < 2 ^ 31 }
         ensures settings { self.new.receiver.settings ≡ self.old.receiver.settings }
         ensures load { load.new ≡ after (pieces load.old (length symbol.now)) load.old }

@@ -49,8 +49,8 @@ fn number_seven_of_one_stream(rt: HostRuntime) {
         b"mode = \"2k\"\nconstellation = \"qpsk\"\nrate_hp = \"1/2\"\nguard = \"1/32\"\n",
         7,
         TrialCounts {
-            cells: 220836107,
-            hp: returned(150, 241, 7652286),
+            cells: 227682593,
+            hp: returned(150, 241, 7666638),
             lp: None,
         },
     );
@@ -64,9 +64,9 @@ fn number_seven_of_two_streams(rt: HostRuntime) {
         b"mode = \"2k\"\nconstellation = \"16qam\"\nhierarchy = \"2\"\nrate_hp = \"1/2\"\nrate_lp = \"3/4\"\nguard = \"1/32\"\n",
         7,
         TrialCounts {
-            cells: 221007851,
-            hp: returned(150, 241, 7669624),
-            lp: Some(returned(146, 367, 13932039)),
+            cells: 227883196,
+            hp: returned(150, 241, 7669072),
+            lp: Some(returned(146, 367, 13935564)),
         },
     );
 }

@@ -29,7 +29,7 @@ impl<M: Carriers> Model for Trial<M> {
 
     ghost view = { λ t. record { settings = t.settings; number = t.work.draws.number } };
 
-    ghost invariant = { λ t. (t.settings.mode ≡ M.MODE) × (4 * M.K ≤ vec_capacity t.work.sent) × (4 * M.K ≤ vec_capacity t.work.fed)
+    ghost invariant = { λ t. (t.settings.mode ≡ M.MODE) × (5 * M.K ≤ vec_capacity t.work.sent) × (5 * M.K ≤ vec_capacity t.work.fed)
         × IsBefore t.settings 0 t.work.draws t.work.tx t.work.rx.receiver t.work.rx.hp t.work.rx.lp t.work.cells };
 }
 

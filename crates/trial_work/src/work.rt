@@ -60,8 +60,8 @@ impl<M: Carriers> Work<M> {
     pub fn new(alloc: Global, settings: &Settings, number: u32) -> Result<Self, AllocError>
         requires mode { settings.now.mode ≡ M.MODE }
         ensures number { IfOk result (λ w. w.draws.number ≡ number) }
-        ensures sent { IfOk result (λ w. 4 * M.K ≤ vec_capacity w.sent) }
-        ensures fed { IfOk result (λ w. 4 * M.K ≤ vec_capacity w.fed) }
+        ensures sent { IfOk result (λ w. 5 * M.K ≤ vec_capacity w.sent) }
+        ensures fed { IfOk result (λ w. 5 * M.K ≤ vec_capacity w.fed) }
         ensures first { IfOk result (λ w. IsBefore settings.now 0 w.draws w.tx w.rx.receiver w.rx.hp w.rx.lp w.cells) }
     {
         cells();
@@ -69,8 +69,8 @@ impl<M: Carriers> Work<M> {
         Ok(Work {
             draws: Draws::start(settings, number),
             tx: Modulator::new(alloc, settings)?,
-            sent: Vec::with_capacity(alloc, 4 * M::K as usize)?,
-            fed: Vec::with_capacity(alloc, 4 * M::K as usize)?,
+            sent: Vec::with_capacity(alloc, 5 * M::K as usize)?,
+            fed: Vec::with_capacity(alloc, 5 * M::K as usize)?,
             rx: SummedReceiver::new(alloc, settings)?,
             cells: 0,
         })
@@ -86,8 +86,8 @@ impl<M: Carriers> Work<M> {
     )
         requires mode { settings.now.mode ≡ M.MODE }
         requires within { symbol < 272 }
-        requires sent { 4 * M.K ≤ vec_capacity self.old.sent }
-        requires fed { 4 * M.K ≤ vec_capacity self.old.fed }
+        requires sent { 5 * M.K ≤ vec_capacity self.old.sent }
+        requires fed { 5 * M.K ≤ vec_capacity self.old.fed }
         requires before { IsBefore settings.now symbol self.old.draws self.old.tx self.old.rx.receiver self.old.rx.hp self.old.rx.lp self.old.cells }
         ensures number { self.new.draws.number ≡ self.old.draws.number }
         ensures sent { vec_capacity self.new.sent ≡ vec_capacity self.old.sent }
@@ -108,8 +108,8 @@ impl<M: Carriers> Work<M> {
     /// All symbols of the transmission.
     pub fn all_symbols<R: Threads + Sync, G: Gate>(&mut self, rt: &R, gate: &G, settings: &Settings)
         requires mode { settings.now.mode ≡ M.MODE }
-        requires sent { 4 * M.K ≤ vec_capacity self.old.sent }
-        requires fed { 4 * M.K ≤ vec_capacity self.old.fed }
+        requires sent { 5 * M.K ≤ vec_capacity self.old.sent }
+        requires fed { 5 * M.K ≤ vec_capacity self.old.fed }
         requires first { IsBefore settings.now 0 self.old.draws self.old.tx self.old.rx.receiver self.old.rx.hp self.old.rx.lp self.old.cells }
         ensures number { self.new.draws.number ≡ self.old.draws.number }
         ensures last { IsBefore settings.now 272 self.new.draws self.new.tx self.new.rx.receiver self.new.rx.hp self.new.rx.lp self.new.cells }

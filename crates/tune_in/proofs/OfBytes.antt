@@ -51,7 +51,7 @@ none_in s bytes h i w p = subst (NoPlace s.mode (tps_of s.mode (symbols_of s byt
 
 -- ---- more bytes
 
-count_grows : (m : Mode) (a b : ℕ) → a ≤ b → a / (4 * carriers m) ≤ b / (4 * carriers m)
+count_grows : (m : Mode) (a b : ℕ) → a ≤ b → a / (5 * carriers m) ≤ b / (5 * carriers m)
 count_grows M2k a b l = omega (arith, l)
 count_grows M8k a b l = omega (arith, l)
 

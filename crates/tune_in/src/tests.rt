@@ -67,7 +67,7 @@ fn next_symbol<M: Carriers>(
     ensures { length result.items ≡ M.K }
 {
     let labels = vec![in alloc; 1u8; M::NMAX as usize].expect(rt, "memory");
-    let mut bytes = Vec::with_capacity(alloc, 4 * M::K as usize).expect(rt, "memory");
+    let mut bytes = Vec::with_capacity(alloc, 5 * M::K as usize).expect(rt, "memory");
     out.write(&labels, &mut bytes);
     let mut input = SymbolIn::<M>::new(alloc).expect(rt, "memory");
     input.take(&bytes);

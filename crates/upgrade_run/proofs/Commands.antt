@@ -106,24 +106,26 @@ module _ (limit : ℕ) (settings old new : List ℕ) (file : Files) (s : TheSett
       outputs = λ port output. (s, stated, record { taken = taken; are = are; within = within; is = gives port ∙ at_output (upgraded_file s.mode taken) [] port output });
       report = gives outs.Report;
     };
-    unread = λ unread same. refl;
     begun = continues;
     first = (written_at (upgraded_file s.mode []) [], (λ port. refl));
   }
 
 pub command_of : (limit : ℕ) (settings old new : List ℕ) (s : TheSettings) (start : Meaning) → (start.tells ≡ true → settings_of (start.file settings) ≡ Some s)
-    → CellCommand (upgrade_command settings old new) limit settings old (cell_names new) (upgrade_work s.mode) s.max_symbols start
+    → CellCommand (upgrade_command settings old new) limit settings old None (cell_names new) (upgrade_work s.mode) s.max_symbols start
 command_of limit settings old new s start stated = record {
   reads = λ port. refl;
   writes = λ port. refl;
+  header_is = λ t. refl;
   no_report = refl;
   some = some_bytes s.mode;
   done = refl;
   read_fault = refl;
   write_fault = refl;
+  unheaded = λ e. absurd (true≢false (sym e));
   limit_passed = refl;
   most_taken = λ t. let e = ap most_old (stated t) in omega (arith, e);
   comes = λ t. comes limit settings old new start.file s (stated t);
+  unread = λ t left taken. refl;
   its = λ before mid r reason same left done. absurd reason;
   own = tt;
 }

@@ -1,9 +1,9 @@
 -- The promise of a whole run of `upgrade`.
-use Rattle.std.proofs.Common.{◌≡◌, inl, inr, true, ℕ, List, Some, Ok, Err, refl, ◌∙◌, sym, ap, subst}
+use Rattle.std.proofs.Common.{◌≡◌, inl, inr, true, ℕ, List, None, Some, Ok, Err, refl, ◌∙◌, sym, ap, subst}
 use Rattle.station_core.specs.Meaning.{Meaning, IsFresh}
 use Rattle.mode_set.specs.declared.settings.Settings.{Settings as TheSettings}
 use Rattle.run_clauses.specs.declared.work.Refusal.{Refusal}
-use Rattle.run_clauses.specs.declared.work.Refusal.TheVariants.{Usage, Settings, ReadFault, WriteFault, NotSync, Memory, Limit}
+use Rattle.run_clauses.specs.declared.work.Refusal.TheVariants.{Usage, Settings, ReadFault, WriteFault, NotSync, Memory, Limit, Cells}
 use Rattle.run_clauses.specs.Command.{Command, is_among}
 use Rattle.run_clauses.specs.Run.{Run}
 use Rattle.run_clauses.specs.Text.{refusal_status, refusal_text, status_of}
@@ -39,6 +39,7 @@ module _ (limit : ℕ) (name cells new_cells : List ℕ) (start mid new : Meanin
   known_early (NotSync stream n) reads = absurd reads
   known_early Memory reads = refl
   known_early (Limit n) reads = absurd reads
+  known_early (Cells reason) reads = absurd reads
 
   pub refused : (r : Refusal) → ReadsSettings name start mid (Err r) → (status : ℕ) → status ≡ refusal_status r → WritesText (refusal_text r) mid new → Run c limit start new status
   refused r reads status is text =
@@ -63,11 +64,11 @@ module _ (limit : ℕ) (name cells new_cells : List ℕ) (start mid new : Meanin
     }
 
     -- the run has ended with its outcome, and then a text was written or not
-    finished : (old : Meaning) → old ≡ record start { settings = mid.settings } → (status : ℕ) → RunsCells (upgrade_work s.mode) s.max_symbols cells (cell_names new_cells) old new status → Run c limit start new status
+    finished : (old : Meaning) → old ≡ record start { settings = mid.settings } → (status : ℕ) → RunsCells (upgrade_work s.mode) s.max_symbols cells None (cell_names new_cells) old new status → Run c limit start new status
     finished old same status runs =
-        run_of c limit name cells (cell_names new_cells) (upgrade_work s.mode) s.max_symbols start new mid.settings status fresh settings
+        run_of c limit name cells None (cell_names new_cells) (upgrade_work s.mode) s.max_symbols start new mid.settings status fresh settings
         (command_of limit name cells new_cells s start (λ t. stated s (start.file name) (reads.3 t).1.2))
-        (subst (λ (m : Meaning). RunsCells (upgrade_work s.mode) s.max_symbols cells (cell_names new_cells) m new status) same runs)
+        (subst (λ (m : Meaning). RunsCells (upgrade_work s.mode) s.max_symbols cells None (cell_names new_cells) m new status) same runs)
 
     pub run : (status : ℕ) → RunsOrLacks s cells new_cells mid new status → Run c limit start new status
     run status runs = elim runs [

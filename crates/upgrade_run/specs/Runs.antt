@@ -1,5 +1,5 @@
 -- A run of an upgrade behind its settings.
-use Rattle.std.specs.Prelude.{◌≡◌, ◌⊎◌, ℕ, List}
+use Rattle.std.specs.Prelude.{◌≡◌, ◌⊎◌, ℕ, List, None}
 use Rattle.station_core.specs.Meaning.{Meaning}
 use Rattle.mode_set.specs.declared.settings.Settings.{Settings}
 use Rattle.run_clauses.specs.declared.work.Refusal.TheVariants.{Memory}
@@ -12,4 +12,4 @@ use Rattle.upgrade_run.specs.Working.{upgrade_work}
 -- the old cells were upgraded, or memory was wanting before a port was asked
 abbrev pub RunsOrLacks : Settings → List ℕ → List ℕ → Meaning → Meaning → ℕ → Type 0
 RunsOrLacks s cells name old new status =
-    RunsCells (upgrade_work s.mode) s.max_symbols cells (cell_names name) old new status ⊎ ((status ≡ 7) × WritesText (refusal_text Memory) old new)
+    RunsCells (upgrade_work s.mode) s.max_symbols cells None (cell_names name) old new status ⊎ ((status ≡ 7) × WritesText (refusal_text Memory) old new)

@@ -58,6 +58,7 @@ upgrade_command settings old new = record {
   writes = cell_names new;
   statuses = 0 ∷ 3 ∷ 5 ∷ 6 ∷ 7 ∷ 8 ∷ [];
   early_refusal = λ file. settings_refusal (file settings);
+  header = λ file. None;
   work_refusal = λ limit file. option_and_then (λ s. upgrade_refusal s (file old)) (settings_of (file settings));
   most_taken = λ limit file. most_taken_at settings file;
   Comes = λ limit file port output. (s : Settings) × (settings_of (file settings) ≡ Some s) × FileComes s (file old) output;

@@ -43,6 +43,7 @@ fn upgrade_accepted<'a, S: Station<'a>>(
     run_cells(
         settings.max_symbols,
         old_cells,
+        None,
         &files,
         &mut work,
         &mut symbol,

@@ -4,4 +4,4 @@ use Rattle.std.specs.Prelude.{vec_capacity}
 use Rattle.modulator.proofs.tests.super_frame.Given as goal
 
 abbrev pub invariant-loop : goal.invariant-loop
-invariant-loop g l = 27268 ≤ vec_capacity l.bytes
+invariant-loop g l = 34085 ≤ vec_capacity l.bytes

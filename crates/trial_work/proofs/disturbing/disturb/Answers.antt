@@ -5,7 +5,7 @@ use Rattle.mode_set.specs.declared.modes.Mode.{Mode}
 use Rattle.mode_set.specs.declared.settings.Settings.{Settings}
 use Rattle.pilots.specs.Carriers.{payload_carriers}
 use Rattle.qam_map.specs.declared.cell.Cell.{Cell}
-use Rattle.frame_build.specs.Symbol.{cell_bytes}
+use Rattle.frame_build.specs.Symbol.{sent_bytes}
 use Rattle.rand_pcg.specs.Lcg.{Lcg}
 use Rattle.load_gen.specs.Draws.{after}
 use Rattle.trial.specs.Drawn.{before, shifts_from}
@@ -41,8 +41,8 @@ loop-k-preserved g c =
       draws = c.next_cell.ensures.draws ∙ ap (λ (z : Draws). record z { load = after (2 * payload_below g.M.Carriers.MODE (m % 68) (k + 1)) (shifts_from s z.number m (before s z.number m)) }) inv.draws;
       bytes =
           c.push_cell.ensures.bytes
-          ∙ ap (λ (z : List ℕ). z ++ cell_bytes c.next_cell.result) inv.bytes
-          ∙ ap (λ (z : Cell). fed_carriers s d.number m k ++ cell_bytes z) (c.next_cell.ensures.cell ∙ ap (λ (n : ℕ). fed_cell s n m k) number)
+          ∙ ap (λ (z : List ℕ). z ++ sent_bytes c.next_cell.result) inv.bytes
+          ∙ ap (λ (z : Cell). fed_carriers s d.number m k ++ sent_bytes z) (c.next_cell.ensures.cell ∙ ap (λ (n : ℕ). fed_cell s n m k) number)
           ∙ sym (one_carrier s d.number m k);
       long = omega (arith, c.push_cell.ensures.len, inv.long);
       room = c.push_cell.ensures.capacity ∙ inv.room;

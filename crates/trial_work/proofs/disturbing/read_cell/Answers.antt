@@ -29,4 +29,4 @@ returns c =
     let bytes = c.args.bytes.now in
     let re : FitsSigned w16 c.read_i16.result = omega (arith, ints) in
     let im : FitsSigned w16 c.read_i16-2.result = omega (arith, ints) in
-    same (to_z-of_z w16 c.read_i16.result re ∙ c.read_i16.ensures ∙ ap part (rest (4 * k) bytes)) (to_z-of_z w16 c.read_i16-2.result im ∙ c.read_i16-2.ensures ∙ ap part (rest (4 * k + 2) bytes))
+    same (to_z-of_z w16 c.read_i16.result re ∙ c.read_i16.ensures ∙ ap part (rest (5 * k) bytes)) (to_z-of_z w16 c.read_i16-2.result im ∙ c.read_i16-2.ensures ∙ ap part (rest (5 * k + 2) bytes))
