@@ -1,15 +1,3 @@
-<<<<<<< HEAD
--- All cells are read.
-use Rattle.std.proofs.Common.{arith, pos}
-use Rattle.std.proofs.lemmas.List.FromFn.{fill_by_all}
-use Rattle.spec_words.specs.Words.{numbers}
-use Rattle.frame_build.specs.Symbol.{cell_from, cells_from}
-use Rattle.frame_build.proofs.symbol_in.read_cells.Goals as goal
-
-pub returns : goal.returns
-unfolding cells_from numbers
-returns c = fill_by_all (cell_from c.args.bytes.now) c.loop-k.cells _ (record { re = pos 0; im = pos 0 }) (omega arith) (λ j l. c.loop-k.invariant j (omega arith))
-=======
 -- All cells are read, and all weights.
 use Rattle.std.proofs.Common.{◌≡◌, ℕ, ◌+◌, ◌<◌, ◌≤◌, ◌≢◌, ◌⊎◌, inl, inr, length, List, set, get_or, ◌∙◌, subst, arith, pos}
 use Rattle.std.proofs.lemmas.Bool.{cases_lt}
@@ -44,4 +32,3 @@ returns-clause-cells c = fill_by_all (cell_from c.args.bytes.now) c.loop-k.cells
 pub returns-clause-weights : goal.returns-clause-weights
 unfolding weights_from numbers
 returns-clause-weights c = fill_by_all (weight_from c.args.bytes.now) c.loop-k.weights _ 0 (omega arith) (λ j l. c.loop-k.invariant.weight j (omega arith))
->>>>>>> 5ee85ea497c6190280562e555890c6e7cf52f7bf
