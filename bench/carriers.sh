@@ -58,7 +58,7 @@ use mode_set::Mode8k;
 use std::rt::HostRuntime;
 fn main(rt: HostRuntime) -> anyhow::Result<()> {
     let alloc = rt.alloc();
-    let bytes = vec![in alloc; 0x12u8; 27268]?;
+    let bytes = vec![in alloc; 0x12u8; 34085]?;
     let mut symbol = SymbolIn::<Mode8k>::new(alloc)?;
     let mut sum = 0u64;
     for count in 0..4000u32 {
@@ -105,7 +105,7 @@ fn main(rt: HostRuntime) -> anyhow::Result<()> {
     let mut out = SymbolOut::<Mode8k>::new(&settings);
     let mut sum = 0u64;
     for _ in 0..4000u32 {
-        let mut bytes = Vec::with_capacity(alloc, 27268)?;
+        let mut bytes = Vec::with_capacity(alloc, 34085)?;
         out.write(&labels, &mut bytes);
         sum = sum.wrapping_add(bytes.len() as u64);
     }
@@ -148,5 +148,5 @@ for name, calls, scale, unit in rows:
         subprocess.run([f"{to}/crates/bench_{name}/out/bench_{name}"], check=True, stdout=subprocess.DEVNULL)
         spent = resource.getrusage(resource.RUSAGE_CHILDREN).ru_utime - before
         best = spent if best is None else min(best, spent)
-    print(f"{name:10} {best / calls * scale:.2f} {unit}" + (f", {27268 * calls / best / 1e6:.0f} MB/s" if unit == "µs a symbol" else ""))
+    print(f"{name:10} {best / calls * scale:.2f} {unit}" + (f", {34085 * calls / best / 1e6:.0f} MB/s" if unit == "µs a symbol" else ""))
 PY

@@ -20,7 +20,7 @@ use Rattle.std.specs.Prelude.{vec_capacity}
 use Rattle.bench_modulator.proofs.transmit.Given as goal
 
 abbrev pub invariant-loop : goal.invariant-loop
-invariant-loop l = 27268 ≤ vec_capacity l.to
+invariant-loop l = 34085 ≤ vec_capacity l.to
 END
 (cd "$to/crates/bench_modulator" && rt run > "$to/log" 2>&1 || { grep -v '^statements\|^logic \|^library' "$to/log" | tail -20; exit 1; })
 python3 - "$to" <<'PY'

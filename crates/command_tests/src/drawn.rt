@@ -1,7 +1,7 @@
 // The trial of a number beside `receive` of a file of the cells that it feeds, which are made here once more.
 ghost use Rattle.std.specs.Prelude.{◌≡◌};
 
-use crate::cells::{SYMBOL, number_at, put_number};
+use crate::cells::{HEADER, SYMBOL, number_at, put_number};
 use load_gen::Load;
 use mode_set::{Guard, Hierarchy, Mode, Mode2k, Rate, Settings, Shape, Start};
 use modulator::{Modulator, Want};
@@ -83,7 +83,7 @@ fn disturb(rt: &impl Abort, cells: &mut [u8], symbol: usize, load: &mut Load) {
     let l = (symbol % 68) as u8;
     for k in 0..1705u32 {
         if let Payload(_) = kind(Mode::M2k, l, k) {
-            let at = 4 * k as usize;
+            let at = 5 * k as usize;
             for place in [at, at + 2] {
                 let part = number_at(rt, cells, place);
                 put_number(rt, cells, place, disturbed(part, symbol, load));
@@ -148,7 +148,9 @@ fn trial_and_receive(rt: HostRuntime) -> Result<(), Fail> {
     let (cells, packets) = fed(&rt, alloc, 7)?;
     assert_eq!(rt; cells.len(), 272 * SYMBOL);
     let cell_sum = byte_sum(&cells);
-    let received = run(&rt, alloc, "receive s a hp", cells)?;
+    let mut file = Vec::from_slice(alloc, HEADER.as_slice())?;
+    file.extend_from_slice(&cells)?;
+    let received = run(&rt, alloc, "receive s a hp", file)?;
     assert_eq!(rt; received.hp.len(), 241 * 188);
     let sum = byte_sum(&received.hp);
     let expected = format!(in alloc;

@@ -33,7 +33,7 @@ fn expect<R: Abort + Threads + Sync>(
     let files = (inputs.0.bytes(alloc)?, inputs.1.bytes(alloc)?);
     let conditions = Conditions {
         failing,
-        ..ample(1_855_040)
+        ..ample(2_318_808)
     };
     let ran = run_files(rt, alloc, text, settings, files, 100, conditions)?;
     let is_told = ran.status == found.0 && ran.report.as_slice() == found.1.as_bytes();
@@ -50,20 +50,23 @@ fn null_super_frame(rt: HostRuntime) -> Result<(), Fail> {
     let alloc = rt.alloc();
     let settings = text_bytes(alloc, BASE, "")?;
     let none = (Vec::new(alloc), Vec::new(alloc));
-    let ran = run_files(&rt, alloc, ONE, settings, none, 1, ample(1_855_040))?;
+    let ran = run_files(&rt, alloc, ONE, settings, none, 1, ample(2_318_808))?;
     assert_eq!(rt; ran.status, 0);
     assert!(rt; ran.report.as_slice() == NULLS.as_bytes());
     assert_eq!(rt; ran.cells.len(), SUPER_FRAME);
-    let begins = [0xAAu8, 0xAB, 0x00, 0x00, 0xD2, 0xBF, 0x2D, 0x41];
-    assert_eq!(rt; &ran.cells[..8], begins.as_slice());
+    let begins = [
+        0x44u8, 0x56, 0x54, 0x43, 0x02, 0x00, 0x00, 0x00, 0xAA, 0xAB, 0x00, 0x00, 0x0F, 0xD2, 0xBF,
+        0x2D, 0x41, 0x0F,
+    ];
+    assert_eq!(rt; &ran.cells[..18], begins.as_slice());
     let places = [
-        (48, [0x55u8, 0x55, 0x00, 0x00]),
-        (136, [0x40, 0x00, 0x00, 0x00]),
-        (20_596, [0xC0, 0x00, 0x00, 0x00]),
+        (68, [0x55u8, 0x55, 0x00, 0x00, 0x0F]),
+        (178, [0x40, 0x00, 0x00, 0x00, 0x0F]),
+        (25_753, [0xC0, 0x00, 0x00, 0x00, 0x0F]),
     ];
     for (at, cell) in places {
         assert!(rt; at < 30_000 && ran.cells.len() == SUPER_FRAME);
-        assert!(rt; &ran.cells[at..at + 4] == cell.as_slice(), "at {at}");
+        assert!(rt; &ran.cells[at..at + 5] == cell.as_slice(), "at {at}");
     }
     Ok(())
 }
@@ -77,15 +80,15 @@ fn whole_runs(rt: HostRuntime) -> Result<(), Fail> {
     let two = "hp packets 100 tail 0\nlp packets 20 tail 5\nsuperframes 1\n";
     let part = "hp packets 5 tail 7\nsuperframes 1\n";
     let cases = [
-        (ONE, BASE, (NONE, NONE), (NULLS, 2_315_031_475)),
-        (ONE, BASE, (counted, NONE), (one, 2_597_193_741)),
+        (ONE, BASE, (NONE, NONE), (NULLS, 2_468_371_442)),
+        (ONE, BASE, (counted, NONE), (one, 720_243_768)),
         (
             TWO,
             LAYERED,
             (counted, File::Nulls(20, 5)),
-            (two, 1_415_711_803),
+            (two, 682_362_670),
         ),
-        (ONE, BASE, (File::Nulls(5, 7), NONE), (part, 2_315_031_475)),
+        (ONE, BASE, (File::Nulls(5, 7), NONE), (part, 2_468_371_442)),
     ];
     for (text, settings, inputs, (report, sum)) in cases {
         let found = (0, report, SUPER_FRAME, sum);
@@ -105,17 +108,17 @@ fn refused_packets_and_limits(rt: HostRuntime) -> Result<(), Fail> {
         (
             "",
             (File::Unsynced(3, 1), NONE),
-            (4, "hp packet 3\n", 20_460, 547_083_398),
+            (4, "hp packet 3\n", 25_583, 3_642_937_220),
         ),
         (
             limited,
             (NONE, NONE),
-            (8, "limit 271\n", 1_848_220, 3_973_823_262),
+            (8, "limit 271\n", 2_310_283, 1_827_462_168),
         ),
         (
             "",
             (File::Nulls(101, 0), NONE),
-            (8, "limit 100\n", 729_740, 2_726_717_741),
+            (8, "limit 100\n", 912_183, 2_503_620_961),
         ),
     ];
     for (lines, inputs, found) in cases {
@@ -124,9 +127,9 @@ fn refused_packets_and_limits(rt: HostRuntime) -> Result<(), Fail> {
     let cases = [
         (
             (NONE, File::Unsynced(2, 0)),
-            (4, "lp packet 2\n", 6_820, 3_248_578_444),
+            (4, "lp packet 2\n", 8_533, 1_411_197_320),
         ),
-        ((bad, bad), (4, "hp packet 0\n", 0, 0)),
+        ((bad, bad), (4, "hp packet 0\n", 8, 4_029_675_199)),
     ];
     for (inputs, found) in cases {
         expect(&rt, alloc, TWO, (LAYERED, ""), inputs, None, found)?;
@@ -166,23 +169,28 @@ fn faults_of_the_station(rt: HostRuntime) -> Result<(), Fail> {
         (
             Failing::Read(InPort::Hp, 3),
             2,
-            (5, read, 13_640, 3_683_694_701),
+            (5, read, 17_058, 455_134_520),
         ),
         (Failing::Create(OutPort::Cells, 1), 2, (6, write, 0, 0)),
         (
             Failing::Write(OutPort::Cells, 1),
             2,
-            (6, write, 3_410, 4_288_021_981),
+            (6, write, 4, 2_111_105),
+        ),
+        (
+            Failing::Write(OutPort::Cells, 2),
+            2,
+            (6, write, 4_270, 4_149_754_026),
         ),
         (
             Failing::Write(OutPort::Report, 2),
             0,
-            (6, half, SUPER_FRAME, 2_315_031_475),
+            (6, half, SUPER_FRAME, 2_468_371_442),
         ),
         (
             Failing::Close(OutPort::Cells, 1),
             0,
-            (6, closing, SUPER_FRAME, 2_315_031_475),
+            (6, closing, SUPER_FRAME, 2_468_371_442),
         ),
     ];
     for (call, packets, found) in cases {
@@ -190,10 +198,10 @@ fn faults_of_the_station(rt: HostRuntime) -> Result<(), Fail> {
         expect(&rt, alloc, ONE, (BASE, ""), inputs, Some(call), found)?;
     }
     let cases = [
-        (Failing::Read(InPort::Lp, 1), (5, read, 0, 0)),
+        (Failing::Read(InPort::Lp, 1), (5, read, 8, 4_029_675_199)),
         (
             Failing::Read(InPort::Lp, 3),
-            (5, read, 6_820, 3_248_578_444),
+            (5, read, 8_533, 1_411_197_320),
         ),
     ];
     for (call, found) in cases {

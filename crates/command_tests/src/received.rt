@@ -1,5 +1,5 @@
 // The command `receive` of one stream. The expected reports and lengths are those of an independent program.
-use crate::cells::{SUPER_FRAME, SYMBOL, number_at, put_number};
+use crate::cells::{HEADER, SUPER_FRAME, SYMBOL, number_at, put_number};
 use mode_set::Mode;
 use pilots::tps_carriers;
 use run_tools::{
@@ -52,17 +52,17 @@ fn null_cells<R: Abort + Threads + Sync>(rt: &R, alloc: Global) -> Result<Vec<u8
         settings,
         none,
         1,
-        ample(1_855_040),
+        ample(2_318_808),
     )?;
-    assert!(rt; ran.status == 0 && checksum(&ran.cells) == 2_315_031_475);
+    assert!(rt; ran.status == 0 && checksum(&ran.cells) == 2_468_371_442);
     Ok(ran.cells)
 }
 
 // The cells, and their first symbol once more.
 fn one_symbol_more(rt: &impl Abort, alloc: Global, cells: &[u8]) -> Result<Vec<u8>, AllocError> {
-    assert!(rt; SYMBOL <= cells.len());
+    assert!(rt; 8 + SYMBOL <= cells.len());
     let mut more = Vec::from_slice(alloc, cells)?;
-    more.extend_from_slice(&cells[..SYMBOL])?;
+    more.extend_from_slice(&cells[8..8 + SYMBOL])?;
     Ok(more)
 }
 
@@ -101,7 +101,8 @@ fn null_super_frame(rt: HostRuntime) -> Result<(), Fail> {
     Ok(())
 }
 
-// A symbol and a byte of it, and no byte.
+// The header, a symbol and a byte of it, and the header alone. Cut within a cell or before its weight a symbol is
+// none.
 #[test]
 fn parts_of_the_null_super_frame(rt: HostRuntime) -> Result<(), Fail> {
     let alloc = rt.alloc();
@@ -112,11 +113,26 @@ fn parts_of_the_null_super_frame(rt: HostRuntime) -> Result<(), Fail> {
         "symbols 0 tail 0\ntps read 0 bad 0\nhp words 0 clean 0 corrected 0 bad 0 unphased 0 unmerged 0\n";
     let wide = ample(50_000);
     let narrow = Conditions { most: 1, ..wide };
-    let symbol_and_byte = front(&rt, &cells, SYMBOL + 1);
+    let symbol_and_byte = front(&rt, &cells, 8 + SYMBOL + 1);
+    let within_a_cell =
+        "symbols 0 tail 8523\ntps read 0 bad 0\nhp words 0 clean 0 corrected 0 bad 0 unphased 0 unmerged 0\n";
+    let before_a_weight =
+        "symbols 0 tail 8524\ntps read 0 bad 0\nhp words 0 clean 0 corrected 0 bad 0 unphased 0 unmerged 0\n";
     let cases = [
         (symbol_and_byte, wide, (0, part, 0)),
         (symbol_and_byte, narrow, (0, part, 0)),
-        (front(&rt, &cells, 0), wide, (0, empty, 0)),
+        (front(&rt, &cells, 8), wide, (0, empty, 0)),
+        (front(&rt, &cells, 8), narrow, (0, empty, 0)),
+        (
+            front(&rt, &cells, 8 + SYMBOL - 2),
+            wide,
+            (0, within_a_cell, 0),
+        ),
+        (
+            front(&rt, &cells, 8 + SYMBOL - 1),
+            wide,
+            (0, before_a_weight, 0),
+        ),
     ];
     for (bytes, conditions, found) in cases {
         expect(&rt, alloc, ONE, (BASE, ""), bytes, conditions, found)?;
@@ -133,7 +149,9 @@ fn faults_of_the_station(rt: HostRuntime) -> Result<(), Fail> {
     let write = "write fault\n";
     let faults = [
         (Failing::Attach(InPort::Cells, 1), (5, read, 0)),
-        (Failing::Read(InPort::Cells, 31), (5, read, 3_008)),
+        (Failing::Read(InPort::Cells, 1), (5, read, 0)),
+        (Failing::Read(InPort::Cells, 2), (5, read, 0)),
+        (Failing::Read(InPort::Cells, 32), (5, read, 3_008)),
         (Failing::Create(OutPort::Hp, 1), (6, write, 0)),
         (Failing::Write(OutPort::Hp, 1), (6, write, 94)),
         (Failing::Write(OutPort::Hp, 2), (6, write, 282)),
@@ -144,6 +162,65 @@ fn faults_of_the_station(rt: HostRuntime) -> Result<(), Fail> {
     ];
     for (call, found) in faults {
         expect(&rt, alloc, ONE, (BASE, ""), &cells, failing(call), found)?;
+    }
+    Ok(())
+}
+
+// A file that does not begin with the header of its mode is refused, before an output is made: shorter ones,
+// one of the other mode, one without a header, and one whose header has another version.
+#[test]
+fn refused_headers(rt: HostRuntime) -> Result<(), Fail> {
+    let alloc = rt.alloc();
+    let cells = null_cells(&rt, alloc)?;
+    let eight = "mode = \"8k\"\nconstellation = \"qpsk\"\nrate_hp = \"1/2\"\nguard = \"1/32\"\n";
+    let wide = ample(50_000);
+    let narrow = Conditions { most: 1, ..wide };
+    let mut old = Vec::from_slice(alloc, &HEADER[..])?;
+    old[4] = 1;
+    old.extend_from_slice(front(&rt, &cells, 100))?;
+    let cases = [
+        (BASE, front(&rt, &cells, 0), wide),
+        (BASE, front(&rt, &cells, 7), wide),
+        (BASE, front(&rt, &cells, 7), narrow),
+        (BASE, &cells[8..], wide),
+        (BASE, &old[..], wide),
+        (eight, &cells[..], wide),
+    ];
+    for (settings, bytes, conditions) in cases {
+        let found = (9, "cells header\n", 0);
+        expect(&rt, alloc, ONE, (settings, ""), bytes, conditions, found)?;
+    }
+    Ok(())
+}
+
+// The bytes behind the header with this weight behind each cell.
+fn weighted(
+    rt: &impl Abort,
+    alloc: Global,
+    cells: &[u8],
+    weight: u8,
+) -> Result<Vec<u8>, AllocError> {
+    let mut bytes = Vec::from_slice(alloc, cells)?;
+    for cell in 0..463_760usize {
+        let at = 8 + 5 * cell + 4;
+        assert!(rt; at < bytes.len());
+        bytes[at] = weight;
+    }
+    Ok(bytes)
+}
+
+// With weights of 1 the null super-frame comes back, and with weights above 15, which count as 15; with weights of
+// 0 every cost ties and no word has a phase, while the TPS words are read.
+#[test]
+fn weights_of_the_null_super_frame(rt: HostRuntime) -> Result<(), Fail> {
+    let alloc = rt.alloc();
+    let cells = null_cells(&rt, alloc)?;
+    let erased =
+        "symbols 272 tail 0\ntps read 4 bad 0\nhp words 241 clean 241 corrected 0 bad 0 unphased 241 unmerged 0\n";
+    let whole = (0, WHOLE_NULLS, 45_308);
+    for (weight, found) in [(1, whole), (255, whole), (0, (0, erased, 0))] {
+        let bytes = weighted(&rt, alloc, &cells, weight)?;
+        expect(&rt, alloc, ONE, (BASE, ""), &bytes, ample(50_000), found)?;
     }
     Ok(())
 }
@@ -170,7 +247,7 @@ fn refused_words_and_settings(rt: HostRuntime) -> Result<(), Fail> {
 fn negate_tps(rt: &impl Abort, bytes: &mut [u8], symbol: usize) {
     assert!(rt; symbol < 272);
     for carrier in tps_carriers(Mode::M2k) {
-        let at = SYMBOL * symbol + 4 * *carrier as usize;
+        let at = 8 + SYMBOL * symbol + 5 * *carrier as usize;
         for place in [at, at + 2] {
             let number = number_at(rt, bytes, place).wrapping_neg();
             put_number(rt, bytes, place, number);
@@ -216,9 +293,9 @@ fn turned_tps_bits(rt: HostRuntime) -> Result<(), Fail> {
 #[test]
 fn unmerged_at_2049(rt: HostRuntime) -> Result<(), Fail> {
     let alloc = rt.alloc();
-    let mut cells = Vec::new(alloc);
+    let mut cells = Vec::from_slice(alloc, HEADER.as_slice())?;
     for _ in 0..3410u32 {
-        cells.extend_from_slice([0x00u8, 0x00, 0x2D, 0x41].as_slice())?;
+        cells.extend_from_slice([0x00u8, 0x00, 0x2D, 0x41, 0x0F].as_slice())?;
     }
     let report =
         "hp unmerged at 2049\nsymbols 2 tail 0\ntps read 0 bad 0\nhp words 0 clean 0 corrected 0 bad 0 unphased 0 unmerged 1\n";

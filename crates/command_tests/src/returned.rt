@@ -1,6 +1,6 @@
 // Packets that are modulated and received again. The expected sums of cells, counts and reports are those of an
 // independent program.
-use crate::cells::{SYMBOL, number_at, put_number};
+use crate::cells::{HEADER, SYMBOL, number_at, put_number};
 use mode_set::Mode;
 use pilots::CarrierKind::Payload;
 use pilots::kind;
@@ -83,7 +83,7 @@ fn move_data(rt: &impl Abort, cells: &mut [u8], symbol: usize) {
     let l = (symbol % 68) as u8;
     for k in 0..1705u32 {
         if let Payload(_) = kind(Mode::M2k, l, k) {
-            let at = SYMBOL * symbol + 4 * k as usize;
+            let at = 8 + SYMBOL * symbol + 5 * k as usize;
             for place in [at, at + 2] {
                 let number = number_at(rt, cells, place).wrapping_add(1136);
                 put_number(rt, cells, place, number);
@@ -102,10 +102,10 @@ const BOTH: &str = "receive s a hp lp";
 #[test]
 fn two_streams_and_noise(rt: HostRuntime) -> Result<(), Fail> {
     let alloc = rt.alloc();
-    let room = 1_855_040;
+    let room = 2_318_808;
     let made = "hp packets 100 tail 0\nlp packets 200 tail 0\nsuperframes 1\n";
     let cells = sent(&rt, alloc, SEND, LAYERED, (100, 200), made, room)?;
-    assert_eq!(rt; checksum(&cells), 239_879_247);
+    assert_eq!(rt; checksum(&cells), 1_354_769_138);
     let mut moved = cells.clone()?;
     let packets = (File::Counted(100, 141), File::Counted(200, 167));
     comes_back(&rt, alloc, BOTH, LAYERED, cells, REPORT, packets)?;
@@ -115,7 +115,7 @@ fn two_streams_and_noise(rt: HostRuntime) -> Result<(), Fail> {
     comes_back(&rt, alloc, BOTH, LAYERED, moved, REPORT, packets)?;
     let made = "hp packets 150 tail 0\nlp packets 250 tail 0\nsuperframes 1\n";
     let cells = sent(&rt, alloc, SEND, LAYERED_64, (150, 250), made, room)?;
-    assert_eq!(rt; checksum(&cells), 3_304_704_654);
+    assert_eq!(rt; checksum(&cells), 2_596_778_767);
     let packets = (File::Counted(150, 259), File::Counted(250, 411));
     comes_back(&rt, alloc, BOTH, LAYERED_64, cells, REPORT_64, packets)?;
     Ok(())
@@ -127,11 +127,12 @@ fn two_streams_and_noise(rt: HostRuntime) -> Result<(), Fail> {
 fn start_in_the_second_super_frame(rt: HostRuntime) -> Result<(), Fail> {
     let alloc = rt.alloc();
     let made = "hp packets 300 tail 0\nsuperframes 2\n";
-    let cells = sent(&rt, alloc, SEND_ONE, BASE, (300, 0), made, 3_710_080)?;
-    assert_eq!(rt; checksum(&cells), 2_448_572_138);
-    assert_eq!(rt; cells.len(), 3_710_080);
+    let cells = sent(&rt, alloc, SEND_ONE, BASE, (300, 0), made, 4_637_608)?;
+    assert_eq!(rt; checksum(&cells), 765_684_459);
+    assert_eq!(rt; cells.len(), 4_637_608);
     let settings = text_bytes(alloc, BASE, "start = \"any\"\n")?;
-    let second = Vec::from_slice(alloc, &cells[272 * SYMBOL..])?;
+    let mut second = Vec::from_slice(alloc, HEADER.as_slice())?;
+    second.extend_from_slice(&cells[8 + 272 * SYMBOL..])?;
     let inputs = (second, Vec::new(alloc));
     let ran = run_files(
         &rt,
@@ -157,11 +158,8 @@ fn start_in_the_second_super_frame(rt: HostRuntime) -> Result<(), Fail> {
 fn ten_thousand_packets(rt: HostRuntime) -> Result<(), Fail> {
     let alloc = rt.alloc();
     let made = "hp packets 10000 tail 0\nsuperframes 3\n";
-    let cells = sent(&rt, alloc, SEND_ONE, EIGHT, (10_000, 0), made, 22_250_688)?;
-    assert_eq!(rt;
-        (cells.len(), checksum(&cells)),
-        (22_250_688, 3_149_843_153)
-    );
+    let cells = sent(&rt, alloc, SEND_ONE, EIGHT, (10_000, 0), made, 27_813_368)?;
+    assert_eq!(rt; (cells.len(), checksum(&cells)), (27_813_368, 482_701_309));
     let packets = (File::Counted(10_000, 2_085), File::Nulls(0, 0));
     comes_back(
         &rt,
@@ -181,10 +179,10 @@ fn two_streams_of_the_8k_mode(rt: HostRuntime) -> Result<(), Fail> {
     let alloc = rt.alloc();
     let made = "hp packets 1000 tail 0\nlp packets 4000 tail 0\nsuperframes 2\n";
     let packets = (1_000, 4_000);
-    let cells = sent(&rt, alloc, SEND, EIGHT_LAYERED, packets, made, 14_833_792)?;
+    let cells = sent(&rt, alloc, SEND, EIGHT_LAYERED, packets, made, 18_542_248)?;
     assert_eq!(rt;
         (cells.len(), checksum(&cells)),
-        (14_833_792, 3_394_882_015)
+        (18_542_248, 2_284_342_855)
     );
     let packets = (File::Counted(1_000, 1_677), File::Counted(4_000, 2_037));
     comes_back(

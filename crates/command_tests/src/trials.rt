@@ -30,7 +30,7 @@ fn expect<R: Abort + Threads + Sync>(
 #[test]
 fn one_stream_and_its_refusals(rt: HostRuntime) -> Result<(), Fail> {
     let alloc = rt.alloc();
-    let lines = "cells 220836107\nhp packets 150 back 241 sum 7652286\n";
+    let lines = "cells 227682593\nhp packets 150 back 241 sum 7666638\n";
     let from_any = "start = \"any\"\nmax_symbols = 272\n";
     for (words, more, status, report) in [
         ("trial s 7", "", 0, lines),
@@ -49,10 +49,10 @@ fn one_stream_and_its_refusals(rt: HostRuntime) -> Result<(), Fail> {
 fn two_streams_and_a_failed_write(rt: HostRuntime) -> Result<(), Fail> {
     let alloc = rt.alloc();
     let lines =
-        "cells 220938195\nhp packets 150 back 241 sum 7669421\nlp packets 146 back 367 sum 13932039\n";
+        "cells 227851732\nhp packets 150 back 241 sum 7668862\nlp packets 146 back 367 sum 13935564\n";
     expect(&rt, alloc, "trial s 7", (LAYERED, ""), None, (0, lines))?;
     let second = Some(Failing::Write(OutPort::Report, 2));
-    let half = "cells 220836107\nhp packets 150 bacwrite fault\n";
+    let half = "cells 227682593\nhp packets 150 bacwrite fault\n";
     expect(&rt, alloc, "trial s 7", (BASE, ""), second, (6, half))?;
     Ok(())
 }

@@ -30,7 +30,7 @@ fn two_threads_in_a_reception(rt: HostRuntime) -> Result<(), Fail> {
     let alloc = rt.alloc();
     let settings = (LAYERED_64, "max_symbols = 3\n");
     let sent = run(&rt, alloc, &OpenGate, "modulate s a a sent", settings, &[])?;
-    assert_eq!(rt; (sent.status, sent.cells.len()), (8, 81_804));
+    assert_eq!(rt; (sent.status, sent.cells.len()), (8, 102_263));
     let gate = Meeting::new();
     let settings = (LAYERED_64, "workers = 2\n");
     let words = "receive s b hp lp";
@@ -45,7 +45,7 @@ fn two_threads_in_a_reception(rt: HostRuntime) -> Result<(), Fail> {
 fn null_super_frame_by_workers(rt: HostRuntime) -> Result<(), Fail> {
     let alloc = rt.alloc();
     let sent = run(&rt, alloc, &OpenGate, "modulate s a sent", (BASE, ""), &[])?;
-    assert_eq!(rt; (sent.status, sent.cells.len()), (0, 1_855_040));
+    assert_eq!(rt; (sent.status, sent.cells.len()), (0, 2_318_808));
     for workers in ["workers = 1\n", "workers = 3\n", "workers = 16\n"] {
         let settings = (BASE, workers);
         let words = "receive s b hp";

@@ -1,5 +1,6 @@
 -- `receive` is a command on cells: what it comes to is what its work gives.
-use Rattle.std.proofs.Common.{◌≡◌, inl, inr, true, false, ℕ, Bool, List, [], ◌++◌, Option, Some, None, refl, ◌∙◌, sym, ap, subst, arith, if◌then◌else◌}
+use Rattle.std.proofs.Common.{◌≡◌, inl, inr, true, false, ℕ, zero, suc, ◌≤◌, Bool, List, [], ◌∷◌, ◌++◌, length, take, drop, Option, Some, None, refl, ◌∙◌, sym, ap, subst, arith, append_assoc, if◌then◌else◌}
+use Rattle.std.proofs.lemmas.List.{drop_all, length-take, take-append-drop}
 use Rattle.std.specs.Prelude.{◌⊎◌, is_some, flat_map, option_and_then}
 use Rattle.std.proofs.lemmas.Bool.{lt-ltb, le-ltb, true≢false}
 use Rattle.std.proofs.Math.Nat.{div-eq_of_lt}
@@ -12,7 +13,8 @@ use Rattle.mode_set.specs.declared.settings.Settings.{Settings as TheSettings}
 use Rattle.rx_report.specs.Text.{event_line}
 use Rattle.rx_report.specs.declared.counts.Event.{Event}
 use Rattle.reception.specs.Cells.{symbol_length, symbols}
-use Rattle.reception.specs.Streams.{Reception}
+use Rattle.frame_build.specs.CellFile.{header}
+use Rattle.reception.specs.Streams.{Reception, Live}
 use Rattle.reception.specs.Lines.{events, event_lines}
 use Rattle.reception.specs.Laws.{NoEvents, nothing}
 use Rattle.run_clauses.specs.declared.work.Refusal.{Refusal}
@@ -23,8 +25,8 @@ use Rattle.symbol_runs.specs.Work.{Written}
 use Rattle.symbol_runs.specs.Outputs.{stream_names}
 use Rattle.symbol_runs.specs.Cells.{GivenUpTo}
 use Rattle.symbol_runs.specs.Commands.{CellCommand, Come, ComesTo, Continues}
-use Rattle.receive_run.specs.Received.{IsAll, IsCutOff, IsSoFar, LinesCome, LinesSoFar, packets_at, reception_refusal}
-use Rattle.receive_run.specs.ReceiveCommand.{most_cells, receive_command}
+use Rattle.receive_run.specs.Received.{cells_in, IsAll, IsCutOff, IsSoFar, LinesCome, LinesSoFar, packets_at, reception_refusal}
+use Rattle.receive_run.specs.ReceiveCommand.{header_by, most_cells, receive_command}
 use Rattle.receive_run.specs.Working.{ReceivedUpTo, lines_up_to, live_at, reception_work, writes_at, written_at}
 use Rattle.receive_run.proofs.Parts.{some_bytes}
 use Rattle.receive_run.proofs.Begun.{begun}
@@ -48,18 +50,30 @@ nothing_written no_events s false outs.Lp = refl
 nothing_written no_events s two outs.Bytes = refl
 nothing_written no_events s two outs.Report = lines_none no_events s
 
-abbrev none_taken : (laws : Laws) (s : TheSettings) (file left : List ℕ) → left ≡ file → IsSoFar s file left nothing
-none_taken laws s file left same = record {
-  taken = [];
-  are = sym same;
-  within = let none : symbols s [] ≡ 0 = symbols_none s in omega (arith, none);
-  live = laws.nothing_live s;
+-- within the header no byte is behind it
+none_behind : (file : List ℕ) (k : ℕ) → k ≤ 8 → cells_in (take k file) ≡ []
+none_behind file k few = drop_all 8 (take k file) (let some = length-take k file in omega (arith, some, few))
+
+abbrev none_taken : (laws : Laws) (s : TheSettings) (file left : List ℕ) (k : ℕ) → k ≤ 8 → left ≡ drop k file → IsSoFar s file left nothing
+none_taken laws s file left k few is = record {
+  taken = take k file;
+  are = sym (take-append-drop k file) ∙ ap (λ (l : List ℕ). take k file ++ l) (sym is);
+  within = let none : symbols s (cells_in (take k file)) ≡ 0 = ap (symbols s) (none_behind file k few) ∙ symbols_none s in omega (arith, none);
+  live = subst (λ (l : List ℕ). Live s l nothing) (sym (none_behind file k few)) (laws.nothing_live s);
 }
 
--- so where nothing is taken of the cells the report has no lines
-pub no_lines : Laws → (stated : Option TheSettings) (file left : List ℕ) → left ≡ file → LinesSoFar stated file left []
-no_lines laws None file left same = refl
-no_lines laws (Some s) file left same = (nothing, none_taken laws s file left same, sym (lines_none laws.no_events s))
+-- so where no more than the header is taken of the cells the report has no lines
+pub no_lines : Laws → (stated : Option TheSettings) (file left : List ℕ) (k : ℕ) → k ≤ 8 → left ≡ drop k file → LinesSoFar stated file left []
+no_lines laws None file left k few is = refl
+no_lines laws (Some s) file left k few is =
+    (nothing, none_taken laws s file left k few is, sym (ap (λ (l : List ℕ). event_lines s l nothing) (none_behind file k few) ∙ lines_none laws.no_events s))
+
+-- the header, and what was taken behind it
+behind : (n : ℕ) (file taken left : List ℕ) → drop n file ≡ taken ++ left → drop n (take n file ++ taken) ≡ taken
+behind zero file taken left e = refl
+behind (suc n) [] [] left e = refl
+behind (suc n) [] (x ∷ taken) left e = cc
+behind (suc n) (y ∷ file) taken left e = behind n file taken left e
 
 module _ (laws : Laws) (limit : ℕ) (name cells hp : List ℕ) (lp : Option (List ℕ)) (file : Files) (s : TheSettings) (stated : settings_of (file name) ≡ Some s) where
   abbrev c : Command
@@ -69,7 +83,7 @@ module _ (laws : Laws) (limit : ℕ) (name cells hp : List ℕ) (lp : Option (Li
   two = is_some lp
 
   abbrev bytes : List ℕ
-  bytes = file cells
+  bytes = cells_in (file cells)
 
   -- what is written at an output are the packets of its stream
   at_output : (r : Reception) (lines : List ℕ) (port : OutPort) → IsOutput c port → written_at two r lines port ≡ packets_at port r
@@ -88,8 +102,8 @@ module _ (laws : Laws) (limit : ℕ) (name cells hp : List ℕ) (lp : Option (Li
   refusal_is : (o : Option Refusal) → reception_refusal s bytes ≡ o → c.work_refusal limit file ≡ o
   refusal_is o is = ap (λ (x : Option TheSettings). option_and_then (λ y. reception_refusal y bytes) x) stated ∙ is
 
-  lines_so_far : (left lines : List ℕ) → LinesSoFar (Some s) bytes left lines → LinesSoFar (settings_of (file name)) bytes left lines
-  lines_so_far left lines is = subst (λ (o : Option TheSettings). LinesSoFar o bytes left lines) (sym stated) is
+  lines_so_far : (left lines : List ℕ) → LinesSoFar (Some s) (file cells) left lines → LinesSoFar (settings_of (file name)) (file cells) left lines
+  lines_so_far left lines is = subst (λ (o : Option TheSettings). LinesSoFar o (file cells) left lines) (sym stated) is
 
   up_to : (given : Written) → GivenUpTo (reception_work s two) s.max_symbols bytes given → (r : Reception) × (up : ReceivedUpTo s bytes r) × ((port : OutPort) → given port ≡ written_at two r (lines_up_to s up.taken up.rest r up.gives) port)
   up_to given up = elim up.gives [
@@ -137,29 +151,37 @@ module _ (laws : Laws) (limit : ℕ) (name cells hp : List ℕ) (lp : Option (Li
           refusal_is (Some (Limit s.max_symbols)) (ap (λ (b : Bool). if b then Some (Limit s.max_symbols) else None) (lt-ltb s.max_symbols (symbols s bytes) more)),
         );
     so_far = λ unread taken given are within gives.
-        let so_far : IsSoFar s bytes (unread ins.Cells) gives.0 = record { taken = taken; are = are; within = within; live = gives.1 } in
+        let same : cells_in (take 8 (file cells) ++ taken) ≡ taken = behind 8 (file cells) taken (unread ins.Cells) are in
+        let so_far : IsSoFar s (file cells) (unread ins.Cells) gives.0 = record {
+          taken = take 8 (file cells) ++ taken;
+          are = sym (take-append-drop 8 (file cells)) ∙ ap (λ (l : List ℕ). take 8 (file cells) ++ l) are ∙ sym (append_assoc (take 8 (file cells)) taken (unread ins.Cells));
+          within = subst (λ (l : List ℕ). symbols s l ≤ s.max_symbols) (sym same) within;
+          live = subst (λ (l : List ℕ). Live s l gives.0) (sym same) gives.1;
+        } in
         record {
           outputs = λ port output. (s, stated, (gives.0, so_far, gives.2 port ∙ at_output gives.0 (event_lines s taken gives.0) port output));
-          report = lines_so_far (unread ins.Cells) (given outs.Report) (gives.0, so_far, gives.2 outs.Report);
+          report = lines_so_far (unread ins.Cells) (given outs.Report) (gives.0, so_far, gives.2 outs.Report ∙ ap (λ (l : List ℕ). event_lines s l gives.0) (sym same));
         };
-    unread = λ unread same. no_lines laws (settings_of (file name)) bytes (unread ins.Cells) same;
     begun = continues;
     first = (live_at s two [] nothing, (nothing, laws.nothing_live s, (λ port. refl)));
   }
 
 pub command_of : (laws : Laws) (limit : ℕ) (name cells hp : List ℕ) (lp : Option (List ℕ)) (s : TheSettings) (start : Meaning) → (start.tells ≡ true → settings_of (start.file name) ≡ Some s)
-    → CellCommand (receive_command name cells hp lp) limit name cells (stream_names hp lp) (reception_work s (is_some lp)) s.max_symbols start
+    → CellCommand (receive_command name cells hp lp) limit name cells (Some (header s.mode)) (stream_names hp lp) (reception_work s (is_some lp)) s.max_symbols start
 command_of laws limit name cells hp lp s start stated = record {
   reads = elim [ ins.Settings ↦ refl | ins.Hp ↦ refl | ins.Lp ↦ refl | ins.Cells ↦ refl ];
   writes = elim [ outs.Cells ↦ refl | outs.Hp ↦ refl | outs.Lp ↦ refl | outs.Bytes ↦ refl | outs.Report ↦ refl ];
+  header_is = λ t. ap header_by (stated t);
   no_report = refl;
   some = some_bytes s;
   done = refl;
   read_fault = refl;
   write_fault = refl;
+  unheaded = λ is. refl;
   limit_passed = refl;
   most_taken = λ t. let e = ap most_cells (stated t) in omega (arith, e);
   comes = λ t. comes laws limit name cells hp lp start.file s (stated t);
+  unread = λ t unread taken. no_lines laws (settings_of (start.file name)) (start.file cells) (unread ins.Cells) taken.0 taken.1 taken.2;
   its = λ old mid r reason same left done. absurd reason;
   own = own_laws laws (settings_of (start.file name)) (start.file cells);
 }

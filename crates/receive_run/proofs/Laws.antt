@@ -9,7 +9,7 @@ use Rattle.reception.specs.Lines.{event_lines, closing_lines}
 use Rattle.reception.specs.Laws.{NoEvents, NothingLive}
 use Rattle.own_cell_laws.specs.Laws.{NoiseLaw, CleanLaw}
 use Rattle.worker_laws.specs.Alike.{DifferInWorkers, SameLive, SameFinal, SameLines}
-use Rattle.receive_run.specs.Received.{IsAll, IsCutOff, IsSoFar, within_limit}
+use Rattle.receive_run.specs.Received.{cells_in, IsAll, IsCutOff, IsSoFar, within_limit}
 use Rattle.receive_run.specs.OwnLaws.{AreAlike, ReceiveLaws}
 use Rattle.receive_run.proofs.Begun.{ReceptionLaws}
 
@@ -23,12 +23,15 @@ pub record Laws : Type 0 where
   pub final : SameFinal
   pub lines : SameLines
 
-module _ (laws : Laws) (s t : Settings) (bytes : List ℕ) (d : DifferInWorkers s t) where
+module _ (laws : Laws) (s t : Settings) (file : List ℕ) (d : DifferInWorkers s t) where
+  abbrev bytes : List ℕ
+  bytes = cells_in file
+
   symbols_same : (l : List ℕ) → symbols t l ≡ symbols s l
-  symbols_same l = ap (λ (m : Mode). length l / (4 * carriers m)) d.mode
+  symbols_same l = ap (λ (m : Mode). length l / (5 * carriers m)) d.mode
 
   within_same : within_limit t bytes ≡ within_limit s bytes
-  within_same = ap₂ (λ (n : ℕ) (m : Mode). take (n * (4 * carriers m)) bytes) d.max_symbols d.mode
+  within_same = ap₂ (λ (n : ℕ) (m : Mode). take (n * (5 * carriers m)) bytes) d.max_symbols d.mode
 
   all : (r : Reception) → IsAll s bytes r → IsAll t bytes r
   all r is = record {
@@ -42,12 +45,12 @@ module _ (laws : Laws) (s t : Settings) (bytes : List ℕ) (d : DifferInWorkers 
     live = subst (λ (l : List ℕ). Live t l r) (sym within_same) (laws.live s t (within_limit s bytes) r d is.live);
   }
 
-  abbrev so_far : (left : List ℕ) (r : Reception) → IsSoFar s bytes left r → IsSoFar t bytes left r
+  abbrev so_far : (left : List ℕ) (r : Reception) → IsSoFar s file left r → IsSoFar t file left r
   so_far left r is = record {
     taken = is.taken;
     are = is.are;
-    within = subst (λ (n : ℕ). n ≤ t.max_symbols) (sym (symbols_same is.taken)) (subst (λ (n : ℕ). symbols s is.taken ≤ n) (sym d.max_symbols) is.within);
-    live = laws.live s t is.taken r d is.live;
+    within = subst (λ (n : ℕ). n ≤ t.max_symbols) (sym (symbols_same (cells_in is.taken))) (subst (λ (n : ℕ). symbols s (cells_in is.taken) ≤ n) (sym d.max_symbols) is.within);
+    live = laws.live s t (cells_in is.taken) r d is.live;
   }
 
   events_same : (l : List ℕ) (r : Reception) → event_lines s l r ≡ event_lines t l r
@@ -56,7 +59,7 @@ module _ (laws : Laws) (s t : Settings) (bytes : List ℕ) (d : DifferInWorkers 
   closing_same : (l : List ℕ) (r : Reception) → closing_lines s l r ≡ closing_lines t l r
   closing_same l r = sym (laws.lines s t l r d).1
 
-  pub are_alike : AreAlike s t bytes
+  pub are_alike : AreAlike s t file
   are_alike = record {
     outputs = λ port output c. (c.0, elim c.1 [ inl is ↦ inl (all c.0 is) | inr is ↦ inr (cut_off c.0 is) ], c.2);
     lines = λ lines c. (
@@ -67,14 +70,14 @@ module _ (laws : Laws) (s t : Settings) (bytes : List ℕ) (d : DifferInWorkers 
       ],
     );
     outputs_so_far = λ left port output c. (c.0, so_far left c.0 c.1, c.2);
-    lines_so_far = λ left lines c. (c.0, so_far left c.0 c.1, c.2 ∙ events_same c.1.taken c.0);
+    lines_so_far = λ left lines c. (c.0, so_far left c.0 c.1, c.2 ∙ events_same (cells_in c.1.taken) c.0);
   }
 
-pub own_laws : Laws → (stated : Option Settings) (bytes : List ℕ) → ReceiveLaws stated bytes
-own_laws laws stated bytes = record {
+pub own_laws : Laws → (stated : Option Settings) (file : List ℕ) → ReceiveLaws stated file
+own_laws laws stated file = record {
   returns = λ s is. record {
     own = λ inputs zero have same r all. laws.clean s inputs r zero have (subst (λ (l : List ℕ). Final s l r) same all.final);
-    noise = λ inputs zero have near r all. laws.noise s inputs bytes r zero have near all.final;
+    noise = λ inputs zero have near r all. laws.noise s inputs (cells_in file) r zero have near all.final;
   };
-  alike = λ s t is d. are_alike laws s t bytes d;
+  alike = λ s t is d. are_alike laws s t file d;
 }

@@ -17,7 +17,7 @@ use Rattle.reception.specs.Laws.{IsWithin, SameSymbols, SameCosts, TpsCellsStay,
 pub some_bytes : (s : Settings) → 0 < symbol_length s
 some_bytes s = go s.mode
   where
-    go : (m : Mode) → 0 < 4 * carriers m
+    go : (m : Mode) → 0 < 5 * carriers m
     go M2k = omega arith
     go M8k = omega arith
 

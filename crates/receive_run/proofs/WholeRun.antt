@@ -1,8 +1,9 @@
 -- The promise of a whole run of `receive`.
-use Rattle.std.proofs.Common.{◌≡◌, ◌≢◌, inl, inr, true, ℕ, Bool, List, [], Option, Some, None, Ok, Err, refl, ◌∙◌, sym, ap, subst}
+use Rattle.std.proofs.Common.{◌≡◌, ◌≢◌, inl, inr, true, ℕ, Bool, List, [], Option, Some, None, Ok, Err, refl, ◌∙◌, sym, ap, subst, arith}
 use Rattle.station_core.specs.Meaning.{Meaning, IsFresh}
 use Rattle.station_core.specs.declared.ports.InPort.{InPort}
 use Rattle.station_core.specs.declared.ports.InPort.TheVariants as ins
+use Rattle.frame_build.specs.CellFile.{header}
 use Rattle.mode_set.specs.declared.settings.Settings.{Settings as TheSettings}
 use Rattle.run_clauses.specs.declared.work.Refusal.{Refusal}
 use Rattle.run_clauses.specs.declared.work.Refusal.TheVariants.{Usage, Settings, ReadFault, WriteFault, NotSync, Memory, Limit, Cells}
@@ -38,7 +39,7 @@ module _ (limit : ℕ) (name cells hp : List ℕ) (lp : Option (List ℕ)) (star
 
   -- ---- refused before another port is asked
   nothing : (u : Unread) → ((port : InPort) → port ≢ ins.Settings → u port ≡ input_file start.file c port) → c.PrintsSoFar limit start.file u []
-  nothing u whole = no_lines laws (settings_of (start.file name)) (start.file cells) (u ins.Cells) (whole ins.Cells (λ is. cc))
+  nothing u whole = no_lines laws (settings_of (start.file name)) (start.file cells) (u ins.Cells) 0 (omega arith) (whole ins.Cells (λ is. cc))
 
   early : (r : Refusal) → RefusedEarly c limit start mid r → is_among (status_of (Some r)) c.statuses ≡ true → Ended c limit start mid (Some r)
   early = early_ended c limit name start mid refl (inr (refl, refl)) nothing (own_laws laws (settings_of (start.file name)) (start.file cells)) fresh asks
@@ -81,7 +82,7 @@ module _ (limit : ℕ) (name cells hp : List ℕ) (lp : Option (List ℕ)) (star
     -- the run has ended with its outcome, and then a text was written or not
     finished : (old : Meaning) → old ≡ record start { settings = mid.settings } → (status : ℕ) → RunsReception s cells hp lp old new status → Run c limit start new status
     finished old same status runs =
-        run_of c limit name cells (stream_names hp lp) (reception_work s (is_some lp)) s.max_symbols start new mid.settings status fresh settings
+        run_of c limit name cells (Some (header s.mode)) (stream_names hp lp) (reception_work s (is_some lp)) s.max_symbols start new mid.settings status fresh settings
         (command_of laws limit name cells hp lp s start (λ t. stated s (start.file name) (accepts.0.3 t).1.2))
         (subst (λ (m : Meaning). RunsReception s cells hp lp m new status) same runs)
 

@@ -8,7 +8,7 @@ use Rattle.transmission.specs.SuperFrames.{tx}
 use Rattle.own_cell_laws.specs.Returned.{HavePackets, IsReturned, IsWithin}
 use Rattle.reception.specs.Streams.{Reception}
 use Rattle.worker_laws.specs.Alike.{DifferInWorkers}
-use Rattle.receive_run.specs.Received.{IsAll, LinesCome, LinesSoFar, OutputComes, OutputSoFar}
+use Rattle.receive_run.specs.Received.{cells_in, IsAll, LinesCome, LinesSoFar, OutputComes, OutputSoFar}
 
 -- Where the cells are those of a transmission that starts at zero, or within the tolerance of them, what all of
 -- them give for each stream is the packets of that transmission, and then null packets.
@@ -18,17 +18,17 @@ pub record Returns (s : Settings) (bytes : List ℕ) : Type 0 where
   pub noise : (inputs : Inputs) → s.start ≡ Zero → HavePackets s inputs → IsWithin s inputs bytes
       → (r : Reception) → IsAll s bytes r → IsReturned s inputs r.packets
 
--- What the cells come to by settings s they come to by settings t: the outputs and the lines of the report, of
--- all cells or of those within the limit, and likewise so far as a failed read.
-pub record AreAlike (s t : Settings) (bytes : List ℕ) : Type 0 where
-  pub outputs : (port : OutPort) (output : List ℕ) → OutputComes s bytes port output → OutputComes t bytes port output
-  pub lines : (lines : List ℕ) → LinesCome s bytes lines → LinesCome t bytes lines
-  pub outputs_so_far : (left : List ℕ) (port : OutPort) (output : List ℕ) → OutputSoFar s bytes left port output → OutputSoFar t bytes left port output
-  pub lines_so_far : (left lines : List ℕ) → LinesSoFar (Some s) bytes left lines → LinesSoFar (Some t) bytes left lines
+-- What the file of cells comes to by settings s it comes to by settings t: the outputs and the lines of the
+-- report, of all cells or of those within the limit, and likewise so far as a failed read.
+pub record AreAlike (s t : Settings) (file : List ℕ) : Type 0 where
+  pub outputs : (port : OutPort) (output : List ℕ) → OutputComes s (cells_in file) port output → OutputComes t (cells_in file) port output
+  pub lines : (lines : List ℕ) → LinesCome s (cells_in file) lines → LinesCome t (cells_in file) lines
+  pub outputs_so_far : (left : List ℕ) (port : OutPort) (output : List ℕ) → OutputSoFar s file left port output → OutputSoFar t file left port output
+  pub lines_so_far : (left lines : List ℕ) → LinesSoFar (Some s) file left lines → LinesSoFar (Some t) file left lines
 
--- the laws, by the settings that are stated, if any are, and the bytes of the cells
-pub record ReceiveLaws (stated : Option Settings) (bytes : List ℕ) : Type 0 where
+-- the laws, by the settings that are stated, if any are, and the file of cells
+pub record ReceiveLaws (stated : Option Settings) (file : List ℕ) : Type 0 where
   -- Own cells, and cells near them, give their packets back.
-  pub returns : (s : Settings) → stated ≡ Some s → Returns s bytes
+  pub returns : (s : Settings) → stated ≡ Some s → Returns s (cells_in file)
   -- By settings that differ from the stated ones in the number of workers alone, all is the same.
-  pub alike : (s t : Settings) → stated ≡ Some s → DifferInWorkers s t → AreAlike s t bytes
+  pub alike : (s t : Settings) → stated ≡ Some s → DifferInWorkers s t → AreAlike s t file

@@ -1,18 +1,20 @@
 -- The command `receive`: the files that it reads and writes, and what it comes to, from its settings and the
 -- file of cells alone.
 use Rattle.std.specs.Prelude.{◌≡◌, ℕ, ◌+◌, ◌*◌, List, [], ◌∷◌, Option, None, Some, option_and_then}
+use Rattle.std.specs.Option.{option_map}
 use Rattle.station_core.specs.declared.ports.InPort.{InPort}
 use Rattle.station_core.specs.declared.ports.InPort.TheVariants as ins
 use Rattle.station_core.specs.declared.ports.OutPort.{OutPort}
 use Rattle.station_core.specs.declared.ports.OutPort.TheVariants as outs
 use Rattle.mode_set.specs.declared.settings.Settings.{Settings}
+use Rattle.frame_build.specs.CellFile.{header}
 use Rattle.reception.specs.Cells.{symbol_length}
 use Rattle.run_clauses.specs.Command.{Command, Files}
 use Rattle.run_clauses.specs.SettingsFile.{most_settings}
 use Rattle.run_clauses.specs.StatedSettings.{settings_of}
 use Rattle.run_clauses.specs.StreamForm.{fitting_refusal}
 use Rattle.receive_run.specs.OwnLaws.{ReceiveLaws}
-use Rattle.receive_run.specs.Received.{LinesCome, LinesSoFar, OutputComes, OutputSoFar, reception_refusal}
+use Rattle.receive_run.specs.Received.{cells_in, LinesCome, LinesSoFar, OutputComes, OutputSoFar, reception_refusal}
 
 -- the settings and the cells are read
 abbrev pub reads_at : List ℕ → List ℕ → InPort → Option (List ℕ)
@@ -29,10 +31,14 @@ writes_at hp lp outs.Lp = lp
 writes_at hp lp outs.Bytes = None
 writes_at hp lp outs.Report = None
 
--- of the cells no more is taken than the limit and one symbol
+-- the header with which the cells must begin is that of the settings' mode
+abbrev pub header_by : Option Settings → Option (List ℕ)
+header_by stated = option_map (λ s. header s.mode) stated
+
+-- of the cells no more is taken than the header, the limit and one symbol
 abbrev pub most_cells : Option Settings → ℕ
 most_cells None = 0
-most_cells (Some s) = (s.max_symbols + 1) * symbol_length s
+most_cells (Some s) = 8 + (s.max_symbols + 1) * symbol_length s
 
 abbrev pub most_taken_at : List ℕ → Files → InPort → ℕ
 most_taken_at settings file ins.Settings = most_settings + 1
@@ -45,12 +51,13 @@ abbrev pub receive_command : List ℕ → List ℕ → List ℕ → Option (List
 receive_command settings cells hp lp = record {
   reads = reads_at settings cells;
   writes = writes_at hp lp;
-  statuses = 0 ∷ 3 ∷ 5 ∷ 6 ∷ 7 ∷ 8 ∷ [];
+  statuses = 0 ∷ 3 ∷ 5 ∷ 6 ∷ 7 ∷ 8 ∷ 9 ∷ [];
   early_refusal = λ file. fitting_refusal (file settings) lp;
-  work_refusal = λ limit file. option_and_then (λ s. reception_refusal s (file cells)) (settings_of (file settings));
+  header = λ file. header_by (settings_of (file settings));
+  work_refusal = λ limit file. option_and_then (λ s. reception_refusal s (cells_in (file cells))) (settings_of (file settings));
   most_taken = λ limit file. most_taken_at settings file;
-  Comes = λ limit file port output. (s : Settings) × (settings_of (file settings) ≡ Some s) × OutputComes s (file cells) port output;
-  Prints = λ limit file lines. (s : Settings) × (settings_of (file settings) ≡ Some s) × LinesCome s (file cells) lines;
+  Comes = λ limit file port output. (s : Settings) × (settings_of (file settings) ≡ Some s) × OutputComes s (cells_in (file cells)) port output;
+  Prints = λ limit file lines. (s : Settings) × (settings_of (file settings) ≡ Some s) × LinesCome s (cells_in (file cells)) lines;
   ComesSoFar = λ limit file unread port output.
       (s : Settings) × (settings_of (file settings) ≡ Some s) × OutputSoFar s (file cells) (unread ins.Cells) port output;
   PrintsSoFar = λ limit file unread lines. LinesSoFar (settings_of (file settings)) (file cells) (unread ins.Cells) lines;

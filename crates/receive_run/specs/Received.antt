@@ -1,5 +1,6 @@
 -- What is received of a file of cells, by settings: the packets of the streams, and the lines of the report.
-use Rattle.std.specs.Prelude.{◌≡◌, ◌⊎◌, ℕ, ◌*◌, ◌<◌, ◌≤◌, nat_lt, if◌then◌else◌, List, [], ◌++◌, take, Option, None, Some}
+-- `bytes` are those behind the header of the file.
+use Rattle.std.specs.Prelude.{◌≡◌, ◌⊎◌, ℕ, ◌*◌, ◌<◌, ◌≤◌, nat_lt, if◌then◌else◌, List, [], ◌++◌, take, drop, Option, None, Some}
 use Rattle.station_core.specs.declared.ports.OutPort.{OutPort}
 use Rattle.station_core.specs.declared.ports.OutPort.TheVariants as outs
 use Rattle.mode_set.specs.declared.modes.Stream.TheVariants.{Hp, Lp}
@@ -9,6 +10,10 @@ use Rattle.reception.specs.Streams.{Reception, Live, Final}
 use Rattle.reception.specs.Lines.{event_lines, closing_lines}
 use Rattle.run_clauses.specs.declared.work.Refusal.{Refusal}
 use Rattle.run_clauses.specs.declared.work.Refusal.TheVariants.{Limit}
+
+-- the bytes of a cell file behind its header of eight bytes
+abbrev pub cells_in : List ℕ → List ℕ
+cells_in file = drop 8 file
 
 -- more whole symbols than the limit are refused
 abbrev pub reception_refusal : Settings → List ℕ → Option Refusal
@@ -28,13 +33,13 @@ pub record IsCutOff (s : Settings) (bytes : List ℕ) (r : Reception) : Type 0 w
   pub past : s.max_symbols < symbols s bytes
   pub live : Live s (within_limit s bytes) r
 
--- After a failed read the bytes taken of the cells give this, as if more might follow. They are at most
--- as many whole symbols as the limit.
-pub record IsSoFar (s : Settings) (bytes left : List ℕ) (r : Reception) : Type 0 where
+-- After a failed read the bytes taken of the file give this behind the header, as if more might follow. They
+-- are at most as many whole symbols as the limit. Within the header they give nothing.
+pub record IsSoFar (s : Settings) (file left : List ℕ) (r : Reception) : Type 0 where
   pub taken : List ℕ
-  pub are : bytes ≡ taken ++ left
-  pub within : symbols s taken ≤ s.max_symbols
-  pub live : Live s taken r
+  pub are : file ≡ taken ++ left
+  pub within : symbols s (cells_in taken) ≤ s.max_symbols
+  pub live : Live s (cells_in taken) r
 
 -- the packets that are written at a port
 abbrev pub packets_at : OutPort → Reception → List ℕ
@@ -57,9 +62,9 @@ LinesCome s bytes lines = (r : Reception) × (
 
 -- After a failed read the output at a port is the packets of the bytes taken.
 abbrev pub OutputSoFar : Settings → List ℕ → List ℕ → OutPort → List ℕ → Type 0
-OutputSoFar s bytes left port output = (r : Reception) × IsSoFar s bytes left r × (output ≡ packets_at port r)
+OutputSoFar s file left port output = (r : Reception) × IsSoFar s file left r × (output ≡ packets_at port r)
 
 -- And the report has the event lines of these bytes. Where no settings are stated there are none.
 abbrev pub LinesSoFar : Option Settings → List ℕ → List ℕ → List ℕ → Type 0
-LinesSoFar None bytes left lines = lines ≡ []
-LinesSoFar (Some s) bytes left lines = (r : Reception) × (so_far : IsSoFar s bytes left r) × (lines ≡ event_lines s so_far.taken r)
+LinesSoFar None file left lines = lines ≡ []
+LinesSoFar (Some s) file left lines = (r : Reception) × (so_far : IsSoFar s file left r) × (lines ≡ event_lines s (cells_in so_far.taken) r)

@@ -1,7 +1,8 @@
 -- A run of a reception behind its settings.
-use Rattle.std.specs.Prelude.{◌≡◌, ◌⊎◌, ℕ, List, Option, is_some}
+use Rattle.std.specs.Prelude.{◌≡◌, ◌⊎◌, ℕ, List, Option, Some, is_some}
 use Rattle.station_core.specs.Meaning.{Meaning}
 use Rattle.mode_set.specs.declared.settings.Settings.{Settings}
+use Rattle.frame_build.specs.CellFile.{header}
 use Rattle.run_clauses.specs.declared.work.Refusal.TheVariants.{Memory}
 use Rattle.run_clauses.specs.Text.{refusal_text}
 use Rattle.run_steps.specs.Report.{WritesText}
@@ -11,7 +12,7 @@ use Rattle.receive_run.specs.Working.{reception_work}
 
 -- the cells were received, and the packets of the streams written
 abbrev pub RunsReception : Settings → List ℕ → List ℕ → Option (List ℕ) → Meaning → Meaning → ℕ → Type 0
-RunsReception s cells hp lp old new status = RunsCells (reception_work s (is_some lp)) s.max_symbols cells (stream_names hp lp) old new status
+RunsReception s cells hp lp old new status = RunsCells (reception_work s (is_some lp)) s.max_symbols cells (Some (header s.mode)) (stream_names hp lp) old new status
 
 -- or memory was wanting before a port was asked
 abbrev pub RunsOrLacks : Settings → List ℕ → List ℕ → Option (List ℕ) → Meaning → Meaning → ℕ → Type 0

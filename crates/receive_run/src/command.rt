@@ -16,6 +16,7 @@ ghost use Rattle.receive_run.specs.ReceiveCommand.{receive_command};
 
 use crate::receivers::{ModeReceiver, ReceiverWithOutput};
 use crate::reception_work::ReceptionWork;
+use frame_build::header;
 use mode_set::{Carriers, Mode, Mode2k, Mode8k, Settings};
 use receiver::{Receiver, RxOut};
 use run_clauses::{Limits, Refusal};
@@ -49,14 +50,14 @@ fn receive_by<
     feeder: &F,
     receiver: T,
     out: RxOut,
-    max_symbols: u32,
+    settings: &Settings,
     symbol: &mut [u8],
     names: Names<'a>,
     station: &mut S,
 ) -> u8
     requires feeder { IsFeeder T.state F.Fn feeder.now }
     requires start { StandsFor so_far (T.state receiver) [] nothing }
-    requires most { (T.state receiver).settings.max_symbols ≡ max_symbols }
+    requires settings { (T.state receiver).settings ≡ settings.now }
     requires size { length symbol.old ≡ symbol_length (T.state receiver).settings }
     requires ready { IsReady (stream_names names.hp.now (option_copied names.lp)) (S.meaning station.old) }
     ensures { RunsReception (T.state receiver).settings names.entry.cells.now names.entry.hp.now (option_copied names.entry.lp) (S.meaning station.old) (S.meaning station.new) result }
@@ -73,7 +74,15 @@ fn receive_by<
         hp: names.hp,
         lp: names.lp,
     };
-    run_cells(max_symbols, names.cells, &files, &mut work, symbol, station)
+    run_cells(
+        settings.max_symbols,
+        names.cells,
+        Some(header(settings.mode)),
+        &files,
+        &mut work,
+        symbol,
+        station,
+    )
 }
 
 // Takes the memory of a mode's receiver and of one symbol, and runs the reception through this gate.
@@ -95,7 +104,7 @@ fn receive_in<'a, M: Carriers, R: Threads + Sync, G: Gate, S: Station<'a>>(
     let Ok(out) = RxOut::new(alloc) else {
         return refuse(&Refusal::Memory, station);
     };
-    let Ok(mut symbol) = vec![in alloc; 0u8; 4 * M::K as usize] else {
+    let Ok(mut symbol) = vec![in alloc; 0u8; 5 * M::K as usize] else {
         return refuse(&Refusal::Memory, station);
     };
     let feeder = |receiver: &mut Receiver<M>, piece: &[u8], out: &mut RxOut| -> usize
@@ -107,7 +116,7 @@ fn receive_in<'a, M: Carriers, R: Threads + Sync, G: Gate, S: Station<'a>>(
         &feeder,
         receiver,
         out,
-        settings.max_symbols,
+        settings,
         &mut symbol,
         names,
         station,
@@ -136,7 +145,8 @@ fn receive_accepted<'a, R: Threads + Sync, G: Gate, S: Station<'a>>(
 /// status.
 ///
 /// What it promises is `Run` of its definition, `receive_command`. The settings are read and checked, and
-/// then all memory is taken, before another port is asked; the cells are opened before an output is made. The
+/// then all memory is taken, before another port is asked; the cells are opened, and their header is read,
+/// before an output is made. The
 /// workers of the receiver enter the gate, of which no clause speaks: they hold for every one.
 pub fn receive<'a, R: Threads + Sync, G: Gate, S: Station<'a>>(
     rt: &R,

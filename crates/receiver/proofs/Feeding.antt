@@ -255,11 +255,11 @@ finishes one all x y bytes r out kept ended same rest frames none hp_gave lp_gav
 
 -- ---- at first
 
-pub some_carriers : (mode : Mode) (k nmax nr blocks : ℕ) → IsModeRow mode k nmax nr blocks → 0 < 4 * k
+pub some_carriers : (mode : Mode) (k nmax nr blocks : ℕ) → IsModeRow mode k nmax nr blocks → 0 < 5 * k
 some_carriers mode k nmax nr blocks (inl h) = omega (arith, h.1)
 some_carriers mode k nmax nr blocks (inr h) = omega (arith, h.1)
 
-no_symbols : (m : Mode) → 0 / (4 * carriers m) ≡ 0
+no_symbols : (m : Mode) → 0 / (5 * carriers m) ≡ 0
 no_symbols M2k = refl
 no_symbols M8k = refl
 
@@ -282,13 +282,13 @@ new_stands costs_none live x start going taken rest starts hp lp frames read bad
 
 -- ---- how much is taken
 
-pub still_unfinished : (rest piece new : List ℕ) (n k : ℕ) → length rest < 4 * k → n ≡ min (length piece) (4 * k - length rest) → new ≡ rest ++ take n piece → (length new ≡ 4 * k → ⊥) → length new < 4 * k
-still_unfinished rest piece new n k l count is none = go (cases_lt (length new) (4 * k))
+pub still_unfinished : (rest piece new : List ℕ) (n k : ℕ) → length rest < 5 * k → n ≡ min (length piece) (5 * k - length rest) → new ≡ rest ++ take n piece → (length new ≡ 5 * k → ⊥) → length new < 5 * k
+still_unfinished rest piece new n k l count is none = go (cases_lt (length new) (5 * k))
   where
     long : length new ≡ length rest + n
     long = ap length is ∙ length-append rest (take n piece) ∙ ap (λ z. length rest + z) (length-take-le n piece (omega (arith, count)))
 
-    go : (length new < 4 * k) ⊎ (4 * k ≤ length new) → length new < 4 * k
+    go : (length new < 5 * k) ⊎ (5 * k ≤ length new) → length new < 5 * k
     go (inl s) = s
     go (inr s) = absurd (none (omega (arith, s, long, count, l)))
 
@@ -296,14 +296,14 @@ still_unfinished rest piece new n k l count is none = go (cases_lt (length new) 
 tail_is : TailIsUnfinished → (x : ReceiverState) (bytes : List ℕ) (r : Reception) → StandsFor so_far x bytes r → tail x.settings bytes ≡ length x.rest
 tail_is law x bytes r h = sym (law x.settings bytes) ∙ ap length (sym h.rest)
 
-pub taken_is : TailIsUnfinished → (x : ReceiverState) (bytes piece : List ℕ) (n k : ℕ) (r : Reception) → StandsFor so_far x bytes r → k ≡ carriers x.settings.mode → n ≡ min (length piece) (4 * k - length x.rest) → n ≡ taken x.settings bytes piece
-taken_is law x bytes piece n k r h e count = count ∙ ap₂ (λ (a b : ℕ). min (length piece) (4 * a - b)) e (sym (tail_is law x bytes r h))
+pub taken_is : TailIsUnfinished → (x : ReceiverState) (bytes piece : List ℕ) (n k : ℕ) (r : Reception) → StandsFor so_far x bytes r → k ≡ carriers x.settings.mode → n ≡ min (length piece) (5 * k - length x.rest) → n ≡ taken x.settings bytes piece
+taken_is law x bytes piece n k r h e count = count ∙ ap₂ (λ (a b : ℕ). min (length piece) (5 * a - b)) e (sym (tail_is law x bytes r h))
 
-more_tail : TailIsUnfinished → (x : ReceiverState) (bytes piece new : List ℕ) (n k : ℕ) (r : Reception) → StandsFor so_far x bytes r → n ≡ min (length piece) (4 * k - length x.rest) → new ≡ x.rest ++ take n piece → tail x.settings bytes + length (take n piece) ≡ length new
+more_tail : TailIsUnfinished → (x : ReceiverState) (bytes piece new : List ℕ) (n k : ℕ) (r : Reception) → StandsFor so_far x bytes r → n ≡ min (length piece) (5 * k - length x.rest) → new ≡ x.rest ++ take n piece → tail x.settings bytes + length (take n piece) ≡ length new
 more_tail law x bytes piece new n k r h count is = ap (λ z. z + length (take n piece)) (tail_is law x bytes r h) ∙ sym (length-append x.rest (take n piece)) ∙ ap length (sym is)
 
-pub within_is : TailIsUnfinished → (x : ReceiverState) (bytes piece new : List ℕ) (n k : ℕ) (r : Reception) → StandsFor so_far x bytes r → k ≡ carriers x.settings.mode → n ≡ min (length piece) (4 * k - length x.rest) → new ≡ x.rest ++ take n piece → length new < 4 * k → IsWithin x.settings bytes (take n piece)
-within_is law x bytes piece new n k r h e count is l = subst (λ (z : ℕ). tail x.settings bytes + length (take n piece) < 4 * z) e (omega (arith, l, more_tail law x bytes piece new n k r h count is))
+pub within_is : TailIsUnfinished → (x : ReceiverState) (bytes piece new : List ℕ) (n k : ℕ) (r : Reception) → StandsFor so_far x bytes r → k ≡ carriers x.settings.mode → n ≡ min (length piece) (5 * k - length x.rest) → new ≡ x.rest ++ take n piece → length new < 5 * k → IsWithin x.settings bytes (take n piece)
+within_is law x bytes piece new n k r h e count is l = subst (λ (z : ℕ). tail x.settings bytes + length (take n piece) < 5 * z) e (omega (arith, l, more_tail law x bytes piece new n k r h count is))
 
-pub ends_is : TailIsUnfinished → (x : ReceiverState) (bytes piece new : List ℕ) (n k : ℕ) (r : Reception) → StandsFor so_far x bytes r → k ≡ carriers x.settings.mode → n ≡ min (length piece) (4 * k - length x.rest) → new ≡ x.rest ++ take n piece → length new ≡ 4 * k → EndsSymbol x.settings bytes (take n piece)
-ends_is law x bytes piece new n k r h e count is l = more_tail law x bytes piece new n k r h count is ∙ l ∙ ap (λ (z : ℕ). 4 * z) e
+pub ends_is : TailIsUnfinished → (x : ReceiverState) (bytes piece new : List ℕ) (n k : ℕ) (r : Reception) → StandsFor so_far x bytes r → k ≡ carriers x.settings.mode → n ≡ min (length piece) (5 * k - length x.rest) → new ≡ x.rest ++ take n piece → length new ≡ 5 * k → EndsSymbol x.settings bytes (take n piece)
+ends_is law x bytes piece new n k r h e count is l = more_tail law x bytes piece new n k r h count is ∙ l ∙ ap (λ (z : ℕ). 5 * z) e

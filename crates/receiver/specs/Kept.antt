@@ -13,7 +13,7 @@ use Rattle.receiver.specs.declared.stream.StreamRx.{StreamRx}
 pub record IsReceiving (mode : Mode) (carriers : ℕ) (settings : Settings) (rest : List ℕ) (inner : Settings) (room : ℕ) (hp lp : StreamRx) (frames : FrameReader) (taken : ℕ) (ended : Bool) : Type 0 where
   pub mode_is : settings.mode ≡ mode
   pub inner_is : inner ≡ settings
-  pub unfinished : length rest < 4 * carriers
+  pub unfinished : length rest < 5 * carriers
   pub hp_room : need settings Hp ≤ room
   pub lp_room : need settings Lp ≤ room
   pub hp_kept : ended ≡ false → IsKeptStream hp (need settings Hp) taken

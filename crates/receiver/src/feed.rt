@@ -123,7 +123,7 @@ impl<M: Carriers> Receiver<M> {
         requires few { self.old.taken < 2 ^ 32 }
         ensures settings { self.new.settings ≡ self.old.settings }
         ensures going { self.new.ended ≡ false }
-        ensures count { result ≡ min (length piece.now) (4 * M.K - length self.old.rest) }
+        ensures count { result ≡ min (length piece.now) (5 * M.K - length self.old.rest) }
         ensures taken { self.new.taken ≤ self.old.taken + 1 }
         ensures fed { (bytes : List ℕ) (r : Reception) → StandsFor so_far self.old bytes r → Feeds (StandsFor so_far self.new) self.old.settings bytes piece.now r result out.new }
     {
@@ -143,7 +143,7 @@ impl<M: Carriers> Receiver<M> {
         requires few { self.old.taken < 2 ^ 32 }
         ensures settings { self.new.settings ≡ self.old.settings }
         ensures going { self.new.ended ≡ false }
-        ensures count { result ≡ min (length piece.now) (4 * M.K - length self.old.rest) }
+        ensures count { result ≡ min (length piece.now) (5 * M.K - length self.old.rest) }
         ensures taken { self.new.taken ≤ self.old.taken + 1 }
         ensures fed { (bytes : List ℕ) (r : Reception) → StandsFor so_far self.old bytes r → Feeds (StandsFor so_far self.new) self.old.settings bytes piece.now r result out.new }
     {

@@ -8,10 +8,10 @@ use std::process::Abort;
 use ts_packet::Packet;
 
 /// The bytes of a symbol of the 2K mode.
-pub(crate) const SYMBOL: usize = 6820;
+pub(crate) const SYMBOL: usize = 8525;
 
 /// The room for a symbol of either mode.
-const ROOM: usize = 27268;
+const ROOM: usize = 34085;
 
 /// QPSK at 1/2 in the 2K mode.
 pub(crate) fn settings(start: Start) -> Settings

@@ -28,7 +28,7 @@ fn pieces_of_any_size(rt: HostRuntime) -> Result<(), Fail> {
     bytes.extend_from_slice(&[1, 2, 3])?;
     let (whole, _) = fed_in_pieces(&rt, alloc, &bytes, SYMBOL)?;
     assert_eq!(rt; (whole.len(), total(&whole)), (16, 3 * 188));
-    for size in [1usize, 997, 6819, 6821, 20000] {
+    for size in [1usize, 997, 8524, 8526, 20000] {
         let (other, _) = fed_in_pieces(&rt, alloc, &bytes, size)?;
         assert!(rt; other == whole, "pieces of {size} bytes");
     }
@@ -41,7 +41,7 @@ fn pieces_of_any_size(rt: HostRuntime) -> Result<(), Fail> {
 fn null_super_frame_byte_by_byte(rt: HostRuntime) -> Result<(), Fail> {
     let alloc = rt.alloc();
     let bytes = null_symbols(&rt, alloc, 272)?;
-    assert_eq!(rt; bytes.len(), 1_855_040);
+    assert_eq!(rt; bytes.len(), 2_318_800);
     let (whole, mut by_symbols) = fed_in_pieces(&rt, alloc, &bytes, SYMBOL)?;
     let (narrow, mut by_bytes) = fed_in_pieces(&rt, alloc, &bytes, 1)?;
     assert_eq!(rt; (whole.len(), total(&whole)), (272, 240 * 188));
@@ -92,7 +92,7 @@ fn clean_counts() -> Counts {
 fn lopsided_symbol(alloc: Global) -> Result<Vec<u8>, AllocError> {
     let mut bytes = Vec::new(alloc);
     for _ in 0..1705u16 {
-        bytes.extend_from_slice(&[0x00, 0x00, 0x2D, 0x41])?;
+        bytes.extend_from_slice(&[0x00, 0x00, 0x2D, 0x41, 0x0F])?;
     }
     Ok(bytes)
 }

@@ -163,7 +163,7 @@ pub fn run_gated_files<R: Threads + Sync, G: Gate>(
     inputs: (Vec<u8>, Vec<u8>),
 ) -> Result<Ran, AllocError> {
     let words = words_of(alloc, text)?;
-    let mut station = station_of(alloc, settings, inputs, ample(1_900_000))?;
+    let mut station = station_of(alloc, settings, inputs, ample(2_400_000))?;
     let status = run_words_gated(rt, alloc, gate, &words, &mut station);
     Ran::new(alloc, status, &station)
 }

@@ -1,8 +1,9 @@
-use Rattle.std.proofs.Common.{◌≡◌, ◌∙◌, ℕ, Bool, List, Option, refl, sym, subst, arith}
+use Rattle.std.proofs.Common.{◌≡◌, ◌∙◌, ℕ, Bool, List, Option, Some, refl, sym, subst, arith}
 use Rattle.std.specs.Prelude.{is_some}
 use Rattle.std.specs.Option.{option_copied}
 use Rattle.station_core.specs.Meaning.{Meaning}
 use Rattle.mode_set.specs.declared.settings.Settings.{Settings}
+use Rattle.frame_build.specs.CellFile.{header}
 use Rattle.run_steps.proofs.Fitting.{copied_some}
 use Rattle.symbol_runs.specs.Outputs.{Names, stream_names}
 use Rattle.symbol_runs.specs.Runs.{RunsCells}
@@ -37,5 +38,7 @@ returns g c =
     let lp : Option (List ℕ) = option_copied c.args.names.lp in
     let names : Names = stream_names c.args.names.hp.now lp in
     let two : c.is_some-two.result ≡ is_some lp = c.is_some-two.ensures ∙ copied_some c.args.names.lp in
-    subst (λ (n : ℕ). RunsCells (reception_work s (is_some lp)) n cells names old new c.run_cells.result) (sym c.requires.most)
-    (subst (λ (b : Bool). RunsCells (reception_work s b) c.args.max_symbols cells names old new c.run_cells.result) two c.run_cells.ensures.runs)
+    let t : Settings = c.args.settings.now in
+    subst (λ (x : Settings). RunsCells (reception_work s (is_some lp)) x.max_symbols cells (Some (header x.mode)) names old new c.run_cells.result) (sym c.requires.settings)
+    (subst (λ (b : Bool). RunsCells (reception_work s b) t.max_symbols cells (Some (header t.mode)) names old new c.run_cells.result) two
+    (subst (λ (h : List ℕ). RunsCells (reception_work s c.is_some-two.result) t.max_symbols cells (Some h) names old new c.run_cells.result) c.header.ensures c.run_cells.ensures.runs))

@@ -24,7 +24,7 @@ receive_by-requires-sync-R g c κs within =
           (
             c.in-Ok.ensures.stands,
             (
-              ap (λ (x : Settings). x.max_symbols) c.in-Ok.ensures.settings,
+              c.in-Ok.ensures.settings,
               (omega (arith, c.deref_mut.ensures.len, c.in-Ok-vec.ensures.len, c.K.ensures, many), c.requires.ready),
             ),
           ),

@@ -1,0 +1,4 @@
+mod Parts
+mod Upgraded
+mod Plain
+mod Vectors

@@ -1,0 +1,3 @@
+pub mod OldCells
+pub mod Plain
+pub mod Laws
