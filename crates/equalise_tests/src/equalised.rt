@@ -188,7 +188,14 @@ fn symbols_of_every_phase(rt: HostRuntime) -> Result<(), Fail> {
     let alloc = rt.alloc();
     let cases = [
         (WIDE, 1, 136_340, "symbols 4 tail 0\n", 136_348, 909_070_439),
-        (BASE, 0, 605_275, "symbols 71 tail 0\n", 605_283, 755_273_051),
+        (
+            BASE,
+            0,
+            605_275,
+            "symbols 71 tail 0\n",
+            605_283,
+            755_273_051,
+        ),
     ];
     for (settings, mode, count, report, long, sum) in cases {
         let old_cells = cell_file(alloc, mode, count)?;
@@ -227,7 +234,14 @@ fn refused_words_settings_and_cells(rt: HostRuntime) -> Result<(), Fail> {
         ("equalise s a", BASE, 0, 8_533, 2, "usage\n"),
         ("equalise s a b cells", LAYERED, 0, 8_533, 2, "usage\n"),
         (EQUALISE, "mode =", 0, 8_533, 3, "settings not toml\n"),
-        (EQUALISE, "colour = 1\n", 0, 8_533, 3, "settings unknown 0\n"),
+        (
+            EQUALISE,
+            "colour = 1\n",
+            0,
+            8_533,
+            3,
+            "settings unknown 0\n",
+        ),
         (EQUALISE, "", 0, 8_533, 3, "settings missing mode\n"),
         ("equalise gone a cells", BASE, 0, 8_533, 5, "read fault\n"),
         ("equalise s gone cells", BASE, 0, 8_533, 5, "read fault\n"),
