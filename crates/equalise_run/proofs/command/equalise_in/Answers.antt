@@ -1,5 +1,6 @@
-use Rattle.std.proofs.Common.{◌≡◌, ◌*◌, ◌<◌, length, Some, ℕ, List, refl, sym, ap, ◌∙◌, subst, arith}
+use Rattle.std.proofs.Common.{◌≡◌, ◌*◌, ◌<◌, length, Some, ℕ, List, refl, ap, ◌∙◌, arith}
 use Rattle.mode_set.specs.StreamTable.{carriers}
+use Rattle.frame_build.specs.CellFile.{header}
 use Rattle.equalise_run.proofs.Sound.{some_bytes}
 use Rattle.equalise_run.proofs.command.equalise_in.Goals as goal
 
@@ -10,7 +11,7 @@ run_conversion-requires g c κs =
     let long : length c.deref_mut.result.now ≡ 5 * carriers g.M.Carriers.MODE = omega (arith, c.deref_mut.ensures.len, c.in-Ok.ensures.len, c.K.ensures, many) in (
       (refl, tt),
       (
-        ap (λ (h : List ℕ). Some h) c.header.ensures,
+        ap (λ (h : List ℕ). Some h) (c.header.ensures ∙ ap header c.MODE.ensures),
         (
           record { none = c.in-Ok-new.ensures; room = omega (arith, c.in-Ok-with_capacity.ensures.capacity, c.K.ensures, many) },
           (long, (omega (arith, long, some), c.requires.ready)),
