@@ -28,8 +28,8 @@ GUARDS = {"1/32": dtv.GI_1_32, "1/16": dtv.GI_1_16, "1/8": dtv.GI_1_8, "1/4": dt
 
 def write_samples(path, cells, carriers, points, guard):
     """The samples of a cell file, by the recipe of docs/FILES.md."""
-    parts = np.fromfile(cells, dtype=">i2").reshape(-1, carriers, 2)
-    values = (parts[..., 0] + 1j * parts[..., 1]) / 16384
+    file = np.fromfile(cells, dtype=[("re", ">i2"), ("im", ">i2"), ("weight", "u1")], offset=8).reshape(-1, carriers)
+    values = (file["re"] + 1j * file["im"]) / 16384
     spectrum = np.zeros((len(values), points), complex)
     spectrum[:, (np.arange(carriers) - (carriers - 1) // 2) % points] = values
     body = np.fft.ifft(spectrum) * points / carriers**0.5

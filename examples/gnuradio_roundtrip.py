@@ -76,8 +76,11 @@ samples = np.fromfile("theirs.samples", np.complex64).reshape(-1, POINTS)
 symbols = len(samples) // 272 * 272
 cells = np.fft.fftshift(np.fft.fft(samples[:symbols]), axes=1)[:, FIRST : FIRST + CARRIERS]
 cells *= 4 / 3 / abs(cells[0, 0])
-numbers = np.rint(np.stack([cells.real, cells.imag], axis=-1) * 16384).astype(">i2")
-numbers.tofile("theirs.cells")
+CELL = np.dtype([("re", ">i2"), ("im", ">i2"), ("weight", "u1")])
+HEADER = b"DVTC\x02\x00\x00\x00"  # a cell file of the 2K mode
+file = np.empty(cells.shape, CELL)
+file["re"], file["im"], file["weight"] = np.rint(cells.real * 16384), np.rint(cells.imag * 16384), 15
+pathlib.Path("theirs.cells").write_bytes(HEADER + file.tobytes())
 print(f"GNU Radio made {len(samples)} symbols, {symbols} of them in whole super-frames")
 
 # %% dvbt receives them
@@ -89,14 +92,14 @@ print(f"received {len(received)} packets, {'the first ones that were sent' if is
 
 # %% and its own modulator makes the same cells, as far as no later packet comes in
 run("bin/dvbt", "modulate", "s.toml", "in.ts", "ours.cells")
-size = 4 * CARRIERS * symbols
+size = len(HEADER) + CELL.itemsize * CARRIERS * symbols
 pathlib.Path("ours.cells").write_bytes(pathlib.Path("ours.cells").read_bytes()[:size])
 is_same = run("tools/cells.py", "compare", "s.toml", "theirs.cells", "ours.cells", "--within", "1") == 0
 
 # %% The other way: dvbt modulates, GNU Radio receives
-ours = np.fromfile("ours.cells", ">i2").reshape(-1, CARRIERS, 2)
+ours = np.fromfile("ours.cells", CELL, offset=len(HEADER)).reshape(-1, CARRIERS)
 points = np.zeros((len(ours), POINTS), np.complex64)
-points[:, FIRST : FIRST + CARRIERS] = (ours[..., 0] + 1j * ours[..., 1]) / 16384
+points[:, FIRST : FIRST + CARRIERS] = (ours["re"] + 1j * ours["im"]) / 16384
 points.tofile("ours.points")
 connected(
     blocks.file_source(gr.sizeof_gr_complex * POINTS, "ours.points", False),

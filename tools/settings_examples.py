@@ -1,5 +1,5 @@
 #!/usr/bin/env python3
-"""Writes the texts of examples/settings/ into the test of mode_set that reads them.
+"""Writes the texts of examples/settings/ into the test of the settings that reads them.
 
 A test starts in an empty folder, so it holds the texts itself. Run this at the top of the
 repository after a change of an example; with --check it only says whether the two agree.
@@ -7,7 +7,7 @@ repository after a change of an example; with --check it only says whether the t
 import pathlib
 import sys
 
-TARGET = pathlib.Path("crates/mode_set/src/tests/examples.rt")
+TARGET = pathlib.Path("crates/settings_tests/src/examples.rt")
 
 
 def generated():

@@ -1,16 +1,28 @@
 #!/usr/bin/env bash
-# Figures of the inner coding of a symbol: builds the program of this folder over the repository's
-# crates in a scratch repository, optimised by LLVM, and runs it. Usage: bench/inner/run.sh [try]
-# With `try` it is run without any proof.
+# Figures of the inner coding: builds a program of this folder over the repository's crates in a scratch
+# repository, optimised by LLVM, and runs it. Usage: bench/inner/run.sh [chain|bytes] [try]
+# `chain` codes and reads symbols, `bytes` codes bytes as the command `inner` does. With `try` it is run
+# without any proof.
 set -e
 here="$(cd "$(dirname "$0")" && pwd)"
 top="$(cd "$here/../.." && pwd)"
 scratch="${SCRATCH:-/tmp/bench-inner}"
+which="${1:-chain}"
+case "$which" in
+  chain)
+    below="spec_words mode_set bit_pack code_paths conv_code puncture bit_interleave symbol_interleave qam_map soft_metric pilots inner_chain"
+    deps="anyhow mode_set bit_pack conv_code qam_map inner_chain"
+    ;;
+  bytes)
+    below="spec_words mode_set bit_pack code_paths conv_code puncture"
+    deps="anyhow arrayvec mode_set bit_pack puncture"
+    ;;
+esac
 . "$top/bench/scratch.sh"
-copy_crates "$top" "$scratch" spec_words mode_set bit_pack code_paths conv_code puncture bit_interleave symbol_interleave \
-  qam_map soft_metric pilots inner_chain
+# shellcheck disable=SC2086 # a list of names
+copy_crates "$top" "$scratch" $below
 mkdir -p "$scratch/crates/bench_inner/src"
-echo "bench_inner: anyhow mode_set bit_pack conv_code qam_map inner_chain" >> "$scratch/crates.txt"
-cp "$here/chain.txt" "$scratch/crates/bench_inner/src/main.rt"
+echo "bench_inner: $deps" >> "$scratch/crates.txt"
+cp "$here/$which.txt" "$scratch/crates/bench_inner/src/main.rt"
 cd "$scratch/crates/bench_inner"
-rt "${1:-run}"
+rt "${2:-run}"

@@ -18,13 +18,17 @@ def compare(one, other, within):
     print(f"B {other.path}: {other.symbols} symbols, bytes left over {other.left_over}")
     found = Differences(one, within)
     both = min(one.symbols, other.symbols)
+    weighed = 0
     for m in range(both):
         found.add(m, one.cells[m].astype(int), other.cells[m].astype(int))
+        weighed += int(np.count_nonzero(one.weights[m] != other.weights[m]))
     found.show(both)
+    if weighed:
+        print(f"weights that differ: {weighed} of {both * one.carriers.count}")
     is_same_length = (one.symbols, one.left_over) == (other.symbols, other.left_over)
     if not is_same_length:
         print("the files have different lengths")
-    is_same = is_same_length and found.counts.sum() == 0
+    is_same = is_same_length and found.counts.sum() == 0 and weighed == 0
     print("the same" if is_same and within == 0 else f"the same within {within}" if is_same else "DIFFERENT")
     return is_same
 

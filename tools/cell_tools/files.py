@@ -53,10 +53,10 @@ def is_value(key, value):
     return type(value) is str and value in WORDS[key]
 
 
-class Plain:
-    """A cell file without a header: four bytes a cell (docs/FILES.md). Another version of the file is a class like this one."""
+class Version1:
+    """A cell file of version 1: no header, and four bytes a cell (docs/FILES.md)."""
 
-    HEADER, WIDTH = 0, 4
+    NUMBER, HEADER, WIDTH = 1, 0, 4
 
     @staticmethod
     def is_of(head):
@@ -64,17 +64,55 @@ class Plain:
         return True
 
     @classmethod
+    def header(cls, mode):
+        """The bytes before the first cell."""
+        return b""
+
+    @classmethod
     def cells(cls, path, symbols, carriers):
         """Symbols by carriers by real and imaginary part, as they stand."""
-        shape = (symbols, carriers, 2)
-        return np.memmap(path, ">i2", "r", offset=cls.HEADER, shape=shape) if symbols else np.zeros(shape, ">i2")
+        return parts_at(path, symbols, carriers, cls, 0, ">i2", 2)
+
+    @classmethod
+    def weights(cls, path, symbols, carriers):
+        """Symbols by carriers: each cell counts whole."""
+        return np.broadcast_to(np.uint8(15), (symbols, carriers))
 
 
-VERSIONS = [Plain]  # the first that fits
+class Version2(Version1):
+    """A cell file of version 2: a header of eight bytes, and five bytes a cell, the last of them its weight."""
+
+    NUMBER, HEADER, WIDTH = 2, 8, 5
+
+    @staticmethod
+    def is_of(head):
+        return head[:5] == b"DVTC\x02"
+
+    @classmethod
+    def header(cls, mode):
+        return b"DVTC\x02" + bytes([["2k", "8k"].index(mode), 0, 0])
+
+    @classmethod
+    def weights(cls, path, symbols, carriers):
+        """Symbols by carriers: a byte above 15 counts as 15."""
+        return np.minimum(parts_at(path, symbols, carriers, cls, 4, "u1", 1)[..., 0], 15)
+
+
+def parts_at(path, symbols, carriers, version, offset, kind, count):
+    """Symbols by carriers by `count` numbers, which stand in each cell from byte `offset` on."""
+    shape = (symbols, carriers, count)
+    if not symbols:
+        return np.zeros(shape, kind)
+    strides = (version.WIDTH * carriers, version.WIDTH, np.dtype(kind).itemsize)
+    return np.ndarray(shape, kind, np.memmap(path, "u1", "r"), version.HEADER + offset, strides)
+
+
+VERSIONS = [Version2, Version1]  # the first that fits
 
 
 class CellFile:
-    """A cell file: `cells` has the values as they stand, by symbol, carrier and part (real, imaginary)."""
+    """A cell file: `cells` has the values as they stand, by symbol, carrier and part (real, imaginary), and `weights` the weights, by
+    symbol and carrier."""
 
     def __init__(self, path, settings):
         self.path = path
@@ -87,7 +125,9 @@ class CellFile:
             self.size = self.version.WIDTH * self.carriers.count
             content = pathlib.Path(path).stat().st_size - self.version.HEADER
             self.symbols, self.left_over = divmod(max(content, 0), self.size)
+            self.head = head[: self.version.HEADER]
             self.cells = self.version.cells(path, self.symbols, self.carriers.count)
+            self.weights = self.version.weights(path, self.symbols, self.carriers.count)
         except OSError as error:
             raise Unfit(f"cells: {error}") from None
 
@@ -108,24 +148,25 @@ class CellFile:
         return ["".join("1" if x < 0 else "0" for x in sums[end - FRAME + 1 : end]) for end in ends]
 
 
-def wrong_guess(path, mode):
-    """Why the pilots of a file do not stand where those of this mode do: the first reason that fits, or None."""
-    data = np.fromfile(path, ">i2", count=4 * 2 * Carriers("8k").count)
+def wrong_guess(file):
+    """Why the pilots of a file do not stand where those of its mode do: the first reason that fits, or None."""
+    mode = file.settings["mode"]
     other = "8k" if mode == "2k" else "2k"
     little = "the two bytes of each value stand the wrong way round; a cell file has the high byte first"
     guesses = [
-        (other, data, 0, f"it is of the {other} mode; the settings say {mode}"),
-        (mode, data.byteswap(), 0, little),
-        (other, data.byteswap(), 0, f"{little}; and it is of the {other} mode, where the settings say {mode}"),
+        (other, False, 0, f"it is of the {other} mode; the settings say {mode}"),
+        (mode, True, 0, little),
+        (other, True, 0, f"{little}; and it is of the {other} mode, where the settings say {mode}"),
     ]
     for l in range(1, 4):
         text = f"its first symbol is number {l}, {l + 4}, .. of a frame; a cell file begins with number 0"
-        guesses.append((mode, data, l, text))
-    for guess, values, l, text in guesses:
+        guesses.append((mode, False, l, text))
+    content = pathlib.Path(file.path).stat().st_size - file.version.HEADER
+    for guess, turned, l, text in guesses:
         carriers = Carriers(guess)
-        symbols = min(4, len(values) // (2 * carriers.count))
-        cells = values[: symbols * 2 * carriers.count].reshape(symbols, carriers.count, 2)
-        if symbols and carriers.fit(cells, l):
+        symbols = min(4, content // (file.version.WIDTH * carriers.count))
+        cells = np.array(file.version.cells(file.path, symbols, carriers.count))
+        if symbols and carriers.fit(cells.byteswap() if turned else cells, l):
             return text
     return None
 
@@ -134,8 +175,12 @@ def check(file):
     """Refuses a file that is plainly another than its settings say; what is only strange is told on standard error."""
     size = file.size
     mode = file.settings["mode"]
+    if file.version is Version2 and file.head != Version2.header(mode):
+        raise Unfit(f"{file.path}: cells header: its header is not that of the {mode} mode, which the settings say")
+    if file.version is Version1:
+        warn("the file has no header: read as one of version 1, which dvbt upgrade turns into one of version 2")
     if file.symbols == 0 or not file.carriers.fit(file.cells[:4], 0):
-        reason = wrong_guess(file.path, mode)
+        reason = wrong_guess(file)
         if reason:
             raise Unfit(f"{file.path}: {reason}")
         if file.symbols:

@@ -103,10 +103,10 @@ def of_refusal(form, words, status, text, before):
     if status == 7 and not text and not all(is_utf8(word) for word in words):
         say("the words could not be taken: they are not UTF-8")
         return
-    lines = {3: of_settings, 4: of_packet, 5: of_reading, 6: of_writing, 7: of_memory, 8: of_limit}.get(status)
+    lines = {3: of_settings, 4: of_packet, 5: of_reading, 6: of_writing, 7: of_memory, 8: of_limit, 9: of_header}.get(status)
     for line in lines(form, text) if lines else []:
         say(line)
-    if status in (4, 5, 6, 8):
+    if status in (4, 5, 6, 8, 9):
         say(what_stands(form, status, before))
 
 
@@ -208,12 +208,29 @@ def of_limit(form, text):
     return [*lines, "max_symbols may be up to 4294967295; without it, it is 1,000,000"]
 
 
+def of_header(form, text):
+    """Cells that do not begin with their header."""
+    path = form.of("cells")[0]
+    try:
+        with open(path, "rb") as file:
+            head = file.read(8) if stat.S_ISREG(os.fstat(file.fileno()).st_mode) else None
+    except OSError:
+        head = None
+    if head is None:
+        return [f"{path} does not begin with the header of a cell file of the mode in {form.settings}"]
+    if head[:5] == b"DVTC\x02" and head[5:6] in (b"\0", b"\1"):
+        mode = ["2k", "8k"][head[5]]
+        return [f"{path} is a cell file of the {mode} mode, and {form.settings} says another"]
+    found = head.hex(" ").upper() if head else "nothing"
+    return [f"{path} begins {found}, and no cell file of version 2 begins so (docs/FILES.md)"]
+
+
 def what_stands(form, status, before):
     """What the outputs hold after a refusal, and how large they are."""
     what = {
-        ("modulate", 4): "the symbols before it",
-        ("modulate", 5): "the symbols that the packets read suffice for",
-        ("modulate", 8): "the symbols before the limit",
+        ("modulate", 4): "the header and the symbols before it",
+        ("modulate", 5): "the header and the symbols that the packets read suffice for",
+        ("modulate", 8): "the header and the symbols before the limit",
         ("receive", 5): "what is decided by the symbols read",
         ("receive", 8): "what is decided by the symbols within the limit",
         ("upgrade", 5): "the header and the symbols read",

@@ -32,7 +32,7 @@ FILES = {
     "HP": "a transport file, packets of 188 bytes: the only stream, or the sturdier of two",
     "LP": "a transport file: the second stream, with a hierarchy",
     "TS": "a transport file, packets of 188 bytes",
-    "CELLS": "a cell file: four bytes a carrier, symbol after symbol (docs/FILES.md)",
+    "CELLS": "a cell file: a header, then five bytes a carrier, symbol after symbol (docs/FILES.md)",
     "OLD": "a cell file of version 1: four bytes a carrier, without a header (docs/FILES.md)",
     "NEW": "the cell file of version 2 to write: a header, then five bytes a carrier",
     "OUT": "the file to write",
@@ -44,7 +44,8 @@ MORE = {
 back. Null packets fill the rest. LP is given exactly where the settings have a hierarchy.""",
     "receive": """Reads cells from the first symbol of a super-frame on and writes packets as they are decided. A
 packet that could not be corrected is written with transport_error_indicator set. LP is given exactly where the
-settings have a hierarchy. Set start = "any" where the cells do not begin at the start of a transmission.""",
+settings have a hierarchy. Set start = "any" where the cells do not begin at the start of a transmission. Each cell has
+a weight of 0 to 15, by which its costs count.""",
     "upgrade": """Writes the header of the settings' mode, and each cell of OLD's whole symbols with the weight 15, at
 which it counts whole. Of the settings the mode and max_symbols alone have an effect.""",
     "trial": "Writes no file: the lines count what was sent and what came back.",
@@ -74,6 +75,7 @@ STATUSES = [
     (6, "a file can't be made, written or closed: `write fault`", FORMS),
     (7, "memory is wanting: `memory`", ("modulate", "receive", "upgrade", "trial", "outer", "inner")),
     (8, "more packets or symbols than the limit: `limit N`", FORMS),
+    (9, "the cells do not begin with the header of the settings' mode: `cells header`", ("receive",)),
 ]
 OF_THE_DOOR = [
     (64, "bin/dvbt itself refused: one file is named twice, and would be destroyed"),

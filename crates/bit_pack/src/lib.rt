@@ -4,5 +4,7 @@
 #![tactic(auto)]
 
 mod bit_buf;
+mod bit_word;
 
 pub use bit_buf::{BitBuf, WaitBuf};
+pub use bit_word::BitWord;

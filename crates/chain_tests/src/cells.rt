@@ -126,15 +126,15 @@ pub(crate) fn write<M: Carriers>(
     to: &mut Vec<u8>,
 )
     requires shape { out.old.settings.shape ≡ shape }
-    requires room { 100000 ≤ vec_capacity to.old }
+    requires room { 110000 ≤ vec_capacity to.old }
     ensures shape { out.new.settings.shape ≡ shape }
-    ensures room { 100000 ≤ vec_capacity to.new }
+    ensures room { 110000 ≤ vec_capacity to.new }
 {
     assert!(rt; labels.len() == M::NMAX as usize);
     let bound = bound_of(shape);
     let small = are_below(labels, bound);
     assert!(rt; small);
-    assert!(rt; to.len() <= 60000);
+    assert!(rt; to.len() <= 75000);
     out.write(labels, to);
 }
 
@@ -149,7 +149,7 @@ fn first_symbols<M: Carriers>(
     let mut out = SymbolOut::<M>::new(settings);
     let mut sources = (source_of(alloc, 1)?, source_of(alloc, 100)?);
     let mut waiting = (WaitBuf::new(), WaitBuf::new());
-    let mut bytes = Vec::with_capacity(alloc, 100000)?;
+    let mut bytes = Vec::with_capacity(alloc, 110000)?;
     let labels = next_labels(
         rt,
         alloc,

@@ -1,7 +1,7 @@
 //! The layers of the modulator one upon the other, beside what another modulator sends: the TPS words
 //! and the first cells of transmissions with each constellation, hierarchy and mode. And what is sent,
 //! read back: the costs of own symbols in every setting, those of drawn cells and weights, a symbol cut
-//! into pieces.
+//! into pieces. And the coded bits of bytes in a word, beside those in a queue.
 //!
 //! The crate has tests alone.
 #![tactic(auto)]
@@ -14,3 +14,5 @@ mod cells;
 mod receiving;
 #[cfg(test)]
 mod tps;
+#[cfg(test)]
+mod words;

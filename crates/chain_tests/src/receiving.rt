@@ -209,7 +209,7 @@ fn send<M: Carriers>(
     ensures shape { out.new.settings.shape ≡ shape }
     ensures whole { IfOk result (λ _. length symbol.new ≡ 5 * M.K) }
 {
-    let mut bytes = Vec::with_capacity(alloc, 100000)?;
+    let mut bytes = Vec::with_capacity(alloc, 110000)?;
     write(rt, labels, out, shape, &mut bytes);
     let ready = !symbol.whole();
     assert!(rt; ready);
@@ -337,7 +337,7 @@ fn null_symbol(rt: &impl Abort, alloc: Global) -> Result<Vec<u8>, AllocError> {
         &mut (0, 0),
         &mut waiting,
     )?;
-    let mut bytes = Vec::with_capacity(alloc, 100000)?;
+    let mut bytes = Vec::with_capacity(alloc, 110000)?;
     write(rt, &labels, &mut out, settings.shape, &mut bytes);
     Ok(bytes)
 }
@@ -409,6 +409,29 @@ fn with_pairs(sum: u32, pairs: &[CostPair]) -> u32 {
     })
 }
 
+// With the costs of a stream in a symbol, if there is the stream.
+fn with_stream<M: Carriers>(
+    rt: &impl Abort,
+    alloc: Global,
+    settings: &Settings,
+    rx: &mut InnerRx<M>,
+    symbol: &SymbolIn<M>,
+    l: u8,
+    stream: Stream,
+    sum: u32,
+) -> Result<u32, AllocError>
+    requires mode { settings.now.mode ≡ M.MODE }
+    requires rx { rx.old ≡ settings.now }
+    requires whole { length symbol.now ≡ 5 * M.K }
+    ensures { rx.new ≡ settings.now }
+{
+    if !settings.has_stream(stream) {
+        return Ok(sum);
+    }
+    let pairs = pairs_of(rt, alloc, settings, rx, symbol, l, stream)?;
+    Ok(with_pairs(sum, &pairs))
+}
+
 // All costs of four symbols of drawn bytes, which are taken in pieces of seven.
 fn drawn_costs<M: Carriers>(
     rt: &impl Abort,
@@ -425,12 +448,8 @@ fn drawn_costs<M: Carriers>(
     for l in 0..4u8 {
         drawn_symbol(&mut state, &mut bytes);
         taken_in_pieces(rt, &mut symbol, &bytes, 7);
-        for stream in [Stream::Hp, Stream::Lp] {
-            if settings.has_stream(stream) {
-                let pairs = pairs_of(rt, alloc, settings, &mut rx, &symbol, l, stream)?;
-                sum = with_pairs(sum, &pairs);
-            }
-        }
+        sum = with_stream(rt, alloc, settings, &mut rx, &symbol, l, Stream::Hp, sum)?;
+        sum = with_stream(rt, alloc, settings, &mut rx, &symbol, l, Stream::Lp, sum)?;
         symbol.next();
     }
     Ok(sum)

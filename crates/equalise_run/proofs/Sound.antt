@@ -1,5 +1,5 @@
 -- The correction of cells is a conversion.
-use Rattle.std.proofs.Common.{ℕ, ◌*◌, ◌<◌, refl, arith}
+use Rattle.std.proofs.Common.{◌*◌, ◌<◌, refl, arith}
 use Rattle.mode_set.specs.StreamTable.{carriers}
 use Rattle.mode_set.specs.declared.modes.Mode.{Mode}
 use Rattle.mode_set.specs.declared.modes.Mode.TheVariants.{M2k, M8k}

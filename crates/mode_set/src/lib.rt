@@ -12,8 +12,6 @@ mod modes;
 mod read;
 mod settings;
 mod streams;
-#[cfg(test)]
-mod tests;
 mod words;
 
 pub use carriers::{Carriers, Mode2k, Mode8k};

@@ -13,6 +13,3 @@ mod tx;
 pub use rx::OuterRx;
 pub use slot::WordSlot;
 pub use tx::OuterTx;
-
-#[cfg(test)]
-mod tests;

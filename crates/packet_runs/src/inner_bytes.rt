@@ -7,7 +7,7 @@ ghost use Rattle.packet_runs.specs.InnerBytes.{inner_bytes, filled_inner_bytes};
 ghost use Rattle.packet_runs.specs.Inner.{rest_of, IsAfter};
 
 use arrayvec::ArrayVec;
-use bit_pack::BitBuf;
+use bit_pack::BitWord;
 use mode_set::Rate;
 use outer_chain::laws::bits;
 use puncture::{
@@ -22,7 +22,7 @@ pub const PIECE_LEN: usize = 408;
 pub type Piece = ArrayVec<u8, 408>;
 
 // Puts the first whole byte of the bits into the piece, if there is one. There must be room for it.
-fn take_one(waiting: &mut BitBuf<3>, piece: &mut Piece)
+fn take_one(waiting: &mut BitWord, piece: &mut Piece)
     requires room { array_vec_len piece.old + 1 ≤ 408 }
     ensures gives { piece.new.items ++ bytes_of waiting.new ≡ piece.old.items ++ bytes_of waiting.old }
     ensures rest { rest_of waiting.new ≡ rest_of waiting.old }
@@ -36,14 +36,12 @@ fn take_one(waiting: &mut BitBuf<3>, piece: &mut Piece)
 }
 
 // Puts seven zeros behind the bits.
-fn push_zeros(waiting: &mut BitBuf<3>)
+fn push_zeros(waiting: &mut BitWord)
     requires room { length waiting.old ≤ 7 }
     ensures zeros { waiting.new ≡ waiting.old ++ replicate 7 false }
     ensures count { length waiting.new ≡ length waiting.old + 7 }
 {
-    for _zeros in 0..7u8 {
-        waiting.push_bit(false);
-    }
+    waiting.push_bits(0, 7);
 }
 
 /// The inner coder of a stream of bytes (EN 300 744, 4.3.3): it gives the whole bytes of the sent bits.
@@ -52,7 +50,7 @@ fn push_zeros(waiting: &mut BitBuf<3>)
 #[derive(Drop)]
 pub struct InnerBytes {
     coder: PuncturedEncoder,
-    waiting: BitBuf<3>,
+    waiting: BitWord,
 }
 
 impl Model for InnerBytes {
@@ -73,7 +71,7 @@ impl InnerBytes {
     {
         InnerBytes {
             coder: PuncturedEncoder::start(rate),
-            waiting: BitBuf::new(),
+            waiting: BitWord::new(),
         }
     }
 
@@ -90,7 +88,7 @@ impl InnerBytes {
         steps_are_numbered();
         sent_bits_are_runs();
         bytes_are_paths();
-        self.coder.push_byte(byte, &mut self.waiting);
+        self.coder.push_byte_in_word(byte, &mut self.waiting);
         take_one(&mut self.waiting, piece);
         take_one(&mut self.waiting, piece);
     }

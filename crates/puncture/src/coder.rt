@@ -8,7 +8,7 @@ ghost use Rattle.puncture.specs.Steps.{sent_before, bits_sent, bits_of_step, bit
 
 use crate::eight_steps::{Bits, bit_of};
 use crate::periods::PeriodTable;
-use bit_pack::BitBuf;
+use bit_pack::{BitBuf, BitWord};
 use conv_code::Encoder;
 use mode_set::Rate;
 use std::marker::Model;
@@ -80,6 +80,21 @@ impl PuncturedEncoder {
         }
     }
 
+    // Codes a byte: what is sent of its eight steps.
+    fn coded(&mut self, byte: u8) -> Bits
+        ensures few { result.count ≤ 16 }
+        ensures next { (r : AnyRate) (path : ℕ → Bool) (t : ℕ) → IsAtPath self.old r path t
+            → spelled 8 byte ≡ bits_from path (t + 6) 8 → IsAtPath self.new r path (t + 8) }
+        ensures sent { (r : AnyRate) (path : ℕ → Bool) (t : ℕ) → IsAtPath self.old r path t
+            → spelled 8 byte ≡ bits_from path (t + 6) 8
+            → spelled result.count result.word ≡ sent_bits r path (sent_before r t) (sent_before r (t + 8)) }
+    {
+        let (x, y) = self.encoder.step_byte(byte);
+        let (bits, place) = self.table.punctured(self.rate, self.place, x, y);
+        self.place = place;
+        bits
+    }
+
     /// Codes a byte, the most significant bit first, and appends what is sent of its eight steps, 8 to 16 bits. There
     /// must be room for sixteen.
     ///
@@ -101,9 +116,22 @@ impl PuncturedEncoder {
             → IsAtPath self.new r (path_of bytes) (8 * (m + 1))
             × (to.new ≡ sent_bits r (path_of bytes) a (sent_before r (8 * (m + 1)))) }
     {
-        let (x, y) = self.encoder.step_byte(byte);
-        let (bits, place) = self.table.punctured(self.rate, self.place, x, y);
-        self.place = place;
+        let bits = self.coded(byte);
         push_bits(bits, to);
+    }
+
+    /// Codes a byte as [`PuncturedEncoder::push_byte`] does, and appends what is sent of it to few bits in a word. There
+    /// must be room for sixteen.
+    pub fn push_byte_in_word(&mut self, byte: u8, to: &mut BitWord)
+        requires room { length to.old + 16 ≤ 32 }
+        ensures few { length to.new ≤ length to.old + 16 }
+        ensures next { (r : AnyRate) (path : ℕ → Bool) (t : ℕ) → IsAtPath self.old r path t
+            → spelled 8 byte ≡ bits_from path (t + 6) 8 → IsAtPath self.new r path (t + 8) }
+        ensures sent { (r : AnyRate) (path : ℕ → Bool) (t : ℕ) → IsAtPath self.old r path t
+            → spelled 8 byte ≡ bits_from path (t + 6) 8
+            → to.new ≡ to.old ++ sent_bits r path (sent_before r t) (sent_before r (t + 8)) }
+    {
+        let bits = self.coded(byte);
+        to.push_bits(bits.word, bits.count);
     }
 }

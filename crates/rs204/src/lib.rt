@@ -20,6 +20,3 @@ pub mod steps;
 pub use decoder::decode;
 pub use encoder::encode;
 pub use outcome::Outcome;
-
-#[cfg(test)]
-mod tests;

@@ -15,6 +15,3 @@ mod station;
 pub use memory::{Failing, MemoryStation};
 pub use ports::{InPort, OutPort};
 pub use station::{Failed, Station};
-
-#[cfg(test)]
-mod tests;

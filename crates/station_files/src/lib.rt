@@ -16,8 +16,3 @@ mod writing;
 
 pub use buffers::Buffers;
 pub use station::FileStation;
-
-#[cfg(test)]
-mod tests;
-#[cfg(test)]
-mod watched;

@@ -15,7 +15,9 @@ use Rattle.symbol_runs.specs.Work.{Written}
 use Rattle.symbol_runs.specs.Outputs.{cell_names}
 use Rattle.symbol_runs.specs.Cells.{GivenUpTo}
 use Rattle.symbol_runs.specs.Commands.{CellCommand, Come, ComesTo, Continues}
-use Rattle.upgrade_run.specs.Upgrading.{old_symbols, upgrade_line, upgraded_file}
+use Rattle.upgrade_laws.specs.Laws.{UpgradedCostsArePlain}
+use Rattle.upgrade_laws.specs.OldCells.{old_symbols}
+use Rattle.upgrade_run.specs.Upgrading.{upgrade_line, upgraded_file}
 use Rattle.upgrade_run.specs.UpgradeCommand.{FileComes, LinesCome, most_old, old_within_limit, upgrade_command, upgrade_refusal}
 use Rattle.upgrade_run.specs.Working.{upgrade_work, writes_at, written_at}
 use Rattle.upgrade_run.proofs.Files.{begins, begins_limited, some_bytes}
@@ -110,9 +112,9 @@ module _ (limit : ℕ) (settings old new : List ℕ) (file : Files) (s : TheSett
     first = (written_at (upgraded_file s.mode []) [], (λ port. refl));
   }
 
-pub command_of : (limit : ℕ) (settings old new : List ℕ) (s : TheSettings) (start : Meaning) → (start.tells ≡ true → settings_of (start.file settings) ≡ Some s)
+pub command_of : (law : UpgradedCostsArePlain) (limit : ℕ) (settings old new : List ℕ) (s : TheSettings) (start : Meaning) → (start.tells ≡ true → settings_of (start.file settings) ≡ Some s)
     → CellCommand (upgrade_command settings old new) limit settings old None (cell_names new) (upgrade_work s.mode) s.max_symbols start
-command_of limit settings old new s start stated = record {
+command_of law limit settings old new s start stated = record {
   reads = λ port. refl;
   writes = λ port. refl;
   header_is = λ t. refl;
@@ -121,11 +123,11 @@ command_of limit settings old new s start stated = record {
   done = refl;
   read_fault = refl;
   write_fault = refl;
-  unheaded = λ e. absurd (true≢false (sym e));
+  unheaded = λ is. absurd (true≢false (sym is));
   limit_passed = refl;
   most_taken = λ t. let e = ap most_old (stated t) in omega (arith, e);
   comes = λ t. comes limit settings old new start.file s (stated t);
-  unread = λ t left taken. refl;
+  unread = λ t unread taken. refl;
   its = λ before mid r reason same left done. absurd reason;
-  own = tt;
+  own = record { plain = λ t is. law t (start.file old) };
 }

@@ -5,7 +5,8 @@ use Rattle.mode_set.specs.StreamTable.{carriers}
 use Rattle.mode_set.specs.declared.modes.Mode.{Mode}
 use Rattle.mode_set.specs.declared.modes.Mode.TheVariants.{M2k, M8k}
 use Rattle.frame_build.specs.CellFile.{header}
-use Rattle.upgrade_run.specs.Upgrading.{old_symbol_length, old_symbols, old_tail, upgraded_cells, upgraded_file}
+use Rattle.upgrade_laws.specs.OldCells.{old_symbol_length, old_symbols, old_tail, upgraded_cells}
+use Rattle.upgrade_run.specs.Upgrading.{upgraded_file}
 use Rattle.upgrade_run.proofs.OldCells.{cells_before, cells_begin, cells_behind, no_cells}
 
 -- ---- numbers of symbols, by the length of bytes

@@ -3,3 +3,4 @@ pub mod Files
 pub mod Calls
 pub mod Commands
 pub mod WholeRun
+pub mod Worked

@@ -8,7 +8,8 @@ use Rattle.std.proofs.lemmas.Slice.{take-put_mid}
 use borrow.Rule.Slice.PartMut.{put_mid, mid_of, same_len_mid}
 use Rattle.spec_words.specs.Words.{numbers}
 use Rattle.spec_words.proofs.Counting.{numbers_end}
-use Rattle.upgrade_run.specs.Upgrading.{old_cell, upgraded_cell, upgraded_cells, full_weight}
+use Rattle.soft_metric.specs.Weights.{full_weight}
+use Rattle.upgrade_laws.specs.OldCells.{old_cell, upgraded_cell, upgraded_cells}
 
 pub no_cells : (bytes : List ℕ) → upgraded_cells 0 bytes ≡ []
 unfolding upgraded_cells numbers

@@ -18,18 +18,19 @@ use Rattle.symbol_runs.specs.Outputs.{cell_names}
 use Rattle.symbol_runs.specs.Runs.{IsReady, RunsCells}
 use Rattle.symbol_runs.proofs.Ending.{run_of}
 use Rattle.symbol_runs.proofs.Ending.{ready as cells_ready}
+use Rattle.upgrade_laws.specs.Laws.{UpgradedCostsArePlain}
 use Rattle.upgrade_run.specs.Runs.{RunsOrLacks}
 use Rattle.upgrade_run.specs.UpgradeCommand.{upgrade_command}
 use Rattle.upgrade_run.specs.Working.{upgrade_work}
 use Rattle.upgrade_run.proofs.Commands.{command_of}
 
-module _ (limit : ℕ) (name cells new_cells : List ℕ) (start mid new : Meaning) (fresh : IsFresh start) (asks : AsksSettings name start mid) where
+module _ (limit : ℕ) (name cells new_cells : List ℕ) (start mid new : Meaning) (law : UpgradedCostsArePlain) (fresh : IsFresh start) (asks : AsksSettings name start mid) where
   abbrev c : Command
   c = upgrade_command name cells new_cells
 
   -- ---- refused before another port is asked
   early : (r : Refusal) → RefusedEarly c limit start mid r → is_among (status_of (Some r)) c.statuses ≡ true → Ended c limit start mid (Some r)
-  early = early_ended c limit name start mid refl (inr (refl, refl)) (λ u whole. refl) tt fresh asks
+  early = early_ended c limit name start mid refl (inr (refl, refl)) (λ u whole. refl) (record { plain = λ t is. law t (start.file cells) }) fresh asks
 
   known_early : (r : Refusal) → ReadsSettings name start mid (Err r) → is_among (status_of (Some r)) c.statuses ≡ true
   known_early Usage reads = absurd reads
@@ -67,7 +68,7 @@ module _ (limit : ℕ) (name cells new_cells : List ℕ) (start mid new : Meanin
     finished : (old : Meaning) → old ≡ record start { settings = mid.settings } → (status : ℕ) → RunsCells (upgrade_work s.mode) s.max_symbols cells None (cell_names new_cells) old new status → Run c limit start new status
     finished old same status runs =
         run_of c limit name cells None (cell_names new_cells) (upgrade_work s.mode) s.max_symbols start new mid.settings status fresh settings
-        (command_of limit name cells new_cells s start (λ t. stated s (start.file name) (reads.3 t).1.2))
+        (command_of law limit name cells new_cells s start (λ t. stated s (start.file name) (reads.3 t).1.2))
         (subst (λ (m : Meaning). RunsCells (upgrade_work s.mode) s.max_symbols cells None (cell_names new_cells) m new status) same runs)
 
     pub run : (status : ℕ) → RunsOrLacks s cells new_cells mid new status → Run c limit start new status

@@ -1,8 +1,9 @@
 -- The command `upgrade SETTINGS OLD NEW`: the files that it reads and writes, and what it comes to, from its
 -- settings and the old file alone.
-use Rattle.std.specs.Prelude.{◌≡◌, ◌⊎◌, ℕ, ⊤, ◌+◌, ◌*◌, ◌<◌, ◌≤◌, nat_lt, if◌then◌else◌, List, [], ◌∷◌, ◌++◌, Option, None, Some, option_and_then}
+use Rattle.std.specs.Prelude.{◌≡◌, ◌⊎◌, ℕ, ◌+◌, ◌*◌, ◌<◌, ◌≤◌, nat_lt, if◌then◌else◌, List, [], ◌∷◌, ◌++◌, Option, None, Some, option_and_then}
 use Rattle.station_core.specs.declared.ports.InPort.{InPort}
 use Rattle.station_core.specs.declared.ports.InPort.TheVariants as ins
+use Rattle.mode_set.specs.declared.modes.Stream.{Stream}
 use Rattle.mode_set.specs.declared.settings.Settings.{Settings}
 use Rattle.run_clauses.specs.Command.{Command, Files}
 use Rattle.run_clauses.specs.SettingsFile.{most_settings, settings_refusal}
@@ -12,7 +13,9 @@ use Rattle.run_clauses.specs.declared.work.Refusal.TheVariants.{Limit}
 use Rattle.symbol_runs.specs.Commands.{reads_at}
 use Rattle.symbol_runs.specs.Outputs.{cell_names}
 use Rattle.symbol_runs.specs.Symbols.{within_limit}
-use Rattle.upgrade_run.specs.Upgrading.{old_symbol_length, old_symbols, upgraded_file, upgrade_line}
+use Rattle.upgrade_laws.specs.Laws.{ArePlain}
+use Rattle.upgrade_laws.specs.OldCells.{old_symbol_length, old_symbols}
+use Rattle.upgrade_run.specs.Upgrading.{upgraded_file, upgrade_line}
 
 -- more whole symbols than the limit are refused
 abbrev pub upgrade_refusal : Settings → List ℕ → Option Refusal
@@ -52,6 +55,11 @@ most_taken_at settings file ins.Hp = 0
 most_taken_at settings file ins.Lp = 0
 most_taken_at settings file ins.Cells = most_old (settings_of (file settings))
 
+-- The law of what `upgrade` comes to, by the settings that are stated, if any are: a receiver has of the cells behind
+-- the header of the new file the costs of the old cells without weights.
+pub record UpgradeLaws (stated : Option Settings) (bytes : List ℕ) : Type 0 where
+  pub plain : (s : Settings) → stated ≡ Some s → (σ : Stream) → ArePlain s bytes σ
+
 abbrev pub upgrade_command : List ℕ → List ℕ → List ℕ → Command
 upgrade_command settings old new = record {
   reads = reads_at settings old;
@@ -65,5 +73,5 @@ upgrade_command settings old new = record {
   Prints = λ limit file lines. (s : Settings) × (settings_of (file settings) ≡ Some s) × LinesCome s (file old) lines;
   ComesSoFar = λ limit file unread port output. (s : Settings) × (settings_of (file settings) ≡ Some s) × FileSoFar s (file old) (unread ins.Cells) output;
   PrintsSoFar = λ limit file unread lines. lines ≡ [];
-  Own = λ limit file. ⊤;
+  Own = λ limit file. UpgradeLaws (settings_of (file settings)) (file old);
 }

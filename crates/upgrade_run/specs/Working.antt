@@ -5,7 +5,8 @@ use Rattle.station_core.specs.declared.ports.OutPort.TheVariants as outs
 use Rattle.mode_set.specs.StreamTable.{carriers}
 use Rattle.mode_set.specs.declared.modes.Mode.{Mode}
 use Rattle.symbol_runs.specs.Work.{Work, Written}
-use Rattle.upgrade_run.specs.Upgrading.{old_symbol_length, old_symbols, old_tail, upgraded_file, upgrade_line}
+use Rattle.upgrade_laws.specs.OldCells.{old_symbol_length, old_symbols, old_tail}
+use Rattle.upgrade_run.specs.Upgrading.{upgraded_file, upgrade_line}
 
 -- the new file is written
 abbrev pub writes_at : OutPort → Bool

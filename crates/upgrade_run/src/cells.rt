@@ -1,6 +1,7 @@
 // Cells of version 1 become cells of version 2.
 ghost use Rattle.std.specs.Prelude.{◌≡◌, ◌*◌, ◌++◌, [], ◌∷◌, length};
-ghost use Rattle.upgrade_run.specs.Upgrading.{full_weight, upgraded_cells};
+ghost use Rattle.soft_metric.specs.Weights.{full_weight};
+ghost use Rattle.upgrade_laws.specs.OldCells.{upgraded_cells};
 
 // The weight of a cell that counts whole.
 const FULL_WEIGHT: u8 = 15;

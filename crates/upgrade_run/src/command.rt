@@ -68,6 +68,7 @@ pub fn upgrade<'a, S: Station<'a>>(
     requires fresh { IsFresh (S.meaning station.old) }
     ensures { Run (upgrade_command settings.now old_cells.now new_cells.now) limits.now.packets (S.meaning station.old) (S.meaning station.new) result }
 {
+    upgrade_laws::laws::upgraded_costs();
     match read_settings(alloc, settings, station) {
         Ok(accepted) => upgrade_accepted(alloc, &accepted, old_cells, new_cells, station),
         Err(refusal) => refuse(&refusal, station),

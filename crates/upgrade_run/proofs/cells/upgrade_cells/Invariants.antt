@@ -1,5 +1,5 @@
 use Rattle.std.proofs.Common.{◌≡◌, ◌*◌, length, take}
-use Rattle.upgrade_run.specs.Upgrading.{upgraded_cells}
+use Rattle.upgrade_laws.specs.OldCells.{upgraded_cells}
 use Rattle.upgrade_run.proofs.cells.upgrade_cells.Given as goal
 
 -- the room begins with as many new cells as the loop has gone through

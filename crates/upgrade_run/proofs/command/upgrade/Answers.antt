@@ -7,7 +7,7 @@ returns-in-Ok g c =
     let old : Meaning = g.S.Station.meaning c.args.station.now in
     let mid : Meaning = g.S.Station.meaning c.read_settings.new.station in
     let new : Meaning = g.S.Station.meaning c.upgrade_accepted.new.station in
-    run c.args.limits.now.packets c.args.settings.now c.args.old_cells.now c.args.new_cells.now old mid new c.requires.fresh c.in-Ok.ensures.asks
+    run c.args.limits.now.packets c.args.settings.now c.args.old_cells.now c.args.new_cells.now old mid new c.upgraded_costs.ensures.plain c.requires.fresh c.in-Ok.ensures.asks
     c.in-Ok.accepted c.in-Ok.ensures.reads c.upgrade_accepted.result c.upgrade_accepted.ensures
 
 pub returns-in-Err : goal.returns-in-Err
@@ -15,5 +15,5 @@ returns-in-Err g c =
     let old : Meaning = g.S.Station.meaning c.args.station.now in
     let mid : Meaning = g.S.Station.meaning c.read_settings.new.station in
     let new : Meaning = g.S.Station.meaning c.refuse.new.station in
-    refused c.args.limits.now.packets c.args.settings.now c.args.old_cells.now c.args.new_cells.now old mid new c.requires.fresh c.in-Err.ensures.asks
+    refused c.args.limits.now.packets c.args.settings.now c.args.old_cells.now c.args.new_cells.now old mid new c.upgraded_costs.ensures.plain c.requires.fresh c.in-Err.ensures.asks
     c.in-Err.refusal c.in-Err.ensures.reads c.refuse.result c.refuse.ensures.status c.refuse.ensures.text

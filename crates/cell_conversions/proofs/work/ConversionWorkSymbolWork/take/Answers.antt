@@ -20,8 +20,7 @@ returns-then-piece-size-clause-takes g c = λ bytes before stood gives none fits
     let piece : List ℕ = c.args.piece.now in
     let more : ℕ = length piece in
     let p = part v stood.1.some bytes piece (omega (arith, none, fits, c.if-piece-size.true, c.size.ensures)) in
-    nothing_wrote (λ given. (ready × Counts v c.args.self.now.symbols more (bytes ++ piece) given) × FirstGive v (bytes ++ piece) given) before (written_at (new_file v (bytes ++ piece)) []) m
-    (
+    nothing_wrote (λ given. (ready × Counts v c.args.self.now.symbols more (bytes ++ piece) given) × FirstGive v (bytes ++ piece) given) before (written_at (new_file v (bytes ++ piece)) []) m (
       (stood.0, record { some = stood.1.some; whole = stood.1.whole ∙ sym p.0; behind = sym (p.1 ∙ (let e : 0 + more ≡ more = omega arith in ap (λ (z : ℕ). z + more) none ∙ e)); gives = λ port. refl }),
       (λ port. refl),
     )

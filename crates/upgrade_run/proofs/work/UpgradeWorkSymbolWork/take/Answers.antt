@@ -4,7 +4,8 @@ use Rattle.station_core.specs.declared.ports.OutPort.TheVariants as outs
 use Rattle.run_clauses.specs.declared.work.Refusal.{Refusal}
 use Rattle.mode_set.specs.StreamTable.{carriers}
 use Rattle.mode_set.specs.declared.modes.Mode.{Mode}
-use Rattle.upgrade_run.specs.Upgrading.{old_symbol_length, upgraded_cells, upgraded_file}
+use Rattle.upgrade_laws.specs.OldCells.{old_symbol_length, upgraded_cells}
+use Rattle.upgrade_run.specs.Upgrading.{upgraded_file}
 use Rattle.upgrade_run.specs.Working.{Counts, FirstGive, written_at}
 use Rattle.upgrade_run.proofs.Files.{part, symbol}
 use Rattle.upgrade_run.proofs.Calls.{cells_follow, nothing_wrote, wrote_cells}

@@ -1,0 +1,311 @@
+// Words against values from outside: worked values, what an independent program answers, and a
+// plain search.
+
+ghost use Rattle.std.specs.Prelude.{◌<◌, ◌≤◌, IsTrue};
+ghost use Rattle.std.specs.List.{All};
+ghost use Rattle.std.specs.List.Sorted.{IsStrictlyIncreasing};
+
+use gf256::Elem;
+use rs_erasure::{Erased, decode_erased, laws};
+use rs204::encode;
+use std::test::Fail;
+use test_tools::next_number;
+
+// Whether places may be erased.
+fn may_be_erased(places: &[u8; 8]) -> bool
+    ensures rising { IsTrue result → IsStrictlyIncreasing places.now }
+    ensures within { IsTrue result → All (λ e. e < 204) places.now }
+{
+    for k in 0..8usize {
+        if places[k] >= 204 || k < 7 && places[k] >= places[k + 1] {
+            return false;
+        }
+    }
+    true
+}
+
+// What becomes of a word, if the places may be erased.
+fn decoded(word: &mut [u8; 204], places: &[u8; 8]) -> Option<Erased> {
+    if may_be_erased(places) {
+        Some(decode_erased(word, places))
+    } else {
+        None
+    }
+}
+
+#[test]
+fn erased_and_wrong_bytes(rt: HostRuntime) -> Result<(), Fail> {
+    laws::one_outside();
+    let mut word = [0u8; 204];
+    for k in 0..8usize {
+        word[k] = 0xFF;
+    }
+    for k in 8..12usize {
+        word[k] = 1;
+    }
+    let answer = decoded(&mut word, &[0, 1, 2, 3, 4, 5, 6, 7]);
+    assert_eq!(rt; answer, Some(Erased::Found(4)));
+    assert_eq!(rt; word.as_slice(), [0u8; 204].as_slice());
+    Ok(())
+}
+
+// Zeros and the coefficients of the product of x + λ^i for i below 12.
+fn product_of_twelve() -> [u8; 204] {
+    let mut product = [0u8; 13];
+    product[0] = 1;
+    for i in 0..12u8 {
+        for k in (0..12usize).rev() {
+            product[k + 1] ^= Elem(product[k]).times_power(i).0;
+        }
+    }
+    let mut word = [0u8; 204];
+    for k in 0..13usize {
+        word[191 + k] = product[k];
+    }
+    word
+}
+
+// Those of the last thirteen places, eight at the most, that the bits of a number choose.
+fn of_the_last(choice: u32) -> [u8; 8] {
+    let mut places = [0u8; 8];
+    let mut count = 0usize;
+    for k in 0..13u8 {
+        if (choice >> k) % 2 == 1 && count < 8 {
+            places[count] = 191 + k;
+            count += 1;
+        }
+    }
+    places
+}
+
+// Each choice of eight of the thirteen places that are not 0, and others.
+#[test]
+fn no_word_for_any_places(rt: HostRuntime) -> Result<(), Fail> {
+    let received = product_of_twelve();
+    let mut word = received;
+    let mut choices = 0u32;
+    for choice in 0..8192u32 {
+        if choice.count_ones() == 8 {
+            let answer = decoded(&mut word, &of_the_last(choice));
+            assert_eq!(rt; answer, Some(Erased::NoWord));
+            assert_eq!(rt; word.as_slice(), received.as_slice());
+            choices = choices.wrapping_add(1);
+        }
+    }
+    assert_eq!(rt; choices, 1287);
+    let mut seed = 1u32;
+    for case in 0..240u32 {
+        let answer = decoded(&mut word, &drawn_places(&mut seed, 1 + case % 24));
+        assert_eq!(rt; answer, Some(Erased::NoWord));
+        assert_eq!(rt; word.as_slice(), received.as_slice());
+    }
+    Ok(())
+}
+
+// The next number below n, of a plain congruential sequence.
+fn draw(seed: &mut u32, n: u32) -> u32
+    requires { 0 < n }
+    ensures { result < n }
+{
+    (next_number(seed) >> 8) % n
+}
+
+fn drawn_byte(seed: &mut u32) -> u8 {
+    draw(seed, 256) as u8
+}
+
+fn drawn_change(seed: &mut u32) -> u8 {
+    1 + draw(seed, 255) as u8
+}
+
+// Eight places, each at most so far behind the one before.
+fn drawn_places(seed: &mut u32, apart: u32) -> [u8; 8]
+    requires some { 0 < apart }
+    requires few { apart ≤ 24 }
+{
+    let mut at = draw(seed, 204 - 7 * apart);
+    let mut places = [0u8; 8];
+    for k in 0..8usize {
+        places[k] = (at % 256) as u8;
+        at = at.wrapping_add(1 + draw(seed, apart));
+    }
+    places
+}
+
+fn drawn_codeword(seed: &mut u32) -> [u8; 204] {
+    let mut message = [0u8; 188];
+    for byte in message.iter_mut() {
+        *byte = drawn_byte(seed);
+    }
+    encode(&message)
+}
+
+// Changes the first so many erased places, and so many others.
+fn disturb(word: &mut [u8; 204], erased: &[u8; 8], wrong: u32, errors: u32, seed: &mut u32) {
+    for k in 0..8u32 {
+        let place = erased[k as usize] as usize;
+        if k < wrong && place < 204 {
+            word[place] ^= drawn_change(seed);
+        }
+    }
+    let start = draw(seed, 204);
+    let mut left = errors;
+    for k in 0..204u32 {
+        let place = ((start + 25 * k) % 204) as u8;
+        if left > 0 && !erased.contains(&place) {
+            word[place as usize] ^= drawn_change(seed);
+            left -= 1;
+        }
+    }
+}
+
+// Words near which there is a codeword that they were not made of: the number of the word, that of
+// the places outside the erased ones at which the codeword differs, and the sum of the codeword's
+// bytes, each sum times 31. An independent program found them by elimination, and its search over
+// all sets of four places found no others.
+type Other = (u32, u8, u32);
+
+const OF_FIVE_ERRORS: [Other; 4] = [
+    (113, 4, 0x8E786168),
+    (215, 4, 0xE5C4D7B0),
+    (635, 4, 0xF8F82BA0),
+    (869, 4, 0x3B79BB00),
+];
+
+const OF_RANDOM_BYTES: [Other; 2] = [(35, 4, 0xC9E3C2E6), (61, 4, 0x85FA6AE4)];
+
+// What others say of a word.
+fn other(others: &[Other], case: u32) -> Option<(u8, u32)> {
+    for (number, count, sum) in others {
+        if *number == case {
+            return Some((*count, *sum));
+        }
+    }
+    None
+}
+
+fn sum_of(word: &[u8; 204]) -> u32 {
+    let mut sum = 0u32;
+    for byte in word {
+        sum = sum.wrapping_mul(31).wrapping_add(*byte as u32);
+    }
+    sum
+}
+
+// Codewords of drawn messages with 0 to 5 errors outside drawn places and 0 to 8 in them.
+#[test]
+fn drawn_codewords(rt: HostRuntime) -> Result<(), Fail> {
+    let mut seed = 1u32;
+    for case in 0..1080u32 {
+        let sent = drawn_codeword(&mut seed);
+        let erased = drawn_places(&mut seed, 1 + case % 24);
+        let mut word = sent;
+        disturb(&mut word, &erased, case / 6 % 9, case % 6, &mut seed);
+        let received = word;
+        let answer = decoded(&mut word, &erased);
+        if case % 6 < 5 {
+            assert_eq!(rt; answer, Some(Erased::Found((case % 6) as u8)));
+            assert_eq!(rt; word.as_slice(), sent.as_slice());
+        } else if let Some((count, sum)) = other(OF_FIVE_ERRORS.as_slice(), case) {
+            assert_eq!(rt; answer, Some(Erased::Found(count)));
+            assert_eq!(rt; sum_of(&word), sum);
+        } else {
+            assert_eq!(rt; answer, Some(Erased::NoWord));
+            assert_eq!(rt; word.as_slice(), received.as_slice());
+        }
+    }
+    Ok(())
+}
+
+#[test]
+fn random_bytes(rt: HostRuntime) -> Result<(), Fail> {
+    let mut seed = 2u32;
+    for case in 0..300u32 {
+        let erased = drawn_places(&mut seed, 1 + case % 24);
+        let mut word = [0u8; 204];
+        for byte in word.iter_mut() {
+            *byte = drawn_byte(&mut seed);
+        }
+        let received = word;
+        let answer = decoded(&mut word, &erased);
+        if let Some((count, sum)) = other(OF_RANDOM_BYTES.as_slice(), case) {
+            assert_eq!(rt; answer, Some(Erased::Found(count)));
+            assert_eq!(rt; sum_of(&word), sum);
+        } else {
+            assert_eq!(rt; answer, Some(Erased::NoWord));
+            assert_eq!(rt; word.as_slice(), received.as_slice());
+        }
+    }
+    Ok(())
+}
+
+// Every second one of the sixteen bytes behind a message.
+const EVERY_SECOND: [u8; 8] = [188, 190, 192, 194, 196, 198, 200, 202];
+
+// At how many places two words differ, but for EVERY_SECOND.
+fn differences(a: &[u8; 204], b: &[u8; 204]) -> u8 {
+    let mut count = 0u8;
+    for k in 0..204u8 {
+        if a[k as usize] != b[k as usize] && !EVERY_SECOND.contains(&k) {
+            count = count.saturating_add(1);
+        }
+    }
+    count
+}
+
+// The codeword that differs in four places at most, if one does whose message has another byte or
+// the same at one place.
+fn searched_at(word: &[u8; 204], place: usize) -> Option<[u8; 204]>
+    requires { place < 188 }
+{
+    let mut message = [0u8; 188];
+    message.copy_from_slice(&word[..188]);
+    for value in 0..=255u8 {
+        message[place] = value;
+        let candidate = encode(&message);
+        if differences(word, &candidate) <= 4 {
+            return Some(candidate);
+        }
+    }
+    None
+}
+
+// The codeword that differs in four places at most, if one does whose message differs in one at
+// most.
+fn searched(word: &[u8; 204]) -> Option<[u8; 204]> {
+    for place in 0..188usize {
+        if let Some(found) = searched_at(word, place) {
+            return Some(found);
+        }
+    }
+    None
+}
+
+// Codewords with so many wrong bytes in the message, so many of the others behind it, and all of
+// EVERY_SECOND, against a plain search. It finds each codeword that is near these words.
+#[test]
+fn words_by_a_plain_search(rt: HostRuntime) -> Result<(), Fail> {
+    let mut seed = 3u32;
+    for (in_message, behind) in [(0, 0), (0, 4), (1, 0), (1, 3), (1, 4), (0, 5), (0, 8)] {
+        let mut word = drawn_codeword(&mut seed);
+        for _ in 0..in_message {
+            word[draw(&mut seed, 188) as usize] ^= drawn_change(&mut seed);
+        }
+        for k in 0..8usize {
+            word[188 + 2 * k] ^= drawn_change(&mut seed);
+        }
+        for k in 0..behind {
+            word[189 + 2 * k] ^= drawn_change(&mut seed);
+        }
+        let received = word;
+        let answer = decoded(&mut word, &EVERY_SECOND);
+        if let Some(near) = searched(&received) {
+            assert_eq!(rt; answer, Some(Erased::Found(differences(&received, &near))));
+            assert_eq!(rt; word.as_slice(), near.as_slice());
+        } else {
+            assert_eq!(rt; answer, Some(Erased::NoWord));
+            assert_eq!(rt; word.as_slice(), received.as_slice());
+        }
+    }
+    Ok(())
+}

@@ -1,0 +1,8 @@
+mod MarginBytes
+mod MarginWords
+mod Least
+mod Recovered
+mod Once
+mod Finishing
+mod ByteLists
+mod Vectors

@@ -1,0 +1,42 @@
+-- What delay lines of margins hold: four deinterleavers, one for each byte of a margin.
+use Rattle.std.specs.Prelude.{◌≡◌, ℕ, ◌*◌, ◌/◌, ◌%◌, ◌<◌, ◌^◌, List, length, map, All}
+use Rattle.forney.specs.Values.{values, stream_of}
+use Rattle.forney.specs.Interleaving.{deinterleaved}
+use Rattle.forney.specs.Delays.{Delays, Deinterleaves}
+
+pub record MarginDelays : Type 0 where
+  pub first : Delays
+  pub second : Delays
+  pub third : Delays
+  pub fourth : Delays
+
+-- the bytes of a number below 2^32, the lowest first
+abbrev pub first_byte : ℕ → ℕ
+first_byte m = m % 256
+
+abbrev pub second_byte : ℕ → ℕ
+second_byte m = m / 256 % 256
+
+abbrev pub third_byte : ℕ → ℕ
+third_byte m = m / 65_536 % 256
+
+abbrev pub fourth_byte : ℕ → ℕ
+fourth_byte m = m / 16_777_216 % 256
+
+-- the lines after these margins
+pub record Carries (lines : MarginDelays) (margins : List ℕ) : Type 0 where
+  pub first : Deinterleaves lines.first (map first_byte margins)
+  pub second : Deinterleaves lines.second (map second_byte margins)
+  pub third : Deinterleaves lines.third (map third_byte margins)
+  pub fourth : Deinterleaves lines.fourth (map fourth_byte margins)
+  pub small : All (λ m. m < 2 ^ 32) margins
+
+-- delay lines, and the margins of the bytes of the unfinished word
+pub record MarginState : Type 0 where
+  pub lines : MarginDelays
+  pub begun : List ℕ
+
+-- after these margins of interleaved bytes
+pub record Holds (state : MarginState) (margins : List ℕ) : Type 0 where
+  pub carries : Carries state.lines margins
+  pub begun : state.begun ≡ values (deinterleaved (stream_of margins)) (204 * (length margins / 204)) (length margins % 204)

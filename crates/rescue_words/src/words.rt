@@ -1,0 +1,95 @@
+// The outer code of a stream whose words are rescued.
+ghost use Rattle.std.specs.Prelude.{◌≡◌, ◌+◌, ◌*◌, ◌<◌, ◌≤◌, ◌^◌, ◌++◌, ◌∷◌, [], ℕ, List, length, vec_len, vec_capacity, IfOk, IfSome, IsNone};
+ghost use Rattle.outer_chain.specs.Receiving.{Receives};
+ghost use Rattle.rescue_words.specs.Recovering.{IsFinished};
+ghost use Rattle.rescue_words.specs.Rescued.{RescueTally};
+ghost use Rattle.rescue_words.specs.Running.{Stands, Took};
+
+use crate::counts::{RescueCounts, no_counts};
+use crate::lines::MarginRx;
+use crate::recovery::finish_word;
+use outer_chain::{OuterRx, WordSlot};
+use std::alloc::{AllocError, Global};
+use std::marker::Model;
+
+/// Takes the interleaved bytes of a stream with their margins, and gives the packets of its words, which are rescued where that
+/// is possible. It stands for the bytes and the margins that it has had, and for what it gave.
+///
+/// No call but `new` takes memory.
+#[derive(Drop)]
+pub struct RescueWords {
+    outer: OuterRx,
+    margins: MarginRx,
+    counts: RescueCounts,
+}
+
+impl Model for RescueWords {
+    ghost use Rattle.rescue_words.specs.Recovering.{AreFit};
+    ghost use Rattle.rescue_words.specs.Running.{WordsState};
+
+    ghost Value = { WordsState };
+
+    ghost view = { λ x. record { outer = x.outer; margins = x.margins; counts = x.counts } };
+
+    ghost invariant = { λ x. AreFit x.counts };
+}
+
+impl RescueWords {
+    /// It has had no byte. The only error is want of memory.
+    pub fn new(alloc: Global) -> Result<RescueWords, AllocError>
+        ensures stands { IfOk result (λ x. Stands x [] [] [] (record { words = 0; clean = 0; corrected = 0; rescued = 0; bad = 0; unphased = 0 })) }
+        ensures words { IfOk result (λ x. x.counts.words ≡ 0) }
+        ensures begun { IfOk result (λ x. x.margins.begun ≡ []) }
+    {
+        Ok(RescueWords {
+            outer: OuterRx::new(alloc)?,
+            margins: MarginRx::new(alloc)?,
+            counts: no_counts(),
+        })
+    }
+
+    /// Finishes the word that a byte ended, by the margins of its bytes, which are there then.
+    fn finish_word(&mut self, slot: WordSlot, margins: &Option<[u32; 204]>, to: &mut Vec<u8>)
+        requires room { vec_len to.old + 188 ≤ vec_capacity to.old }
+        requires few { self.old.counts.words < 2 ^ 62 }
+        ensures capacity { vec_capacity to.new ≡ vec_capacity to.old }
+        ensures margins { self.new.margins ≡ self.old.margins }
+        ensures len { vec_len to.new ≤ vec_len to.old + 188 }
+        ensures none { IsNone margins.now → to.new ≡ to.old }
+        ensures words { self.new.counts.words ≤ self.old.counts.words + 1 }
+        ensures receives { (bytes : List ℕ) → Receives self.old.outer bytes → Receives self.new.outer bytes }
+        ensures finished { IfSome margins.now (λ w. IsFinished slot.word w self.old.outer.phase self.new.outer.phase to.old.items to.new.items self.old.counts self.new.counts) }
+    {
+        let mut slot = slot;
+        if let Some(margins) = margins {
+            finish_word(&mut self.outer, &mut slot, margins, &mut self.counts, to);
+        }
+    }
+
+    /// Takes the next interleaved byte and its margin, and appends the packet of the word that ends with it, if one does and
+    /// has a phase.
+    ///
+    /// There is room for a packet, and fewer than 2^62 words were counted. Over the calls no more than 188 bytes are
+    /// appended for 204 that are taken.
+    pub fn take(&mut self, byte: u8, margin: u32, to: &mut Vec<u8>)
+        requires room { vec_len to.old + 188 ≤ vec_capacity to.old }
+        requires few { self.old.counts.words < 2 ^ 62 }
+        ensures capacity { vec_capacity to.new ≡ vec_capacity to.old }
+        ensures amount { 204 * vec_len to.new + 188 * length self.new.margins.begun ≤ 204 * vec_len to.old + 188 * (length self.old.margins.begun + 1) }
+        ensures words { self.new.counts.words ≤ self.old.counts.words + 1 }
+        ensures took { (bytes margins given : List ℕ) (tally : RescueTally) → Stands self.old bytes margins given tally → Took self.new (bytes ++ byte ∷ []) (margins ++ margin ∷ []) given to.old.items to.new.items }
+    {
+        let margins = self.margins.take(margin);
+        match self.outer.take_byte(byte) {
+            None => {}
+            Some(slot) => self.finish_word(slot, &margins, to),
+        }
+    }
+
+    /// The counts of the words so far.
+    pub fn counts(&self) -> RescueCounts
+        ensures { result ≡ self.now.counts }
+    {
+        self.counts
+    }
+}

@@ -1,0 +1,11 @@
+//! The settings: each trait at each of its types, the tables by their values, and documents with their answers.
+//!
+//! The crate has tests alone.
+#![tactic(auto)]
+
+#[cfg(test)]
+mod documents;
+#[cfg(test)]
+mod examples;
+#[cfg(test)]
+mod tests;

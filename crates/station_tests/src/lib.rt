@@ -1,0 +1,11 @@
+//! The stations call by call: the one in memory, and the one over files, in an empty folder.
+//!
+//! The crate has tests alone.
+#![tactic(auto)]
+
+#[cfg(test)]
+mod files;
+#[cfg(test)]
+mod memory;
+#[cfg(test)]
+mod watched;
