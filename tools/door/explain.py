@@ -234,6 +234,8 @@ def what_stands(form, status, before):
         ("receive", 5): "what is decided by the symbols read",
         ("receive", 8): "what is decided by the symbols within the limit",
         ("upgrade", 5): "the header and the symbols read",
+        ("equalise", 5): "the header and the symbols read, corrected",
+        ("equalise", 8): "the header and the symbols within the limit, corrected",
         ("upgrade", 8): "the header and the symbols within the limit",
     }.get((form.command, status), "what the packets before it give")
     if status == 6:

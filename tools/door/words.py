@@ -6,11 +6,13 @@ SETTINGS, HP, LP, CELLS = ("settings", "SETTINGS"), ("hp", "HP"), ("lp", "LP"), 
 TS, OUT, TO_CELLS = ("hp", "TS"), ("out", "OUT"), ("out", "CELLS")
 TO_HP, TO_LP, NUMBER = ("out-hp", "HP"), ("out-lp", "LP"), ("number", "NUMBER")
 OLD, NEW = ("cells", "OLD"), ("out", "NEW")
+IN, CORRECTED = ("cells", "IN"), ("out", "OUT")
 
 FORMS = {
     "modulate": [(SETTINGS, HP, TO_CELLS), (SETTINGS, HP, LP, TO_CELLS)],
     "receive": [(SETTINGS, CELLS, TO_HP), (SETTINGS, CELLS, TO_HP, TO_LP)],
     "upgrade": [(SETTINGS, OLD, NEW)],
+    "equalise": [(SETTINGS, IN, CORRECTED)],
     "trial": [(SETTINGS, NUMBER)],
     "disperse": [(TS, OUT)],
     "outer": [(TS, OUT)],
@@ -21,6 +23,7 @@ SHORT = {
     "modulate": "transport packets to the cells of the OFDM carriers",
     "receive": "cells, noisy ones too, back to transport packets",
     "upgrade": "a cell file of version 1 as one of version 2",
+    "equalise": "cells corrected by the pilots of their own symbols",
     "trial": "packets drawn from a number, there and back over disturbed cells",
     "disperse": "energy dispersal alone, 188 bytes a packet",
     "outer": "dispersal, Reed-Solomon code and outer interleaver, 204 bytes a packet",
@@ -35,6 +38,7 @@ FILES = {
     "CELLS": "a cell file: a header, then five bytes a carrier, symbol after symbol (docs/FILES.md)",
     "OLD": "a cell file of version 1: four bytes a carrier, without a header (docs/FILES.md)",
     "NEW": "the cell file of version 2 to write: a header, then five bytes a carrier",
+    "IN": "a cell file of version 2, from the first symbol of a super-frame on (docs/FILES.md)",
     "OUT": "the file to write",
     "NUMBER": "one to ten digits, at most 4294967295; the same number gives the same lines everywhere",
 }
@@ -48,6 +52,9 @@ settings have a hierarchy. Set start = "any" where the cells do not begin at the
 a weight of 0 to 15, by which its costs count.""",
     "upgrade": """Writes the header of the settings' mode, and each cell of OLD's whole symbols with the weight 15, at
 which it counts whole. Of the settings the mode and max_symbols alone have an effect.""",
+    "equalise": """Divides each cell by the gain on the line between the two pilots around it, and writes it with a weight of
+0 to 15 by how strong that gain is. Serves one gain a symbol, or one that bends slowly over the carriers. Of the
+settings the mode and max_symbols alone have an effect.""",
     "trial": "Writes no file: the lines count what was sent and what came back.",
     "disperse": "EN 300 744, 4.3.1.",
     "outer": "EN 300 744, 4.3.1 and 4.3.2.",
@@ -58,6 +65,7 @@ EXAMPLES = {
     "modulate": ["bin/dvbt modulate examples/settings/64qam.toml examples/sample.ts out.cells"],
     "receive": ["bin/dvbt receive examples/settings/64qam.toml out.cells back.ts"],
     "upgrade": ["bin/dvbt upgrade examples/settings/64qam.toml old.cells new.cells"],
+    "equalise": ["bin/dvbt equalise examples/settings/64qam.toml received.cells corrected.cells"],
     "trial": ["bin/dvbt trial examples/settings/qpsk.toml 7"],
     "disperse": ["bin/dvbt disperse examples/sample.ts out.ts"],
     "outer": ["bin/dvbt outer examples/sample.ts out.bin"],
@@ -68,14 +76,14 @@ EXAMPLES = {
 STATUSES = [
     (0, "the work was done whole; the lines say what was counted", FORMS),
     (2, "the words are of no form: `usage`", FORMS),
-    (3, "the settings are refused: `settings ..` says why", ("modulate", "receive", "upgrade", "trial", "inner")),
+    (3, "the settings are refused: `settings ..` says why", ("modulate", "receive", "upgrade", "equalise", "trial", "inner")),
     (4, "a packet does not begin with the sync byte 47: `hp packet N`, `lp packet N`, counted from 0",
      ("modulate", "disperse", "outer", "inner")),
     (5, "a file can't be opened or read: `read fault`", FORMS),
     (6, "a file can't be made, written or closed: `write fault`", FORMS),
-    (7, "memory is wanting: `memory`", ("modulate", "receive", "upgrade", "trial", "outer", "inner")),
+    (7, "memory is wanting: `memory`", ("modulate", "receive", "upgrade", "equalise", "trial", "outer", "inner")),
     (8, "more packets or symbols than the limit: `limit N`", FORMS),
-    (9, "the cells do not begin with the header of the settings' mode: `cells header`", ("receive",)),
+    (9, "the cells do not begin with the header of the settings' mode: `cells header`", ("receive", "equalise")),
 ]
 OF_THE_DOOR = [
     (64, "bin/dvbt itself refused: one file is named twice, and would be destroyed"),

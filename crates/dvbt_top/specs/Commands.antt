@@ -7,7 +7,8 @@ use Rattle.modulate_run.specs.ModulateCommand.{modulate_command}
 use Rattle.receive_run.specs.ReceiveCommand.{receive_command}
 use Rattle.trial_run.specs.TrialCommand.{trial_command}
 use Rattle.upgrade_run.specs.UpgradeCommand.{upgrade_command}
-use Rattle.dvbt_top.specs.Order.{Order, Disperse, Outer, Inner, Code, Modulate, Receive, Upgrade, Trial, order_of}
+use Rattle.equalise_run.specs.EqualiseCommand.{equalise_command}
+use Rattle.dvbt_top.specs.Order.{Order, Disperse, Outer, Inner, Code, Modulate, Receive, Upgrade, Equalise, Trial, order_of}
 
 -- words of no form: they are refused, and no file is asked for
 abbrev pub no_command : Command
@@ -34,6 +35,7 @@ command_for (Some (Code (Inner settings) input output)) = inner_command settings
 command_for (Some (Modulate settings hp lp cells)) = modulate_command settings hp lp cells
 command_for (Some (Receive settings cells hp lp)) = receive_command settings cells hp lp
 command_for (Some (Upgrade settings old new)) = upgrade_command settings old new
+command_for (Some (Equalise settings old new)) = equalise_command settings old new
 command_for (Some (Trial settings number)) = trial_command settings number
 
 abbrev pub command_of : List (List ℕ) → Command

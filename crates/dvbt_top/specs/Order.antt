@@ -23,6 +23,8 @@ pub data Order : Type 0 where
   Receive : List ℕ → List ℕ → List ℕ → Option (List ℕ) → Order
   -- upgrade SETTINGS OLD NEW
   Upgrade : List ℕ → List ℕ → List ℕ → Order
+  -- equalise SETTINGS IN OUT
+  Equalise : List ℕ → List ℕ → List ℕ → Order
   -- trial SETTINGS NUMBER
   Trial : List ℕ → ℕ → Order
 
@@ -37,7 +39,8 @@ order_of (name ∷ first ∷ second ∷ []) = if bytes_eq name (codes "trial") t
 order_of (name ∷ settings ∷ input ∷ output ∷ []) = if bytes_eq name (codes "inner") then Some (Code (Inner settings) input output)
     else if bytes_eq name (codes "modulate") then Some (Modulate settings input None output)
     else if bytes_eq name (codes "receive") then Some (Receive settings input output None)
-    else if bytes_eq name (codes "upgrade") then Some (Upgrade settings input output) else None
+    else if bytes_eq name (codes "upgrade") then Some (Upgrade settings input output)
+    else if bytes_eq name (codes "equalise") then Some (Equalise settings input output) else None
 order_of (name ∷ settings ∷ first ∷ second ∷ third ∷ []) = if bytes_eq name (codes "modulate") then Some (Modulate settings first (Some second) third)
     else if bytes_eq name (codes "receive") then Some (Receive settings first second (Some third)) else None
 order_of words = None

@@ -122,5 +122,12 @@ pub fn form_of<'a>(words: &'a [String]) -> Option<Form<'a>>
             new_cells,
         });
     }
+    if let Some((settings, input, output)) = three_after(words, "equalise") {
+        return Some(Form::Equalise {
+            settings,
+            old_cells: input,
+            new_cells: output,
+        });
+    }
     None
 }

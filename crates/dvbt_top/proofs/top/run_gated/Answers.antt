@@ -53,6 +53,13 @@ returns-in-Some-Upgrade g c =
     subst (λ (x : Option Order). Run (command_for x) c.args.limits.packets old new c.upgrade.result)
     (ap (λ (f : Form). Some (order f)) (sym c.in-Some-Upgrade.field-0-is) ∙ c.in-Some-Upgrade.ensures) c.upgrade.ensures
 
+pub returns-in-Some-Equalise : goal.returns-in-Some-Equalise
+returns-in-Some-Equalise g c =
+    let old : Meaning = g.S.Station.meaning c.args.station.now in
+    let new : Meaning = g.S.Station.meaning c.equalise.new.station in
+    subst (λ (x : Option Order). Run (command_for x) c.args.limits.packets old new c.equalise.result)
+    (ap (λ (f : Form). Some (order f)) (sym c.in-Some-Equalise.field-0-is) ∙ c.in-Some-Equalise.ensures) c.equalise.ensures
+
 pub returns-in-Some-Trial : goal.returns-in-Some-Trial
 returns-in-Some-Trial g c =
     let old : Meaning = g.S.Station.meaning c.args.station.now in

@@ -1,0 +1,4 @@
+pub mod Conversion
+pub mod ConversionCommand
+pub mod Working
+pub mod Runs

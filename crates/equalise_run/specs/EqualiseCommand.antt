@@ -1,0 +1,13 @@
+-- The command `equalise SETTINGS IN OUT`.
+use Rattle.std.specs.Prelude.{⊤, List, [], ◌∷◌, ℕ}
+use Rattle.run_clauses.specs.Command.{Command}
+use Rattle.cell_conversions.specs.ConversionCommand.{conversion_command}
+use Rattle.equalise_run.specs.Equalising.{equalisation}
+
+-- the statuses with which it may end
+abbrev pub statuses : List ℕ
+statuses = 0 ∷ 3 ∷ 5 ∷ 6 ∷ 7 ∷ 8 ∷ 9 ∷ []
+
+-- OUT comes to the header and the corrected cells of IN, by the mode that the settings state
+abbrev pub equalise_command : List ℕ → List ℕ → List ℕ → Command
+equalise_command settings old new = conversion_command equalisation statuses (λ file. ⊤) settings old new

@@ -1,0 +1,2 @@
+pub mod Equalising
+pub mod EqualiseCommand
