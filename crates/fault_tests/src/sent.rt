@@ -52,7 +52,7 @@ fn behind(lines: usize) -> Stands {
 }
 
 // The calls at the settings and at the cells, which one stream and two have alike.
-fn shared() -> [(Failing, Stands); 8] {
+fn shared() -> [(Failing, Stands); 9] {
     [
         (Attach(InPort::Settings, 1), UNREAD),
         (Read(InPort::Settings, 1), UNREAD),
@@ -60,6 +60,7 @@ fn shared() -> [(Failing, Stands); 8] {
         (Attach(InPort::Hp, 1), UNREAD),
         (Create(OutPort::Cells, 1), (6, 0, (0, 0))),
         (Write(OutPort::Cells, 1), HEADER),
+        (Write(OutPort::Cells, 2), write(0)),
         (Write(OutPort::Cells, 31), write(29)),
         (Write(OutPort::Cells, 273), write(271)),
     ]
