@@ -79,7 +79,8 @@ fn part_of(high: u8, low: u8) -> i32 {
 fn push_part(part: i32, to: &mut Vec<u8>) -> Result<(), AllocError> {
     let bytes = (part.clamp(-32768, 32767) as i16).to_be_bytes();
     to.push(bytes[0])?;
-    to.push(bytes[1])
+    to.push(bytes[1])?;
+    Ok(())
 }
 
 // A cell (x, y) as it comes through a channel: turned by a quarter, or by an eighth and weakened to 0.7.

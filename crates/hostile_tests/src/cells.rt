@@ -109,7 +109,8 @@ fn settings_of(
 fn push_cell(to: &mut Vec<u8>, re: i16, im: i16) -> Result<(), AllocError> {
     to.extend_from_slice(re.to_be_bytes().as_slice())?;
     to.extend_from_slice(im.to_be_bytes().as_slice())?;
-    to.push(15)
+    to.push(15)?;
+    Ok(())
 }
 
 // Five symbols of such cells, and three bytes.
