@@ -2,12 +2,12 @@
 use Rattle.std.proofs.Common.{◌≡◌, ℕ, zero, suc, ◌+◌, ◌-◌, ◌%◌, ◌^◌, ◌<◌, ◌≤◌, Bool, true, false, cond, not, List, [], ◌∷◌, map, length, get_or, replicate, ◌⊎◌, inl, inr, refl, sym, ap, ◌∙◌, arith, eqb, ltb, leb, true≢false, w16}
 use Rattle.std.proofs.lemmas.Simd.{tops_compared, get_or-zip2, get_or-sel_l, length-zip2, length-sel_l, mask_l-mod}
 use Rattle.std.proofs.lemmas.List.{get_or-replicate}
-use Rattle.std.proofs.lemmas.Bool.{cases_Bool, cases_lt, ltb-true, ltb-false, leb-true, leb-false, eq-eqb, eqb-true}
+use Rattle.std.proofs.lemmas.Bool.{cases_Bool, ltb-true, ltb-false, leb-false, eqb-true}
 use Rattle.std.specs.Simd.Lanes.{zip2, sel_l, mask_l, top}
-use Rattle.std.specs.Prelude.{slice_index, max, IsTrue, IsFalse}
-use Rattle.acs_lanes.specs.Lanes16.{AreLanes, AreLowered, HasHigh, joined}
+use Rattle.std.specs.Prelude.{slice_index, max, IsFalse}
+use Rattle.acs_lanes.specs.Lanes16.{AreLanes, AreLowered, AreRoomy, joined}
 use Rattle.acs_lanes.proofs.Sums16.{less}
-use Rattle.acs_lanes.proofs.Quarters.{a_at, b_at, c_at, d_at, both_lanes}
+use Rattle.acs_lanes.proofs.Quarters.{b_at, c_at, d_at, both_lanes}
 
 -- ---- the higher one
 
@@ -39,11 +39,6 @@ module _ (xs ys : List ℕ) (lx : length xs ≡ 16) (ly : length ys ≡ 16) wher
 
 -- ---- a lane that reaches a number
 
-some_set : (bs : List Bool) → (mask_l bs ≡ 0 → ⊥) → (k : ℕ) × (k < length bs) × (get_or bs k false ≡ true)
-some_set [] h = absurd (h refl)
-some_set (true ∷ bs) h = (0, omega arith, refl)
-some_set (false ∷ bs) h = let r = some_set bs (λ e. h (omega (arith, e))) in (suc r.0, omega (arith, r.1), r.2)
-
 none_set : (bs : List Bool) → mask_l bs ≡ 0 → (k : ℕ) → get_or bs k false ≡ false
 none_set [] h k = refl
 none_set (true ∷ bs) h k = absurd (omega (arith, h))
@@ -51,28 +46,22 @@ none_set (false ∷ bs) h zero = refl
 none_set (false ∷ bs) h (suc k) = none_set bs (omega (arith, h)) k
 
 abbrev tops : List ℕ → List Bool
-tops xs = map (top 15) (zip2 (λ a b. cond (leb a b) 65535 0) (replicate 16 57330) xs)
+tops xs = map (top 15) (zip2 (λ a b. cond (leb a b) 65535 0) (replicate 16 49156) xs)
 
 module _ (xs : List ℕ) (lx : length xs ≡ 16) where
-  tops_is : tops xs ≡ zip2 leb (replicate 16 57330) xs
-  tops_is = tops_compared w16 leb (replicate 16 57330) xs
+  tops_is : tops xs ≡ zip2 leb (replicate 16 49156) xs
+  tops_is = tops_compared w16 leb (replicate 16 49156) xs
 
   tops_len : length (tops xs) ≡ 16
-  tops_len = ap length tops_is ∙ length-zip2 leb (replicate 16 57330) xs (sym lx) ∙ refl
+  tops_len = ap length tops_is ∙ length-zip2 leb (replicate 16 49156) xs (sym lx) ∙ refl
 
-  tops_at : (k : ℕ) → k < 16 → get_or (tops xs) k false ≡ leb 57330 (get_or xs k 0)
+  tops_at : (k : ℕ) → k < 16 → get_or (tops xs) k false ≡ leb 49156 (get_or xs k 0)
   tops_at k l =
-      ap (λ z. get_or z k false) tops_is ∙ get_or-zip2 leb (replicate 16 57330) xs k 0 0 false l (omega (arith, lx))
-      ∙ ap (λ z. leb z (get_or xs k 0)) (get_or-replicate 16 k 57330 0 l)
+      ap (λ z. get_or z k false) tops_is ∙ get_or-zip2 leb (replicate 16 49156) xs k 0 0 false l (omega (arith, lx))
+      ∙ ap (λ z. leb z (get_or xs k 0)) (get_or-replicate 16 k 49156 0 l)
 
   whole : mask_l (tops xs) % 2 ^ 64 ≡ mask_l (tops xs)
   whole = mask_l-mod (tops xs) 64 (omega (arith, tops_len))
-
-  pub reaches_high : IsTrue (not (eqb (mask_l (tops xs) % 2 ^ 64) 0)) → (k : ℕ) × (k < 16) × (57330 ≤ slice_index xs k)
-  reaches_high t =
-      let r = some_set (tops xs) (λ e. true≢false (sym t ∙ ap not (eq-eqb (mask_l (tops xs) % 2 ^ 64) 0 (whole ∙ e)))) in
-      let l : r.0 < 16 = omega (arith, r.1, tops_len) in
-      (r.0, l, leb-true 57330 (get_or xs r.0 0) (sym (tops_at r.0 l) ∙ r.2))
 
   is_zero : (n : ℕ) → not (eqb n 0) ≡ false → n ≡ 0
   is_zero n t = go (eqb n 0) refl t
@@ -81,64 +70,68 @@ module _ (xs : List ℕ) (lx : length xs ≡ 16) where
       go true e f = eqb-true n 0 e
       go false e f = absurd (true≢false f)
 
-  pub reaches_low : IsFalse (not (eqb (mask_l (tops xs) % 2 ^ 64) 0)) → (k : ℕ) → k < 16 → slice_index xs k < 57330
-  reaches_low t k l = leb-false 57330 (get_or xs k 0) (sym (tops_at k l) ∙ none_set (tops xs) (sym whole ∙ is_zero (mask_l (tops xs) % 2 ^ 64) t) k)
+  pub reaches_low : IsFalse (not (eqb (mask_l (tops xs) % 2 ^ 64) 0)) → (k : ℕ) → k < 16 → slice_index xs k < 49156
+  reaches_low t k l = leb-false 49156 (get_or xs k 0) (sym (tops_at k l) ∙ none_set (tops xs) (sym whole ∙ is_zero (mask_l (tops xs) % 2 ^ 64) t) k)
 
 -- of four vectors
 
 module _ (a b c d p q m : List ℕ) (o : AreLanes a b c d) (fp : (k : ℕ) → k < 16 → slice_index p k ≡ max (slice_index a k) (slice_index b k)) (fq : (k : ℕ) → k < 16 → slice_index q k ≡ max (slice_index c k) (slice_index d k))
     (fm : (k : ℕ) → k < 16 → slice_index m k ≡ max (slice_index p k) (slice_index q k)) where
-  pub some_high : (k : ℕ) × (k < 16) × (57330 ≤ slice_index m k) → HasHigh (joined a b c d)
-  some_high (k, l, h) = go (cases_lt (get_or a k 0) 57330) (cases_lt (get_or b k 0) 57330) (cases_lt (get_or c k 0) 57330)
-    where
-      go : (get_or a k 0 < 57330) ⊎ (57330 ≤ get_or a k 0) → (get_or b k 0 < 57330) ⊎ (57330 ≤ get_or b k 0) → (get_or c k 0 < 57330) ⊎ (57330 ≤ get_or c k 0) → HasHigh (joined a b c d)
-      go (inr x) y z = record { state = k; below = omega arith; is = omega (arith, x, a_at a b c d o.a_len o.b_len o.c_len o.d_len k l) }
-      go (inl x) (inr y) z = record { state = 16 + k; below = omega arith; is = omega (arith, y, b_at a b c d o.a_len o.b_len o.c_len o.d_len k l) }
-      go (inl x) (inl y) (inr z) = record { state = 32 + k; below = omega arith; is = omega (arith, z, c_at a b c d o.a_len o.b_len o.c_len o.d_len k l) }
-      go (inl x) (inl y) (inl z) = record { state = 48 + k; below = omega arith; is = omega (arith, x, y, z, h, fp k l, fq k l, fm k l, d_at a b c d o.a_len o.b_len o.c_len o.d_len k l) }
-
-  pub all_low : ((k : ℕ) → k < 16 → slice_index m k < 57330) → (n : ℕ) → n < 64 → slice_index (joined a b c d) n < 57330
+  pub all_low : ((k : ℕ) → k < 16 → slice_index m k < 49156) → (n : ℕ) → n < 64 → slice_index (joined a b c d) n < 49156
   all_low h =
-      both_lanes (λ x y. x < 57330) a b c d a b c d o.a_len o.b_len o.c_len o.d_len o.a_len o.b_len o.c_len o.d_len
+      both_lanes (λ x y. x < 49156) a b c d a b c d o.a_len o.b_len o.c_len o.d_len o.a_len o.b_len o.c_len o.d_len
       (λ k l. omega (arith, h k l, fp k l, fm k l)) (λ k l. omega (arith, h k l, fp k l, fm k l)) (λ k l. omega (arith, h k l, fq k l, fm k l)) (λ k l. omega (arith, h k l, fq k l, fm k l))
 
 -- ---- less
 
-abbrev lower : List ℕ → List ℕ
-lower xs = zip2 (λ a b. (a + (65536 - b)) % 65536) xs (replicate 16 8190)
+abbrev lower : ℕ → List ℕ → List ℕ
+lower low xs = zip2 (λ a b. (a + (65536 - b)) % 65536) xs (replicate 16 low)
 
-module _ (xs : List ℕ) (lx : length xs ≡ 16) (hx : (k : ℕ) → k < 16 → 8190 ≤ slice_index xs k) (fx : (k : ℕ) → k < 16 → slice_index xs k < 2 ^ 16) where
-  pub lower_len : length (lower xs) ≡ 16
-  lower_len = length-zip2 (λ a b. (a + (65536 - b)) % 65536) xs (replicate 16 8190) lx ∙ lx
+module _ (low : ℕ) (xs : List ℕ) (lx : length xs ≡ 16) (hx : (k : ℕ) → k < 16 → low ≤ slice_index xs k) (fx : (k : ℕ) → k < 16 → slice_index xs k < 2 ^ 16) where
+  pub lower_len : length (lower low xs) ≡ 16
+  lower_len = length-zip2 (λ a b. (a + (65536 - b)) % 65536) xs (replicate 16 low) lx ∙ lx
 
-  by_less : (x y : ℕ) → y ≡ 8190 → 8190 ≤ x → x < 2 ^ 16 → (x + (65536 - y)) % 65536 + 8190 ≡ x
+  by_less : (x y : ℕ) → y ≡ low → low ≤ x → x < 2 ^ 16 → (x + (65536 - y)) % 65536 + low ≡ x
   by_less x y e h f = omega (arith, e, h, f)
 
-  pub lower_at : (k : ℕ) → k < 16 → get_or (lower xs) k 0 + 8190 ≡ get_or xs k 0
+  pub lower_at : (k : ℕ) → k < 16 → get_or (lower low xs) k 0 + low ≡ get_or xs k 0
   lower_at k l =
-      ap (λ z. z + 8190) (get_or-zip2 (λ a b. (a + (65536 - b)) % 65536) xs (replicate 16 8190) k 0 0 0 (omega (arith, lx)) l)
-      ∙ by_less (get_or xs k 0) (get_or (replicate 16 8190) k 0) (get_or-replicate 16 k 8190 0 l) (hx k l) (fx k l)
+      ap (λ z. z + low) (get_or-zip2 (λ a b. (a + (65536 - b)) % 65536) xs (replicate 16 low) k 0 0 0 (omega (arith, lx)) l)
+      ∙ by_less (get_or xs k 0) (get_or (replicate 16 low) k 0) (get_or-replicate 16 k low 0 l) (hx k l) (fx k l)
 
 -- of four vectors
 
-module _ (a b c d e f g h : List ℕ) (o : AreLanes a b c d) (le : length e ≡ 16) (lf : length f ≡ 16) (lg : length g ≡ 16) (lh : length h ≡ 16) (se : (k : ℕ) → k < 16 → slice_index e k + 8190 ≡ slice_index a k)
-    (sf : (k : ℕ) → k < 16 → slice_index f k + 8190 ≡ slice_index b k) (sg : (k : ℕ) → k < 16 → slice_index g k + 8190 ≡ slice_index c k) (sh : (k : ℕ) → k < 16 → slice_index h k + 8190 ≡ slice_index d k) where
-  pub lower_all : (n : ℕ) → n < 64 → slice_index (joined e f g h) n + 8190 ≡ slice_index (joined a b c d) n
-  lower_all = both_lanes (λ x y. x + 8190 ≡ y) e f g h a b c d le lf lg lh o.a_len o.b_len o.c_len o.d_len se sf sg sh
+module _ (low : ℕ) (a b c d e f g h : List ℕ) (o : AreLanes a b c d) (le : length e ≡ 16) (lf : length f ≡ 16) (lg : length g ≡ 16) (lh : length h ≡ 16) (se : (k : ℕ) → k < 16 → slice_index e k + low ≡ slice_index a k)
+    (sf : (k : ℕ) → k < 16 → slice_index f k + low ≡ slice_index b k) (sg : (k : ℕ) → k < 16 → slice_index g k + low ≡ slice_index c k) (sh : (k : ℕ) → k < 16 → slice_index h k + low ≡ slice_index d k) where
+  pub lower_all : (n : ℕ) → n < 64 → slice_index (joined e f g h) n + low ≡ slice_index (joined a b c d) n
+  lower_all = both_lanes (λ x y. x + low ≡ y) e f g h a b c d le lf lg lh o.a_len o.b_len o.c_len o.d_len se sf sg sh
 
   pub lower_lanes : AreLanes e f g h
   lower_lanes = record { a_len = le; b_len = lf; c_len = lg; d_len = lh; fits = λ n l. omega (arith, lower_all n l, o.fits n l) }
 
-pub lowered_is : (old new : List ℕ) → ((n : ℕ) → n < 64 → slice_index old n < 2 ^ 16) → ((n : ℕ) → n < 64 → slice_index new n + 8190 ≡ slice_index old n) → AreLowered old new
-lowered_is old new f h = record { less = 8190; is = h; few = λ n l. omega (arith, f n l, h n l) }
+pub roomy_is : (low : ℕ) (old new : List ℕ) → ((n : ℕ) → n < 64 → slice_index old n ≤ low + 49140) → ((n : ℕ) → n < 64 → slice_index new n + low ≡ slice_index old n) → AreRoomy old new
+roomy_is low old new f h = record {
+  lowered = record { less = low; is = h; few = λ n l. omega (arith, f n l, h n l) };
+  room = λ n l. omega (arith, f n l, h n l);
+}
+
+-- lanes that are low stay as they are
+pub roomy_same : (old : List ℕ) → ((n : ℕ) → n < 64 → slice_index old n < 49156) → AreRoomy old old
+roomy_same old f = record {
+  lowered = record { less = 0; is = λ n l. omega arith; few = λ n l. omega (arith, f n l) };
+  room = λ n l. omega (arith, f n l);
+}
+
+pub lowered_same : (old : List ℕ) → ((n : ℕ) → n < 64 → slice_index old n ≤ 57345) → AreLowered old old
+lowered_same old f = record { less = 0; is = λ n l. omega arith; few = f }
 
 -- a part of lanes is as high as the whole
-module _ (a b c d : List ℕ) (o : AreLanes a b c d) (h : (n : ℕ) → n < 64 → 8190 ≤ slice_index (joined a b c d) n) where
-  pub b_high : (k : ℕ) → k < 16 → 8190 ≤ slice_index b k
+module _ (low : ℕ) (a b c d : List ℕ) (o : AreLanes a b c d) (h : (n : ℕ) → n < 64 → low ≤ slice_index (joined a b c d) n) where
+  pub b_high : (k : ℕ) → k < 16 → low ≤ slice_index b k
   b_high k l = omega (arith, h (16 + k) (omega arith), b_at a b c d o.a_len o.b_len o.c_len o.d_len k l)
 
-  pub c_high : (k : ℕ) → k < 16 → 8190 ≤ slice_index c k
+  pub c_high : (k : ℕ) → k < 16 → low ≤ slice_index c k
   c_high k l = omega (arith, h (32 + k) (omega arith), c_at a b c d o.a_len o.b_len o.c_len o.d_len k l)
 
-  pub d_high : (k : ℕ) → k < 16 → 8190 ≤ slice_index d k
+  pub d_high : (k : ℕ) → k < 16 → low ≤ slice_index d k
   d_high k l = omega (arith, h (48 + k) (omega arith), d_at a b c d o.a_len o.b_len o.c_len o.d_len k l)

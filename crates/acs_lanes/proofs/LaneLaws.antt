@@ -112,7 +112,7 @@ four_small pair true false = omega (arith, pair.small.x1_small, pair.small.y0_sm
 four_small pair false true = omega (arith, pair.small.x0_small, pair.small.y1_small)
 four_small pair false false = omega (arith, pair.small.x0_small, pair.small.y0_small)
 
-from_small : (pair : CostPair) (parity : ℕ) (input : Bool) (k : ℕ) → cost_from pair parity input k ≤ 8190
+pub from_small : (pair : CostPair) (parity : ℕ) (input : Bool) (k : ℕ) → cost_from pair parity input k ≤ 8190
 from_small pair parity input k = four_small pair (parity_x (bits_at parity input k)) (parity_y (bits_at parity input k))
 
 -- the step of all lanes is that of all states

@@ -9,3 +9,4 @@ pub mod Costs16
 mod Back
 pub mod Marks
 pub mod Turns
+pub mod Grows

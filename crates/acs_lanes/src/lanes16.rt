@@ -1,8 +1,9 @@
 // The 64 costs in lanes of 16 bits.
-ghost use Rattle.std.specs.Prelude.{◌≡◌, ◌≤◌, ◌<◌, ◌+◌, ◌^◌, ℕ, IsTrue, IsFalse, max, length, slice_index};
-ghost use Rattle.acs_lanes.specs.Lanes16.{AreLanes, AreLowered, AreClose, HasHigh, joined, laid, place, state_at};
+ghost use Rattle.std.specs.Prelude.{◌≡◌, ◌≤◌, ◌<◌, ◌+◌, ◌%◌, ◌^◌, ℕ, IsFalse, max, length, slice_index};
+ghost use Rattle.acs_lanes.specs.Lanes16.{AreLanes, AreLowered, AreRoomy, AreClose, joined, laid, place, state_at};
 
 use crate::lanes::write;
+use acs_plain::Sums;
 use std::simd::cmp::{SimdOrd, SimdPartialOrd};
 use std::simd::{u16x16, u32x16};
 
@@ -132,55 +133,91 @@ fn higher(x: u16x16, y: u16x16) -> u16x16
     x.simd_max(y)
 }
 
-/// Is some lane at least 57,330?
+/// Is some lane at least 49,156?
 fn reaches(lanes: u16x16) -> bool
     requires { length lanes ≡ 16 }
-    ensures high { IsTrue result → (k : ℕ) × (k < 16) × (57330 ≤ slice_index lanes k) }
-    ensures low { IsFalse result → (k : ℕ) → k < 16 → slice_index lanes k < 57330 }
+    ensures low { IsFalse result → (k : ℕ) → k < 16 → slice_index lanes k < 49156 }
 {
-    u16x16::splat(57330).simd_le(lanes).to_bitmask() != 0
+    u16x16::splat(49156).simd_le(lanes).to_bitmask() != 0
 }
 
-/// Is some lane so high that each may be lowered by the greatest cost of a step?
+/// Is some lane so high that the greatest costs of two steps may not be added?
 fn is_high(lanes: Lanes) -> bool
-    ensures high { IsTrue result → HasHigh (joined lanes.a lanes.b lanes.c lanes.d) }
-    ensures low { IsFalse result → (n : ℕ) → n < 64 → slice_index (joined lanes.a lanes.b lanes.c lanes.d) n < 57330 }
+    ensures low { IsFalse result → (n : ℕ) → n < 64 → slice_index (joined lanes.a lanes.b lanes.c lanes.d) n < 49156 }
 {
     reaches(higher(higher(lanes.a, lanes.b), higher(lanes.c, lanes.d)))
 }
 
-/// Sixteen lanes less the greatest cost of a step.
-fn less(lanes: u16x16) -> u16x16
-    requires long { length lanes ≡ 16 }
-    requires high { (k : ℕ) → k < 16 → 8190 ≤ slice_index lanes k }
-    requires fits { (k : ℕ) → k < 16 → slice_index lanes k < 2 ^ 16 }
-    ensures long { length result ≡ 16 }
-    ensures is { (k : ℕ) → k < 16 → slice_index result k + 8190 ≡ slice_index lanes k }
+/// The least cost in the lanes.
+fn least(lanes: Lanes) -> u32
+    ensures below { (n : ℕ) → n < 64 → result ≤ slice_index (joined lanes.a lanes.b lanes.c lanes.d) n }
+    ensures close { AreClose (joined lanes.a lanes.b lanes.c lanes.d) → (n : ℕ) → n < 64 → slice_index (joined lanes.a lanes.b lanes.c lanes.d) n ≤ result + 49140 }
+    ensures fits { result < 2 ^ 16 }
 {
-    lanes - u16x16::splat(8190)
+    let sums = Sums {
+        cost: all_lanes(lanes),
+        alive: u64::MAX,
+    };
+    sums.least()
 }
 
-/// The lanes less the greatest cost of a step.
-fn less_by_step(lanes: Lanes) -> Lanes
-    requires { (n : ℕ) → n < 64 → 8190 ≤ slice_index (joined lanes.a lanes.b lanes.c lanes.d) n }
-    ensures { (n : ℕ) → n < 64 → slice_index (joined result.a result.b result.c result.d) n + 8190 ≡ slice_index (joined lanes.a lanes.b lanes.c lanes.d) n }
+/// Sixteen lanes less a number.
+fn less(lanes: u16x16, low: u16) -> u16x16
+    requires long { length lanes ≡ 16 }
+    requires high { (k : ℕ) → k < 16 → low ≤ slice_index lanes k }
+    requires fits { (k : ℕ) → k < 16 → slice_index lanes k < 2 ^ 16 }
+    ensures long { length result ≡ 16 }
+    ensures is { (k : ℕ) → k < 16 → slice_index result k + low ≡ slice_index lanes k }
+{
+    lanes - u16x16::splat(low)
+}
+
+/// The lanes less a number.
+fn less_by(lanes: Lanes, low: u16) -> Lanes
+    requires { (n : ℕ) → n < 64 → low ≤ slice_index (joined lanes.a lanes.b lanes.c lanes.d) n }
+    ensures { (n : ℕ) → n < 64 → slice_index (joined result.a result.b result.c result.d) n + low ≡ slice_index (joined lanes.a lanes.b lanes.c lanes.d) n }
 {
     Lanes {
-        a: less(lanes.a),
-        b: less(lanes.b),
-        c: less(lanes.c),
-        d: less(lanes.d),
+        a: less(lanes.a, low),
+        b: less(lanes.b, low),
+        c: less(lanes.c, low),
+        d: less(lanes.d, low),
     }
 }
 
-/// The lanes made such that a step's cost may be added.
-// Where one is at least 57,330 each is at least 8,190, since they are within 49,140; and 65,535 - 8,190 + 8,190 fits.
-pub(crate) fn lowered(lanes: Lanes) -> Lanes
+/// The lanes less the least of them.
+// It is a call of its own, since it is seldom made, and stays out of the way of the steps.
+#[inline(never)]
+fn less_by_least(lanes: Lanes) -> Lanes
     requires { AreClose (joined lanes.a lanes.b lanes.c lanes.d) }
-    ensures { AreLowered (joined lanes.a lanes.b lanes.c lanes.d) (joined result.a result.b result.c result.d) }
+    ensures { AreRoomy (joined lanes.a lanes.b lanes.c lanes.d) (joined result.a result.b result.c result.d) }
+{
+    less_by(lanes, least(lanes) as u16)
+}
+
+/// The lanes made such that the costs of two steps may be added.
+// Where one is at least 49,156 the least is taken from each, which leaves 49,140 at most, since they are that close; and
+// 65,535 - 2 * 8,190 = 49,155.
+fn lowered(lanes: Lanes) -> Lanes
+    requires { AreClose (joined lanes.a lanes.b lanes.c lanes.d) }
+    ensures { AreRoomy (joined lanes.a lanes.b lanes.c lanes.d) (joined result.a result.b result.c result.d) }
 {
     if is_high(lanes) {
-        less_by_step(lanes)
+        less_by_least(lanes)
+    } else {
+        lanes
+    }
+}
+
+/// The lanes made such that a step's cost may be added, before the step of this number: for each two steps at once.
+pub(crate) fn readied(lanes: Lanes, number: usize) -> Lanes
+    requires close { AreClose (joined lanes.a lanes.b lanes.c lanes.d) }
+    requires second { number % 2 ≡ 1 → (n : ℕ) → n < 64 → slice_index (joined lanes.a lanes.b lanes.c lanes.d) n ≤ 57345 }
+    ensures lowered { AreLowered (joined lanes.a lanes.b lanes.c lanes.d) (joined result.a result.b result.c result.d) }
+    ensures first { number % 2 ≡ 0 → (n : ℕ) → n < 64 → slice_index (joined result.a result.b result.c result.d) n ≤ 49155 }
+{
+    if number % 2 == 0 {
+        lowered(lanes)
     } else {
         lanes
     }

@@ -4,7 +4,7 @@ ghost use Rattle.acs_plain.specs.Spread.{IsSpread};
 ghost use Rattle.acs_plain.specs.Steps.{AreSteps};
 ghost use Rattle.acs_lanes.specs.Lanes16.{all_with, laid};
 
-use crate::lanes16::{Lanes, lowered, narrow, widen};
+use crate::lanes16::{Lanes, narrow, readied, widen};
 use crate::step16::step;
 use acs_plain::Sums;
 use conv_code::CostPair;
@@ -19,7 +19,7 @@ fn run_lanes(from: Lanes, pairs: &[CostPair], words: &mut [u64]) -> Lanes
 {
     let mut lanes = from;
     for k in 0..pairs.len() {
-        let (next, low, high) = step(lowered(lanes), pairs[k]);
+        let (next, low, high) = step(readied(lanes, k), pairs[k]);
         lanes = next;
         words[k] = low | high << 32;
     }

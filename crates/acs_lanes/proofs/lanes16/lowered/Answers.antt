@@ -1,5 +1,5 @@
-use Rattle.acs_lanes.proofs.Highs.{lowered_is}
+use Rattle.acs_lanes.proofs.Highs.{roomy_same}
 use Rattle.acs_lanes.proofs.lanes16.lowered.Goals as goal
 
-pub returns-then-is_high : goal.returns-then-is_high
-returns-then-is_high c = lowered_is _ _ c.args.lanes.lanes.fits c.less_by_step.ensures
+pub returns-else-is_high : goal.returns-else-is_high
+returns-else-is_high c = roomy_same _ (c.is_high.ensures.low c.if-is_high.false)
