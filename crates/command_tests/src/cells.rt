@@ -25,9 +25,15 @@ pub(crate) fn put_number(rt: &impl Abort, cells: &mut [u8], at: usize, number: i
     cells[at + 1] = bytes[1];
 }
 
+// So many bytes of zero.
+fn zeros(alloc: Global, count: usize) -> Result<Vec<u8>, AllocError> {
+    vec![in alloc; 0u8; count]
+}
+
 /// The file of a super-frame whose cells are all zero, and their weights.
 pub(crate) fn zero_cells(alloc: Global) -> Result<Vec<u8>, AllocError> {
-    let mut cells = vec![in alloc; 0u8; SUPER_FRAME]?;
-    cells[..8].copy_from_slice(&HEADER);
+    let mut cells = Vec::from_slice(alloc, HEADER.as_slice())?;
+    let behind = zeros(alloc, SUPER_FRAME - 8)?;
+    cells.extend_from_slice(&behind)?;
     Ok(cells)
 }

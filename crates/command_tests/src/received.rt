@@ -182,6 +182,7 @@ fn refused_headers(rt: HostRuntime) -> Result<(), Fail> {
     let eight = "mode = \"8k\"\nconstellation = \"qpsk\"\nrate_hp = \"1/2\"\nguard = \"1/32\"\n";
     let wide = ample(50_000);
     let narrow = Conditions { most: 1, ..wide };
+    assert!(rt; cells.len() >= 8);
     let mut old = Vec::from_slice(alloc, &HEADER[..])?;
     old[4] = 1;
     old.extend_from_slice(front(&rt, &cells, 100))?;
