@@ -11,8 +11,6 @@ mod gain;
 pub mod laws;
 mod span;
 mod symbol;
-#[cfg(test)]
-mod tests;
 
 pub use equalised::Equalised;
 pub use gain::Gain;

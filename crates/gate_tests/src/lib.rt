@@ -8,3 +8,5 @@
 mod pieces;
 #[cfg(test)]
 mod received;
+#[cfg(test)]
+mod words;

@@ -9,8 +9,6 @@ pub mod laws;
 mod modulator;
 mod next_labels;
 mod stream;
-#[cfg(test)]
-mod tests;
 mod want;
 
 pub use modulator::Modulator;

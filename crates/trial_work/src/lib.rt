@@ -9,8 +9,6 @@ mod disturbing;
 mod draws;
 mod feeding;
 mod sums;
-#[cfg(test)]
-mod tests;
 mod whole;
 mod work;
 

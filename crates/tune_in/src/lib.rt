@@ -7,8 +7,6 @@
 mod frame;
 mod laws;
 mod reception_settings;
-#[cfg(test)]
-mod tests;
 mod tuner;
 
 pub use frame::{Found, begin};

@@ -14,6 +14,3 @@ mod outer;
 pub use gate::{Gate, Job, OpenGate};
 pub use inner::both;
 pub use outer::decode_all;
-
-#[cfg(test)]
-mod tests;

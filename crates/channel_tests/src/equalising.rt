@@ -2,12 +2,13 @@
 ghost use Rattle.std.specs.Prelude.{◌≡◌, ℕ, ◌+◌, ◌*◌, ◌<◌, ◌≤◌, length, IfOk, vec_len, vec_capacity};
 ghost use Rattle.mode_set.specs.StreamTable.{carriers};
 
-use crate::equalise;
+use cell_equal::equalise;
 use mode_set::Mode;
 use pilots::{CarrierKind, kind, reference};
 use qam_map::Cell;
 use std::alloc::{AllocError, Global};
 use std::rt::HostRuntime;
+use test_tools::next_number;
 
 fn carriers_of(mode: Mode) -> u32
     ensures { result ≡ carriers mode }
@@ -36,8 +37,7 @@ fn equalised(
 }
 
 fn numbered(draw: &mut u32) -> u32 {
-    *draw = draw.wrapping_mul(1664525).wrapping_add(1013904223);
-    *draw >> 8
+    next_number(draw) >> 8
 }
 
 // One of four values of an axis.

@@ -1,8 +1,9 @@
 // Margins beside independent programs.
-use crate::{Margins, least_eight, margin_of};
-use conv_code::CostPair;
+use bit_margin::{Margins, least_eight, margin_of};
+use code_paths::CostPair;
 use inner_decoder::StartState;
 use std::test::Fail;
+use test_tools::next_number;
 
 /// Six zeros, or any register.
 fn register_of(start: StartState) -> Option<[bool; 6]> {
@@ -17,11 +18,11 @@ fn drawn(seed: u32, small: bool) -> (CostPair, u32) {
     let mut x = seed;
     let mut costs = [0u16; 4];
     for k in 0..4usize {
-        x = x.wrapping_mul(1664525).wrapping_add(1013904223);
+        let number = next_number(&mut x) >> 16;
         costs[k] = if small {
-            ((x >> 16) % 3) as u16
+            (number % 3) as u16
         } else {
-            ((x >> 16) % 4096) as u16
+            (number % 4096) as u16
         };
     }
     (

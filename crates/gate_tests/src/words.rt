@@ -1,10 +1,10 @@
 // Outer words by workers, against one thread.
-use crate::{OpenGate, decode_all};
 use outer_chain::WordSlot;
 use rs204::{Outcome, encode};
 use std::alloc::{AllocError, Global};
 use std::test::Fail;
 use std::thread::Threads;
+use word_workers::{OpenGate, decode_all};
 
 /// What is added to the last nine bytes of a codeword, which no other codeword is then near to.
 const FAR: [u8; 9] = [0x01, 0xFF, 0x0B, 0x51, 0x36, 0xEF, 0xAD, 0xC8, 0x18];

@@ -1,13 +1,13 @@
 // Trials beside those of the independent reference, a plain Rust program.
 ghost use Rattle.std.specs.Prelude.{◌≡◌};
 
-use crate::Trial;
 use mode_set::{Carriers, Mode, Mode2k, Mode8k, Settings};
 use std::alloc::{AllocError, Global};
 use std::process::Abort;
 use std::rt::HostRuntime;
 use std::thread::Threads;
 use trial::{StreamReturn, TrialCounts};
+use trial_work::Trial;
 use word_workers::OpenGate;
 
 fn counts_of<M: Carriers, R: Threads + Sync>(

@@ -1,6 +1,6 @@
 use Rattle.std.proofs.Common.{◌≡◌, ◌+◌, ◌≤◌, length}
 use Rattle.std.specs.Prelude.{false}
-use Rattle.inner_decoder.proofs.decoder.tests.first_report.Given as goal
+use Rattle.decoder_tests.proofs.short_runs.first_report.Given as goal
 
 abbrev pub invariant-loop-k : goal.invariant-loop-k
 invariant-loop-k g l = record {

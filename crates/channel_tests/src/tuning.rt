@@ -3,47 +3,40 @@
 ghost use Rattle.std.specs.Prelude.{◌≡◌, length};
 ghost use Rattle.mode_set.specs.declared.modes.Mode.TheVariants.{M2k};
 
-use crate::{Found, Tuner, announced, begin};
 use frame_build::{SymbolIn, SymbolOut};
 use mode_set::{Carriers, Guard, Hierarchy, Mode, Mode2k, Mode8k, Rate, Settings, Shape, Start};
 use qam_map::Cell;
 use std::alloc::Global;
 use std::process::Abort;
 use std::rt::HostRuntime;
+use test_tools::{flat, hierarchical};
 use tps_word::TpsWord;
+use tune_in::{Found, Tuner, announced, begin};
 
 fn base() -> Settings
     ensures { result.mode ≡ M2k }
 {
-    Settings {
-        mode: Mode::M2k,
-        shape: Shape::Qpsk,
-        hierarchy: Hierarchy::Flat,
-        rate_hp: Rate::R1of2,
-        rate_lp: None,
-        guard: Guard::G1of32,
-        cell_id: None,
-        start: Start::Zero,
-        workers: 3,
-        max_symbols: 1000,
-    }
+    let mut settings = flat(Mode::M2k, Shape::Qpsk, Rate::R1of2);
+    settings.workers = 3;
+    settings.max_symbols = 1000;
+    settings
 }
 
 fn layered(mode: Mode) -> Settings
     ensures { result.mode ≡ mode }
 {
-    Settings {
+    let mut settings = hierarchical(
         mode,
-        shape: Shape::Qam64,
-        hierarchy: Hierarchy::Alpha2,
-        rate_hp: Rate::R5of6,
-        rate_lp: Some(Rate::R7of8),
-        guard: Guard::G1of4,
-        cell_id: Some(0xABCD),
-        start: Start::Zero,
-        workers: 2,
-        max_symbols: 500,
-    }
+        Shape::Qam64,
+        Hierarchy::Alpha2,
+        Rate::R5of6,
+        Rate::R7of8,
+    );
+    settings.guard = Guard::G1of4;
+    settings.cell_id = Some(0xABCD);
+    settings.workers = 2;
+    settings.max_symbols = 500;
+    settings
 }
 
 fn turned_if(turned: bool, cell: Cell) -> Cell {

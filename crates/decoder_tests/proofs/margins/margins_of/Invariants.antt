@@ -1,6 +1,6 @@
 use Rattle.std.proofs.Common.{◌≡◌, length}
 use Rattle.std.specs.Prelude.{false}
-use Rattle.bit_margin.proofs.tests.margins_of.Given as goal
+use Rattle.decoder_tests.proofs.margins.margins_of.Given as goal
 
 abbrev pub invariant-loop-k : goal.invariant-loop-k
 invariant-loop-k l = record {

@@ -1,8 +1,8 @@
 // Transmissions beside those of an independent program, which was given the same packets.
 ghost use Rattle.std.specs.Prelude.{◌≡◌, ◌≤◌, vec_capacity};
 
-use crate::{Modulator, Want};
 use mode_set::{Carriers, Mode, Mode2k, Mode8k, Settings};
+use modulator::{Modulator, Want};
 use std::alloc::{AllocError, Global};
 use std::process::Abort;
 use std::rt::HostRuntime;

@@ -1,0 +1,9 @@
+//! Whole transmissions and whole trials beside those of independent programs.
+//!
+//! The crate has tests alone.
+#![tactic(auto)]
+
+#[cfg(test)]
+mod super_frames;
+#[cfg(test)]
+mod trials;
