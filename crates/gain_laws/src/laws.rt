@@ -3,6 +3,7 @@ ghost use Rattle.gain_laws.specs.Flat.{FlatGainIsRemoved, StrongGainIsRemoved};
 ghost use Rattle.gain_laws.specs.Symbols.{SymbolsComeBack, TransmissionsComeBack, IsTolerated};
 
 use cell_equal::laws::pilots_are_around;
+use symbol_spans::laws::settings;
 
 /// A symbol whose cells were all multiplied by one gain, of half the nominal amplitude to the whole,
 /// and rounded to within 1 on each axis, comes back: each part of each corrected cell is within 64 of
@@ -23,4 +24,5 @@ pub fn transmissions_come_back()
     ensures tolerated { IsTolerated }
 {
     flat_gain_is_removed();
+    settings();
 }

@@ -148,6 +148,7 @@ fn send_all<'a, T: Transmitter, S: Station<'a>>(
         → IsWritten limits.now.packets files (S.meaning station.old) inputs (T.seen tx.old) (T.stands tx.old)
         → Modulates (T.seen tx.old).settings limits.now.packets files (S.meaning station.new) result }
 {
+    symbol_spans::laws::settings();
     work();
     packets();
     super_frames();

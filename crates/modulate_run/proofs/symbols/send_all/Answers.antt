@@ -82,7 +82,7 @@ loop-symbol-preserved g c =
           let due = due_at files seen seen' c.loop-symbol.symbol c.args.settings.now.max_symbols inv.settings inv.made (ap (λ (s : Settings). s.max_symbols) c.requires.same) works.1 c.loop-symbol-test.true in
           let written = e.sends (tells ∙ t) files due works.0 in (
             written,
-            more_again c.packets.ensures.super_frames c.super_frames.ensures.least c.args.limits.now.packets files m'' c.next_symbol.new.inputs seen seen'' (g.T.Transmitter.stands c.next_symbol.new.tx)
+            more_again c.packets.ensures.super_frames c.super_frames.ensures.least c.settings.ensures.exist c.args.limits.now.packets files m'' c.next_symbol.new.inputs seen seen'' (g.T.Transmitter.stands c.next_symbol.new.tx)
                 written c.loop-symbol.symbol same made
                 (subst (λ (s : Settings). CountsAt s c.next_symbol.new.inputs (c.loop-symbol.symbol + 1) None) (sym (same ∙ c.requires.same)) c.in-None.ensures) works.1 (λ none. c.requires.two (inv.met (e.met none))),
           );
