@@ -5,8 +5,8 @@ use Rattle.mode_set.specs.StreamTable.{need}
 use Rattle.mode_set.specs.declared.settings.Settings.{Settings}
 use Rattle.inner_chain.specs.CostPairs.{AppendsPairs}
 use Rattle.inner_chain.specs.PairLists.{pair_of}
-use Rattle.receiver.proofs.Stepping.{no_pairs}
-use Rattle.receiver.proofs.symbol.put_pairs.Goals as goal
+use Rattle.stream_decoders.proofs.Feeding.{no_pairs}
+use Rattle.stream_decoders.proofs.pairs.put_pairs.Goals as goal
 
 pub returns-then-need-gt0-clause-pairs : goal.returns-then-need-gt0-clause-pairs
 returns-then-need-gt0-clause-pairs g c =
