@@ -20,7 +20,7 @@ use Rattle.pilots.specs.Reference.{reference}
 use Rattle.qam_map.specs.Points.{map_cell, value_of, real_bits, imaginary_bits, tolerance}
 use Rattle.frame_build.specs.Symbol.{real, tps_sign, frame_of, cell_of_kind, cell_at}
 use Rattle.tps_word.specs.Tps.{tps_word, signalled}
-use Rattle.cell_equal.specs.Around.{is_for_pilots, is_pilot}
+use Rattle.pilots.specs.Around.{is_for_pilots, is_pilot}
 use Rattle.cell_equal.specs.Equal.{unturned}
 use Rattle.symbol_spans.specs.Spans.{settings_at}
 use Rattle.symbol_spans.specs.Laws.{ModeStays}

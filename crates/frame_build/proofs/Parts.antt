@@ -1,9 +1,15 @@
 -- Parts of one length, one after another.
-use Rattle.std.proofs.Common.{◌≡◌, ℕ, zero, suc, ◌+◌, ◌*◌, ◌<◌, List, ◌++◌, length, get_or, refl, sym, ap, ◌∙◌, subst, arith, length-append}
+use Rattle.std.proofs.Common.{◌≡◌, ℕ, zero, suc, ◌+◌, ◌*◌, ◌<◌, List, ◌++◌, length, take, drop, get_or, refl, sym, ap, ◌∙◌, subst, arith, length-append}
 use Rattle.std.specs.Prelude.{flat_map}
 use Rattle.std.specs.List.{range_with_len}
 use Rattle.std.proofs.lemmas.List.{get_or_append_left, get_or-append-add}
+use Rattle.std.proofs.Math.Seq.{drop-append-add, take-append_seam}
 use Rattle.spec_words.specs.Words.{numbers}
+
+-- a list begins with a part
+pub record BeginsWith (xs part : List ℕ) : Type 0 where
+  pub rest : List ℕ
+  pub is : xs ≡ part ++ rest
 
 -- functions that agree below n
 same_from : (f g : ℕ → List ℕ) (a n : ℕ) → ((i : ℕ) → i < n → f (a + i) ≡ g (a + i)) → flat_map f (range_with_len a n) ≡ flat_map g (range_with_len a n)
@@ -52,3 +58,43 @@ module _ (f : ℕ → List ℕ) (c : ℕ) (long : (i : ℕ) → length (f i) ≡
   pub part_is : (n k i : ℕ) → k < n → i < c → get_or (flat_map f (numbers n)) (c * k + i) 0 ≡ get_or (f k) i 0
   unfolding numbers
   part_is n k i l within = let here : 0 + k ≡ k = omega arith in part_at 0 n k i l within ∙ ap (λ (z : ℕ). get_or (f z) i 0) here
+
+  begins_from : (a n k : ℕ) → k < n → BeginsWith (drop (c * k) (flat_map f (range_with_len a n))) (f (a + k))
+  begins_from a zero k l = absurd (omega (arith, l))
+  begins_from a (suc n) zero l =
+      let none : c * 0 ≡ 0 = omega arith in
+      let here : a + 0 ≡ a = omega arith in
+      record {
+        rest = flat_map f (range_with_len (a + 1) n);
+        is = ap (λ (z : ℕ). drop z (f a ++ flat_map f (range_with_len (a + 1) n))) none ∙ ap (λ (z : ℕ). f z ++ flat_map f (range_with_len (a + 1) n)) (sym here);
+      }
+  begins_from a (suc n) (suc k) l =
+      let h = begins_from (a + 1) n k (omega (arith, l)) in
+      let first = long a in
+      let next : c * suc k ≡ length (f a) + c * k = omega (arith, first) in
+      let same : a + 1 + k ≡ a + suc k = omega arith in
+      record {
+        rest = h.rest;
+        is =
+            ap (λ (z : ℕ). drop z (f a ++ flat_map f (range_with_len (a + 1) n))) next
+            ∙ drop-append-add (f a) (flat_map f (range_with_len (a + 1) n)) (c * k)
+            ∙ h.is
+            ∙ ap (λ (z : ℕ). f z ++ h.rest) same;
+      }
+
+  -- behind the first k parts the bytes begin with the next one
+  pub part_begins : (n k : ℕ) → k < n → BeginsWith (drop (c * k) (flat_map f (numbers n))) (f k)
+  unfolding numbers
+  part_begins n k l =
+      let here : 0 + k ≡ k = omega arith in
+      subst (λ (z : ℕ). BeginsWith (drop (c * k) (flat_map f (numbers n))) (f z)) here (begins_from 0 n k l)
+
+  -- a piece as long as a part is a part
+  pub piece_is : (n k : ℕ) → k < n → take c (drop (k * c) (flat_map f (numbers n))) ≡ f k
+  piece_is n k l =
+      let b = part_begins n k l in
+      let place : k * c ≡ c * k = grind arith in
+      ap (λ (z : ℕ). take c (drop z (flat_map f (numbers n)))) place
+      ∙ ap (take c) b.is
+      ∙ ap (λ (z : ℕ). take z (f k ++ b.rest)) (sym (long k))
+      ∙ take-append_seam (f k) b.rest
