@@ -17,6 +17,7 @@ use Rattle.frame_build.proofs.Parts.{parts_long, piece_is}
 use Rattle.cell_equal.specs.Equal.{blank, gain_at, equalised, equalised_bytes, CorrectedAreCells}
 use Rattle.cell_equal.specs.Files.{equalised_symbol}
 use Rattle.cell_equal.specs.declared.equalised.Equalised.{Equalised}
+use Rattle.symbol_spans.specs.Spans.{settings_at}
 use Rattle.transmission.specs.Transmission.{Inputs, tx_cell}
 use Rattle.transmission.specs.SuperFrames.{symbols_of}
 use Rattle.reception.specs.Cells.{symbol_length, symbols, bytes_of_symbol, symbol_cells, symbol_weights}
@@ -126,7 +127,7 @@ within wide law s inputs a b bytes flat come =
     let back = law s inputs a b bytes flat come in
     record {
       all = back.all;
-      near = λ m k l few free. let near = back.each m k l few in let w = wide s.shape s.hierarchy in record { re = omega (arith, near.re, w); im = omega (arith, near.im, w) };
+      near = λ m k l few free. let near = back.each m k l few in let by = settings_at s m in let w = wide by.shape by.hierarchy in record { re = omega (arith, near.re, w); im = omega (arith, near.im, w) };
       weight = λ m k l few free. (back.each m k l few).weight;
     }
 
