@@ -1,6 +1,6 @@
 -- The commands `modulate SETTINGS HP CELLS` and `modulate SETTINGS HP LP CELLS`: what they come to, from the
 -- settings, the limit of packets and the files alone.
-use Rattle.std.specs.Prelude.{◌≡◌, ℕ, ◌+◌, ◌-◌, ◌/◌, ◌<◌, ◌≤◌, Bool, true, ⊤, if◌then◌else◌, List, [], ◌∷◌, ◌++◌, length, codes, decimal, Option, Some, None, is_some, option_and_then}
+use Rattle.std.specs.Prelude.{◌≡◌, ℕ, ◌+◌, ◌-◌, ◌/◌, ◌<◌, ◌≤◌, Bool, true, ⊤, if◌then◌else◌, List, [], ◌∷◌, ◌++◌, length, codes, decimal, Option, Some, None, is_some, option_and_then, false}
 use Rattle.std.specs.Option.{option_map}
 use Rattle.station_core.specs.declared.ports.InPort.{InPort}
 use Rattle.station_core.specs.declared.ports.InPort.TheVariants as ins
@@ -153,6 +153,7 @@ modulate_command settings hp lp cells = record {
   reads = modulate_reads settings hp lp;
   writes = modulate_writes cells;
   statuses = 0 ∷ 3 ∷ 4 ∷ 5 ∷ 6 ∷ 7 ∷ 8 ∷ [];
+  memory_at_work = false;
   early_refusal = λ file. fitting_refusal (file settings) lp;
   header = λ file. None;
   work_refusal = modulate_refusal settings hp lp;

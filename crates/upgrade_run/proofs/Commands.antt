@@ -104,6 +104,7 @@ module _ (limit : ℕ) (settings old new : List ℕ) (file : Files) (s : TheSett
       come (upgraded_file s.mode (old_within_limit s bytes)) [] given gives (inr (more, refl)) (inr (more, refl)),
       refusal_is (Some (Limit s.max_symbols)) (ap (λ (b : Bool). if b then Some (Limit s.max_symbols) else None) (lt-ltb s.max_symbols (old_symbols s.mode bytes) more)),
     );
+    refused = λ taken left given r are within reason refuses. absurd reason;
     so_far = λ unread taken given are within gives. record {
       outputs = λ port output. (s, stated, record { taken = taken; are = are; within = within; is = gives port ∙ at_output (upgraded_file s.mode taken) [] port output });
       report = gives outs.Report;
@@ -128,6 +129,6 @@ command_of law limit settings old new s start stated = record {
   most_taken = λ t. let e = ap most_old (stated t) in omega (arith, e);
   comes = λ t. comes limit settings old new start.file s (stated t);
   unread = λ t unread taken. refl;
-  its = λ before mid r reason same left done. absurd reason;
+  its = λ r reason. absurd reason;
   own = record { plain = λ t is. law t (start.file old) };
 }

@@ -1,6 +1,6 @@
 -- The command `upgrade SETTINGS OLD NEW`: the files that it reads and writes, and what it comes to, from its
 -- settings and the old file alone.
-use Rattle.std.specs.Prelude.{◌≡◌, ◌⊎◌, ℕ, ◌+◌, ◌*◌, ◌<◌, ◌≤◌, nat_lt, if◌then◌else◌, List, [], ◌∷◌, ◌++◌, Option, None, Some, option_and_then}
+use Rattle.std.specs.Prelude.{◌≡◌, ◌⊎◌, ℕ, ◌+◌, ◌*◌, ◌<◌, ◌≤◌, nat_lt, if◌then◌else◌, List, [], ◌∷◌, ◌++◌, Option, None, Some, option_and_then, false}
 use Rattle.station_core.specs.declared.ports.InPort.{InPort}
 use Rattle.station_core.specs.declared.ports.InPort.TheVariants as ins
 use Rattle.mode_set.specs.declared.modes.Stream.{Stream}
@@ -65,6 +65,7 @@ upgrade_command settings old new = record {
   reads = reads_at settings old;
   writes = cell_names new;
   statuses = 0 ∷ 3 ∷ 5 ∷ 6 ∷ 7 ∷ 8 ∷ [];
+  memory_at_work = false;
   early_refusal = λ file. settings_refusal (file settings);
   header = λ file. None;
   work_refusal = λ limit file. option_and_then (λ s. upgrade_refusal s (file old)) (settings_of (file settings));
