@@ -121,6 +121,7 @@ module _ (by : Mode → Conversion) (statuses : List ℕ) (sound : IsSound by st
       come (new_file v (within_limit most v.size bytes)) [] given gives (inr (more, refl)) (inr (more, refl)),
       refusal_is (Some (Limit most)) (ap (λ (b : Bool). if b then Some (Limit most) else None) (lt-ltb most (symbols v.size bytes) more)),
     );
+    refused = λ taken left given r are within reason refuses. absurd reason;
     so_far = λ unread taken given are within gives. record {
       outputs = λ port output. (s, stated, record { taken = taken; are = are; within = within; is = gives port ∙ at_output (new_file v taken) [] port output });
       report = gives outs.Report;
@@ -146,6 +147,6 @@ command_of by statuses sound laws limit settings old new s start stated own = re
   most_taken = λ t. let e = ap (most_old by) (stated t) in omega (arith, e);
   comes = λ t. comes by statuses sound laws limit settings old new start.file s (stated t);
   unread = λ t left taken. refl;
-  its = λ before mid r reason same left done. absurd reason;
+  its = λ r reason. absurd reason;
   own = own;
 }

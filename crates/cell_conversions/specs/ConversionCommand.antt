@@ -1,6 +1,6 @@
 -- The command of a conversion, `NAME SETTINGS OLD NEW`: the files that it reads and writes, and what it comes to,
 -- from its settings and the old file alone.
-use Rattle.std.specs.Prelude.{◌≡◌, ◌⊎◌, ℕ, ◌+◌, ◌*◌, ◌<◌, ◌≤◌, nat_lt, if◌then◌else◌, List, [], ◌++◌, Option, None, Some, option_and_then}
+use Rattle.std.specs.Prelude.{◌≡◌, ◌⊎◌, ℕ, ◌+◌, ◌*◌, ◌<◌, ◌≤◌, nat_lt, if◌then◌else◌, List, [], ◌++◌, Option, None, Some, option_and_then, false}
 use Rattle.station_core.specs.declared.ports.InPort.{InPort}
 use Rattle.station_core.specs.declared.ports.InPort.TheVariants as ins
 use Rattle.mode_set.specs.declared.modes.Mode.{Mode}
@@ -54,6 +54,7 @@ conversion_command by statuses laws settings old new = record {
   reads = reads_at settings old;
   writes = cell_names new;
   statuses = statuses;
+  memory_at_work = false;
   early_refusal = λ file. settings_refusal (file settings);
   header = λ file. option_and_then (λ s. (by s.mode).old_header) (settings_of (file settings));
   work_refusal = λ limit file. option_and_then (λ s. limit_refusal (by s.mode) s.max_symbols (old_cells (by s.mode) (file old))) (settings_of (file settings));

@@ -1,5 +1,5 @@
 -- The command that the words are. Each command is defined in the crate that runs it.
-use Rattle.std.specs.Prelude.{◌≡◌, ℕ, ⊤, List, [], ◌∷◌, Option, None, Some}
+use Rattle.std.specs.Prelude.{◌≡◌, ℕ, ⊤, List, [], ◌∷◌, Option, None, Some, false}
 use Rattle.run_clauses.specs.Command.{Command}
 use Rattle.run_clauses.specs.declared.work.Refusal.TheVariants.{Usage}
 use Rattle.packet_runs.specs.Commands.{disperse_command, outer_command, inner_command}
@@ -16,6 +16,7 @@ no_command = record {
   reads = λ port. None;
   writes = λ port. None;
   statuses = 2 ∷ [];
+  memory_at_work = false;
   early_refusal = λ file. Some Usage;
   header = λ file. None;
   work_refusal = λ limit file. None;

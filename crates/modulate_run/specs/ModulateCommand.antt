@@ -1,6 +1,6 @@
 -- The commands `modulate SETTINGS HP CELLS` and `modulate SETTINGS HP LP CELLS`: what they come to, from the
 -- settings, the limit of packets and the files alone.
-use Rattle.std.specs.Prelude.{◌≡◌, ℕ, ◌+◌, ◌-◌, ◌/◌, ◌<◌, ◌≤◌, Bool, true, ⊤, if◌then◌else◌, List, [], ◌∷◌, ◌++◌, length, codes, decimal, Option, Some, None, is_some, option_and_then}
+use Rattle.std.specs.Prelude.{◌≡◌, ℕ, ◌+◌, ◌-◌, ◌/◌, ◌<◌, ◌≤◌, Bool, true, ⊤, if◌then◌else◌, List, [], ◌∷◌, ◌++◌, length, codes, decimal, Option, Some, None, is_some, option_and_then, false}
 use Rattle.std.specs.Option.{option_map}
 use Rattle.station_core.specs.declared.ports.InPort.TheVariants as ins
 use Rattle.mode_set.specs.declared.modes.Stream.{Stream}
@@ -93,6 +93,7 @@ modulate_command settings hp lp cells = record {
   reads = by_input (Some settings) (Some hp) lp None;
   writes = cell_names cells;
   statuses = 0 ∷ 3 ∷ 4 ∷ 5 ∷ 6 ∷ 7 ∷ 8 ∷ [];
+  memory_at_work = false;
   early_refusal = λ file. fitting_refusal (file settings) lp;
   header = λ file. None;
   work_refusal = λ limit file. option_and_then (λ s. modulation_refusal s limit (inputs_of (files_of file hp lp))) (settings_of (file settings));

@@ -1,5 +1,5 @@
 -- The commands `disperse`, `outer` and `inner`: each codes the packets of a transport file, one after another.
-use Rattle.std.specs.Prelude.{◌≡◌, ◌≢◌, ◌≤◌, ◌⊎◌, ◌+◌, ◌-◌, ◌/◌, ℕ, ⊤, List, [], ◌∷◌, length, Option, None, Some}
+use Rattle.std.specs.Prelude.{◌≡◌, ◌≢◌, ◌≤◌, ◌⊎◌, ◌+◌, ◌-◌, ◌/◌, ℕ, ⊤, List, [], ◌∷◌, length, Option, None, Some, false}
 use Rattle.station_core.specs.declared.ports.InPort.TheVariants as ins
 use Rattle.mode_set.specs.declared.settings.Settings.{Settings}
 use Rattle.outer_chain.specs.Sent.{sent_bytes}
@@ -77,6 +77,7 @@ coding_command settings statuses k input output = record {
   reads = by_input settings (Some input) None None;
   writes = byte_names output;
   statuses = statuses;
+  memory_at_work = false;
   early_refusal = coding_early settings;
   header = λ file. None;
   work_refusal = λ limit file. packet_refusal limit (file input);

@@ -40,16 +40,16 @@ module _ (laws : ReceptionLaws) (s : TheSettings) where
   size = symbol_length s
 
   -- the whole symbols of bytes, and the bytes after them
-  abbrev whole_of : List ℕ → List ℕ
+  abbrev pub whole_of : List ℕ → List ℕ
   whole_of taken = take (symbols s taken * size) taken
 
-  abbrev after : List ℕ → List ℕ
+  abbrev pub after : List ℕ → List ℕ
   after taken = drop (symbols s taken * size) taken
 
-  length_whole : (taken : List ℕ) → length (whole_of taken) ≡ symbols s taken * size
+  pub length_whole : (taken : List ℕ) → length (whole_of taken) ≡ symbols s taken * size
   length_whole taken = length-take-le (symbols s taken * size) taken (div-mul-le_self (length taken) size)
 
-  is_within : (taken : List ℕ) → IsWithin s (whole_of taken) (after taken)
+  pub is_within : (taken : List ℕ) → IsWithin s (whole_of taken) (after taken)
   is_within taken =
       let none = no_tail s (whole_of taken) (symbols s taken) (length_whole taken) in
       let few : tail s taken < size = mod-lt (length taken) (some_bytes s) in

@@ -69,7 +69,7 @@ no_lines laws (Some s) file left k few is =
     (nothing, none_taken laws s file left k few is, sym (ap (λ (l : List ℕ). event_lines s l nothing) (none_behind file k few) ∙ lines_none laws.no_events s))
 
 -- the header, and what was taken behind it
-behind : (n : ℕ) (file taken left : List ℕ) → drop n file ≡ taken ++ left → drop n (take n file ++ taken) ≡ taken
+pub behind : (n : ℕ) (file taken left : List ℕ) → drop n file ≡ taken ++ left → drop n (take n file ++ taken) ≡ taken
 behind zero file taken left e = refl
 behind (suc n) [] [] left e = refl
 behind (suc n) [] (x ∷ taken) left e = cc
@@ -150,6 +150,7 @@ module _ (laws : Laws) (limit : ℕ) (name cells hp : List ℕ) (lp : Option (Li
           come gives.0 _ given gives.2 (inr cut) (gives.0, inr (cut, refl)),
           refusal_is (Some (Limit s.max_symbols)) (ap (λ (b : Bool). if b then Some (Limit s.max_symbols) else None) (lt-ltb s.max_symbols (symbols s bytes) more)),
         );
+    refused = λ taken left given r are within reason refuses. absurd reason;
     so_far = λ unread taken given are within gives.
         let same : cells_in (take 8 (file cells) ++ taken) ≡ taken = behind 8 (file cells) taken (unread ins.Cells) are in
         let so_far : IsSoFar s (file cells) (unread ins.Cells) gives.0 = record {
@@ -182,7 +183,7 @@ command_of laws limit name cells hp lp s start stated = record {
   most_taken = λ t. let e = ap most_cells (stated t) in omega (arith, e);
   comes = λ t. comes laws limit name cells hp lp start.file s (stated t);
   unread = λ t unread taken. no_lines laws (settings_of (start.file name)) (start.file cells) (unread ins.Cells) taken.0 taken.1 taken.2;
-  its = λ old mid r reason same left done. absurd reason;
+  its = λ r reason. absurd reason;
   own = own_laws laws (settings_of (start.file name)) (start.file cells);
 }
 

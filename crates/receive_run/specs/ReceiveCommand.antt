@@ -1,6 +1,6 @@
 -- The command `receive`: the files that it reads and writes, and what it comes to, from its settings and the
 -- file of cells alone.
-use Rattle.std.specs.Prelude.{◌≡◌, ℕ, ◌+◌, ◌*◌, List, [], ◌∷◌, Option, None, Some, option_and_then}
+use Rattle.std.specs.Prelude.{◌≡◌, ℕ, ◌+◌, ◌*◌, List, [], ◌∷◌, Option, None, Some, option_and_then, false}
 use Rattle.std.specs.Option.{option_map}
 use Rattle.station_core.specs.declared.ports.InPort.TheVariants as ins
 use Rattle.mode_set.specs.declared.settings.Settings.{Settings}
@@ -29,6 +29,7 @@ receive_command settings cells hp lp = record {
   reads = by_input (Some settings) None None (Some cells);
   writes = stream_names hp lp;
   statuses = 0 ∷ 3 ∷ 5 ∷ 6 ∷ 7 ∷ 8 ∷ 9 ∷ [];
+  memory_at_work = false;
   early_refusal = λ file. fitting_refusal (file settings) lp;
   header = λ file. header_by (settings_of (file settings));
   work_refusal = λ limit file. option_and_then (λ s. reception_refusal s (cells_in (file cells))) (settings_of (file settings));

@@ -13,7 +13,7 @@ use rx_report::{Counts, Event};
 ///
 /// `stands moment bytes reception` says that it has had these bytes of cells and has given this
 /// reception of them, so far or at the end; `has_threads`, that its runtime's threads may be used.
-pub(crate) trait CellReceiver {
+pub trait CellReceiver {
     ghost settings: { Self → Settings };
 
     ghost stands: { Self → Moment → List ℕ → Reception → Type 0 };

@@ -3,7 +3,7 @@
 //!
 //! The cells are read symbol by symbol and given to a receiver; after each symbol what it gave is
 //! written: the packets of HP, those of LP, and the lines of its unmerged reports. The call carries the
-//! promise of a run.
+//! promise of a run. The work on the symbols, [`ReceptionWork`], serves every command that receives.
 #![tactic(auto)]
 
 mod cell_receiver;
@@ -12,4 +12,7 @@ mod receivers;
 mod reception_work;
 mod writing;
 
+pub use cell_receiver::CellReceiver;
 pub use command::receive;
+pub use receivers::{ModeReceiver, ReceiverWithOutput};
+pub use reception_work::ReceptionWork;

@@ -14,7 +14,7 @@ use rx_report::{Counts, Event};
 use std::thread::Threads;
 
 /// The receiver of a mode.
-pub(crate) trait ModeReceiver {
+pub trait ModeReceiver {
     ghost state: { Self → ReceiverState };
 
     /// Ends the reception.
@@ -46,11 +46,15 @@ impl<M: Carriers> ModeReceiver for Receiver<M> {
 /// A receiver of a mode, with what its last call gave, the runtime whose threads it may use, and what
 /// feeds it.
 #[derive(Drop)]
-pub(crate) struct ReceiverWithOutput<'r, R, F, T> {
-    pub(crate) rt: &'r R,
-    pub(crate) feeder: &'r F,
-    pub(crate) receiver: T,
-    pub(crate) out: RxOut,
+pub struct ReceiverWithOutput<'r, R, F, T> {
+    /// The runtime.
+    pub rt: &'r R,
+    /// What feeds the receiver.
+    pub feeder: &'r F,
+    /// The receiver.
+    pub receiver: T,
+    /// What its last call gave.
+    pub out: RxOut,
 }
 
 impl<'r, R: Threads + Sync, F: Fn(&mut T, &[u8], &mut RxOut) -> usize, T: ModeReceiver> CellReceiver

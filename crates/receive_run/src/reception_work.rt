@@ -8,7 +8,7 @@ use symbol_runs::{Stop, SymbolWork};
 
 /// A receiver whose packets and lines are written, with a flag that there are two streams.
 #[derive(Drop)]
-pub(crate) struct ReceptionWork<X> {
+pub struct ReceptionWork<X> {
     /// The receiver.
     pub receiver: X,
     /// Whether LP is written too.

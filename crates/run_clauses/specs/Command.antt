@@ -22,6 +22,8 @@ pub record Command : Type 1 where
   pub writes : OutPort → Option (List ℕ)
   -- the statuses that it may end with
   pub statuses : List ℕ
+  -- it takes memory within its work too, and not only before another file than the settings is asked for
+  pub memory_at_work : Bool
   -- why its words or its settings are refused, if they are
   pub early_refusal : Files → Option Refusal
   -- the header with which the cells that it reads must begin, if they must begin with one

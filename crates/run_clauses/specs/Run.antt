@@ -30,6 +30,11 @@ header_at c m Hp = 0
 header_at c m Lp = 0
 header_at c m Cells = header_size (c.header m.file)
 
+-- Every output was made, and none holds a byte.
+pub record AreMadeEmpty (c : Command) (m : Meaning) : Type 0 where
+  pub made : (out : OutPort) → IsOutput c out → (sink_at out m).created ≡ true
+  pub empty : m.tells ≡ true → (out : OutPort) → IsOutput c out → (sink_at out m).written ≡ []
+
 -- Nothing was taken of the input at the port behind its header.
 abbrev pub IsUntaken : Command → Meaning → InPort → Type 0
 IsUntaken c m port = (k : ℕ) × (k ≤ header_at c m port) × (unread c m port ≡ drop k (input_file m.file c port))
@@ -73,9 +78,9 @@ pub record Run (c : Command) (limit : ℕ) (old new : Meaning) (status : ℕ) : 
   -- At status 0 every input was opened and read to its end.
   pub opened : status ≡ 0 → (port : InPort) → IsInput c port → (source_at port new).attached ≡ true
   pub read_out : status ≡ 0 → old.tells ≡ true → (port : InPort) → IsInput c port → (source_at port new).left ≡ []
-  -- Every output that was made is closed, whatever the status. At 0, 4 and 8 every output was made.
+  -- Every output that was made is closed, whatever the status. At 0, 4, 8, 10 and 11 every output was made.
   pub closed : (out : OutPort) → IsOutput c out → (sink_at out new).created ≡ true → (sink_at out new).closed ≡ true
-  pub made : is_among status (0 ∷ 4 ∷ 8 ∷ []) ≡ true → (out : OutPort) → IsOutput c out → (sink_at out new).created ≡ true
+  pub made : is_among status (0 ∷ 4 ∷ 8 ∷ 10 ∷ 11 ∷ []) ≡ true → (out : OutPort) → IsOutput c out → (sink_at out new).created ≡ true
   -- Nothing else of the station changes: its files are the same, and Report stays open.
   pub same_telling : new.tells ≡ old.tells
   pub same_files : new.file ≡ old.file
@@ -85,18 +90,21 @@ pub record Run (c : Command) (limit : ℕ) (old new : Meaning) (status : ℕ) : 
   pub done : old.tells ≡ true → status ≡ 0 → (out : OutPort) → IsOutput c out → c.Comes limit old.file out (sink_at out new).written
   pub done_report : old.tells ≡ true → status ≡ 0 → c.Prints limit old.file new.report.written
   -- AT 2, 3 AND 7: words of no form, refused settings, want of memory
-  -- No file but the settings was asked for, so no output was made. Report holds the text.
-  pub early : is_among status (2 ∷ 3 ∷ 7 ∷ []) ≡ true → AsksSettingsAlone new
+  -- No file but the settings was asked for, so no output was made. Report holds the text. At 7 a command that
+  -- takes memory within its work may have made every output instead, and nothing was written to one.
+  pub early : is_among status (2 ∷ 3 ∷ []) ≡ true → AsksSettingsAlone new
+  pub lacking : status ≡ 7 → AsksSettingsAlone new ⊎ ((c.memory_at_work ≡ true) × AreMadeEmpty c new)
   pub early_report : old.tells ≡ true → is_among status (2 ∷ 3 ∷ 7 ∷ []) ≡ true → Reports old new [] (text_at c limit old.file status)
   -- AT 9: cells without their header
   -- No output was asked for or made. Of the cells no more was taken than the header. Report holds the text.
   pub unheaded : status ≡ 9 → (out : OutPort) → IsOutput c out → IsUntouched (sink_at out new)
   pub unheaded_taken : old.tells ≡ true → status ≡ 9 → (port : InPort) → port ≢ Settings → IsInput c port → IsUntaken c new port
   pub unheaded_report : old.tells ≡ true → status ≡ 9 → Reports old new [] (text_at c limit old.file status)
-  -- AT 4 AND 8: a refused packet, more than a limit
-  -- Each output holds what comes before the refusal. Report holds the lines before it, and the text.
-  pub refused : old.tells ≡ true → is_among status (4 ∷ 8 ∷ []) ≡ true → (out : OutPort) → IsOutput c out → c.Comes limit old.file out (sink_at out new).written
-  pub refused_report : old.tells ≡ true → is_among status (4 ∷ 8 ∷ []) ≡ true
+  -- AT 4 AND 8: a refused packet, more than a limit. AT 10 AND 11: no frame in the cells, or one of another form
+  -- Each output holds what comes before the refusal. Report holds the lines before it, and the text. (What a
+  -- command that ends with 10 or 11 comes to there are no bytes and no lines.)
+  pub refused : old.tells ≡ true → is_among status (4 ∷ 8 ∷ 10 ∷ 11 ∷ []) ≡ true → (out : OutPort) → IsOutput c out → c.Comes limit old.file out (sink_at out new).written
+  pub refused_report : old.tells ≡ true → is_among status (4 ∷ 8 ∷ 10 ∷ 11 ∷ []) ≡ true
       → (lines : List ℕ) × c.Prints limit old.file lines × Reports old new lines (text_at c limit old.file status)
   -- AT 5: a failed read
   -- Each output that was made holds what the bytes taken give. Report holds their lines, and the text.

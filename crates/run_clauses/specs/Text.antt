@@ -23,6 +23,8 @@ settings_text settings.Form = codes "form"
 -- what is wrong with refused cells
 abbrev pub cells_text : CellsRefusal → List ℕ
 cells_text cells.Header = codes "cells header"
+cells_text cells.NoPlace = codes "tune none"
+cells_text cells.AnnouncedForm = codes "tune form"
 
 -- the text of a refusal
 abbrev pub refusal_text : Refusal → List ℕ
@@ -42,6 +44,8 @@ text_if_refused (Some refusal) = refusal_text refusal
 
 abbrev pub cells_status : CellsRefusal → ℕ
 cells_status cells.Header = 9
+cells_status cells.NoPlace = 10
+cells_status cells.AnnouncedForm = 11
 
 abbrev pub refusal_status : Refusal → ℕ
 refusal_status Usage = 2

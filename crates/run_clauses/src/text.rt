@@ -57,6 +57,8 @@ pub fn text_of(refusal: &Refusal) -> Line
         }
         Refusal::Limit(number) => push_count(&mut line, "limit ", *number),
         Refusal::Cells(CellsRefusal::Header) => line.push_str("cells header"),
+        Refusal::Cells(CellsRefusal::NoPlace) => line.push_str("tune none"),
+        Refusal::Cells(CellsRefusal::AnnouncedForm) => line.push_str("tune form"),
     }
     line.push_str("\n");
     line

@@ -178,7 +178,7 @@ module _ (c : Command) (limit : ℕ) (name : List ℕ) (old mid : Meaning) (no_r
   }
   leaves WriteFault h = absurd h
   leaves (NotSync stream n) h = absurd h
-  leaves Memory h = holds_nothing
+  leaves Memory h = inl holds_nothing
   leaves (Limit n) h = absurd h
   leaves (Cells reason) h = absurd h
 

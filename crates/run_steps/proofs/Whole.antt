@@ -1,7 +1,7 @@
 -- From what a command leaves to the promise of its run: the text of a refusal changes Report alone.
 use Rattle.std.proofs.Common.{◌≡◌, ◌≢◌, ◌⊎◌, inl, inr, true, false, ℕ, ◌≤◌, Bool, List, [], ◌∷◌, ◌++◌, take, drop, refl, ◌∙◌, sym, ap, subst, arith, Option, None, Some}
-use Rattle.std.specs.Prelude.{is_some, if◌then◌else◌}
-use Rattle.std.proofs.lemmas.Bool.{true≢false}
+use Rattle.std.specs.Prelude.{is_some, if◌then◌else◌, ◌==◌, ◌||◌}
+use Rattle.std.proofs.lemmas.Bool.{eqb-true, true≢false}
 use Rattle.station_core.specs.Meaning.{Meaning, IsUntouched, Source, Sink, source_at, sink_at}
 use Rattle.station_core.specs.Causes.{Rose}
 use Rattle.station_core.specs.declared.ports.InPort.{InPort}
@@ -11,12 +11,12 @@ use Rattle.station_core.specs.declared.ports.OutPort.TheVariants as outs
 use Rattle.run_clauses.specs.declared.work.Refusal.{Refusal}
 use Rattle.run_clauses.specs.declared.work.Refusal.TheVariants.{Usage, Settings, ReadFault, WriteFault, NotSync, Memory, Limit, Cells}
 use Rattle.run_clauses.specs.Command.{Command, Files, Unread, IsInput, IsOutput, is_among, refusal_of, input_file, unread}
-use Rattle.run_clauses.specs.declared.work.CellsRefusal.TheVariants.{Header}
+use Rattle.run_clauses.specs.declared.work.CellsRefusal.TheVariants.{Header, NoPlace, AnnouncedForm}
 use Rattle.run_clauses.specs.Header.{header_size, IsHeaderTaken}
-use Rattle.run_clauses.specs.Run.{Run, header_at, Reports, AsksSettingsAlone, IsUntaken}
+use Rattle.run_clauses.specs.Run.{Run, header_at, Reports, AreMadeEmpty, AsksSettingsAlone, IsUntaken}
 use Rattle.run_clauses.specs.Text.{status_of, refusal_status, refusal_text, text_at, text_if_refused}
 use Rattle.run_steps.specs.Report.{WritesText}
-use Rattle.run_steps.specs.Ended.{Ended, Hold, HoldSoFar, HoldFronts, HoldNothing, HoldUnheaded, AreMade}
+use Rattle.run_steps.specs.Ended.{Ended, Hold, HoldSoFar, HoldFronts, HoldEmpty, HoldNothing, HoldUnheaded, AreMade}
 
 pub run_done : (c : Command) (limit : ℕ) (old new : Meaning) → Ended c limit old new None → Run c limit old new 0
 run_done c limit old new e = record {
@@ -46,6 +46,7 @@ run_done c limit old new e = record {
   done = λ t is. e.leaves.outputs t;
   done_report = λ t is. e.leaves.report t;
   early = λ is. absurd (true≢false (sym is));
+  lacking = λ is. absurd (omega arith);
   early_report = λ t is. absurd (true≢false (sym is));
   unheaded = λ is. absurd (omega arith);
   unheaded_taken = λ t is. absurd (omega arith);
@@ -58,6 +59,16 @@ run_done c limit old new e = record {
   front_report = λ t is. absurd (omega arith);
   own = e.own;
 }
+
+-- 2, 3 or 7
+cases_early : (status : ℕ) → is_among status (2 ∷ 3 ∷ 7 ∷ []) ≡ true → (is_among status (2 ∷ 3 ∷ []) ≡ true) ⊎ (status ≡ 7)
+cases_early status is = go (status == 2) (status == 3) (status == 7) refl is
+  where
+    go : (a b d : Bool) → (status == 7) ≡ d → (a || (b || (d || false))) ≡ true → ((a || (b || false)) ≡ true) ⊎ (status ≡ 7)
+    go true b d seven is = inl refl
+    go false true d seven is = inl refl
+    go false false true seven is = inr (eqb-true status 7 seven)
+    go false false false seven is = absurd (true≢false (sym is))
 
 module _ (c : Command) (limit : ℕ) (old mid new : Meaning) (text : List ℕ) (tells : WritesText text mid new) where
   source_same : (port : InPort) → source_at port new ≡ source_at port mid
@@ -143,14 +154,15 @@ module _ (c : Command) (limit : ℕ) (old mid new : Meaning) (text : List ℕ) (
         → (old.tells ≡ true → status ≢ 5 → status ≢ 6 → status ≢ 7 → status ≡ status_of (refusal_of limit old.file c))
         → (old.tells ≡ true → refusal_of limit old.file c ≡ None → (Rose old.read_faults mid.read_faults → ⊥) → (Rose old.write_faults mid.write_faults → ⊥) → (status ≡ 0) ⊎ (status ≡ 7))
         → (old.tells ≡ true → text ≡ text_at c limit old.file status)
-        → (is_among status (0 ∷ 4 ∷ 8 ∷ []) ≡ true → Hold c limit old mid)
-        → (is_among status (4 ∷ 8 ∷ []) ≡ true → Hold c limit old mid)
-        → (is_among status (2 ∷ 3 ∷ 7 ∷ []) ≡ true → HoldNothing old mid)
+        → (is_among status (0 ∷ 4 ∷ 8 ∷ 10 ∷ 11 ∷ []) ≡ true → Hold c limit old mid)
+        → (is_among status (4 ∷ 8 ∷ 10 ∷ 11 ∷ []) ≡ true → Hold c limit old mid)
+        → (is_among status (2 ∷ 3 ∷ []) ≡ true → HoldNothing old mid)
+        → (status ≡ 7 → HoldNothing old mid ⊎ HoldEmpty c old mid)
         → (status ≡ 5 → HoldSoFar c limit old mid)
         → (status ≡ 6 → HoldFronts c limit old mid)
         → (status ≡ 9 → HoldUnheaded c old mid)
         → Run c limit old new status
-    run_at status known read write kept undone exact complete named held work nothing stopped fronts unheaded = record {
+    run_at status known read write kept undone exact complete named held work nothing lacks stopped fronts unheaded = record {
       known = known;
       read_fault = λ is. subst (λ (n : ℕ). Rose old.read_faults n) (sym reads_same) (read is);
       write_fault = λ is. risen (write is);
@@ -178,7 +190,8 @@ module _ (c : Command) (limit : ℕ) (old mid new : Meaning) (text : List ℕ) (
       done = λ t is. absurd (undone is);
       done_report = λ t is. absurd (undone is);
       early = λ is. alone_same (nothing is).asks;
-      early_report = λ t is. told_after t e.same_telling e.later_report [] ((nothing is).report t) (text_at c limit old.file status) (named t);
+      lacking = λ is. lacking (lacks is);
+      early_report = λ t is. told_after t e.same_telling e.later_report [] (none_printed t is (cases_early status is)) (text_at c limit old.file status) (named t);
       unheaded = λ is out output. subst IsUntouched (sym (sink_same e.no_report out output)) ((unheaded is).outputs out output);
       unheaded_taken = λ t is port other reads. untaken_same port ((unheaded is).taken t port other reads);
       unheaded_report = λ t is. told_after t e.same_telling e.later_report [] ((unheaded is).report t) (text_at c limit old.file status) (named t);
@@ -208,6 +221,20 @@ module _ (c : Command) (limit : ℕ) (old mid new : Meaning) (text : List ℕ) (
       own = e.own;
     }
       where
+        lacking : HoldNothing old mid ⊎ HoldEmpty c old mid → AsksSettingsAlone new ⊎ ((c.memory_at_work ≡ true) × AreMadeEmpty c new)
+        lacking (inl none) = inl (alone_same none.asks)
+        lacking (inr empty) = inr (
+          empty.at_work,
+          record {
+            made = made_same empty.outputs.made;
+            empty = λ t out is. ap (λ (s : Sink). s.written) (sink_same e.no_report out is) ∙ empty.outputs.empty (sym telling_same ∙ t) out is;
+          },
+        )
+
+        none_printed : old.tells ≡ true → is_among status (2 ∷ 3 ∷ 7 ∷ []) ≡ true → (is_among status (2 ∷ 3 ∷ []) ≡ true) ⊎ (status ≡ 7) → mid.report.written ≡ []
+        none_printed t is (inl early) = (nothing early).report t
+        none_printed t is (inr seven) = elim (lacks seven) [ inl none ↦ none.report t | inr empty ↦ empty.report t ]
+
         risen : Rose old.write_faults mid.write_faults → Rose old.write_faults new.write_faults
         risen rose = omega (arith, rose, tells.later)
 
@@ -254,39 +281,49 @@ module _ (c : Command) (limit : ℕ) (old mid new : Meaning) where
       (λ is. absurd (omega arith)) (λ is. absurd (omega arith)) (λ other. e.caused) (λ is. absurd (omega arith))
       (λ t a b d. ap status_of (sym (e.exact t))) (λ t none a b. absurd (refuted Usage (e.exact t) none))
       (λ t. named_by Usage (e.exact t))
-      (λ is. absurd (true≢false (sym is))) (λ is. absurd (true≢false (sym is))) (λ is. e.leaves) (λ is. absurd (omega arith)) (λ is. absurd (omega arith)) (λ is. absurd (omega arith))
+      (λ is. absurd (true≢false (sym is))) (λ is. absurd (true≢false (sym is))) (λ is. e.leaves) (λ is. absurd (omega arith)) (λ is. absurd (omega arith)) (λ is. absurd (omega arith)) (λ is. absurd (omega arith))
   run_refused (Settings reason) e tells = run_at c limit old mid new (refusal_text (Settings reason)) tells (Settings reason) e 3 e.known
       (λ is. absurd (omega arith)) (λ is. absurd (omega arith)) (λ other. e.caused) (λ is. absurd (omega arith))
       (λ t a b d. ap status_of (sym (e.exact t))) (λ t none a b. absurd (refuted (Settings reason) (e.exact t) none))
       (λ t. named_by (Settings reason) (e.exact t))
-      (λ is. absurd (true≢false (sym is))) (λ is. absurd (true≢false (sym is))) (λ is. e.leaves) (λ is. absurd (omega arith)) (λ is. absurd (omega arith)) (λ is. absurd (omega arith))
+      (λ is. absurd (true≢false (sym is))) (λ is. absurd (true≢false (sym is))) (λ is. e.leaves) (λ is. absurd (omega arith)) (λ is. absurd (omega arith)) (λ is. absurd (omega arith)) (λ is. absurd (omega arith))
   run_refused (NotSync stream n) e tells = run_at c limit old mid new (refusal_text (NotSync stream n)) tells (NotSync stream n) e 4 e.known
       (λ is. absurd (omega arith)) (λ is. absurd (omega arith)) (λ other. e.caused) (λ is. absurd (omega arith))
       (λ t a b d. ap status_of (sym (e.exact t))) (λ t none a b. absurd (refuted (NotSync stream n) (e.exact t) none))
       (λ t. named_by (NotSync stream n) (e.exact t))
-      (λ is. e.leaves) (λ is. e.leaves) (λ is. absurd (true≢false (sym is))) (λ is. absurd (omega arith)) (λ is. absurd (omega arith)) (λ is. absurd (omega arith))
+      (λ is. e.leaves) (λ is. e.leaves) (λ is. absurd (true≢false (sym is))) (λ is. absurd (omega arith)) (λ is. absurd (omega arith)) (λ is. absurd (omega arith)) (λ is. absurd (omega arith))
   run_refused ReadFault e tells = run_at c limit old mid new (refusal_text ReadFault) tells ReadFault e 5 e.known
       (λ is. e.caused) (λ is. absurd (omega arith)) (λ other. absurd (other refl)) (λ is. absurd (omega arith))
       (λ t a b d. absurd (a refl)) (λ t none a b. absurd (a e.caused))
       (λ t. refl)
-      (λ is. absurd (true≢false (sym is))) (λ is. absurd (true≢false (sym is))) (λ is. absurd (true≢false (sym is))) (λ is. e.leaves) (λ is. absurd (omega arith)) (λ is. absurd (omega arith))
+      (λ is. absurd (true≢false (sym is))) (λ is. absurd (true≢false (sym is))) (λ is. absurd (true≢false (sym is))) (λ is. absurd (omega arith)) (λ is. e.leaves) (λ is. absurd (omega arith)) (λ is. absurd (omega arith))
   run_refused WriteFault e tells = run_at c limit old mid new (refusal_text WriteFault) tells WriteFault e 6 e.known
       (λ is. absurd (omega arith)) (λ is. e.caused.1) (λ other. e.caused.0) (λ is. absurd (omega arith))
       (λ t a b d. absurd (b refl)) (λ t none a b. absurd (b e.caused.1))
       (λ t. refl)
-      (λ is. absurd (true≢false (sym is))) (λ is. absurd (true≢false (sym is))) (λ is. absurd (true≢false (sym is))) (λ is. absurd (omega arith)) (λ is. e.leaves) (λ is. absurd (omega arith))
+      (λ is. absurd (true≢false (sym is))) (λ is. absurd (true≢false (sym is))) (λ is. absurd (true≢false (sym is))) (λ is. absurd (omega arith)) (λ is. absurd (omega arith)) (λ is. e.leaves) (λ is. absurd (omega arith))
   run_refused Memory e tells = run_at c limit old mid new (refusal_text Memory) tells Memory e 7 e.known
       (λ is. absurd (omega arith)) (λ is. absurd (omega arith)) (λ other. e.caused) (λ is. absurd (omega arith))
       (λ t a b d. absurd (d refl)) (λ t none a b. inr refl)
       (λ t. refl)
-      (λ is. absurd (true≢false (sym is))) (λ is. absurd (true≢false (sym is))) (λ is. e.leaves) (λ is. absurd (omega arith)) (λ is. absurd (omega arith)) (λ is. absurd (omega arith))
+      (λ is. absurd (true≢false (sym is))) (λ is. absurd (true≢false (sym is))) (λ is. absurd (true≢false (sym is))) (λ is. e.leaves) (λ is. absurd (omega arith)) (λ is. absurd (omega arith)) (λ is. absurd (omega arith))
   run_refused (Limit n) e tells = run_at c limit old mid new (refusal_text (Limit n)) tells (Limit n) e 8 e.known
       (λ is. absurd (omega arith)) (λ is. absurd (omega arith)) (λ other. e.caused) (λ is. absurd (omega arith))
       (λ t a b d. ap status_of (sym (e.exact t))) (λ t none a b. absurd (refuted (Limit n) (e.exact t) none))
       (λ t. named_by (Limit n) (e.exact t))
-      (λ is. e.leaves) (λ is. e.leaves) (λ is. absurd (true≢false (sym is))) (λ is. absurd (omega arith)) (λ is. absurd (omega arith)) (λ is. absurd (omega arith))
+      (λ is. e.leaves) (λ is. e.leaves) (λ is. absurd (true≢false (sym is))) (λ is. absurd (omega arith)) (λ is. absurd (omega arith)) (λ is. absurd (omega arith)) (λ is. absurd (omega arith))
   run_refused (Cells Header) e tells = run_at c limit old mid new (refusal_text (Cells Header)) tells (Cells Header) e 9 e.known
       (λ is. absurd (omega arith)) (λ is. absurd (omega arith)) (λ other. e.caused) (λ is. absurd (omega arith))
       (λ t a b d. ap status_of (sym (e.exact t))) (λ t none a b. absurd (refuted (Cells Header) (e.exact t) none))
       (λ t. named_by (Cells Header) (e.exact t))
-      (λ is. absurd (true≢false (sym is))) (λ is. absurd (true≢false (sym is))) (λ is. absurd (true≢false (sym is))) (λ is. absurd (omega arith)) (λ is. absurd (omega arith)) (λ is. e.leaves)
+      (λ is. absurd (true≢false (sym is))) (λ is. absurd (true≢false (sym is))) (λ is. absurd (true≢false (sym is))) (λ is. absurd (omega arith)) (λ is. absurd (omega arith)) (λ is. absurd (omega arith)) (λ is. e.leaves)
+  run_refused (Cells NoPlace) e tells = run_at c limit old mid new (refusal_text (Cells NoPlace)) tells (Cells NoPlace) e 10 e.known
+      (λ is. absurd (omega arith)) (λ is. absurd (omega arith)) (λ other. e.caused) (λ is. absurd (omega arith))
+      (λ t a b d. ap status_of (sym (e.exact t))) (λ t none a b. absurd (refuted (Cells NoPlace) (e.exact t) none))
+      (λ t. named_by (Cells NoPlace) (e.exact t))
+      (λ is. e.leaves) (λ is. e.leaves) (λ is. absurd (true≢false (sym is))) (λ is. absurd (omega arith)) (λ is. absurd (omega arith)) (λ is. absurd (omega arith)) (λ is. absurd (omega arith))
+  run_refused (Cells AnnouncedForm) e tells = run_at c limit old mid new (refusal_text (Cells AnnouncedForm)) tells (Cells AnnouncedForm) e 11 e.known
+      (λ is. absurd (omega arith)) (λ is. absurd (omega arith)) (λ other. e.caused) (λ is. absurd (omega arith))
+      (λ t a b d. ap status_of (sym (e.exact t))) (λ t none a b. absurd (refuted (Cells AnnouncedForm) (e.exact t) none))
+      (λ t. named_by (Cells AnnouncedForm) (e.exact t))
+      (λ is. e.leaves) (λ is. e.leaves) (λ is. absurd (true≢false (sym is))) (λ is. absurd (omega arith)) (λ is. absurd (omega arith)) (λ is. absurd (omega arith)) (λ is. absurd (omega arith))

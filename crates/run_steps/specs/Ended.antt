@@ -9,10 +9,10 @@ use Rattle.station_core.specs.declared.ports.OutPort.{OutPort}
 use Rattle.station_core.specs.declared.ports.OutPort.TheVariants as outs
 use Rattle.run_clauses.specs.declared.work.Refusal.{Refusal}
 use Rattle.run_clauses.specs.declared.work.Refusal.TheVariants.{Usage, Settings, ReadFault, WriteFault, NotSync, Memory, Limit, Cells}
-use Rattle.run_clauses.specs.declared.work.CellsRefusal.TheVariants.{Header}
+use Rattle.run_clauses.specs.declared.work.CellsRefusal.TheVariants.{Header, NoPlace, AnnouncedForm}
 use Rattle.run_clauses.specs.Header.{IsHeaderTaken}
 use Rattle.run_clauses.specs.Command.{Command, IsInput, IsOutput, is_among, refusal_of, input_file, unread}
-use Rattle.run_clauses.specs.Run.{AsksSettingsAlone, IsUntaken}
+use Rattle.run_clauses.specs.Run.{AreMadeEmpty, AsksSettingsAlone, IsUntaken}
 use Rattle.run_clauses.specs.Text.{status_of}
 
 -- A fault is answered only where its count rose. Behind a refusal an output may fail to close, and is counted.
@@ -72,6 +72,12 @@ pub record HoldUnheaded (c : Command) (old mid : Meaning) : Type 0 where
   pub taken : old.tells ≡ true → (port : InPort) → port ≢ ins.Settings → IsInput c port → IsUntaken c mid port
   pub report : old.tells ≡ true → mid.report.written ≡ []
 
+-- or, of a command that takes memory within its work: every output was made and none holds a byte, nor does Report
+pub record HoldEmpty (c : Command) (old mid : Meaning) : Type 0 where
+  pub at_work : c.memory_at_work ≡ true
+  pub outputs : AreMadeEmpty c mid
+  pub report : old.tells ≡ true → mid.report.written ≡ []
+
 abbrev pub Leaves : Command → ℕ → Meaning → Meaning → Option Refusal → Type 0
 Leaves c limit old mid None = Hold c limit old mid
 Leaves c limit old mid (Some (NotSync stream n)) = Hold c limit old mid
@@ -80,8 +86,10 @@ Leaves c limit old mid (Some ReadFault) = HoldSoFar c limit old mid
 Leaves c limit old mid (Some WriteFault) = HoldFronts c limit old mid
 Leaves c limit old mid (Some Usage) = HoldNothing old mid
 Leaves c limit old mid (Some (Settings reason)) = HoldNothing old mid
-Leaves c limit old mid (Some Memory) = HoldNothing old mid
+Leaves c limit old mid (Some Memory) = HoldNothing old mid ⊎ HoldEmpty c old mid
 Leaves c limit old mid (Some (Cells Header)) = HoldUnheaded c old mid
+Leaves c limit old mid (Some (Cells NoPlace)) = Hold c limit old mid
+Leaves c limit old mid (Some (Cells AnnouncedForm)) = Hold c limit old mid
 
 pub record Ended (c : Command) (limit : ℕ) (old mid : Meaning) (r : Option Refusal) : Type 0 where
   pub known : is_among (status_of r) c.statuses ≡ true

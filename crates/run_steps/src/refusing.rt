@@ -24,5 +24,7 @@ pub fn refuse<'a, S: Station<'a>>(refusal: &Refusal, station: &mut S) -> u8
         Refusal::Memory => 7,
         Refusal::Limit(_) => 8,
         Refusal::Cells(CellsRefusal::Header) => 9,
+        Refusal::Cells(CellsRefusal::NoPlace) => 10,
+        Refusal::Cells(CellsRefusal::AnnouncedForm) => 11,
     }
 }

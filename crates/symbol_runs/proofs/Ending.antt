@@ -15,7 +15,7 @@ use Rattle.station_core.specs.declared.ports.OutPort.TheVariants as outs
 use Rattle.run_clauses.specs.declared.work.Refusal.{Refusal}
 use Rattle.run_clauses.specs.declared.work.Refusal.TheVariants as refusals
 use Rattle.run_clauses.specs.Command.{Command, Files, IsInput, IsOutput, is_among, named, refusal_of, input_file, unread}
-use Rattle.run_clauses.specs.declared.work.CellsRefusal.TheVariants.{Header}
+use Rattle.run_clauses.specs.declared.work.CellsRefusal.TheVariants.{Header, NoPlace, AnnouncedForm}
 use Rattle.run_clauses.specs.Header.{IsHeaderTaken, behind_header, header_refusal, header_size}
 use Rattle.run_clauses.specs.Run.{IsUntaken, Run}
 use Rattle.run_clauses.specs.Text.{refusal_status, refusal_text, status_of}
@@ -33,7 +33,7 @@ use Rattle.symbol_runs.specs.Outputs.{Names, made}
 use Rattle.symbol_runs.specs.Cells.{IsCutShort, IsStopped, TakesAtMost}
 use Rattle.symbol_runs.specs.Opening.{CellsOnly, IsUnopened, Opens, TakesHeader, opened}
 use Rattle.symbol_runs.specs.Runs.{AsksOutputs, IsReady, IsUnmade, IsWorked, PortsOnly, RanBehind, RefusesCells, RunsBehind, RunsCells, Tells, outcome_status}
-use Rattle.symbol_runs.specs.Commands.{CellCommand, Come, ComeSoFar, Continues, SettingsDone, reads_at}
+use Rattle.symbol_runs.specs.Commands.{CellCommand, Come, ComeSoFar, ComesRefused, Continues, MayRefuse, SettingsDone, reads_at}
 use Rattle.symbol_runs.proofs.Fronts.{front_of}
 use Rattle.symbol_runs.proofs.Runs.{name_at}
 
@@ -304,6 +304,8 @@ module _ (c : Command) (limit : ℕ) (name cells : List ℕ) (header : Option (L
   unopened_ended (refusals.Cells Header) opens =
       ended_by (Some (refusals.Cells Header)) (command.unheaded opens.1) opens.2 (omega (arith, opens.2)) (same_writes opens.0)
       (λ t. refusal_by (Some (refusals.Cells Header)) (Some (refusals.Cells Header)) (opens.3 t) refl t) (unopened_order opens.0) (λ is. absurd (no_refusal _ is)) (λ is t. absurd (no_refusal _ is)) (unheaded_left opens.0)
+  unopened_ended (refusals.Cells NoPlace) opens = absurd opens
+  unopened_ended (refusals.Cells AnnouncedForm) opens = absurd opens
   unopened_ended refusals.Usage opens = absurd opens
   unopened_ended (refusals.Settings reason) opens = absurd opens
   unopened_ended refusals.WriteFault opens = absurd opens
@@ -411,6 +413,47 @@ module _ (c : Command) (limit : ℕ) (name cells : List ℕ) (header : Option (L
           gives = inl (command.comes t).first.1;
         })
 
+    -- ---- the work refused the cells
+    caused_by : (r : Refusal) → MayRefuse c r → mid.read_faults ≡ start.read_faults → IsCaused start mid (Some r)
+    caused_by refusals.Memory may same = same
+    caused_by (refusals.Cells reason) may same = same
+    caused_by refusals.Usage may same = absurd may
+    caused_by (refusals.Settings reason) may same = absurd may
+    caused_by refusals.ReadFault may same = absurd may
+    caused_by refusals.WriteFault may same = absurd may
+    caused_by (refusals.NotSync stream n) may same = absurd may
+    caused_by (refusals.Limit n) may same = absurd may
+
+    exact_by : (r : Refusal) → MayRefuse c r → (start.tells ≡ true → (given : Written) × ComesRefused c limit start.file given r) → IsExact c limit start (Some r)
+    exact_by refusals.Memory may came = tt
+    exact_by (refusals.Cells reason) may came = λ t. refusal_by (Some (refusals.Cells reason)) None (fits t) (came t).1.1 t
+    exact_by refusals.Usage may came = absurd may
+    exact_by (refusals.Settings reason) may came = absurd may
+    exact_by refusals.ReadFault may came = absurd may
+    exact_by refusals.WriteFault may came = absurd may
+    exact_by (refusals.NotSync stream n) may came = absurd may
+    exact_by (refusals.Limit n) may came = absurd may
+
+    left_by : (r : Refusal) (done : IsWorked w most names (opened cells header old) mid (Err (stops.Work r))) → MayRefuse c r
+        → (start.tells ≡ true → (given : Written) × ComesRefused c limit start.file given r × Holds done.start mid given) → Leaves c limit start mid (Some r)
+    left_by refusals.Memory done may came = inr (record {
+      at_work = may;
+      outputs = record {
+        made = all_made (Err (stops.Work refusals.Memory)) done;
+        empty = λ t out is. let p = came (sym (ap (λ (x : Meaning). x.tells) others) ∙ t) in holds_at (Err (stops.Work refusals.Memory)) done p.0 p.2 out is ∙ p.1 out;
+      };
+      report = λ t. let p = came t in holds_report (Err (stops.Work refusals.Memory)) done p.0 p.2 t ∙ p.1 outs.Report;
+    })
+    left_by (refusals.Cells NoPlace) done may came = hold_by (Err (stops.Work (refusals.Cells NoPlace))) done (λ t. let p = came t in (p.0, p.1.0, p.2))
+    left_by (refusals.Cells AnnouncedForm) done may came = hold_by (Err (stops.Work (refusals.Cells AnnouncedForm))) done (λ t. let p = came t in (p.0, p.1.0, p.2))
+    left_by (refusals.Cells Header) done may came = absurd may
+    left_by refusals.Usage done may came = absurd may
+    left_by (refusals.Settings reason) done may came = absurd may
+    left_by refusals.ReadFault done may came = absurd may
+    left_by refusals.WriteFault done may came = absurd may
+    left_by (refusals.NotSync stream n) done may came = absurd may
+    left_by (refusals.Limit n) done may came = absurd may
+
     -- ---- by the outcome
     abbrev tag : Result (Unit {0}) Stop → ℕ
     tag (Ok u) = 0
@@ -443,9 +486,11 @@ module _ (c : Command) (limit : ℕ) (name cells : List ℕ) (header : Option (L
         (hold_by (Err Limit) done (λ t. let d = done.works (told t) in (d.given, ((command.comes t).past d.given d.past d.gives).0, d.holds)))
     ended_of (Err (stops.Work r)) cause reason ran =
         let done = worked_if (Err (stops.Work r)) (λ e. omega (arith, e)) ran in
-        let its = command.its (opened cells header old) mid r reason refl refl done in
-        ended_by (Some r) its.known its.caused (omega (arith, cause.0)) cause.1 its.exact (order (Err (stops.Work r)) ran)
-        (λ is. absurd (no_refusal _ is)) (λ is t. absurd (no_refusal _ is)) its.leaves
+        let its = command.its r reason in
+        let came : start.tells ≡ true → (given : Written) × ComesRefused c limit start.file given r × Holds done.start mid given =
+        λ t. let d = done.works (told t) in (d.given, (command.comes t).refused d.taken mid.cells.left d.given r d.are d.within reason d.refuses, d.holds) in
+        ended_by (Some r) its.1 (caused_by r its.0 cause.0) (omega (arith, cause.0)) cause.1 (exact_by r its.0 (λ t. let p = came t in (p.0, p.1))) (order (Err (stops.Work r)) ran)
+        (λ is. absurd (no_refusal _ is)) (λ is t. absurd (no_refusal _ is)) (left_by r done its.0 came)
 
 -- the promise of a run on cells, behind its settings
 module _ (c : Command) (limit : ℕ) (name cells : List ℕ) (header : Option (List ℕ)) (names : Names) (w : Work) (most : ℕ) (start new : Meaning) (at : Source) (status : ℕ) (fresh : IsFresh start)
@@ -465,6 +510,8 @@ module _ (c : Command) (limit : ℕ) (name cells : List ℕ) (header : Option (L
       none_of : (r : Refusal) → Opens cells header accepted runs.mid (Err r) → IsUnopened cells header accepted runs.mid
       none_of refusals.ReadFault o = o.0
       none_of (refusals.Cells Header) o = o.0
+      none_of (refusals.Cells NoPlace) o = absurd o
+      none_of (refusals.Cells AnnouncedForm) o = absurd o
       none_of refusals.Usage o = absurd o
       none_of (refusals.Settings reason) o = absurd o
       none_of refusals.WriteFault o = absurd o

@@ -1,24 +1,23 @@
 -- What makes a command one that reads cells: its settings and its cells are read, and what it comes to is what
 -- its work gives.
-use Rattle.std.specs.Prelude.{◌≡◌, ◌<◌, ◌≤◌, ◌+◌, ◌*◌, ℕ, true, List, [], ◌++◌, drop, Option, None, Some, is_some, Err}
+use Rattle.std.specs.Prelude.{◌≡◌, ◌<◌, ◌≤◌, ◌+◌, ◌*◌, ⊤, ℕ, true, List, [], ◌++◌, drop, Option, None, Some, is_some}
 use Rattle.station_core.specs.Meaning.{Meaning, Source}
 use Rattle.station_core.specs.declared.ports.InPort.{InPort}
 use Rattle.station_core.specs.declared.ports.InPort.TheVariants as ins
 use Rattle.station_core.specs.declared.ports.OutPort.{OutPort}
 use Rattle.station_core.specs.declared.ports.OutPort.TheVariants as outs
 use Rattle.run_clauses.specs.declared.work.Refusal.{Refusal}
+use Rattle.run_clauses.specs.declared.work.Refusal.TheVariants as refusals
 use Rattle.run_clauses.specs.declared.work.Refusal.TheVariants.{Limit}
+use Rattle.run_clauses.specs.declared.work.CellsRefusal.TheVariants.{Header, NoPlace, AnnouncedForm}
 use Rattle.run_clauses.specs.Command.{Command, Files, IsOutput, Unread, is_among}
 use Rattle.run_clauses.specs.Header.{behind_header, header_size}
 use Rattle.run_clauses.specs.Text.{refusal_status}
-use Rattle.run_steps.specs.Ended.{IsCaused, IsExact, Leaves}
-use Rattle.symbol_runs.specs.declared.stop.Stop.TheVariants as stops
 use Rattle.symbol_runs.specs.Symbols.{symbols, within_limit}
 use Rattle.symbol_runs.specs.Work.{Work, Written}
 use Rattle.symbol_runs.specs.Outputs.{Names}
 use Rattle.symbol_runs.specs.Cells.{GivenUpTo}
 use Rattle.symbol_runs.specs.Opening.{TakesHeader}
-use Rattle.symbol_runs.specs.Runs.{IsWorked}
 
 -- the settings and the cells are read
 abbrev pub reads_at : List ℕ → List ℕ → InPort → Option (List ℕ)
@@ -51,24 +50,45 @@ pub record Continues (c : Command) (limit : ℕ) (file : Files) (given : Written
   pub come : Come c limit file all
   pub begins : (port : OutPort) → (rest : List ℕ) × (all port ≡ given port ++ rest)
 
+-- the reasons for which a work may refuse its cells: what is found in them and, where the command takes memory
+-- within its work, want of memory
+abbrev pub MayRefuse : Command → Refusal → Type 0
+MayRefuse c refusals.Usage = ⊥
+MayRefuse c (refusals.Settings reason) = ⊥
+MayRefuse c refusals.ReadFault = ⊥
+MayRefuse c refusals.WriteFault = ⊥
+MayRefuse c (refusals.NotSync stream n) = ⊥
+MayRefuse c refusals.Memory = c.memory_at_work ≡ true
+MayRefuse c (refusals.Limit n) = ⊥
+MayRefuse c (refusals.Cells Header) = ⊥
+MayRefuse c (refusals.Cells NoPlace) = ⊤
+MayRefuse c (refusals.Cells AnnouncedForm) = ⊤
+
+-- What was given before the cells are refused for this reason is what the command comes to, and this is its
+-- refusal; at want of memory nothing was given.
+abbrev pub ComesRefused : Command → ℕ → Files → Written → Refusal → Type 0
+ComesRefused c limit file given refusals.Memory = (port : OutPort) → given port ≡ []
+ComesRefused c limit file given refusals.Usage = ⊥
+ComesRefused c limit file given (refusals.Settings reason) = ⊥
+ComesRefused c limit file given refusals.ReadFault = ⊥
+ComesRefused c limit file given refusals.WriteFault = ⊥
+ComesRefused c limit file given (refusals.NotSync stream n) = ⊥
+ComesRefused c limit file given (refusals.Limit n) = ⊥
+ComesRefused c limit file given (refusals.Cells reason) = Come c limit file given × (c.work_refusal limit file ≡ Some (refusals.Cells reason))
+
 -- What the files come to by the command is what the cells, `bytes` behind their header, give by the work.
 pub record ComesTo (c : Command) (limit : ℕ) (file : Files) (w : Work) (most : ℕ) (bytes : List ℕ) : Type 0 where
   -- all cells, where they hold no more symbols than the limit
   pub whole : (given : Written) → symbols w.size bytes ≤ most → w.Ends bytes given → Come c limit file given × (c.work_refusal limit file ≡ None)
   -- the cells within the limit, where they hold more
   pub past : (given : Written) → most < symbols w.size bytes → w.Gives (within_limit most w.size bytes) given → Come c limit file given × (c.work_refusal limit file ≡ Some (Limit most))
+  -- the cells that the work refuses
+  pub refused : (taken left : List ℕ) (given : Written) (r : Refusal) → bytes ≡ taken ++ left → symbols w.size taken ≤ most → w.Reasons r → w.Refuses taken left given r → ComesRefused c limit file given r
   -- the cells so far as a failed read
   pub so_far : (unread : Unread) (taken : List ℕ) (given : Written) → bytes ≡ taken ++ unread ins.Cells → symbols w.size taken ≤ most → w.Gives taken given → ComeSoFar c limit file unread given
   -- first cells give what begins that
   pub begun : (given : Written) → GivenUpTo w most bytes given → Continues c limit file given
   pub first : (given : Written) × w.Gives [] given
-
--- the command refuses the cells for a reason of its work
-pub record Refuses (c : Command) (limit : ℕ) (start mid : Meaning) (r : Refusal) : Type 0 where
-  pub known : is_among (refusal_status r) c.statuses ≡ true
-  pub caused : IsCaused start mid (Some r)
-  pub exact : IsExact c limit start (Some r)
-  pub leaves : Leaves c limit start mid (Some r)
 
 -- a command on cells that must begin with this header, if with any
 pub record CellCommand (c : Command) (limit : ℕ) (settings cells : List ℕ) (header : Option (List ℕ)) (names : Names) (w : Work) (most : ℕ) (start : Meaning) : Type 0 where
@@ -86,5 +106,5 @@ pub record CellCommand (c : Command) (limit : ℕ) (settings cells : List ℕ) (
   pub comes : start.tells ≡ true → ComesTo c limit start.file w most (behind_header header (start.file cells))
   -- where the reading stops within the header no line is printed
   pub unread : start.tells ≡ true → (unread : Unread) → TakesHeader header (start.file cells) (unread ins.Cells) → c.PrintsSoFar limit start.file unread []
-  pub its : (old mid : Meaning) (r : Refusal) → w.Reasons r → old.tells ≡ start.tells → old.cells.left ≡ behind_header header (start.file cells) → IsWorked w most names old mid (Err (stops.Work r)) → Refuses c limit start mid r
+  pub its : (r : Refusal) → w.Reasons r → MayRefuse c r × (is_among (refusal_status r) c.statuses ≡ true)
   pub own : c.Own limit start.file

@@ -1,5 +1,5 @@
 -- The command `trial SETTINGS NUMBER`: what it comes to, from its settings and its number alone.
-use Rattle.std.specs.Prelude.{◌≡◌, ◌<◌, ◌≤◌, ◌+◌, ℕ, nat_lt, if◌then◌else◌, List, [], ◌∷◌, ◌++◌, codes, decimal, Option, Some, None, option_and_then}
+use Rattle.std.specs.Prelude.{◌≡◌, ◌<◌, ◌≤◌, ◌+◌, ℕ, nat_lt, if◌then◌else◌, List, [], ◌∷◌, ◌++◌, codes, decimal, Option, Some, None, option_and_then, false}
 use Rattle.mode_set.specs.declared.modes.Stream.{Stream}
 use Rattle.mode_set.specs.declared.modes.Stream.TheVariants.{Hp, Lp}
 use Rattle.mode_set.specs.declared.settings.Settings.{Settings}
@@ -59,6 +59,7 @@ trial_command settings number = record {
   reads = by_input (Some settings) None None None;
   writes = λ port. None;
   statuses = 0 ∷ 3 ∷ 5 ∷ 6 ∷ 7 ∷ 8 ∷ [];
+  memory_at_work = false;
   early_refusal = λ file. settings_refusal (file settings);
   header = λ file. None;
   work_refusal = λ limit file. option_and_then trial_refusal (settings_of (file settings));
