@@ -23,6 +23,7 @@ use Rattle.outer_chain.specs.Bits.{ByteOfBits}
 use Rattle.outer_chain.specs.Running.{AllFinished, no_words}
 use Rattle.outer_chain.specs.Words.{Tally}
 use Rattle.reception.specs.Cells.{symbols, tail, symbol_length, bytes_of_symbol, symbol_cells, symbol_weights}
+use Rattle.symbol_spans.specs.Laws.{SettingsStay}
 use Rattle.reception.specs.Costs.{symbol_costs, costs}
 use Rattle.reception.specs.Frames.{tps_cells, frame_bits, IsReadable, CountsWords}
 use Rattle.reception.specs.Streams.{memory, start_of, Moment, so_far, at_end, Reception, Receives}
@@ -120,14 +121,15 @@ feeds_within same more stay bits costs_same one all x y bytes piece n r out with
 -- ---- bytes that end a symbol
 
 -- the costs of the symbol that is ended, from its cells
-pub ended_costs : EndedSymbol → (s : Settings) (bytes p : List ℕ) (cells : List Cell) (weights rest : List ℕ) (count k : ℕ) (σ : Stream) → EndsSymbol s bytes p → rest ≡ unfinished s bytes ++ p → cells ≡ cells_from rest k → weights ≡ weights_from rest k → k ≡ carriers s.mode → count ≡ symbols s bytes
+pub ended_costs : SettingsStay → EndedSymbol → (s : Settings) (bytes p : List ℕ) (cells : List Cell) (weights rest : List ℕ) (count k : ℕ) (σ : Stream) → EndsSymbol s bytes p → rest ≡ unfinished s bytes ++ p → cells ≡ cells_from rest k → weights ≡ weights_from rest k → k ≡ carriers s.mode → count ≡ symbols s bytes
     → map (pair_of s cells weights (count % 68) σ) (numbers (need s σ)) ≡ symbol_costs s (bytes ++ p) σ (symbols s bytes)
 unfolding symbol_costs symbol_cells symbol_weights
-ended_costs ended s bytes p cells weights rest count k σ ends r c w e n =
+ended_costs stay ended s bytes p cells weights rest count k σ ends r c w e n =
     let same : cells ≡ cells_from (bytes_of_symbol s (bytes ++ p) (symbols s bytes)) (carriers s.mode) = c ∙ ap₂ cells_from (r ∙ sym (ended s bytes p ends).0) e in
     let weighed : weights ≡ weights_from (bytes_of_symbol s (bytes ++ p) (symbols s bytes)) (carriers s.mode) = w ∙ ap₂ weights_from (r ∙ sym (ended s bytes p ends).0) e in
     ap₂ (λ (z : List Cell) (m : ℕ). map (pair_of s z weights (m % 68) σ) (numbers (need s σ))) same n
     ∙ ap (λ (z : List ℕ). map (pair_of s (cells_from (bytes_of_symbol s (bytes ++ p) (symbols s bytes)) (carriers s.mode)) z (symbols s bytes % 68) σ) (numbers (need s σ))) weighed
+    ∙ ap (λ (x : Settings). map (pair_of x (cells_from (bytes_of_symbol s (bytes ++ p) (symbols s bytes)) (carriers s.mode)) (weights_from (bytes_of_symbol s (bytes ++ p) (symbols s bytes)) (carriers s.mode)) (symbols s bytes % 68) σ) (numbers (need x σ))) (sym (stay s (symbols s bytes / 272)))
 
 ended_tps : EndedSymbol → (s : Settings) (bytes p : List ℕ) (cells : List Cell) (rest : List ℕ) (k : ℕ) → EndsSymbol s bytes p → rest ≡ unfinished s bytes ++ p → cells ≡ cells_from rest k → k ≡ carriers s.mode
     → tps_cells s (bytes ++ p) (symbols s bytes) ≡ map (cell_of cells) (tps_carriers s.mode)
@@ -147,6 +149,7 @@ pub record TakesSymbol (s : Settings) (hp lp new_hp new_lp : StreamState) (frame
 pub record SymbolLaws : Type 0 where
   pub next : OneSymbolMore
   pub ended : EndedSymbol
+  pub same : SettingsStay
   pub stay : TpsCellsStay
   pub bits : BitsOfCells
   pub costs_next : NextCosts
@@ -158,7 +161,7 @@ gave_on : SymbolLaws → (s : Settings) (bytes p : List ℕ) (cells : List Cell)
     → StreamGave so_far new (start_of s.start) (costs s bytes σ ++ map (pair_of s cells weights (count % 68) σ) (numbers (need s σ))) given (steps ++ more) old out → StreamGave so_far new (start_of s.start) (costs s (bytes ++ p) σ) given (steps ++ more) old out
 gave_on laws s bytes p cells weights rest count k σ new given steps more old out ends r c w e n h =
     subst (λ z. StreamGave so_far new (start_of s.start) z given (steps ++ more) old out)
-    (ap (λ z. costs s bytes σ ++ z) (ended_costs laws.ended s bytes p cells weights rest count k σ ends r c w e n) ∙ sym (laws.costs_next s bytes p σ ends)) h
+    (ap (λ z. costs s bytes σ ++ z) (ended_costs laws.same laws.ended s bytes p cells weights rest count k σ ends r c w e n) ∙ sym (laws.costs_next s bytes p σ ends)) h
 
 pub feeds_whole : SymbolLaws → (x y : ReceiverState) (bytes piece : List ℕ) (n k : ℕ) (r : Reception) (out : Output) (cells : List Cell) (weights hp_steps lp_steps : List ℕ)
     → EndsSymbol x.settings bytes (take n piece) → n ≡ taken x.settings bytes piece

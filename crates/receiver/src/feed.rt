@@ -147,6 +147,7 @@ impl<M: Carriers> Receiver<M> {
         ensures taken { self.new.taken ≤ self.old.taken + 1 }
         ensures fed { (bytes : List ℕ) (r : Reception) → StandsFor so_far self.old bytes r → Feeds (StandsFor so_far self.new) self.old.settings bytes piece.now r result out.new }
     {
+        symbol_spans::laws::settings();
         reception::laws::symbols();
         reception::laws::costs();
         reception::laws::events();

@@ -58,7 +58,7 @@ returns-clause-fed g c = λ b r.
     let lp_steps : List ℕ = ats c.take.new.self.lp.branch.events in
     subst (λ (z : ReceiverState). StandsFor so_far z b r → Feeds (StandsFor so_far y) z.settings b c.args.piece.now r n out) c.self.view_is
     (λ h. feeds_whole
-    (record { next = c.symbols.ensures.next; ended = c.symbols.ensures.ended; stay = c.symbols.ensures.tps; bits = c.symbols.ensures.bits; costs_next = c.costs.ensures.next; events_next = c.events.ensures.next; one = c.bits.ensures.byte; all = c.receiving.ensures.all })
+    (record { next = c.symbols.ensures.next; ended = c.symbols.ensures.ended; same = c.settings.ensures.same; stay = c.symbols.ensures.tps; bits = c.symbols.ensures.bits; costs_next = c.costs.ensures.next; events_next = c.events.ensures.next; one = c.bits.ensures.byte; all = c.receiving.ensures.all })
     x y b c.args.piece.now n k r out c.cells.result.now c.weights.result.now hp_steps lp_steps
     (ends_is c.symbols.ensures.tail x b c.args.piece.now c.take-count.new.self n k r h e c.take-count.ensures.count c.take-count.ensures.taken l)
     (taken_is c.symbols.ensures.tail x b c.args.piece.now n k r h e c.take-count.ensures.count)
