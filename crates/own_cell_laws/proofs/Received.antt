@@ -103,50 +103,10 @@ window_from path n t =
     moved k u e = ap path e
 
 -- ---- the costs of all steps
--- the costs of step t, one of symbol m
-abbrev pub IsPairOf : Settings → List ℕ → Stream → ℕ → ℕ → CostPair → Type 0
-IsPairOf s bytes σ m t c = c ≡ pair_of (settings_at s m) (symbol_cells s bytes m) (symbol_weights s bytes m) (m % 68) σ (t - steps_before s σ m)
-
 -- what is known of the costs of bytes
 pub record AreListed : Type 0 where
-  pub long : (s : Settings) (bytes : List ℕ) (σ : Stream) → length (costs s bytes σ) ≡ steps_before s σ (symbols s bytes)
-  pub step : (s : Settings) (bytes : List ℕ) (σ : Stream) (m t : ℕ) (d : CostPair) → m < symbols s bytes → IsStepOf s σ m t → IsPairOf s bytes σ m t (get_or (costs s bytes σ) t d)
-
--- a step of a stream whose symbols are alike
-row_of : (m t q a b : ℕ) → a ≡ m * q → b ≡ (m + 1) * q → a ≤ t → t < b → (t / q ≡ m) × (t % q ≡ t - a)
-row_of m t zero a b ea eb l k = let none : (m + 1) * 0 ≡ 0 = omega arith in absurd (omega (arith, none, eb, k))
-row_of m t (suc q) a b ea eb l k = (quotient, rest quotient)
-  where
-    whole : t / suc q * suc q + t % suc q ≡ t
-    whole = omega arith
-
-    quotient : t / suc q ≡ m
-    quotient = between (t / suc q) (t % suc q) whole (omega arith)
-      where
-        between : (x y : ℕ) → x * suc q + y ≡ t → y < suc q → x ≡ m
-        between x y e f = grind arith
-
-    rest : t / suc q ≡ m → t % suc q ≡ t - a
-    rest e = let same : t / suc q * suc q ≡ m * suc q = ap (λ (z : ℕ). z * suc q) e in omega (arith, whole, same, ea)
-
--- the receiver's settings are those of each symbol
-pub are_listed : SettingsStay → ConstantSteps → CostsAreSteps → CostOfStep → AreListed
-are_listed stay constant long step = record {
-  long = λ s bytes σ. long s bytes σ ∙ sym (constant s σ (symbols s bytes) (stay s));
-  step = each;
-}
-  where
-    each : (s : Settings) (bytes : List ℕ) (σ : Stream) (m t : ℕ) (d : CostPair) → m < symbols s bytes → IsStepOf s σ m t → IsPairOf s bytes σ m t (get_or (costs s bytes σ) t d)
-    each s bytes σ m t d l o =
-        let row = row_of m t (need s σ) (steps_before s σ m) (steps_before s σ (m + 1)) (constant s σ m (stay s)) (constant s σ (m + 1) (stay s)) o.from o.to in
-        let few : t < symbols s bytes * need s σ = below t (steps_before s σ (m + 1)) (m + 1) (symbols s bytes) (need s σ) o.to (constant s σ (m + 1) (stay s)) (omega (arith, l)) in
-        step s bytes σ t d few
-        ∙ ap (λ (z : ℕ). pair_of s (symbol_cells s bytes z) (symbol_weights s bytes z) (z % 68) σ (t % need s σ)) row.0
-        ∙ ap (pair_of s (symbol_cells s bytes m) (symbol_weights s bytes m) (m % 68) σ) row.1
-        ∙ ap (λ (z : Settings). pair_of z (symbol_cells s bytes m) (symbol_weights s bytes m) (m % 68) σ (t - steps_before s σ m)) (sym (stay s (m / 272)))
-      where
-        below : (t b k n q : ℕ) → t < b → b ≡ k * q → k ≤ n → t < n * q
-        below t b k n q l e f = grind arith
+  pub long : CostsAreSteps
+  pub step : CostOfStep
 
 -- what is known of the steps of a transmission
 pub record AreSteps : Type 0 where

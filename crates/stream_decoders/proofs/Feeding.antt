@@ -16,6 +16,7 @@ use Rattle.frame_build.specs.Symbol.{cells_from, weights_from}
 use Rattle.qam_map.specs.Cells.{cell_of}
 use Rattle.inner_chain.specs.PairLists.{pair_of}
 use Rattle.reception.specs.Cells.{symbols, tail, symbol_length, bytes_of_symbol, symbol_cells, symbol_weights}
+use Rattle.symbol_spans.specs.Laws.{SettingsStay}
 use Rattle.reception.specs.Costs.{symbol_costs}
 use Rattle.reception.specs.Frames.{tps_cells}
 use Rattle.reception.specs.Feeds.{taken}
@@ -48,14 +49,15 @@ pub ends_is : TailIsUnfinished → (s : Settings) (bytes rest piece new : List �
 ends_is law s bytes rest piece new n k h e is l = more_tail law s bytes rest piece new n h is ∙ l ∙ ap (λ (z : ℕ). 5 * z) e
 
 -- the costs of the symbol that is ended, from its cells
-pub ended_costs : EndedSymbol → (s : Settings) (bytes p : List ℕ) (cells : List Cell) (weights new : List ℕ) (count k : ℕ) (σ : Stream) → EndsSymbol s bytes p → new ≡ unfinished s bytes ++ p → cells ≡ cells_from new k → weights ≡ weights_from new k → k ≡ carriers s.mode → count ≡ symbols s bytes
+pub ended_costs : SettingsStay → EndedSymbol → (s : Settings) (bytes p : List ℕ) (cells : List Cell) (weights new : List ℕ) (count k : ℕ) (σ : Stream) → EndsSymbol s bytes p → new ≡ unfinished s bytes ++ p → cells ≡ cells_from new k → weights ≡ weights_from new k → k ≡ carriers s.mode → count ≡ symbols s bytes
     → map (pair_of s cells weights (count % 68) σ) (numbers (need s σ)) ≡ symbol_costs s (bytes ++ p) σ (symbols s bytes)
 unfolding symbol_costs symbol_cells symbol_weights
-ended_costs ended s bytes p cells weights new count k σ ends r c w e n =
+ended_costs stay ended s bytes p cells weights new count k σ ends r c w e n =
     let same : cells ≡ cells_from (bytes_of_symbol s (bytes ++ p) (symbols s bytes)) (carriers s.mode) = c ∙ ap₂ cells_from (r ∙ sym (ended s bytes p ends).0) e in
     let weighed : weights ≡ weights_from (bytes_of_symbol s (bytes ++ p) (symbols s bytes)) (carriers s.mode) = w ∙ ap₂ weights_from (r ∙ sym (ended s bytes p ends).0) e in
     ap₂ (λ (z : List Cell) (m : ℕ). map (pair_of s z weights (m % 68) σ) (numbers (need s σ))) same n
     ∙ ap (λ (z : List ℕ). map (pair_of s (cells_from (bytes_of_symbol s (bytes ++ p) (symbols s bytes)) (carriers s.mode)) z (symbols s bytes % 68) σ) (numbers (need s σ))) weighed
+    ∙ ap (λ (x : Settings). map (pair_of x (cells_from (bytes_of_symbol s (bytes ++ p) (symbols s bytes)) (carriers s.mode)) (weights_from (bytes_of_symbol s (bytes ++ p) (symbols s bytes)) (carriers s.mode)) (symbols s bytes % 68) σ) (numbers (need x σ))) (sym (stay s (symbols s bytes / 272)))
 
 pub ended_tps : EndedSymbol → (s : Settings) (bytes p : List ℕ) (cells : List Cell) (new : List ℕ) (k : ℕ) → EndsSymbol s bytes p → new ≡ unfinished s bytes ++ p → cells ≡ cells_from new k → k ≡ carriers s.mode
     → tps_cells s (bytes ++ p) (symbols s bytes) ≡ map (cell_of cells) (tps_carriers s.mode)

@@ -95,6 +95,7 @@ impl<M: Carriers> SymbolCosts<M> {
         ensures ended { self.new.whole ≡ true → self.new.taken ≡ self.old.taken + 1 }
         ensures fed { (bytes : List ℕ) → HasHad self.old bytes → Fed self.new bytes piece.now result }
     {
+        symbol_spans::laws::settings();
         reception::laws::symbols();
         reception::laws::costs();
         pass_on(&mut self.whole, &mut self.input);

@@ -26,7 +26,7 @@ use Rattle.transmission.specs.SuperFrames.{packets_for, counts_of, super_frames,
 use Rattle.transmission.specs.Laws.{TheFormulaIsLeast, Enough, NoPackets, PacketsGrow, PacketsOfSuperFrames}
 use Rattle.trial.specs.Drawn.{drawn, drawn_count, drawn_before, drawn_for, packets_from, packets_of_symbol, hp_count}
 use Rattle.trial.specs.Laws.{OneSuperFrame, AllAreDrawn, DrawnInOrder, NullsBehind}
-use Rattle.trial.proofs.Parts.{parts_long, part_is}
+use Rattle.symbol_spans.proofs.Parts.{parts_long, part_is}
 
 -- ---- a super-frame carries at least 252 words of a stream
 half_needed : (r : Rate) (c : ℕ) → 3024 ≤ c → 1512 ≤ c * steps_in_period r / sent_in_period r

@@ -3,7 +3,7 @@ use Rattle.mode_set.specs.declared.modes.Mode.{Mode}
 use Rattle.mode_set.specs.declared.modes.Mode.TheVariants.{M2k, M8k}
 use Rattle.own_cell_laws.specs.Counted.{AreCounted}
 use Rattle.own_cell_laws.proofs.Favoured.{AreKnown}
-use Rattle.own_cell_laws.proofs.Received.{AreListed, AreOwn, AreSteps, are_listed, noise_law, noise_is_clean}
+use Rattle.own_cell_laws.proofs.Received.{AreListed, AreOwn, AreSteps, noise_law, noise_is_clean}
 use Rattle.own_cell_laws.proofs.laws.noise.Goals as goal
 
 both : ((l : ℕ) → AreCounted M2k l) → ((l : ℕ) → AreCounted M8k l) → (m : Mode) (l : ℕ) → AreCounted m l
@@ -25,7 +25,7 @@ returns c =
       periods = c.symbols_have_whole_periods.ensures;
     } in
     let steps : AreSteps = record { more = c.steps.ensures.next; symbols = c.steps.ensures.symbols; streams = c.steps.ensures.streams } in
-    let listed : AreListed = are_listed c.settings.ensures.same c.steps.ensures.constant c.costs.ensures.long c.costs.ensures.step in
+    let listed : AreListed = record { long = c.costs.ensures.long; step = c.costs.ensures.step } in
     let own : AreOwn = record {
       keeps = c.keeps_sent.ensures.law;
       first = c.bits.ensures.first;
