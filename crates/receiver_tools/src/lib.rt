@@ -4,7 +4,7 @@
 #![tactic(auto)]
 
 mod cut;
-mod reception;
+mod received;
 
 pub use cut::Cut;
-pub use reception::{Given, Received, Reception};
+pub use received::{Given, Received, Reception};
