@@ -4,6 +4,7 @@ use Rattle.std.specs.Prelude.{◌⊎◌, is_some, option_and_then}
 use Rattle.std.proofs.lemmas.Bool.{cases_lt, lt-ltb, le-ltb, true≢false}
 use Rattle.std.proofs.lemmas.List.{append-nil}
 use Rattle.station_core.specs.Meaning.{Meaning}
+use Rattle.station_core.specs.declared.ports.InPort.TheVariants as ins
 use Rattle.station_core.specs.declared.ports.OutPort.{OutPort}
 use Rattle.station_core.specs.declared.ports.OutPort.TheVariants as outs
 use Rattle.mode_set.specs.declared.modes.Mode.{Mode}
@@ -134,7 +135,7 @@ pub command_of : (by : Mode → Conversion) (statuses : List ℕ) (sound : IsSou
     → (start.tells ≡ true → settings_of (start.file settings) ≡ Some s) → laws start.file
     → CellCommand (conversion_command by statuses laws settings old new) limit settings old (by s.mode).old_header (cell_names new) (conversion_work (by s.mode)) s.max_symbols start
 command_of by statuses sound laws limit settings old new s start stated own = record {
-  reads = λ port. refl;
+  reads = elim [ ins.Settings ↦ refl | ins.Hp ↦ refl | ins.Lp ↦ refl | ins.Cells ↦ refl ];
   writes = λ port. refl;
   header_is = λ t. ap (λ (x : Option TheSettings). option_and_then (λ y. (by y.mode).old_header) x) (stated t);
   no_report = refl;

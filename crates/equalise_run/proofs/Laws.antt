@@ -5,8 +5,9 @@ use Rattle.own_cell_laws.specs.Returned.{IsWithin}
 use Rattle.reception.specs.Cells.{bytes_of_symbol}
 use Rattle.reception.specs.Streams.{Final}
 use Rattle.gain_laws.specs.Files.{equalised_symbols, AreRestored, FilesAreRestored, FilesAreWithin, FilesAreReturned}
-use Rattle.cell_conversions.specs.Conversion.{new_symbols}
-use Rattle.equalise_run.specs.OwnLaws.{corrected, EqualiseLaws}
+use Rattle.cell_conversions.specs.Conversion.{new_cells, new_symbols}
+use Rattle.equalise_run.specs.Equalising.{equalisation}
+use Rattle.equalise_run.specs.OwnLaws.{EqualiseLaws}
 
 -- the laws over files
 pub record Laws : Type 0 where
@@ -15,7 +16,7 @@ pub record Laws : Type 0 where
   pub returned : FilesAreReturned
 
 -- the cells of OUT are the symbols of which they speak
-same : (s : Settings) (bytes : List ℕ) → equalised_symbols s bytes ≡ corrected s bytes
+same : (s : Settings) (bytes : List ℕ) → equalised_symbols s bytes ≡ new_cells (equalisation s.mode) bytes
 unfolding equalised_symbols bytes_of_symbol new_symbols
 same s bytes = refl
 

@@ -1,6 +1,5 @@
--- The cells of a file, corrected by the pilots of their own symbols (the standard has the pilots, EN 300 744, 4.5; the
--- cell file is this project's own). A file begins at the first symbol of a super-frame, so symbol n of it is
--- symbol n mod 68 of its frame.
+-- The cells of a file, corrected by the pilots of their own symbols (EN 300 744, 4.5; the cell file is this project's
+-- own). A file begins at the first symbol of a super-frame, so symbol n of it is symbol n mod 68 of its frame.
 use Rattle.std.specs.Prelude.{◌≡◌, ◌≤◌, ℕ, ◌*◌, List, [], Some}
 use Rattle.mode_set.specs.StreamTable.{carriers}
 use Rattle.mode_set.specs.declared.modes.Mode.{Mode}

@@ -62,8 +62,7 @@ named file (Some name) = file name
 abbrev pub input_file : Files → Command → InPort → List ℕ
 input_file file c port = named file (c.reads port)
 
--- the refusal that a run comes to where nothing fails: that of the settings before that of the header, and this
--- before that of the work
+-- the refusal that a run comes to where nothing fails: of the settings, or else of the header, or else of the work
 abbrev pub refusal_of : ℕ → Files → Command → Option Refusal
 refusal_of limit file c = option_or (c.early_refusal file) (option_or (header_refusal (c.header file) (input_file file c Cells)) (c.work_refusal limit file))
 

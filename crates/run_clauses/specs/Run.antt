@@ -90,8 +90,7 @@ pub record Run (c : Command) (limit : ℕ) (old new : Meaning) (status : ℕ) : 
   pub done : old.tells ≡ true → status ≡ 0 → (out : OutPort) → IsOutput c out → c.Comes limit old.file out (sink_at out new).written
   pub done_report : old.tells ≡ true → status ≡ 0 → c.Prints limit old.file new.report.written
   -- AT 2, 3 AND 7: words of no form, refused settings, want of memory
-  -- No file but the settings was asked for, so no output was made. Report holds the text. At 7 a command that
-  -- takes memory within its work may have made every output instead, and nothing was written to one.
+  -- No file but the settings was asked for. (At 7 every output may stand made and empty, if the work takes memory.) Report holds the text.
   pub early : is_among status (2 ∷ 3 ∷ []) ≡ true → AsksSettingsAlone new
   pub lacking : status ≡ 7 → AsksSettingsAlone new ⊎ ((c.memory_at_work ≡ true) × AreMadeEmpty c new)
   pub early_report : old.tells ≡ true → is_among status (2 ∷ 3 ∷ 7 ∷ []) ≡ true → Reports old new [] (text_at c limit old.file status)
@@ -101,8 +100,7 @@ pub record Run (c : Command) (limit : ℕ) (old new : Meaning) (status : ℕ) : 
   pub unheaded_taken : old.tells ≡ true → status ≡ 9 → (port : InPort) → port ≢ Settings → IsInput c port → IsUntaken c new port
   pub unheaded_report : old.tells ≡ true → status ≡ 9 → Reports old new [] (text_at c limit old.file status)
   -- AT 4 AND 8: a refused packet, more than a limit. AT 10 AND 11: no frame in the cells, or one of another form
-  -- Each output holds what comes before the refusal. Report holds the lines before it, and the text. (What a
-  -- command that ends with 10 or 11 comes to there are no bytes and no lines.)
+  -- Each output holds what comes before the refusal: nothing at 10 and 11. Report holds the lines before it, and the text.
   pub refused : old.tells ≡ true → is_among status (4 ∷ 8 ∷ 10 ∷ 11 ∷ []) ≡ true → (out : OutPort) → IsOutput c out → c.Comes limit old.file out (sink_at out new).written
   pub refused_report : old.tells ≡ true → is_among status (4 ∷ 8 ∷ 10 ∷ 11 ∷ []) ≡ true
       → (lines : List ℕ) × c.Prints limit old.file lines × Reports old new lines (text_at c limit old.file status)

@@ -62,8 +62,7 @@ abbrev pub status_of : Option Refusal → ℕ
 status_of None = 0
 status_of (Some refusal) = refusal_status refusal
 
--- The text that ends the report at a status: of a fault of the outside, of want of memory, or else of what the
--- words and the files come to.
+-- the text that ends the report at a status: of a fault, of want of memory, or else of what the words and files come to
 abbrev pub text_at : Command → ℕ → Files → ℕ → List ℕ
 text_at c limit file status =
     if status == 5 then refusal_text ReadFault else if status == 6 then refusal_text WriteFault
