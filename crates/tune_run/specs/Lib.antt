@@ -1,0 +1,6 @@
+pub mod LeastPlace
+pub mod Tuned
+pub mod TuneCommand
+pub mod Working
+pub mod Searching
+pub mod Runs
