@@ -3,6 +3,7 @@ pub mod Bytes
 pub mod Searched
 pub mod Behinds
 pub mod Calls
+pub mod Places
 pub mod Tunings
 pub mod Coming
 pub mod Commands

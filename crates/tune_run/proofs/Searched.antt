@@ -61,3 +61,8 @@ whole one found_in none_in s tuner tuner' waiting' bytes piece None ends number 
     (record { stands = stands; searching = is; number = omega (arith, more, number, (one s bytes piece ends).0); empty = empty; none = no_place }, no_place)
 whole one found_in none_in s tuner tuner' waiting' bytes piece (Some found) ends number long empty answer stands more is small valid =
     record { found_in = found_in s (bytes ++ piece) found answer.0; last = answer.1 ∙ long; whole = (one s bytes piece ends).1; small = small; valid = valid }
+
+-- no bytes have no symbol
+pub no_symbols : (s : Settings) → symbols s [] ≡ 0 → symbols_of s [] ≡ []
+unfolding symbols_of numbers
+no_symbols s none = ap (λ (n : ℕ). map (symbol_cells s []) (range_with_len 0 n)) none

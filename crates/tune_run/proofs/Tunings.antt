@@ -69,10 +69,10 @@ part same costs tps bits stays s two bytes more given within (inr (found, is_in,
     received (inr begun) =
         let at : rest s (bytes ++ more) found ≡ rest s bytes found ++ more = more_rest s found bytes more begun in
         let within' : IsWithin t.announced (rest s bytes found) more = (
-            let e = same_tail t.announced s (rest s bytes found) t.is_announced.mode_is in
-            let f = rest_tail s found bytes begun in
-            let g = same_length t.announced s t.is_announced.mode_is in
-            omega (arith, within, e, f, g)) in
+        let e = same_tail t.announced s (rest s bytes found) t.is_announced.mode_is in
+        let f = rest_tail s found bytes begun in
+        let g = same_length t.announced s t.is_announced.mode_is in
+        omega (arith, within, e, f, g)) in
         subst (λ (l : List ℕ). LiveGives t.announced two l t.behind) (sym at) (part_gives same costs tps bits t.announced two (rest s bytes found) more t.behind within' t.received)
 
 -- ---- behind a place
@@ -116,19 +116,23 @@ module _ (no_events : NoEvents) (nothing_live : NothingLive) (s : Settings) (two
     };
   }
     where
-      live : LiveGives a two (rest s bytes found) none
-      live = subst (λ (l : List ℕ). LiveGives a two l none) (sym none_behind) (nothing, nothing_live a, nothing_given a two)
+      live : LiveGives a its_two (rest s bytes found) none
+      live = subst (λ (l : List ℕ). LiveGives a its_two l none) (sym none_behind) (nothing, nothing_live a, nothing_given a its_two)
 
   at_place_gives : (a : Settings) → IsAnnounced found.word s a → fits two found ≡ true → GivesLive s two bytes (at_place found)
   at_place_gives a announced fit =
-      inr (found, at.found_in, record {
-        fits_form = fit;
-        announced = a;
-        is_announced = announced;
-        behind = none;
-        received = subst (λ (l : List ℕ). LiveGives a two l none) (sym none_behind) (nothing, nothing_live a, nothing_given a two);
-        is = λ port. sym (append-nil (at_place found port));
-      })
+      inr (
+        found,
+        at.found_in,
+        record {
+          fits_form = fit;
+          announced = a;
+          is_announced = announced;
+          behind = none;
+          received = subst (λ (l : List ℕ). LiveGives a two l none) (sym none_behind) (nothing, nothing_live a, nothing_given a two);
+          is = λ port. sym (append-nil (at_place found port));
+        },
+      )
 
   -- what is done at the place, as a call of the work
   pub tuned : {B : Type 0} (announced_by : B → Settings) (standing : B → List ℕ → Reception → Type 0) (skip_of : B → ℕ) (two_of : B → Bool) (behind : Option B) (Stands : Written → Type 0) (given : Written) (m m' : Meaning) (result : Result (Unit {0}) Stop)

@@ -112,7 +112,7 @@ fn tune_in_mode<'a, M: Carriers, R: Threads + Sync, G: Gate, S: Station<'a>>(
         requires { IsSync R.row × (receiver.now.ended ≡ false) × (receiver.now.taken < 2 ^ 32) }
         ensures { IsFed receiver.entry.now piece.entry.now receiver.exit.now out.exit.now result }
     { receiver.feed_gated(rt, gate, piece, out) };
-    let maker = ModeMaker::<M, R, _> {
+    let maker = ModeMaker::<R, _, Receiver<M>> {
         rt,
         feeder: &feeder,
         alloc,

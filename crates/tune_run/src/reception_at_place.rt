@@ -5,16 +5,16 @@ ghost use Rattle.mode_set.specs.declared.settings.Settings.{Settings as AnySetti
 ghost use Rattle.reception.specs.Cells.{symbol_length, symbols, tail};
 ghost use Rattle.reception.specs.Laws.{nothing};
 ghost use Rattle.reception.specs.Streams.{so_far};
+ghost use Rattle.receiver.specs.Standing.{StandsFor};
 ghost use Rattle.symbol_runs.specs.Stops.{HasCause};
-ghost use Rattle.symbol_runs.specs.Work.{AreOpen, Does, WritesOnly, Written};
-ghost use Rattle.symbol_runs.specs.Outputs.{IsWriting};
-ghost use Rattle.receive_run.specs.Working.{FinalGives, LiveGives, ReceiverStands, writes_at};
+ghost use Rattle.symbol_runs.specs.Work.{AreOpen, Does, HasReason, WritesOnly, Written};
+ghost use Rattle.receive_run.specs.Working.{LiveGives, ReceiverStands, reception_work, writes_at};
 ghost use Rattle.tune_in.specs.declared.frame.Found.{Found as AnyFound};
 ghost use Rattle.tune_in.specs.OfBytes.{rest};
 ghost use Rattle.tune_run.specs.Working.{IsBehind};
 
 use mode_set::{Carriers, Settings};
-use receive_run::{CellReceiver, ReceiverWithOutput, ReceptionWork};
+use receive_run::{CellReceiver, ModeReceiver, ReceiverWithOutput, ReceptionWork};
 use receiver::{Receiver, RxOut};
 use station_core::Station;
 use std::alloc::Global;
@@ -36,36 +36,55 @@ pub(crate) trait ReceiverMaker<X: CellReceiver> {
         ensures stands { IfSome result (λ x. X.stands x so_far [] nothing) };
 }
 
+/// A receiver of a mode that can be made.
+pub(crate) trait NewReceiver: ModeReceiver {
+    ghost mode: { AnyMode };
+
+    /// A receiver by these settings that has had no byte. None is made only for want of memory.
+    fn made(alloc: Global, settings: &Settings) -> Option<Self>
+        requires mode { settings.now.mode ≡ mode }
+        ensures settings { IfSome result (λ x. (Self.state x).settings ≡ settings.now) }
+        ensures stands { IfSome result (λ x. StandsFor so_far (Self.state x) [] nothing) };
+}
+
+impl<M: Carriers> NewReceiver for Receiver<M> {
+    ghost mode = { M.MODE };
+
+    fn made(alloc: Global, settings: &Settings) -> Option<Self> {
+        match Receiver::<M>::new(alloc, settings) {
+            Ok(receiver) => Some(receiver),
+            Err(_) => None,
+        }
+    }
+}
+
 /// Makes the receiver of a mode, which is fed so.
 #[derive(Drop)]
-pub(crate) struct ModeMaker<'r, M: Carriers, R, F> {
+pub(crate) struct ModeMaker<'r, R, F, T> {
     /// The runtime whose threads the receiver may use.
     pub rt: &'r R,
     /// What feeds it.
     pub feeder: &'r F,
     /// Where its memory comes from.
     pub alloc: Global,
-    /// The mode.
-    pub of: PhantomData<M>,
+    /// The receiver.
+    pub of: PhantomData<T>,
 }
 
 impl<
     'r,
-    M: Carriers,
     R: Threads + Sync,
-    F: Fn(&mut Receiver<M>, &[u8], &mut RxOut) -> usize,
-> ReceiverMaker<ReceiverWithOutput<'r, R, F, Receiver<M>>> for ModeMaker<'r, M, R, F> {
+    F: Fn(&mut T, &[u8], &mut RxOut) -> usize,
+    T: NewReceiver + Drop,
+> ReceiverMaker<ReceiverWithOutput<'r, R, F, T>> for ModeMaker<'r, R, F, T> {
     ghost use Rattle.receive_run.specs.Feeder.{IsFeeder};
-    ghost use Rattle.receiver.specs.Seen.{ReceiverState};
 
-    ghost mode = { M.MODE };
+    ghost mode = { T.mode };
 
-    ghost able = { λ x. IsFeeder (λ (r : ReceiverState). r) F.Fn x.feeder.now };
+    ghost able = { λ x. IsFeeder T.state F.Fn x.feeder.now };
 
-    fn make(&self, settings: &Settings) -> Option<ReceiverWithOutput<'r, R, F, Receiver<M>>> {
-        let Ok(receiver) = Receiver::<M>::new(self.alloc, settings) else {
-            return None;
-        };
+    fn make(&self, settings: &Settings) -> Option<ReceiverWithOutput<'r, R, F, T>> {
+        let receiver = T::made(self.alloc, settings)?;
         let Ok(out) = RxOut::new(self.alloc) else {
             return None;
         };
@@ -104,7 +123,7 @@ impl<X: CellReceiver> Behind<X> {
         ensures two { self.new.work.two ≡ self.old.work.two }
         ensures others { WritesOnly (S.meaning station.old) (S.meaning station.new) }
         ensures cause { HasCause (S.meaning station.old) (S.meaning station.new) result }
-        ensures kind { IsWriting result }
+        ensures reason { HasReason (reception_work (X.settings self.old.work.receiver) self.old.work.two) result }
         ensures later_report { (S.meaning station.old).report_faults ≤ (S.meaning station.new).report_faults }
         ensures takes { (s : AnySettings) (found : AnyFound) (bytes : List ℕ) (given : Written) → (X.settings self.old.work.receiver).mode ≡ s.mode → size ≡ symbol_length s → symbols s bytes < 2 ^ 32
             → IsBehind (ReceiverStands (X.stands self.old.work.receiver so_far) (X.settings self.old.work.receiver) self.old.work.two) (X.settings self.old.work.receiver) s self.old.work.two self.old.skip found bytes given

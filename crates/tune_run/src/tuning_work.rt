@@ -70,8 +70,10 @@ impl<T: PlaceSearch, X: CellReceiver + Drop, P: ReceiverMaker<X>> TuningWork<T, 
     }
 }
 
-impl<'a, S: Station<'a>, T: PlaceSearch, X: CellReceiver + Drop, P: ReceiverMaker<X>> SymbolWork<'a, S>
-    for TuningWork<T, P, X> {
+impl<'a, S: Station<'a>, T: PlaceSearch, X: CellReceiver + Drop, P: ReceiverMaker<X>> SymbolWork<
+    'a,
+    S,
+> for TuningWork<T, P, X> {
     ghost use Rattle.std.specs.Prelude.{[], Bool};
     ghost use Rattle.mode_set.specs.declared.settings.Settings.{Settings};
     ghost use Rattle.reception.specs.Streams.{so_far};
