@@ -125,7 +125,7 @@ impl<X: CellReceiver> Behind<X> {
         ensures cause { HasCause (S.meaning station.old) (S.meaning station.new) result }
         ensures reason { HasReason (reception_work (X.settings self.old.work.receiver) self.old.work.two) result }
         ensures later_report { (S.meaning station.old).report_faults ≤ (S.meaning station.new).report_faults }
-        ensures takes { (s : AnySettings) (found : AnyFound) (bytes : List ℕ) (given : Written) → (X.settings self.old.work.receiver).mode ≡ s.mode → size ≡ symbol_length s → symbols s bytes < 2 ^ 32
+        ensures takes { (s : AnySettings) (found : AnyFound) (bytes : List ℕ) (given : Written) → (X.settings self.old.work.receiver).mode ≡ s.mode → size ≡ symbol_length s
             → IsBehind (ReceiverStands (X.stands self.old.work.receiver so_far) (X.settings self.old.work.receiver) self.old.work.two) (X.settings self.old.work.receiver) s self.old.work.two self.old.skip found bytes given
             → tail s bytes ≡ 0 → length piece.now ≤ size
             → Does (IsBehind (ReceiverStands (X.stands self.new.work.receiver so_far) (X.settings self.new.work.receiver) self.new.work.two) (X.settings self.new.work.receiver) s self.new.work.two self.new.skip found (bytes ++ piece.now))

@@ -22,7 +22,7 @@ pub(crate) trait PlaceSearch {
     /// place exactly where this symbol is the last of that frame.
     fn take(&mut self, piece: &[u8]) -> Option<Found>
         requires going { (s : Settings) × (bytes : List ℕ) × (s.mode ≡ mode) × stands self.old s bytes × (symbols s bytes < 2 ^ 32) }
-        ensures takes { (s : Settings) (bytes : List ℕ) → s.mode ≡ mode → stands self.old s bytes → symbols s bytes < 2 ^ 32 → tail s bytes ≡ 0 → length piece.now ≤ symbol_length s
+        ensures takes { (s : Settings) (bytes : List ℕ) → s.mode ≡ mode → stands self.old s bytes → tail s bytes ≡ 0 → length piece.now ≤ symbol_length s
             → Searched s (stands self.new s) (bytes ++ piece.now) result };
 }
 

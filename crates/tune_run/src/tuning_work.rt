@@ -101,6 +101,9 @@ impl<'a, S: Station<'a>, T: PlaceSearch, X: CellReceiver + Drop, P: ReceiverMake
     }
 
     fn take(&mut self, piece: &[u8], station: &mut S) -> Result<(), Stop> {
+        reception::laws::nothing();
+        reception::laws::events();
+        tune_in::more_bytes();
         let size = 5 * self.settings.mode.carriers() as usize;
         if let Some(behind) = &mut self.behind {
             return behind.take(size, piece, station);

@@ -12,7 +12,7 @@ use Rattle.tune_run.proofs.Bytes.{rest_whole, same_length, same_tail, symbols_gr
 use Rattle.tune_run.proofs.reception_at_place.Behind.take.Goals as goal
 
 pub returns-then-self-eq0-clause-takes : goal.returns-then-self-eq0-clause-takes
-returns-then-self-eq0-clause-takes g c = λ s found bytes given mode size few is whole fits.
+returns-then-self-eq0-clause-takes g c = λ s found bytes given mode size is whole fits.
     let m : Meaning = g.S.Station.meaning c.args.station.now in
     let m' : Meaning = g.S.Station.meaning c.take.new.station in
     let a : Settings = g.X.CellReceiver.settings c.args.self.now.work.receiver in
@@ -30,7 +30,7 @@ returns-then-self-eq0-clause-takes g c = λ s found bytes given mode size few is
     subst (λ (n : ℕ). Does (IsBehind standing' a' s two' n found (bytes ++ piece)) (LiveGives a two (rest s (bytes ++ piece) found)) (λ r. ⊥) given m m' c.take.result) (sym c.if-self-eq0.true) d
 
 pub returns-then-piece-size-clause-takes : goal.returns-then-piece-size-clause-takes
-returns-then-piece-size-clause-takes g c = λ s found bytes given mode size few is whole fits.
+returns-then-piece-size-clause-takes g c = λ s found bytes given mode size is whole fits.
     let m : Meaning = g.S.Station.meaning c.args.station.now in
     let a : Settings = g.X.CellReceiver.settings c.args.self.now.work.receiver in
     let two : Bool = c.args.self.now.work.two in
@@ -39,7 +39,7 @@ returns-then-piece-size-clause-takes g c = λ s found bytes given mode size few 
     (inl (c.if-piece-size.true ∙ size, omega (arith, c.if-self-eq0.false))) is
 
 pub returns-else-piece-size-clause-takes : goal.returns-else-piece-size-clause-takes
-returns-else-piece-size-clause-takes g c = λ s found bytes given mode size few is whole fits.
+returns-else-piece-size-clause-takes g c = λ s found bytes given mode size is whole fits.
     let m : Meaning = g.S.Station.meaning c.args.station.now in
     let a : Settings = g.X.CellReceiver.settings c.args.self.now.work.receiver in
     let two : Bool = c.args.self.now.work.two in

@@ -16,7 +16,7 @@ use Rattle.tune_run.proofs.search.SearchPlaceSearch.take.Goals as goal
 
 pub returns-then-piece-K : goal.returns-then-piece-K
 returns-then-piece-K g c = record {
-  takes = λ s bytes mode is few none fits.
+  takes = λ s bytes mode is none fits.
       let many : carriers s.mode ≡ g.M.Carriers.K = ap carriers mode ∙ sym g.M.Carriers.k_of in
       let within : IsWithin s bytes c.args.piece.now = omega (arith, none, fits, c.if-piece-K.true, c.K.ensures, many) in
       not_whole c.symbols.ensures.same c.symbols.ensures.cells c.symbols_of_bytes.ensures.none s c.args.self.now.tuner c.args.self.now.symbol bytes c.args.piece.now within is;
@@ -24,7 +24,7 @@ returns-then-piece-K g c = record {
 
 pub returns : goal.returns
 returns g c = record {
-  takes = λ s bytes mode is few none fits.
+  takes = λ s bytes mode is none fits.
       let piece : List ℕ = c.args.piece.now in
       let many : carriers s.mode ≡ g.M.Carriers.K = ap carriers mode ∙ sym g.M.Carriers.k_of in
       let ends : EndsSymbol s bytes piece = omega (arith, none, c.if-piece-K.false, c.K.ensures, many) in
