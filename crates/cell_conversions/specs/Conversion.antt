@@ -26,9 +26,13 @@ old_symbol size bytes n = take size (drop (n * size) bytes)
 unfoldable pub new_symbols : Conversion → ℕ → List ℕ → List ℕ
 new_symbols c n bytes = flat_map (λ k. c.new_symbol k (old_symbol c.size bytes k)) (numbers n)
 
--- the new file of old cells: its header, and their whole symbols
+-- the new cells: the whole symbols of the old ones, converted
+abbrev pub new_cells : Conversion → List ℕ → List ℕ
+new_cells c bytes = new_symbols c (symbols c.size bytes) bytes
+
+-- the new file of old cells: its header, and the new cells
 abbrev pub new_file : Conversion → List ℕ → List ℕ
-new_file c bytes = c.new_header ++ new_symbols c (symbols c.size bytes) bytes
+new_file c bytes = c.new_header ++ new_cells c bytes
 
 -- the closing line: the whole symbols, and the bytes behind them
 abbrev pub counts_line : ℕ → ℕ → List ℕ

@@ -4,3 +4,4 @@ pub mod Quotients
 pub mod Walk
 pub mod Bytes
 pub mod Worked
+pub mod Cells

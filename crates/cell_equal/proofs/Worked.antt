@@ -1,13 +1,10 @@
 -- Worked values of the definitions.
 use Rattle.std.proofs.Common.{◌≡◌, ℕ, [], ◌∷◌, refl}
 use Rattle.std.specs.Prelude.{ℤ, pos, neg_ℤ}
-use Rattle.spec_words.specs.Words.{numbers}
-use Rattle.mode_set.specs.declared.modes.Mode.TheVariants.{M2k}
-use Rattle.cell_equal.specs.Around.{pilot_below, pilot_above, is_pilot}
+use Rattle.frame_build.specs.Symbol.{cell_bytes}
 use Rattle.cell_equal.specs.Equal.{between, corrected, bytes_of}
 use Rattle.cell_equal.specs.declared.gain.Gain.{Gain}
 use Rattle.cell_equal.specs.declared.equalised.Equalised.{Equalised}
-use Rattle.pilots.specs.Carriers.{kind, is_continual, is_scattered, is_tps, tps_carriers}
 
 -- what the correction by a gain makes of the cell (x, y) and its weight, beside the cell (r, i) and the weight v
 abbrev Gives : ℤ → ℤ → ℕ → ℤ → ℤ → ℕ → ℤ → ℤ → ℕ → Type 0
@@ -48,22 +45,5 @@ on_the_line = refl
 
 -- the parts, the high byte first, and the weight
 pub five_bytes : bytes_of (record { cell = record { re = neg_ℤ (pos 11585); im = pos 11585 }; weight = 15 }) ≡ 210 ∷ 191 ∷ 45 ∷ 65 ∷ 15 ∷ []
-unfolding bytes_of
+unfolding cell_bytes
 five_bytes = refl
-
--- in symbol 0 carrier 50 stands between two continual pilots, in symbol 1 carrier 5 between two scattered ones
-pub below_50 : pilot_below M2k 0 50 ≡ 48
-unfolding pilot_below is_pilot kind is_continual is_scattered is_tps tps_carriers numbers
-below_50 = refl
-
-pub above_50 : pilot_above M2k 0 50 ≡ 54
-unfolding pilot_above is_pilot kind is_continual is_scattered is_tps tps_carriers numbers
-above_50 = refl
-
-pub below_5 : pilot_below M2k 1 5 ≡ 3
-unfolding pilot_below is_pilot kind is_continual is_scattered is_tps tps_carriers numbers
-below_5 = refl
-
-pub above_5 : pilot_above M2k 1 5 ≡ 15
-unfolding pilot_above is_pilot kind is_continual is_scattered is_tps tps_carriers numbers
-above_5 = refl

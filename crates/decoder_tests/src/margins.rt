@@ -85,12 +85,10 @@ fn one_pair(rt: HostRuntime) -> Result<(), Fail> {
             y0: 0,
             y1: 7,
         };
-        assert!(rt; !margins.push(pair));
-        assert!(rt; !margins.full());
-        assert!(rt; !margins.ended());
+        let settled = margins.push(pair);
+        assert!(rt; !settled && !margins.full() && !margins.ended());
         margins.finish(&mut to);
-        assert!(rt; margins.ended());
-        assert_eq!(rt; to.as_slice(), [margin].as_slice());
+        assert!(rt; margins.ended() && to.as_slice() == [margin].as_slice());
     }
     Ok(())
 }

@@ -7,7 +7,7 @@ use Rattle.mode_set.specs.declared.modes.Mode.{Mode}
 use Rattle.qam_map.specs.declared.cell.Cell.{Cell}
 use Rattle.frame_build.specs.Symbol.{cells_from, weights_from}
 use Rattle.cell_equal.specs.Equal.{equalised_bytes}
-use Rattle.equalise_run.specs.Equalising.{equalised_symbol}
+use Rattle.cell_equal.specs.Files.{equalised_symbol}
 
 -- where nothing was taken before, a whole symbol is taken as it is
 pub all_taken : (k : ℕ) (old bytes : List ℕ) (count : ℕ) (new : List ℕ) → old ≡ [] → length bytes ≡ 5 * k → count ≡ min (length bytes) (5 * k - length old) → new ≡ old ++ take count bytes → new ≡ bytes

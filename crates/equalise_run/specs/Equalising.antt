@@ -1,17 +1,12 @@
 -- The cells of a file, corrected by the pilots of their own symbols (the standard has the pilots, EN 300 744, 4.5; the
 -- cell file is this project's own). A file begins at the first symbol of a super-frame, so symbol n of it is
 -- symbol n mod 68 of its frame.
-use Rattle.std.specs.Prelude.{◌≡◌, ◌≤◌, ℕ, ◌*◌, ◌%◌, List, [], Some}
+use Rattle.std.specs.Prelude.{◌≡◌, ◌≤◌, ℕ, ◌*◌, List, [], Some}
 use Rattle.mode_set.specs.StreamTable.{carriers}
 use Rattle.mode_set.specs.declared.modes.Mode.{Mode}
 use Rattle.frame_build.specs.CellFile.{header}
-use Rattle.frame_build.specs.Symbol.{cells_from, weights_from}
-use Rattle.cell_equal.specs.Equal.{equalised_bytes}
+use Rattle.cell_equal.specs.Files.{equalised_symbol}
 use Rattle.cell_conversions.specs.Conversion.{Conversion}
-
--- the bytes of a symbol of this number after its correction, by its cells and their weights before it
-unfoldable pub equalised_symbol : Mode → ℕ → List ℕ → List ℕ
-equalised_symbol mode n bytes = equalised_bytes mode (n % 68) (cells_from bytes (carriers mode)) (weights_from bytes (carriers mode))
 
 -- the correction of a file: both files have the header of the mode, and five bytes a cell
 abbrev pub equalisation : Mode → Conversion

@@ -1,2 +1,3 @@
 pub mod Equalising
+pub mod OwnLaws
 pub mod EqualiseCommand

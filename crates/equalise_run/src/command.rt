@@ -74,6 +74,9 @@ fn equalise_accepted<'a, S: Station<'a>>(
 /// What it promises is `Run` of its definition, `equalise_command`. The settings are read and checked, of which
 /// the mode and the limit of symbols have an effect, and then all memory is taken, before another port is asked.
 /// IN is opened, and its header is read, before OUT is made. The limits of packets do not bound a correction.
+///
+/// Its own law: where the cells of IN are those of a transmission that came through a channel of one gain, each
+/// cell of OUT is near to the one that was sent, and what a receiver gives of OUT are the packets.
 pub fn equalise<'a, S: Station<'a>>(
     alloc: Global,
     settings: &'a str,
@@ -85,6 +88,7 @@ pub fn equalise<'a, S: Station<'a>>(
     requires fresh { IsFresh (S.meaning station.old) }
     ensures { Run (equalise_command settings.now old_cells.now new_cells.now) limits.now.packets (S.meaning station.old) (S.meaning station.new) result }
 {
+    gain_laws::laws::files_come_back();
     match read_settings(alloc, settings, station) {
         Ok(accepted) => equalise_accepted(alloc, &accepted, old_cells, new_cells, station),
         Err(refusal) => refuse(&refusal, station),

@@ -1,6 +1,6 @@
 // What corrects a symbol.
 ghost use Rattle.std.specs.Prelude.{◌≡◌, ◌≤◌, ◌*◌, [], length, vec_capacity};
-ghost use Rattle.equalise_run.specs.Equalising.{equalised_symbol};
+ghost use Rattle.cell_equal.specs.Files.{equalised_symbol};
 
 use cell_conversions::Converter;
 use cell_equal::equalise;

@@ -1,3 +1,4 @@
 pub mod CellFile
 pub mod Symbol
+pub mod ReadBack
 pub mod State

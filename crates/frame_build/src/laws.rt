@@ -1,5 +1,6 @@
 // Facts about symbols, each as what an empty function ensures.
 ghost use Rattle.std.specs.Prelude.{◌≡◌, ℕ, ◌%◌, Bool};
+ghost use Rattle.frame_build.specs.ReadBack.{CellsAreReadBack, FiveBytesACell, WeightsAreReadBack};
 ghost use Rattle.frame_build.specs.Symbol.{Agree, symbol_bytes};
 
 use mode_set::Settings;
@@ -17,3 +18,11 @@ pub fn symbols_follow_labels(settings: &Settings, m: u64)
 {
     payload_carriers_are_numbered(settings.mode, (m % 68) as u8);
 }
+
+/// The cells of a list that fit 16 bits on both axes, and weights of 15 at most, are read back from the
+/// five bytes of each.
+pub fn cells_are_read_back()
+    ensures long { FiveBytesACell }
+    ensures cells { CellsAreReadBack }
+    ensures weights { WeightsAreReadBack }
+{}

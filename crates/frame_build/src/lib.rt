@@ -7,12 +7,14 @@
 #![tactic(auto)]
 
 mod cell_file;
+mod five_bytes;
 mod laws;
 mod source;
 mod symbol_in;
 mod symbol_out;
 
 pub use cell_file::header;
-pub use laws::{symbols_follow_labels, symbols_repeat};
+pub use five_bytes::{cell_bytes, push_five};
+pub use laws::{cells_are_read_back, symbols_follow_labels, symbols_repeat};
 pub use symbol_in::SymbolIn;
 pub use symbol_out::SymbolOut;

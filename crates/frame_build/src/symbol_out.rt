@@ -7,8 +7,8 @@ ghost use Rattle.pilots.specs.Reference.{reference};
 ghost use Rattle.frame_build.specs.Symbol.{bits_of, cell_at, real, sent_bytes, symbol_bytes};
 ghost use Rattle.frame_build.specs.State.{IsLabelTable, labels_before, source_of};
 
+use crate::five_bytes::{cell_bytes, push_five};
 use crate::source::{Source, sources};
-use byteorder::{BigEndian, ByteOrder};
 use mode_set::{Carriers, Settings, Shape};
 use pilots::{kinds_repeat, payload_carriers_are_numbered};
 use qam_map::{Cell, map};
@@ -25,29 +25,12 @@ fn on_real_axis(value: i16, opposite: bool) -> Cell
     }
 }
 
-// Both parts of a cell, the high byte of each first, and the weight 15: what is sent counts whole.
-#[tactic(auto, unfolding(crate::specs::Symbol::cell_bytes, crate::specs::Symbol::sent_bytes))]
+// What is sent counts whole.
+#[tactic(auto, unfolding(crate::specs::Symbol::sent_bytes))]
 fn bytes_of(cell: Cell) -> [u8; 5]
     ensures { result ≡ sent_bytes cell }
 {
-    let mut bytes = [0, 0, 0, 0, 15];
-    BigEndian::write_i16(&mut bytes, cell.re);
-    BigEndian::write_i16(&mut bytes[2..], cell.im);
-    bytes
-}
-
-// Appends five bytes, which fit the spare.
-fn push_five(bytes: [u8; 5], to: &mut Vec<u8>)
-    requires { vec_len to.old + 5 ≤ vec_capacity to.old }
-    ensures bytes { to.new.items ≡ to.old.items ++ bytes }
-    ensures len { vec_len to.new ≡ vec_len to.old + 5 }
-    ensures capacity { vec_capacity to.new ≡ vec_capacity to.old }
-{
-    to.push_reserved(bytes[0]);
-    to.push_reserved(bytes[1]);
-    to.push_reserved(bytes[2]);
-    to.push_reserved(bytes[3]);
-    to.push_reserved(bytes[4]);
+    cell_bytes(cell, 15)
 }
 
 fn label_count(shape: Shape) -> u8

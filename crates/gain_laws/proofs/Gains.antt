@@ -6,7 +6,7 @@ use Rattle.mode_set.specs.StreamTable.{carriers}
 use Rattle.mode_set.specs.declared.modes.Mode.{Mode}
 use Rattle.pilots.specs.Reference.{reference}
 use Rattle.qam_map.specs.declared.cell.Cell.{Cell}
-use Rattle.cell_equal.specs.Around.{pilot_below, pilot_above, StandsBetween, PilotsAreAround}
+use Rattle.pilots.specs.Around.{pilot_below, pilot_above, StandsBetween, PilotsAreAround}
 use Rattle.cell_equal.specs.Equal.{blank, unturned, at_pilot, between, gain_at, equalised}
 use Rattle.cell_equal.specs.declared.gain.Gain.{Gain}
 use Rattle.integer_lemmas.proofs.Sizes.{Below, self_below, plus_below, opposite_below, times_below}

@@ -4,3 +4,4 @@ pub mod Estimate
 pub mod OneCell
 pub mod Gains
 pub mod Sent
+pub mod Files

@@ -7,6 +7,7 @@ use Rattle.std.proofs.lemmas.Int.{ints, fits_signed_from_abs}
 use Rattle.std.proofs.lemmas.Bool.{and_parts, ltb-true}
 use Rattle.spec_words.specs.Words.{numbers}
 use Rattle.mode_set.specs.StreamTable.{label_bits}
+use Rattle.mode_set.specs.declared.modes.Mode.{Mode}
 use Rattle.mode_set.specs.declared.modes.Shape.{Shape}
 use Rattle.mode_set.specs.declared.modes.Shape.TheVariants.{Qpsk, Qam16, Qam64}
 use Rattle.mode_set.specs.declared.modes.Hierarchy.{Hierarchy}
@@ -19,8 +20,10 @@ use Rattle.pilots.specs.Reference.{reference}
 use Rattle.qam_map.specs.Points.{map_cell, value_of, real_bits, imaginary_bits, tolerance}
 use Rattle.frame_build.specs.Symbol.{real, tps_sign, frame_of, cell_of_kind, cell_at}
 use Rattle.tps_word.specs.Tps.{tps_word, signalled}
-use Rattle.cell_equal.specs.Around.{is_for_pilots, is_pilot}
+use Rattle.pilots.specs.Around.{is_for_pilots, is_pilot}
 use Rattle.cell_equal.specs.Equal.{unturned}
+use Rattle.symbol_spans.specs.Spans.{settings_at}
+use Rattle.symbol_spans.specs.Laws.{ModeStays}
 use Rattle.transmission.specs.Transmission.{Inputs, tx_label, tx_cell}
 use Rattle.gain_laws.specs.Flat.{IsCell, IsSent, FlatGainIsRemoved}
 use Rattle.gain_laws.specs.Symbols.{SymbolsComeBack, TransmissionsComeBack, IsTolerated}
@@ -106,12 +109,12 @@ sent s n labels = record {
 pub come_back : FlatGainIsRemoved → SymbolsComeBack
 come_back law s n labels a b received weights flat come = law s.mode (n % 68) a b (cell_at s n labels) received weights flat (sent s n labels) come
 
-tx_sent : (s : Settings) (inputs : Inputs) (m : ℕ) → IsSent s.mode (m % 68) (tx_cell s inputs m)
+tx_sent : ModeStays → (s : Settings) (inputs : Inputs) (m : ℕ) → IsSent s.mode (m % 68) (tx_cell s inputs m)
 unfolding tx_cell
-tx_sent s inputs m = sent s m (tx_label s inputs m)
+tx_sent stays s inputs m = subst (λ (z : Mode). IsSent z (m % 68) (tx_cell s inputs m)) (stays s (m / 272)) (sent (settings_at s m) m (tx_label s inputs m))
 
-pub all_come_back : FlatGainIsRemoved → TransmissionsComeBack
-all_come_back law s inputs a b received weights flat come m lt = law s.mode (m % 68) a b (tx_cell s inputs m) (received m) (weights m) flat (tx_sent s inputs m) (come m lt)
+pub all_come_back : FlatGainIsRemoved → ModeStays → TransmissionsComeBack
+all_come_back law stays s inputs a b received weights flat come m lt = law s.mode (m % 68) a b (tx_cell s inputs m) (received m) (weights m) flat (tx_sent stays s inputs m) (come m lt)
 
 -- ---- the tolerances
 wide : (s : Shape) (h : Hierarchy) → ltb 63 (tolerance s h) ≡ true

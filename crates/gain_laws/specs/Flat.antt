@@ -7,7 +7,7 @@ use Rattle.mode_set.specs.declared.modes.Mode.{Mode}
 use Rattle.pilots.specs.Reference.{reference}
 use Rattle.qam_map.specs.Points.{distance}
 use Rattle.qam_map.specs.declared.cell.Cell.{Cell}
-use Rattle.cell_equal.specs.Around.{is_pilot}
+use Rattle.pilots.specs.Around.{is_pilot}
 use Rattle.cell_equal.specs.Equal.{blank, unturned, equalised}
 use Rattle.cell_equal.specs.declared.equalised.Equalised.{Equalised}
 

@@ -76,13 +76,31 @@ fn lose(packets: &mut [u8], number: u64) {
     }
 }
 
+// Does this come back, with these words lost, where so many bytes from a place on are inverted?
+fn comes_back(
+    rt: &impl Abort,
+    alloc: Global,
+    sent: &(Vec<u8>, Vec<u8>),
+    (first, len): (usize, usize),
+    lost: &[u64],
+) -> Result<bool, AllocError> {
+    let mut received = sent.1.clone()?;
+    lay(&mut received, first, len, 0xFF);
+    let (found, bad) = back(alloc, &received)?;
+    let mut expected = Vec::from_slice(alloc, front(rt, &sent.0, 19))?;
+    for number in lost {
+        lose(&mut expected, *number);
+    }
+    Ok(bad.as_slice() == lost && found == expected)
+}
+
 // Thirty packets, of whose interleaved bytes a run is inverted. Place p belongs to word p / 204 less p mod 12, so 97 bytes
 // that lie in two words of places hit no word in more than eight places, and 97 in one hit one in nine: only the
 // second word is lost. Nineteen packets come back.
 #[test]
 fn runs_of_96_and_97(rt: HostRuntime) -> Result<(), Fail> {
     let alloc = rt.alloc();
-    let (packets, bytes) = sent(alloc, 15, 30)?;
+    let thirty = sent(alloc, 15, 30)?;
     let cases = [
         (2400, 96, [].as_slice()),
         (2448, 96, [].as_slice()),
@@ -90,15 +108,8 @@ fn runs_of_96_and_97(rt: HostRuntime) -> Result<(), Fail> {
         (2448, 97, [12u64].as_slice()),
     ];
     for (first, len, lost) in cases {
-        let mut received = bytes.clone()?;
-        lay(&mut received, first, len, 0xFF);
-        let (found, bad) = back(alloc, &received)?;
-        let mut expected = Vec::from_slice(alloc, front(&rt, &packets, 19))?;
-        for number in lost {
-            lose(&mut expected, *number);
-        }
-        assert!(rt; bad.as_slice() == lost, "{len} bytes from {first} on");
-        assert!(rt; found == expected, "{len} bytes from {first} on");
+        let as_expected = comes_back(&rt, alloc, &thirty, (first, len), lost)?;
+        assert!(rt; as_expected, "{len} bytes from {first} on");
     }
     Ok(())
 }
@@ -110,24 +121,33 @@ fn behind(place: usize, burst: Burst) -> usize {
         .saturating_add(APART)
 }
 
+// Lays eight bursts that are drawn from this number, from a drawn place on.
+fn lay_drawn(bytes: &mut [u8], number: u32) {
+    let mut load = Load::start(number);
+    let mut place = load.piece(APART as u32) as usize;
+    for _ in 0..8u32 {
+        let burst = load.burst();
+        lay(bytes, place, usize::from(burst.len), burst.mask);
+        place = behind(place, burst);
+    }
+}
+
+// Do the bursts of this number change bytes, and no packet?
+fn nothing_is_lost(rt: &impl Abort, alloc: Global, number: u32) -> Result<bool, AllocError> {
+    let (packets, bytes) = sent(alloc, number, 80)?;
+    let mut received = bytes.clone()?;
+    lay_drawn(&mut received, number);
+    let (found, bad) = back(alloc, &received)?;
+    Ok(received != bytes && bad.is_empty() && found.as_slice() == front(rt, &packets, 69))
+}
+
 // Drawn bursts, as near to one another as the law lets them be and from a drawn place on, change no packet.
 #[test]
 fn drawn_bursts(rt: HostRuntime) -> Result<(), Fail> {
     let alloc = rt.alloc();
     for number in 0..12u32 {
-        let (packets, bytes) = sent(alloc, number, 80)?;
-        let mut load = Load::start(number);
-        let mut received = bytes.clone()?;
-        let mut place = load.piece(APART as u32) as usize;
-        for _ in 0..8u32 {
-            let burst = load.burst();
-            lay(&mut received, place, usize::from(burst.len), burst.mask);
-            place = behind(place, burst);
-        }
-        let (found, bad) = back(alloc, &received)?;
-        assert!(rt; received != bytes && bad.is_empty(), "number {number}");
-        let expected = front(&rt, &packets, 69);
-        assert!(rt; found.as_slice() == expected, "number {number}");
+        let nothing = nothing_is_lost(&rt, alloc, number)?;
+        assert!(rt; nothing, "number {number}");
     }
     Ok(())
 }

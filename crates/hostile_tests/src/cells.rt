@@ -1,11 +1,9 @@
 // Cells that no modulator sends, fed in three ways. The expected reports and counts are those of an independent
 // program.
-ghost use Rattle.std.specs.Prelude.{◌≡◌, ◌<◌, ◌^◌, false};
-
 use load_gen::Load;
-use mode_set::{Mode, Mode2k, Settings};
-use receiver::{Receiver, RxOut};
-use rx_report::{Counts, Event, StreamCounts};
+use mode_set::{Mode, Settings};
+use receiver_tools::{Cut, Received};
+use rx_report::StreamCounts;
 use std::alloc::{AllocError, Global};
 use std::process::Abort;
 use std::test::Fail;
@@ -24,25 +22,6 @@ enum Cells {
     All(i16),
     /// Of numbers that are drawn.
     Drawn,
-}
-
-/// How bytes are cut.
-#[derive(Clone, Copy)]
-enum Cut {
-    /// All that is left at once.
-    Whole,
-    /// Byte by byte.
-    Bytes,
-    /// In pieces that are drawn.
-    Drawn,
-}
-
-/// What a call gave.
-#[derive(Drop, PartialEq)]
-struct Given {
-    hp: Vec<u8>,
-    lp: Vec<u8>,
-    events: Vec<Event>,
 }
 
 /// What receptions gave in all: the reports, the sum of their steps, the clean words and the bad ones.
@@ -130,113 +109,16 @@ fn bytes_of(alloc: Global, cells: Cells) -> Result<Vec<u8>, AllocError> {
     Ok(bytes)
 }
 
-// A receiver that has had no byte.
-fn begin(alloc: Global, settings: &Settings) -> Result<Receiver<Mode2k>, AllocError>
-    requires { settings.now.mode ≡ Mode.M2k }
-{
-    Receiver::<Mode2k>::new(alloc, settings)
-}
-
-// Feeds a piece, and answers how many bytes of it were taken. Nothing is told of what is received.
-fn feed<R: Threads + Sync>(
-    rt: &R,
-    receiver: &mut Receiver<Mode2k>,
-    piece: &[u8],
-    out: &mut RxOut,
-) -> usize
-    requires going { receiver.old.ended ≡ false }
-    requires few { receiver.old.taken < 2 ^ 32 }
-{
-    receiver.feed(rt, piece, out)
-}
-
-// Ends the reception. Nothing is told of what is received.
-fn finish<R: Threads + Sync>(rt: &R, receiver: &mut Receiver<Mode2k>, out: &mut RxOut)
-    requires { receiver.old.ended ≡ false }
-{
-    receiver.finish(rt, out);
-}
-
-// What a call gave.
-fn given_of(alloc: Global, out: &RxOut) -> Result<Given, AllocError> {
-    Ok(Given {
-        hp: Vec::from_slice(alloc, out.hp())?,
-        lp: Vec::from_slice(alloc, out.lp())?,
-        events: Vec::from_slice(alloc, out.events())?,
-    })
-}
-
-// Feeds a piece, notes what it gave if a symbol came to its end, and answers how many bytes were taken.
-// Between two symbols nothing is given.
-fn feed_and_note<R: Abort + Threads + Sync>(
-    rt: &R,
-    alloc: Global,
-    receiver: &mut Receiver<Mode2k>,
-    piece: &[u8],
-    out: &mut RxOut,
-    seen: &mut Vec<Given>,
-) -> Result<usize, AllocError> {
-    let before = receiver.symbols();
-    assert!(rt; !receiver.ended() && before < 4294967296);
-    let count = feed(rt, receiver, piece, out);
-    let given = given_of(alloc, out)?;
-    if receiver.symbols() == before {
-        assert!(rt; given.hp.is_empty() && given.lp.is_empty() && given.events.is_empty());
-    } else {
-        seen.push(given)?;
-    }
-    Ok(count)
-}
-
-// The next piece of these bytes.
-fn piece_of<'b>(rest: &'b [u8], cut: Cut, load: &mut Load) -> &'b [u8] {
-    let size = match cut {
-        Cut::Whole => rest.len(),
-        Cut::Bytes => 1,
-        Cut::Drawn => load.piece(7000) as usize,
-    };
-    &rest[..size.min(rest.len())]
-}
-
-// What each symbol and then the end give, and the counts.
-fn receive<R: Abort + Threads + Sync>(
-    rt: &R,
-    alloc: Global,
-    settings: &Settings,
-    bytes: &[u8],
-    cut: Cut,
-) -> Result<(Vec<Given>, Counts), AllocError> {
-    assert!(rt; settings.mode == Mode::M2k);
-    let mut receiver = begin(alloc, settings)?;
-    let mut out = RxOut::new(alloc)?;
-    let mut load = Load::start(29);
-    let mut seen = Vec::new(alloc);
-    let mut at = 0usize;
-    for _ in 0..bytes.len() {
-        assert!(rt; at <= bytes.len());
-        let piece = piece_of(&bytes[at..], cut, &mut load);
-        if !piece.is_empty() {
-            let count = feed_and_note(rt, alloc, &mut receiver, piece, &mut out, &mut seen)?;
-            at = at.saturating_add(count);
-        }
-    }
-    assert_eq!(rt; at, bytes.len());
-    assert!(rt; !receiver.ended());
-    finish(rt, &mut receiver, &mut out);
-    seen.push(given_of(alloc, &out)?)?;
-    Ok((seen, receiver.counts()))
-}
-
 // Adds what a reception gave.
-fn add(found: &mut Found, seen: &[Given], counts: Counts) {
-    for given in seen {
+fn add(found: &mut Found, received: &Received) {
+    for given in &received.given {
         for event in &given.events {
             found.0 = found.0.wrapping_add(1);
             found.1 = found.1.wrapping_add(event.at);
         }
     }
-    add_words(found, counts.hp);
-    if let Some(lp) = counts.lp {
+    add_words(found, received.counts.hp);
+    if let Some(lp) = received.counts.lp {
         add_words(found, lp);
     }
 }
@@ -246,7 +128,27 @@ fn add_words(found: &mut Found, counts: StreamCounts) {
     found.3 = found.3.wrapping_add(counts.bad);
 }
 
-// Receives the bytes in each of the three ways, which give the same after each symbol.
+// Was this given after five symbols and at the end, all bytes taken, and nothing between two symbols?
+fn is_whole(received: &Received, bytes: usize) -> bool {
+    let counts = received.counts;
+    received.quiet
+        && received.taken == bytes
+        && (received.given.len(), counts.symbols, counts.tail) == (6, 5, TAIL as u32)
+}
+
+// The reception of the bytes, cut so.
+fn received<R: Abort + Threads + Sync>(
+    rt: &R,
+    alloc: Global,
+    settings: &Settings,
+    bytes: &[u8],
+    cut: Cut,
+) -> Result<Received, AllocError> {
+    assert!(rt; settings.mode == Mode::M2k);
+    Received::of(rt, alloc, settings, bytes, cut)
+}
+
+// Receives the bytes whole, by single bytes and in drawn pieces, which give the same after each symbol.
 fn compare_cuts<R: Abort + Threads + Sync>(
     rt: &R,
     alloc: Global,
@@ -254,44 +156,55 @@ fn compare_cuts<R: Abort + Threads + Sync>(
     bytes: &[u8],
     found: &mut Found,
 ) -> Result<(), AllocError> {
-    let (whole, counts) = receive(rt, alloc, settings, bytes, Cut::Whole)?;
-    assert_eq!(rt;
-        (whole.len(), counts.symbols, counts.tail),
-        (6, 5, TAIL as u32)
-    );
-    for cut in [Cut::Bytes, Cut::Drawn] {
-        let (other, other_counts) = receive(rt, alloc, settings, bytes, cut)?;
-        assert!(rt; other == whole && other_counts == counts);
+    let whole = received(rt, alloc, settings, bytes, Cut::Size(bytes.len()))?;
+    assert!(rt; is_whole(&whole, bytes.len()));
+    for cut in [Cut::Size(1), Cut::Drawn(7000)] {
+        let other = received(rt, alloc, settings, bytes, cut)?;
+        assert!(rt; other == whole);
     }
-    add(found, &whole, counts);
+    add(found, &whole);
     Ok(())
+}
+
+// Receives each kind of cells by the settings.
+fn compare_cells<R: Abort + Threads + Sync>(
+    rt: &R,
+    alloc: Global,
+    settings: &Settings,
+    found: &mut Found,
+) -> Result<(), AllocError> {
+    for cells in [
+        Cells::All(-32768),
+        Cells::All(32767),
+        Cells::All(0),
+        Cells::Drawn,
+    ] {
+        let bytes = bytes_of(alloc, cells)?;
+        compare_cuts(rt, alloc, settings, &bytes, found)?;
+    }
+    Ok(())
+}
+
+// What the receptions by these lines give in all, from the register zero and from any.
+fn found_by<R: Abort + Threads + Sync>(
+    rt: &R,
+    alloc: Global,
+    lines: &str,
+) -> Result<Found, AllocError> {
+    let mut found = (0u64, 0u64, 0u64, 0u64);
+    for start in ["zero", "any"] {
+        let settings = settings_of(rt, alloc, lines, start)?;
+        compare_cells(rt, alloc, &settings, &mut found)?;
+    }
+    Ok(found)
 }
 
 #[test]
 fn cells_that_no_modulator_sends(rt: HostRuntime) -> Result<(), Fail> {
     let alloc = rt.alloc();
     for (lines, expected) in CASES {
-        let mut found = (0u64, 0u64, 0u64, 0u64);
-        for start in ["zero", "any"] {
-            let settings = settings_of(&rt, alloc, lines, start)?;
-            for cells in [
-                Cells::All(-32768),
-                Cells::All(32767),
-                Cells::All(0),
-                Cells::Drawn,
-            ] {
-                let bytes = bytes_of(alloc, cells)?;
-                compare_cuts(&rt, alloc, &settings, &bytes, &mut found)?;
-            }
-        }
-        assert!(rt;
-            found == expected,
-            "{lines}: {} {} {} {}",
-            found.0,
-            found.1,
-            found.2,
-            found.3
-        );
+        let found = found_by(&rt, alloc, lines)?;
+        assert!(rt; found == expected, "{lines}");
     }
     Ok(())
 }

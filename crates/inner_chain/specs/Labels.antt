@@ -1,5 +1,5 @@
 -- The labels of a symbol, from the coded bits of its streams (EN 300 744, 4.3.3 to 4.3.5).
-use Rattle.std.specs.Prelude.{◌≡◌, ℕ, ◌+◌, ◌*◌, ◌^◌, ◌<◌, ◌==◌, Bool, if◌then◌else◌, List, ◌++◌, length, slice_index}
+use Rattle.std.specs.Prelude.{◌≡◌, ℕ, ◌+◌, ◌^◌, ◌<◌, ◌==◌, Bool, if◌then◌else◌, List, ◌++◌, length, slice_index}
 use Rattle.spec_words.specs.Bits.{is_set}
 use Rattle.spec_words.specs.Words.{first_below}
 use Rattle.mode_set.specs.StreamTable.{payload, label_bits, coded, need, rate}
@@ -45,17 +45,24 @@ register_of st Lp = st.lp
 abbrev pub Paths : Type 0
 Paths = Stream → ℕ → Bool
 
--- the inner coder before symbol m of these paths: each register has the six bits before the symbol's first input bit
-abbrev pub IsAtSymbol : TxState → Paths → ℕ → Type 0
-IsAtSymbol st paths m = (σ : Stream) → register_of st σ ≡ bits_from (paths σ) (m * need st.settings σ) 6
+-- what follows of a path from step n on
+abbrev pub from_step : (ℕ → Bool) → ℕ → ℕ → Bool
+from_step path n t = path (n + t)
 
--- the input bits of symbol m of a path
-abbrev pub input_bits : Settings → Paths → ℕ → Stream → List Bool
-input_bits s paths m σ = bits_from (paths σ) (m * need s σ + 6) (need s σ)
+-- the inner coder before these paths: each register has the six bits with which its path begins
+abbrev pub IsBefore : TxState → Paths → Type 0
+IsBefore st paths = (σ : Stream) → register_of st σ ≡ bits_from (paths σ) 0 6
 
--- the coded bits of symbol m: the next sent bits of each path
-abbrev pub coded_bits : Settings → Paths → ℕ → Stream → ℕ → Bool
-coded_bits s paths m σ d = sent_bit (rate s σ) (paths σ) (m * coded s σ + d)
+-- the input bits of a symbol that begins with these paths, and what follows behind the symbol
+abbrev pub input_bits : Settings → Paths → Stream → List Bool
+input_bits s paths σ = bits_from (paths σ) 6 (need s σ)
+
+abbrev pub behind : Settings → Paths → Paths
+behind s paths σ = from_step (paths σ) (need s σ)
+
+-- its coded bits: the first sent bits of each path
+abbrev pub coded_bits : Settings → Paths → Stream → ℕ → Bool
+coded_bits s paths σ d = sent_bit (rate s σ) (paths σ) d
 
 -- the X or the Y of step t of a path
 abbrev pub parity_at : ℕ → (ℕ → Bool) → ℕ → Bool

@@ -85,6 +85,6 @@ pub record IsTx (m : Mode) (s : Settings) (hp lp : List Bool) (even odd : List �
   pub are_rows : AreRows rows 256
   pub room : length parities ≡ 2 * (need s Hp + need s Lp)
 
--- X and Y of the steps of symbol m of both paths, HP's first
-pub record AreAllParities (s : Settings) (paths : Paths) (m : ℕ) (xs : List Bool) : Type 0 where
-  pub at : (σ : Stream) (t k : ℕ) → t < need s σ → k < 2 → read_bit xs (2 * (first_step s σ + t) + k) ≡ parity_at k (paths σ) (m * need s σ + t)
+-- X and Y of the steps of a symbol of both paths, HP's first
+pub record AreAllParities (s : Settings) (paths : Paths) (xs : List Bool) : Type 0 where
+  pub at : (σ : Stream) (t k : ℕ) → t < need s σ → k < 2 → read_bit xs (2 * (first_step s σ + t) + k) ≡ parity_at k (paths σ) t

@@ -2,7 +2,7 @@
 ghost use Rattle.std.specs.Prelude.{◌≡◌, ◌+◌, ◌*◌, ◌≤◌, ℕ, take, drop, length, vec_capacity, vec_len};
 ghost use Rattle.mode_set.specs.StreamTable.{need, payload};
 ghost use Rattle.mode_set.specs.declared.modes.Stream.TheVariants.{Hp, Lp};
-ghost use Rattle.inner_chain.specs.Labels.{AppendsLabels, IsAtSymbol, Paths, coded_bits, input_bits};
+ghost use Rattle.inner_chain.specs.Labels.{AppendsLabels, IsBefore, Paths, behind, coded_bits, input_bits};
 ghost use Rattle.inner_chain.specs.Tables.{AreAllParities, AreEntries, AreRows};
 
 use crate::gather::push_labels;
@@ -30,12 +30,12 @@ pub(crate) fn code(
     ensures lp { lp.new ≡ drop (need settings.now Lp) lp.old }
     ensures hp_size { length hp_encoder.old ≡ 6 → length hp_encoder.new ≡ 6 }
     ensures lp_size { length lp_encoder.old ≡ 6 → length lp_encoder.new ≡ 6 }
-    ensures parities { (paths : Paths) (m : ℕ) → IsAtSymbol (record { settings = settings.now; hp = hp_encoder.old; lp = lp_encoder.old }) paths m
-        → take (need settings.now Hp) hp.old ≡ input_bits settings.now paths m Hp → take (need settings.now Lp) lp.old ≡ input_bits settings.now paths m Lp
-        → AreAllParities settings.now paths m parities.new }
-    ensures next { (paths : Paths) (m : ℕ) → IsAtSymbol (record { settings = settings.now; hp = hp_encoder.old; lp = lp_encoder.old }) paths m
-        → take (need settings.now Hp) hp.old ≡ input_bits settings.now paths m Hp → take (need settings.now Lp) lp.old ≡ input_bits settings.now paths m Lp
-        → IsAtSymbol (record { settings = settings.now; hp = hp_encoder.new; lp = lp_encoder.new }) paths (m + 1) }
+    ensures parities { (paths : Paths) → IsBefore (record { settings = settings.now; hp = hp_encoder.old; lp = lp_encoder.old }) paths
+        → take (need settings.now Hp) hp.old ≡ input_bits settings.now paths Hp → take (need settings.now Lp) lp.old ≡ input_bits settings.now paths Lp
+        → AreAllParities settings.now paths parities.new }
+    ensures next { (paths : Paths) → IsBefore (record { settings = settings.now; hp = hp_encoder.old; lp = lp_encoder.old }) paths
+        → take (need settings.now Hp) hp.old ≡ input_bits settings.now paths Hp → take (need settings.now Lp) lp.old ≡ input_bits settings.now paths Lp
+        → IsBefore (record { settings = settings.now; hp = hp_encoder.new; lp = lp_encoder.new }) (behind settings.now paths) }
 {
     let hp_steps = settings.need(Stream::Hp) as usize;
     let lp_steps = settings.need(Stream::Lp) as usize;
@@ -54,8 +54,8 @@ pub(crate) fn push_symbol(
     requires entries { AreEntries settings.now odd entries.now }
     requires room { length parities.now ≡ 2 * (need settings.now Hp + need settings.now Lp) }
     requires spare { vec_len to.old + payload settings.now.mode ≤ vec_capacity to.old }
-    ensures labels { (paths : Paths) (m : ℕ) → AreAllParities settings.now paths m parities.now
-        → AppendsLabels settings.now odd (coded_bits settings.now paths m) to.old.items to.new.items }
+    ensures labels { (paths : Paths) → AreAllParities settings.now paths parities.now
+        → AppendsLabels settings.now odd (coded_bits settings.now paths) to.old.items to.new.items }
     ensures capacity { vec_capacity to.new ≡ vec_capacity to.old }
 {
     let number = settings.mode.payload() as usize;

@@ -4,7 +4,7 @@ ghost use Rattle.mode_set.specs.StreamTable.{need, payload};
 ghost use Rattle.mode_set.specs.declared.modes.Stream.{Stream as AnyStream};
 ghost use Rattle.mode_set.specs.declared.modes.Stream.TheVariants.{Hp, Lp};
 ghost use Rattle.conv_code.specs.Coded.{zeros};
-ghost use Rattle.inner_chain.specs.Labels.{AppendsLabels, IsAtSymbol, Paths, coded_bits, input_bits};
+ghost use Rattle.inner_chain.specs.Labels.{AppendsLabels, IsBefore, Paths, behind, coded_bits, input_bits};
 
 use crate::entries::entries;
 use crate::parities::rows;
@@ -91,16 +91,16 @@ impl<M: Carriers> InnerTx<M> {
         ensures lp { lp.new ≡ drop (need self.old.settings Lp) lp.old }
         ensures capacity { vec_capacity to.new ≡ vec_capacity to.old }
 
-        // Before symbol m of any paths whose input bits wait, the labels are those of the next coded
-        // bits, and afterwards it is before symbol m + 1.
-        ensures labels { (paths : Paths) (m : ℕ) → IsAtSymbol self.old paths m
-            → take (need self.old.settings Hp) hp.old ≡ input_bits self.old.settings paths m Hp
-            → take (need self.old.settings Lp) lp.old ≡ input_bits self.old.settings paths m Lp
-            → AppendsLabels self.old.settings odd (coded_bits self.old.settings paths m) to.old.items to.new.items }
-        ensures next { (paths : Paths) (m : ℕ) → IsAtSymbol self.old paths m
-            → take (need self.old.settings Hp) hp.old ≡ input_bits self.old.settings paths m Hp
-            → take (need self.old.settings Lp) lp.old ≡ input_bits self.old.settings paths m Lp
-            → IsAtSymbol self.new paths (m + 1) }
+        // Before any paths whose input bits wait, the labels are those of their first coded bits, and
+        // afterwards it is before what follows of them.
+        ensures labels { (paths : Paths) → IsBefore self.old paths
+            → take (need self.old.settings Hp) hp.old ≡ input_bits self.old.settings paths Hp
+            → take (need self.old.settings Lp) lp.old ≡ input_bits self.old.settings paths Lp
+            → AppendsLabels self.old.settings odd (coded_bits self.old.settings paths) to.old.items to.new.items }
+        ensures next { (paths : Paths) → IsBefore self.old paths
+            → take (need self.old.settings Hp) hp.old ≡ input_bits self.old.settings paths Hp
+            → take (need self.old.settings Lp) lp.old ≡ input_bits self.old.settings paths Lp
+            → IsBefore self.new (behind self.old.settings paths) }
     {
         code(
             &self.settings,

@@ -24,7 +24,7 @@ use Rattle.run_clauses.specs.Text.{status_of}
 use Rattle.run_steps.specs.Causes.{HasCause}
 use Rattle.run_steps.specs.Ended.{AreMade, Ended, Hold, IsCaused, IsExact, Leaves}
 use Rattle.modulate_run.specs.declared.counts.TransmissionCounts.{TransmissionCounts}
-use Rattle.modulate_run.specs.ModulateCommand.{HoldsSymbolsSoFar, cells_sent, files_of, inputs_of, left_unread, lines_before, modulate_command, modulation_lines, modulation_refusal, transmission_counts, transmission_lines}
+use Rattle.modulate_run.specs.ModulateCommand.{HoldsSymbolsSoFar, cells_sent, files_of, inputs_of, left_unread, modulate_command, modulation_lines, modulation_refusal, transmission_counts, transmission_lines}
 use Rattle.modulate_run.specs.Inputs.{left_of, lp_left}
 use Rattle.modulate_run.specs.Work.{Modulates, TakeFew, TakesFew}
 use Rattle.modulate_run.specs.Steps.{FailsAtCells, FailsAtHp, FailsAtLp, OpensAll, Ran, Worked, lp_source}
@@ -307,7 +307,7 @@ module _ (limit : ℕ) (name hp : List ℕ) (lp : Option (List ℕ)) (cells : Li
     lines = modulation_lines s limit (is_some lp) files
 
     no_lines : (r : Refusal) → modulation_refusal s limit (inputs_of files) ≡ Some r → lines ≡ []
-    no_lines r is = ap (λ (o : Option Refusal). lines_before o (transmission_lines (is_some lp) (transmission_counts s files))) is
+    no_lines r is = ap (λ (o : Option Refusal). if is_some o then [] else transmission_lines (is_some lp) (transmission_counts s files)) is
 
     module _ (r : Result TransmissionCounts Refusal) (w : Worked s limit hp lp cells before end r) where
       made : AreMade c end

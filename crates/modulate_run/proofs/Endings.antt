@@ -16,7 +16,7 @@ use Rattle.run_clauses.specs.declared.work.Refusal.{Refusal}
 use Rattle.run_clauses.specs.declared.work.Refusal.TheVariants.{Usage, Settings, ReadFault, WriteFault, NotSync, Memory, Limit, Cells}
 use Rattle.run_clauses.specs.Command.{named}
 use Rattle.run_clauses.specs.StreamForm.{fits_form}
-use Rattle.modulate_run.specs.ModulateCommand.{files_of, inputs_of, lines_before, modulation_lines, modulation_refusal, transmission_counts, transmission_lines, file_of_symbols}
+use Rattle.modulate_run.specs.ModulateCommand.{files_of, inputs_of, modulation_lines, modulation_refusal, transmission_counts, transmission_lines, file_of_symbols}
 use Rattle.modulate_run.specs.Inputs.{Reads, left_of, lp_left}
 use Rattle.modulate_run.specs.Seen.{Seen}
 use Rattle.modulate_run.specs.Work.{Ends, IsAtWork, KeepsOthers, Modulates, TakeFew}
@@ -130,7 +130,7 @@ module _ (s : TheSettings) (limit : ℕ) (hp : List ℕ) (lp : Option (List ℕ)
     lines_are : (counts : TransmissionCounts) → counts ≡ transmission_counts s files → modulation_refusal s limit (inputs_of files) ≡ None
         → transmission_lines (is_some lp) counts ≡ modulation_lines s limit (is_some lp) files
     lines_are counts same none =
-        ap (transmission_lines (is_some lp)) same ∙ sym (ap (λ (o : Option Refusal). lines_before o (transmission_lines (is_some lp) (transmission_counts s files))) none)
+        ap (transmission_lines (is_some lp)) same ∙ sym (ap (λ (o : Option Refusal). if is_some o then [] else transmission_lines (is_some lp) (transmission_counts s files)) none)
 
     -- they were written, or were not
     pub finished : (counts : TransmissionCounts) → (mid.tells ≡ true → Modulates s limit files fin (Ok counts))

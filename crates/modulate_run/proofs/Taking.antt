@@ -12,10 +12,10 @@ use Rattle.outer_chain.specs.Sent.{packet_at}
 use Rattle.ts_packet.specs.Packet.{null_packet}
 use Rattle.run_clauses.specs.declared.work.Refusal.TheVariants.{NotSync, Limit, ReadFault}
 use Rattle.run_clauses.specs.Packets.{packets_of, whole_packets, file_packet}
-use Rattle.modulate_run.specs.ModulateCommand.{port_of, refused_by}
+use Rattle.modulate_run.specs.ModulateCommand.{refused_by}
 use Rattle.run_steps.specs.Reading.{ReadsFront}
 use Rattle.modulate_run.specs.declared.input.PacketInput.{PacketInput}
-use Rattle.modulate_run.specs.Inputs.{Gives, HasLeft, IsNear, Reads, left_of, lp_left}
+use Rattle.modulate_run.specs.Inputs.{Gives, HasLeft, IsNear, Reads, left_of, lp_left, port_of}
 use Rattle.modulate_run.proofs.Refusing.{packet_within, packet_behind, not_refused_behind, refused_past, refused_unsynced, not_refused}
 
 module _ (limit : ℕ) (files : Stream → List ℕ) (σ : Stream) (put : ℕ) (left : List ℕ) (input : PacketInput) (tail_is : input.tail ≡ None) (reads : Reads (files σ) left input put) where

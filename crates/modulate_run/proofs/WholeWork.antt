@@ -4,10 +4,12 @@ use Rattle.std.specs.Prelude.{IsTrue}
 use Rattle.std.specs.Option.{option_map}
 use Rattle.std.proofs.lemmas.Bool.{cases_lt}
 use Rattle.station_core.specs.Meaning.{Meaning}
-use Rattle.mode_set.specs.StreamTable.{has_stream, words_per_super_frame}
+use Rattle.mode_set.specs.StreamTable.{has_stream}
 use Rattle.mode_set.specs.declared.modes.Stream.{Stream}
 use Rattle.mode_set.specs.declared.modes.Stream.TheVariants.{Hp, Lp}
 use Rattle.mode_set.specs.declared.settings.Settings.{Settings as TheSettings}
+use Rattle.symbol_spans.specs.Spans.{words_before}
+use Rattle.symbol_spans.specs.Laws.{StreamsExist}
 use Rattle.transmission.specs.Transmission.{Inputs, by_stream}
 use Rattle.transmission.specs.SuperFrames.{packets_for, super_frames, symbols_of}
 use Rattle.transmission.specs.Agenda as agenda
@@ -52,11 +54,11 @@ unfolding symbols_of
 begins least s inputs = some_symbol (super_frames s (λ σ. length (inputs σ))) (least s (λ σ. length (inputs σ))).some
 
 -- the packets of all its symbols are eleven more than its inputs have, at least
-carried : PacketsOfSuperFrames → TheFormulaIsLeast → (s : TheSettings) (inputs : Inputs) (σ : Stream) → IsTrue (has_stream s.hierarchy σ) → length (inputs σ) + 11 ≤ packets_for s σ (symbols_of s inputs)
+carried : PacketsOfSuperFrames → TheFormulaIsLeast → StreamsExist → (s : TheSettings) (inputs : Inputs) (σ : Stream) → IsTrue (has_stream s.hierarchy σ) → length (inputs σ) + 11 ≤ packets_for s σ (symbols_of s inputs)
 unfolding symbols_of
-carried packets least s inputs σ exists =
+carried packets least exist s inputs σ has =
     let n : ℕ = super_frames s (λ τ. length (inputs τ)) in
-    let enough : length (inputs σ) + 11 ≤ n * words_per_super_frame s σ = (least s (λ τ. length (inputs τ))).suffices σ exists in
+    let enough : length (inputs σ) + 11 ≤ words_before s σ n = (least s (λ τ. length (inputs τ))).suffices σ (exist s σ has) in
     subst (λ (k : ℕ). length (inputs σ) + 11 ≤ k) (sym (packets s σ n)) enough
 
 -- the super-frames of so many packets
@@ -108,7 +110,7 @@ module _ (limit : ℕ) (files : Stream → List ℕ) (m : Meaning) (inputs : Pac
       )
 
   -- the transmission goes on
-  module _ (packets : PacketsOfSuperFrames) (least : TheFormulaIsLeast) (two : inputs.lp.tail ≡ None → IsTrue (has_stream t.settings.hierarchy Lp)) where
+  module _ (packets : PacketsOfSuperFrames) (least : TheFormulaIsLeast) (exist : StreamsExist) (two : inputs.lp.tail ≡ None → IsTrue (has_stream t.settings.hierarchy Lp)) where
     apart : (a b c d e : ℕ) → a + 11 ≤ b → b ≤ c → c ≡ d → d ≤ e → e ≡ a → ⊥
     apart a b c d e l l' p l'' q = omega (arith, l, l', p, l'', q)
 
@@ -119,14 +121,14 @@ module _ (limit : ℕ) (files : Stream → List ℕ) (m : Meaning) (inputs : Pac
       hp_ended : inputs.hp.tail ≡ None → ⊥
       hp_ended none =
           apart (length (packets_of (files Hp))) (packets_for t.settings Hp (symbols_of t.settings (inputs_of files))) t.hp inputs.hp.taken (whole_packets (files Hp))
-          (carried packets least t.settings (inputs_of files) Hp refl) (put_at Hp w.work.at.hp_least)
+          (carried packets least exist t.settings (inputs_of files) Hp refl) (put_at Hp w.work.at.hp_least)
           (all_put (files Hp) (left_of m Hp) inputs.hp.taken t.hp inputs.hp.tail none w.work.read.hp.rest)
           (within_file (files Hp) inputs.hp.taken w.work.read.hp.within) (sym (count_is (whole_packets (files Hp)) (files Hp)))
 
       lp_ended : inputs.lp.tail ≡ None → ⊥
       lp_ended none =
           apart (length (packets_of (files Lp))) (packets_for t.settings Lp (symbols_of t.settings (inputs_of files))) t.lp inputs.lp.taken (whole_packets (files Lp))
-          (carried packets least t.settings (inputs_of files) Lp (two none)) (put_at Lp w.work.at.lp_least)
+          (carried packets least exist t.settings (inputs_of files) Lp (two none)) (put_at Lp w.work.at.lp_least)
           (all_put (files Lp) (left_of m Lp) inputs.lp.taken t.lp inputs.lp.tail none w.work.read.lp.rest)
           (within_file (files Lp) inputs.lp.taken w.work.read.lp.within) (sym (count_is (whole_packets (files Lp)) (files Lp)))
 
@@ -164,12 +166,12 @@ at_most : (a b c : ℕ) → a ≡ b + 1 → b < c → a ≤ c
 at_most a b c e l = omega (arith, e, l)
 
 -- the next symbol is one of the transmission again
-pub more_again : PacketsOfSuperFrames → TheFormulaIsLeast → (limit : ℕ) (files : Stream → List ℕ) (m : Meaning) (inputs : PacketInputs) (t t' : Seen) (put : Inputs → Type 0)
+pub more_again : PacketsOfSuperFrames → TheFormulaIsLeast → StreamsExist → (limit : ℕ) (files : Stream → List ℕ) (m : Meaning) (inputs : PacketInputs) (t t' : Seen) (put : Inputs → Type 0)
     → IsWritten limit files m inputs t' put → (n : ℕ) → t'.settings ≡ t.settings → t'.made ≡ n + 1 → CountsAt t'.settings inputs (n + 1) None → n < symbols_of t.settings (inputs_of files)
     → (inputs.lp.tail ≡ None → IsTrue (has_stream t.settings.hierarchy Lp)) → n + 1 < symbols_of t.settings (inputs_of files)
-more_again packets least limit files m inputs t t' put w n settings made counts more two =
+more_again packets least exist limit files m inputs t t' put w n settings made counts more two =
     let two' : inputs.lp.tail ≡ None → IsTrue (has_stream t'.settings.hierarchy Lp) = λ none. subst (λ (s : TheSettings). IsTrue (has_stream s.hierarchy Lp)) (sym settings) (two none) in
     let more' : n < symbols_of t'.settings (inputs_of files) = subst (λ (s : TheSettings). n < symbols_of s (inputs_of files)) (sym settings) more in
     let le : t'.made ≤ symbols_of t'.settings (inputs_of files) = at_most t'.made n (symbols_of t'.settings (inputs_of files)) made more' in
-    let on : t'.made < symbols_of t'.settings (inputs_of files) = goes_further limit files m inputs t' put w packets least two' (n + 1) made counts le in
+    let on : t'.made < symbols_of t'.settings (inputs_of files) = goes_further limit files m inputs t' put w packets least exist two' (n + 1) made counts le in
     subst (λ (k : ℕ). k < symbols_of t.settings (inputs_of files)) made (subst (λ (s : TheSettings). t'.made < symbols_of s (inputs_of files)) settings on)

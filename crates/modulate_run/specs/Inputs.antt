@@ -2,6 +2,8 @@
 use Rattle.std.specs.Prelude.{◌≡◌, ℕ, ◌+◌, ◌-◌, ◌*◌, ◌/◌, ◌≤◌, if◌then◌else◌, List, [], length, drop, Option, Some, None, Result, Ok, Err, ⊤}
 use Rattle.std.specs.Option.{option_map}
 use Rattle.station_core.specs.Meaning.{Meaning}
+use Rattle.station_core.specs.declared.ports.InPort.{InPort}
+use Rattle.station_core.specs.declared.ports.InPort.TheVariants as ins
 use Rattle.mode_set.specs.declared.modes.Stream.{Stream}
 use Rattle.mode_set.specs.declared.modes.Stream.TheVariants.{Hp, Lp}
 use Rattle.outer_chain.specs.Sent.{packet_at}
@@ -12,6 +14,11 @@ use Rattle.run_clauses.specs.declared.work.Refusal.TheVariants.{ReadFault, NotSy
 use Rattle.run_clauses.specs.Packets.{whole_packets, tail_of}
 use Rattle.modulate_run.specs.ModulateCommand.{inputs_of, refused_by}
 use Rattle.modulate_run.specs.declared.input.PacketInput.{PacketInput}
+
+-- the port at which the file of a stream is read
+abbrev pub port_of : Stream → InPort
+port_of Hp = ins.Hp
+port_of Lp = ins.Lp
 
 -- what is left to be read of a stream, if its file was opened
 abbrev pub lp_left : Meaning → List ℕ

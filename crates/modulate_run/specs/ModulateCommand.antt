@@ -2,10 +2,7 @@
 -- settings, the limit of packets and the files alone.
 use Rattle.std.specs.Prelude.{◌≡◌, ℕ, ◌+◌, ◌-◌, ◌/◌, ◌<◌, ◌≤◌, Bool, true, ⊤, if◌then◌else◌, List, [], ◌∷◌, ◌++◌, length, codes, decimal, Option, Some, None, is_some, option_and_then, false}
 use Rattle.std.specs.Option.{option_map}
-use Rattle.station_core.specs.declared.ports.InPort.{InPort}
 use Rattle.station_core.specs.declared.ports.InPort.TheVariants as ins
-use Rattle.station_core.specs.declared.ports.OutPort.{OutPort}
-use Rattle.station_core.specs.declared.ports.OutPort.TheVariants as outs
 use Rattle.mode_set.specs.declared.modes.Stream.{Stream}
 use Rattle.mode_set.specs.declared.modes.Stream.TheVariants.{Hp, Lp}
 use Rattle.mode_set.specs.declared.settings.Settings.{Settings as TheSettings}
@@ -17,13 +14,13 @@ use Rattle.transmission.specs.Agenda as agenda
 use Rattle.run_clauses.specs.declared.work.Refusal.{Refusal}
 use Rattle.run_clauses.specs.declared.work.Refusal.TheVariants.{NotSync, Limit}
 use Rattle.run_clauses.specs.Command.{Command, Files, Unread, named}
+use Rattle.run_clauses.specs.Ports.{by_input, cell_names}
 use Rattle.run_clauses.specs.Packets.{packets_of, counts_of, packets_line, most_packets_taken}
 use Rattle.run_clauses.specs.SettingsFile.{most_settings}
 use Rattle.run_clauses.specs.StatedSettings.{settings_of}
 use Rattle.run_clauses.specs.StreamForm.{fitting_refusal}
 use Rattle.modulate_run.specs.declared.counts.TransmissionCounts.{TransmissionCounts}
 
--- ---- the streams
 -- the files of the streams: of one that does not exist there is nothing
 abbrev pub files_of : Files → List ℕ → Option (List ℕ) → Stream → List ℕ
 files_of file hp lp = by_stream (file hp) (named file lp)
@@ -32,7 +29,6 @@ files_of file hp lp = by_stream (file hp) (named file lp)
 abbrev pub inputs_of : (Stream → List ℕ) → Inputs
 inputs_of files σ = packets_of (files σ)
 
--- ---- the cells
 -- the refusal of a point of the work is one of the run
 abbrev pub refused_by : agenda.Refusal → Refusal
 refused_by (agenda.Limit n) = Limit n
@@ -54,14 +50,9 @@ sent_by s limit inputs (Some refusal) = file_of_symbols s inputs (symbols_sent s
 abbrev pub cells_sent : TheSettings → ℕ → Inputs → List ℕ
 cells_sent s limit inputs = sent_by s limit inputs (first_refusal s limit inputs)
 
--- ---- the lines
 -- what is counted: the packets of the streams, and the super-frames
 abbrev pub transmission_counts : TheSettings → (Stream → List ℕ) → TransmissionCounts
-transmission_counts s files = record {
-  hp = counts_of (files Hp);
-  lp = counts_of (files Lp);
-  super_frames = super_frames s (λ σ. length (inputs_of files σ));
-}
+transmission_counts s files = record { hp = counts_of (files Hp); lp = counts_of (files Lp); super_frames = super_frames s (λ σ. length (inputs_of files σ)) }
 
 -- the closing line of the super-frames
 abbrev pub super_frames_line : ℕ → List ℕ
@@ -72,23 +63,13 @@ abbrev pub transmission_lines : Bool → TransmissionCounts → List ℕ
 transmission_lines two counts =
     packets_line Hp counts.hp ++ ((if two then packets_line Lp counts.lp else []) ++ super_frames_line counts.super_frames)
 
--- the lines that are printed: the closing lines, or none before a refusal
-abbrev pub lines_before : Option Refusal → List ℕ → List ℕ
-lines_before None closing = closing
-lines_before (Some refusal) closing = []
-
+-- the lines that are printed: none before a refusal, and else the closing lines
 abbrev pub modulation_lines : TheSettings → ℕ → Bool → (Stream → List ℕ) → List ℕ
-modulation_lines s limit two files = lines_before (modulation_refusal s limit (inputs_of files)) (transmission_lines two (transmission_counts s files))
-
--- ---- after a failed read
--- the port at which the file of a stream is read
-abbrev pub port_of : Stream → InPort
-port_of Hp = ins.Hp
-port_of Lp = ins.Lp
+modulation_lines s limit two files = if is_some (modulation_refusal s limit (inputs_of files)) then [] else transmission_lines two (transmission_counts s files)
 
 -- what is left unread of the file of a stream
 abbrev pub left_unread : Unread → Stream → List ℕ
-left_unread unread σ = unread (port_of σ)
+left_unread unread = by_stream (unread ins.Hp) (unread ins.Lp)
 
 -- the whole packets that were taken of a stream
 abbrev pub taken_of : (files left : Stream → List ℕ) → Stream → ℕ
@@ -105,62 +86,22 @@ pub record HoldsSymbolsSoFar (s : TheSettings) (limit : ℕ) (files left : Strea
   pub in_order : symbols ≤ symbols_sent s limit (inputs_of files)
   pub accepted : (σ : Stream) (p : ℕ) → p < taken_of files left σ → packet_refusal limit (inputs_of files) σ p ≡ None
 
--- ---- the command
--- the name of the file that is read at a port, and of the file that is written at one
-abbrev pub modulate_reads : List ℕ → List ℕ → Option (List ℕ) → InPort → Option (List ℕ)
-modulate_reads settings hp lp ins.Settings = Some settings
-modulate_reads settings hp lp ins.Hp = Some hp
-modulate_reads settings hp lp ins.Lp = lp
-modulate_reads settings hp lp ins.Cells = None
-
-abbrev pub modulate_writes : List ℕ → OutPort → Option (List ℕ)
-modulate_writes cells outs.Cells = Some cells
-modulate_writes cells outs.Hp = None
-modulate_writes cells outs.Lp = None
-modulate_writes cells outs.Bytes = None
-modulate_writes cells outs.Report = None
-
--- the refusal of the work, by the settings that are stated
-abbrev pub modulate_refusal : List ℕ → List ℕ → Option (List ℕ) → ℕ → Files → Option Refusal
-modulate_refusal settings hp lp limit file = option_and_then (λ s. modulation_refusal s limit (inputs_of (files_of file hp lp))) (settings_of (file settings))
-
--- the most bytes that are taken: of a transport file those of its packets that are accepted, and one packet more
-abbrev pub modulate_takes : List ℕ → Option (List ℕ) → ℕ → Files → InPort → ℕ
-modulate_takes hp lp limit file ins.Settings = most_settings + 1
-modulate_takes hp lp limit file ins.Hp = most_packets_taken limit (file hp)
-modulate_takes hp lp limit file ins.Lp = most_packets_taken limit (named file lp)
-modulate_takes hp lp limit file ins.Cells = 0
-
--- Cells comes to the cell file that is sent by the settings that the file states; no other output is written.
-abbrev pub ModulateComes : List ℕ → List ℕ → Option (List ℕ) → ℕ → Files → OutPort → List ℕ → Type 0
-ModulateComes settings hp lp limit file outs.Cells bytes =
-    (s : TheSettings) × (settings_of (file settings) ≡ Some s) × (bytes ≡ cells_sent s limit (inputs_of (files_of file hp lp)))
-ModulateComes settings hp lp limit file port bytes = bytes ≡ []
-
--- Report comes to the lines of the modulation by those settings.
-abbrev pub ModulatePrints : List ℕ → List ℕ → Option (List ℕ) → ℕ → Files → List ℕ → Type 0
-ModulatePrints settings hp lp limit file lines =
-    (s : TheSettings) × (settings_of (file settings) ≡ Some s) × (lines ≡ modulation_lines s limit (is_some lp) (files_of file hp lp))
-
--- After a failed read Cells holds the header and the symbols of the packets taken, by the settings that the file states.
-abbrev pub ModulateComesSoFar : List ℕ → List ℕ → Option (List ℕ) → ℕ → Files → Unread → OutPort → List ℕ → Type 0
-ModulateComesSoFar settings hp lp limit file unread outs.Cells bytes =
-    (s : TheSettings) × (settings_of (file settings) ≡ Some s) × HoldsSymbolsSoFar s limit (files_of file hp lp) (left_unread unread) bytes
-ModulateComesSoFar settings hp lp limit file unread port bytes = bytes ≡ []
-
+-- modulate SETTINGS HP CELLS, or modulate SETTINGS HP LP CELLS. Cells is the only output, so what it comes to is said
+-- without its port. Of a transport file no more is taken than the packets that are accepted, and one packet.
 abbrev pub modulate_command : List ℕ → List ℕ → Option (List ℕ) → List ℕ → Command
 modulate_command settings hp lp cells = record {
-  reads = modulate_reads settings hp lp;
-  writes = modulate_writes cells;
+  reads = by_input (Some settings) (Some hp) lp None;
+  writes = cell_names cells;
   statuses = 0 ∷ 3 ∷ 4 ∷ 5 ∷ 6 ∷ 7 ∷ 8 ∷ [];
   memory_at_work = false;
   early_refusal = λ file. fitting_refusal (file settings) lp;
   header = λ file. None;
-  work_refusal = modulate_refusal settings hp lp;
-  most_taken = modulate_takes hp lp;
-  Comes = ModulateComes settings hp lp;
-  Prints = ModulatePrints settings hp lp;
-  ComesSoFar = ModulateComesSoFar settings hp lp;
+  work_refusal = λ limit file. option_and_then (λ s. modulation_refusal s limit (inputs_of (files_of file hp lp))) (settings_of (file settings));
+  most_taken = λ limit file. by_input (most_settings + 1) (most_packets_taken limit (file hp)) (most_packets_taken limit (named file lp)) 0;
+  Comes = λ limit file port bytes. (s : TheSettings) × (settings_of (file settings) ≡ Some s) × (bytes ≡ cells_sent s limit (inputs_of (files_of file hp lp)));
+  Prints = λ limit file lines. (s : TheSettings) × (settings_of (file settings) ≡ Some s) × (lines ≡ modulation_lines s limit (is_some lp) (files_of file hp lp));
+  ComesSoFar = λ limit file unread port bytes.
+      (s : TheSettings) × (settings_of (file settings) ≡ Some s) × HoldsSymbolsSoFar s limit (files_of file hp lp) (left_unread unread) bytes;
   PrintsSoFar = λ limit file unread lines. lines ≡ [];
   Own = λ limit file. ⊤;
 }

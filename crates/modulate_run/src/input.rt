@@ -4,8 +4,7 @@ ghost use Rattle.station_core.specs.Meaning.{source_at};
 ghost use Rattle.mode_set.specs.declared.modes.Stream.{Stream as AnyStream};
 ghost use Rattle.run_steps.specs.Causes.{HasCause};
 ghost use Rattle.run_steps.specs.Reading.{ReadsFront};
-ghost use Rattle.modulate_run.specs.Inputs.{Gives, IsTaking, Reads, ReadsAt, left_of};
-ghost use Rattle.modulate_run.specs.ModulateCommand.{port_of};
+ghost use Rattle.modulate_run.specs.Inputs.{Gives, IsTaking, Reads, ReadsAt, left_of, port_of};
 
 use mode_set::Stream;
 use run_clauses::Refusal;

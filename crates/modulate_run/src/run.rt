@@ -48,10 +48,7 @@ fn modulate_all<'a, T: Transmitter, S: Station<'a>>(
     ensures ran { Ran (T.seen tx.old).settings limits.now.packets names.entry.hp.now (option_copied names.entry.lp) names.entry.cells.now (S.meaning station.old) (S.meaning station.new) result }
 {
     work();
-    match open(names.hp, names.lp, names.cells, station) {
-        Ok(()) => {}
-        Err(refusal) => return Err(refusal),
-    }
+    open(names.hp, names.lp, names.cells, station)?;
     let two = names.lp.is_some();
     match send_file(
         limits,

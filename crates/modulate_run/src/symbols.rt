@@ -54,10 +54,7 @@ fn put_wanted<'a, T: Transmitter, S: Station<'a>>(
         → GoesOn limit files (S.meaning station.new) inputs.new (T.seen tx.new) (T.stands tx.new) result }
 {
     while let Some(stream) = tx.wants() {
-        match inputs.put_next(stream, limit, tx, station) {
-            Ok(()) => {}
-            Err(refusal) => return Err(refusal),
-        }
+        inputs.put_next(stream, limit, tx, station)?;
     }
     Ok(())
 }
@@ -148,14 +145,12 @@ fn send_all<'a, T: Transmitter, S: Station<'a>>(
         → IsWritten limits.now.packets files (S.meaning station.old) inputs (T.seen tx.old) (T.stands tx.old)
         → Modulates (T.seen tx.old).settings limits.now.packets files (S.meaning station.new) result }
 {
+    symbol_spans::laws::settings();
     work();
     packets();
     super_frames();
     for symbol in 0..settings.max_symbols {
-        match next_symbol(limits.packets, &mut inputs, tx, bytes, station) {
-            Ok(()) => {}
-            Err(refusal) => return Err(refusal),
-        }
+        next_symbol(limits.packets, &mut inputs, tx, bytes, station)?;
         match inputs.counts_at::<T>(settings, symbol as u64 + 1) {
             Some(counts) => return Ok(counts),
             None => {}

@@ -1,5 +1,5 @@
 -- The labels of a symbol, whatever the streams.
-use Rattle.std.proofs.Common.{◌≡◌, ℕ, ◌+◌, ◌*◌, ◌^◌, ◌<◌, ◌≤◌, Bool, false, List, [], ◌++◌, length, take, get_or, sym, ap, ◌∙◌, subst, arith}
+use Rattle.std.proofs.Common.{◌≡◌, ℕ, ◌+◌, ◌^◌, ◌<◌, ◌≤◌, Bool, false, List, [], ◌++◌, length, take, get_or, sym, ap, ◌∙◌, subst, arith}
 use Rattle.std.proofs.lemmas.List.{get_or_append_left, get_or-append-add, get_or-take, length-take-le}
 use Rattle.spec_words.specs.Bits.{bit, is_set}
 use Rattle.mode_set.specs.StreamTable.{need, payload, label_bits}
@@ -7,7 +7,7 @@ use Rattle.mode_set.specs.declared.modes.Stream.{Stream}
 use Rattle.mode_set.specs.declared.modes.Stream.TheVariants.{Hp, Lp}
 use Rattle.mode_set.specs.declared.settings.Settings.{Settings}
 use Rattle.puncture.specs.SentBits.{bits_from}
-use Rattle.inner_chain.specs.Labels.{Paths, TxState, IsAtSymbol, AppendsLabels, label_bit}
+use Rattle.inner_chain.specs.Labels.{Paths, TxState, IsBefore, AppendsLabels, label_bit}
 use Rattle.frame_build.specs.Symbol.{Agree, bits_of}
 use Rattle.modulator.proofs.Runs.{run_is}
 
@@ -16,32 +16,27 @@ abbrev pub own_paths : TxState → List Bool → List Bool → Paths
 own_paths st hp lp Hp = bit (st.hp ++ hp)
 own_paths st hp lp Lp = bit (st.lp ++ lp)
 
-own_register : (r w : List Bool) (taken : ℕ) → taken ≡ 0 → length r ≡ 6 → r ≡ bits_from (bit (r ++ w)) taken 6
-own_register r w taken none e = run_is (bit (r ++ w)) r taken 6 e at
+own_register : (r w : List Bool) → length r ≡ 6 → r ≡ bits_from (bit (r ++ w)) 0 6
+own_register r w e = run_is (bit (r ++ w)) r 0 6 e at
   where
-    at : (k : ℕ) → k < 6 → get_or r k false ≡ bit (r ++ w) (taken + k)
-    at k l = let place : k ≡ taken + k = omega (arith, none) in sym (get_or_append_left r w false k (omega (arith, l, e))) ∙ ap (bit (r ++ w)) place
+    at : (k : ℕ) → k < 6 → get_or r k false ≡ bit (r ++ w) (0 + k)
+    at k l = let place : k ≡ 0 + k = omega arith in sym (get_or_append_left r w false k (omega (arith, l, e))) ∙ ap (bit (r ++ w)) place
 
-own_input : (r w : List Bool) (taken n : ℕ) → taken ≡ 0 → length r ≡ 6 → n ≤ length w → take n w ≡ bits_from (bit (r ++ w)) (taken + 6) n
-own_input r w taken n none e l = run_is (bit (r ++ w)) (take n w) (taken + 6) n (length-take-le n w l) at
+own_input : (r w : List Bool) (n : ℕ) → length r ≡ 6 → n ≤ length w → take n w ≡ bits_from (bit (r ++ w)) 6 n
+own_input r w n e l = run_is (bit (r ++ w)) (take n w) 6 n (length-take-le n w l) at
   where
-    at : (k : ℕ) → k < n → get_or (take n w) k false ≡ bit (r ++ w) (taken + 6 + k)
-    at k m =
-        let place : length r + k ≡ taken + 6 + k = omega (arith, none, e) in
-        get_or-take n w k false m ∙ sym (get_or-append-add r w k false) ∙ ap (bit (r ++ w)) place
+    at : (k : ℕ) → k < n → get_or (take n w) k false ≡ bit (r ++ w) (6 + k)
+    at k m = let place : length r + k ≡ 6 + k = omega (arith, e) in get_or-take n w k false m ∙ sym (get_or-append-add r w k false) ∙ ap (bit (r ++ w)) place
 
-nothing_taken : (need : ℕ) → 0 * need ≡ 0
-nothing_taken need = omega arith
+pub own_at : (st : TxState) (hp lp : List Bool) → length st.hp ≡ 6 → length st.lp ≡ 6 → IsBefore st (own_paths st hp lp)
+own_at st hp lp eh el Hp = own_register st.hp hp eh
+own_at st hp lp eh el Lp = own_register st.lp lp el
 
-pub own_at : (st : TxState) (hp lp : List Bool) → length st.hp ≡ 6 → length st.lp ≡ 6 → IsAtSymbol st (own_paths st hp lp) 0
-own_at st hp lp eh el Hp = own_register st.hp hp (0 * need st.settings Hp) (nothing_taken (need st.settings Hp)) eh
-own_at st hp lp eh el Lp = own_register st.lp lp (0 * need st.settings Lp) (nothing_taken (need st.settings Lp)) el
+pub own_hp : (st : TxState) (hp lp : List Bool) → length st.hp ≡ 6 → need st.settings Hp ≤ length hp → take (need st.settings Hp) hp ≡ bits_from (own_paths st hp lp Hp) 6 (need st.settings Hp)
+own_hp st hp lp e l = own_input st.hp hp (need st.settings Hp) e l
 
-pub own_hp : (st : TxState) (hp lp : List Bool) → length st.hp ≡ 6 → need st.settings Hp ≤ length hp → take (need st.settings Hp) hp ≡ bits_from (own_paths st hp lp Hp) (0 * need st.settings Hp + 6) (need st.settings Hp)
-own_hp st hp lp e l = own_input st.hp hp (0 * need st.settings Hp) (need st.settings Hp) (nothing_taken (need st.settings Hp)) e l
-
-pub own_lp : (st : TxState) (hp lp : List Bool) → length st.lp ≡ 6 → need st.settings Lp ≤ length lp → take (need st.settings Lp) lp ≡ bits_from (own_paths st hp lp Lp) (0 * need st.settings Lp + 6) (need st.settings Lp)
-own_lp st hp lp e l = own_input st.lp lp (0 * need st.settings Lp) (need st.settings Lp) (nothing_taken (need st.settings Lp)) e l
+pub own_lp : (st : TxState) (hp lp : List Bool) → length st.lp ≡ 6 → need st.settings Lp ≤ length lp → take (need st.settings Lp) lp ≡ bits_from (own_paths st hp lp Lp) 6 (need st.settings Lp)
+own_lp st hp lp e l = own_input st.lp lp (need st.settings Lp) e l
 
 -- labels behind nothing
 only_labels : (s : Settings) (odd : Bool) (bits : Stream → ℕ → Bool) (old new : List ℕ) (a : AppendsLabels s odd bits old new) → old ≡ [] → new ≡ a.labels
@@ -55,7 +50,3 @@ labels_small s odd bits old new a e q l = subst (λ (z : List ℕ). get_or z q 0
 
 pub labels_agree : (s : Settings) (odd : Bool) (bits : Stream → ℕ → Bool) (old new : List ℕ) → AppendsLabels s odd bits old new → old ≡ [] → Agree s (bits_of new) (label_bit s odd bits)
 labels_agree s odd bits old new a e q k l m = ap (λ (z : List ℕ). is_set (get_or z q 0) k) (only_labels s odd bits old new a e) ∙ a.are.bit q k l m
-
--- a register after the symbol
-pub register_long : (st : TxState) (paths : Paths) (m : ℕ) (σ : Stream) (register : List Bool) (t : ℕ) → register ≡ bits_from (paths σ) t 6 → length register ≡ 6
-register_long st paths m σ register t e = ap length e

@@ -1,5 +1,5 @@
 -- What a modulator stands for, step by step.
-use Rattle.std.proofs.Common.{◌≡◌, ℕ, ◌+◌, ◌-◌, ◌*◌, ◌/◌, ◌%◌, ◌<◌, ◌≤◌, Bool, true, false, cond, List, [], ◌∷◌, ◌++◌, length, take, drop, refl, sym, ap, ◌∙◌, subst, arith}
+use Rattle.std.proofs.Common.{◌≡◌, ℕ, zero, suc, ◌+◌, ◌-◌, ◌*◌, ◌/◌, ◌%◌, ◌<◌, ◌≤◌, Bool, true, false, cond, List, [], ◌∷◌, ◌++◌, length, take, drop, refl, sym, ap, ◌∙◌, subst, arith}
 use Rattle.std.specs.Prelude.{Option, Some, None, IfSome, nat_lt}
 use Rattle.std.proofs.lemmas.Bool.{lt-ltb, le-ltb, ltb-false}
 use Rattle.std.proofs.lemmas.List.{get_or_push, length_push, get_or_append_left, length-drop}
@@ -16,15 +16,17 @@ use Rattle.conv_code.specs.Coded.{zeros}
 use Rattle.outer_chain.specs.Sent.{packet_at, outer_byte}
 use Rattle.outer_chain.specs.Sending.{Sender, Sends}
 use Rattle.outer_chain.specs.SendingLaws.{SameBeginning}
-use Rattle.inner_chain.specs.Labels.{Paths, TxState, IsAtSymbol, input_bits, coded_bits, label_bit}
+use Rattle.symbol_spans.specs.Spans.{settings_at, steps_before}
+use Rattle.symbol_spans.specs.Laws.{NoSteps, SettingsStay}
+use Rattle.inner_chain.specs.Labels.{Paths, TxState, IsBefore, from_step, behind, input_bits, coded_bits, label_bit}
 use Rattle.frame_build.specs.Symbol.{Agree, symbol_bytes, bits_of}
 use Rattle.frame_build.specs.State.{NextSymbol}
-use Rattle.transmission.specs.Transmission.{Inputs, by_stream, paths_of, tx_label, tx_symbol}
+use Rattle.transmission.specs.Transmission.{Inputs, by_stream, paths_of, paths_at, tx_label, tx_symbol}
 use Rattle.transmission.specs.SuperFrames.{packets_for}
 use Rattle.modulator.specs.Streams.{HoldsBits}
 use Rattle.modulator.specs.State.{Parts, Transmitter, packets_in, transmitter, IsKept, wanted, HasPut, StandsFor, IsNext, with_packet, HasOneMore}
 use Rattle.modulator.specs.Wants.{stream_of}
-use Rattle.modulator.specs.Laws.{OtherStreams}
+use Rattle.modulator.specs.Laws.{OtherStreams, SymbolsTakeAlike}
 use Rattle.modulator.specs.declared.want.Want.{Want}
 use Rattle.modulator.specs.declared.want.Want.TheVariants as wants
 use Rattle.modulator.proofs.Feeding.{holds_none, bits_next, holds_rest, holds_other, register_other, register_none}
@@ -34,126 +36,128 @@ use Rattle.modulator.proofs.Feeding.{holds_none, bits_next, holds_rest, holds_ot
 whole_put : (a w : ℕ) → (a + w) % 1632 ≡ 0 → 1632 * ((a + w) / 1632) ≡ a + w
 whole_put a w e = omega (arith, e)
 
-lacks : (need made w : ℕ) → (made * need + w) % 1632 ≡ 0 → w < need → (made * need + w) / 1632 < rounded_up ((made + 1) * need) 1632
-lacks need made w e l =
-    let next : (made + 1) * need ≡ made * need + need = omega arith in
-    subst (λ (z : ℕ). (made * need + w) / 1632 < rounded_up z 1632) (sym next) (go (made * need) e)
-  where
-    go : (a : ℕ) → (a + w) % 1632 ≡ 0 → (a + w) / 1632 < rounded_up (a + need) 1632
-    go a h = omega (arith, h, l)
+lacks : (a b need w : ℕ) → b ≡ a + need → (a + w) % 1632 ≡ 0 → w < need → (a + w) / 1632 < rounded_up b 1632
+lacks a b need w next e l = omega (arith, next, e, l)
 
-has : (need made w : ℕ) → (made * need + w) % 1632 ≡ 0 → need ≤ w → rounded_up ((made + 1) * need) 1632 ≤ (made * need + w) / 1632
-has need made w e l =
-    let next : (made + 1) * need ≡ made * need + need = omega arith in
-    subst (λ (z : ℕ). rounded_up z 1632 ≤ (made * need + w) / 1632) (sym next) (go (made * need) e)
-  where
-    go : (a : ℕ) → (a + w) % 1632 ≡ 0 → rounded_up (a + need) 1632 ≤ (a + w) / 1632
-    go a h = omega (arith, h, l)
+has : (a b need w : ℕ) → b ≡ a + need → (a + w) % 1632 ≡ 0 → need ≤ w → rounded_up b 1632 ≤ (a + w) / 1632
+has a b need w next e l = omega (arith, next, e, l)
 
 -- ---- what is wanted
 abbrev hp_test : Settings → ℕ → Parts → Bool
-hp_test s made p = nat_lt (packets_in (made * need s Hp) p.hp_waiting) (packets_for s Hp (made + 1))
+hp_test s made p = nat_lt (packets_in (steps_before s Hp made) p.hp_waiting) (packets_for s Hp (made + 1))
 
 abbrev lp_test : Settings → ℕ → Parts → Bool
-lp_test s made p = nat_lt (packets_in (made * need s Lp) p.lp_waiting) (packets_for s Lp (made + 1))
+lp_test s made p = nat_lt (packets_in (steps_before s Lp made) p.lp_waiting) (packets_for s Lp (made + 1))
 
-want_hp : (m : Mode) (s : Settings) (made : ℕ) (p : Parts) (next : NextSymbol) (room : ℕ) → IsKept m s made p next room → length p.hp_waiting < need s Hp → wanted (transmitter s made p) ≡ Some Hp
-want_hp m s made p next room kept l = let test : hp_test s made p ≡ true = lt-ltb _ _ (lacks (need s Hp) made (length p.hp_waiting) kept.hp_whole l) in rw test refl
+want_hp : SymbolsTakeAlike → (m : Mode) (s : Settings) (made : ℕ) (p : Parts) (next : NextSymbol) (room : ℕ) → IsKept m s made p next room → length p.hp_waiting < need s Hp → wanted (transmitter s made p) ≡ Some Hp
+want_hp more m s made p next room kept l = let test : hp_test s made p ≡ true = lt-ltb _ _ (lacks (steps_before s Hp made) (steps_before s Hp (made + 1)) (need s Hp) (length p.hp_waiting) (more s Hp made) kept.hp_whole l) in rw test refl
 
-want_lp : (m : Mode) (s : Settings) (made : ℕ) (p : Parts) (next : NextSymbol) (room : ℕ) → IsKept m s made p next room → need s Hp ≤ length p.hp_waiting → length p.lp_waiting < need s Lp → wanted (transmitter s made p) ≡ Some Lp
-want_lp m s made p next room kept h l =
-    let first : hp_test s made p ≡ false = le-ltb _ _ (has (need s Hp) made (length p.hp_waiting) kept.hp_whole h) in
-    let second : lp_test s made p ≡ true = lt-ltb _ _ (lacks (need s Lp) made (length p.lp_waiting) kept.lp_whole l) in
+want_lp : SymbolsTakeAlike → (m : Mode) (s : Settings) (made : ℕ) (p : Parts) (next : NextSymbol) (room : ℕ) → IsKept m s made p next room → need s Hp ≤ length p.hp_waiting → length p.lp_waiting < need s Lp → wanted (transmitter s made p) ≡ Some Lp
+want_lp more m s made p next room kept h l =
+    let first : hp_test s made p ≡ false = le-ltb _ _ (has (steps_before s Hp made) (steps_before s Hp (made + 1)) (need s Hp) (length p.hp_waiting) (more s Hp made) kept.hp_whole h) in
+    let second : lp_test s made p ≡ true = lt-ltb _ _ (lacks (steps_before s Lp made) (steps_before s Lp (made + 1)) (need s Lp) (length p.lp_waiting) (more s Lp made) kept.lp_whole l) in
     rw (first, second) refl
 
-want_none : (m : Mode) (s : Settings) (made : ℕ) (p : Parts) (next : NextSymbol) (room : ℕ) → IsKept m s made p next room → need s Hp ≤ length p.hp_waiting → need s Lp ≤ length p.lp_waiting → wanted (transmitter s made p) ≡ None
-want_none m s made p next room kept h l =
-    let first : hp_test s made p ≡ false = le-ltb _ _ (has (need s Hp) made (length p.hp_waiting) kept.hp_whole h) in
-    let second : lp_test s made p ≡ false = le-ltb _ _ (has (need s Lp) made (length p.lp_waiting) kept.lp_whole l) in
+pub want_none : SymbolsTakeAlike → (m : Mode) (s : Settings) (made : ℕ) (p : Parts) (next : NextSymbol) (room : ℕ) → IsKept m s made p next room → need s Hp ≤ length p.hp_waiting → need s Lp ≤ length p.lp_waiting → wanted (transmitter s made p) ≡ None
+want_none more m s made p next room kept h l =
+    let first : hp_test s made p ≡ false = le-ltb _ _ (has (steps_before s Hp made) (steps_before s Hp (made + 1)) (need s Hp) (length p.hp_waiting) (more s Hp made) kept.hp_whole h) in
+    let second : lp_test s made p ≡ false = le-ltb _ _ (has (steps_before s Lp made) (steps_before s Lp (made + 1)) (need s Lp) (length p.lp_waiting) (more s Lp made) kept.lp_whole l) in
     rw (first, second) refl
 
-pub want_is : (m : Mode) (s : Settings) (made : ℕ) (p : Parts) (next : NextSymbol) (room : ℕ) → IsKept m s made p next room → (w : Want)
+pub want_is : SymbolsTakeAlike → (m : Mode) (s : Settings) (made : ℕ) (p : Parts) (next : NextSymbol) (room : ℕ) → IsKept m s made p next room → (w : Want)
     → (w ≡ wants.Hp → length p.hp_waiting < need s Hp) → (w ≡ wants.Lp → (need s Hp ≤ length p.hp_waiting) × (length p.lp_waiting < need s Lp)) → (w ≡ wants.Symbol → (need s Hp ≤ length p.hp_waiting) × (need s Lp ≤ length p.lp_waiting))
     → stream_of w ≡ wanted (transmitter s made p)
-want_is m s made p next room kept wants.Hp hp lp none = sym (want_hp m s made p next room kept (hp refl))
-want_is m s made p next room kept wants.Lp hp lp none = let both = lp refl in sym (want_lp m s made p next room kept both.0 both.1)
-want_is m s made p next room kept wants.Symbol hp lp none = let both = none refl in sym (want_none m s made p next room kept both.0 both.1)
+want_is more m s made p next room kept wants.Hp hp lp none = sym (want_hp more m s made p next room kept (hp refl))
+want_is more m s made p next room kept wants.Lp hp lp none = let both = lp refl in sym (want_lp more m s made p next room kept both.0 both.1)
+want_is more m s made p next room kept wants.Symbol hp lp none = let both = none refl in sym (want_none more m s made p next room kept both.0 both.1)
 
 -- where a symbol is wanted its bits wait
-enough : (need made w : ℕ) → (made * need + w) % 1632 ≡ 0 → rounded_up ((made + 1) * need) 1632 ≤ (made * need + w) / 1632 → need ≤ w
-enough need made w e l =
-    let next : (made + 1) * need ≡ made * need + need = omega arith in
-    go (made * need) e (subst (λ (z : ℕ). rounded_up z 1632 ≤ (made * need + w) / 1632) next l)
-  where
-    go : (a : ℕ) → (a + w) % 1632 ≡ 0 → rounded_up (a + need) 1632 ≤ (a + w) / 1632 → need ≤ w
-    go a h k = omega (arith, h, k)
+enough : (a b need w : ℕ) → b ≡ a + need → (a + w) % 1632 ≡ 0 → rounded_up b 1632 ≤ (a + w) / 1632 → need ≤ w
+enough a b need w next e l = omega (arith, next, e, l)
 
 none_tests : (b c : Bool) → cond b (Some Hp) (cond c (Some Lp) None) ≡ None → (b ≡ false) × (c ≡ false)
 none_tests true c e = cc
 none_tests false true e = cc
 none_tests false false e = (refl, refl)
 
-pub bits_wait : (m : Mode) (s : Settings) (made : ℕ) (p : Parts) (next : NextSymbol) (room : ℕ) → IsKept m s made p next room → wanted (transmitter s made p) ≡ None → (need s Hp ≤ length p.hp_waiting) × (need s Lp ≤ length p.lp_waiting)
-bits_wait m s made p next room kept e =
+pub bits_wait : SymbolsTakeAlike → (m : Mode) (s : Settings) (made : ℕ) (p : Parts) (next : NextSymbol) (room : ℕ) → IsKept m s made p next room → wanted (transmitter s made p) ≡ None → (need s Hp ≤ length p.hp_waiting) × (need s Lp ≤ length p.lp_waiting)
+bits_wait more m s made p next room kept e =
     let both = none_tests (hp_test s made p) (lp_test s made p) e in
-    (enough (need s Hp) made (length p.hp_waiting) kept.hp_whole (ltb-false _ _ both.0), enough (need s Lp) made (length p.lp_waiting) kept.lp_whole (ltb-false _ _ both.1))
+    (enough (steps_before s Hp made) (steps_before s Hp (made + 1)) (need s Hp) (length p.hp_waiting) (more s Hp made) kept.hp_whole (ltb-false _ _ both.0), enough (steps_before s Lp made) (steps_before s Lp (made + 1)) (need s Lp) (length p.lp_waiting) (more s Lp made) kept.lp_whole (ltb-false _ _ both.1))
+
+-- ---- a path from one of its steps on
+run_from : (path : ℕ → Bool) (n t u k : ℕ) → n + t ≡ u → bits_from (from_step path n) t k ≡ bits_from path u k
+run_from path n t u zero e = refl
+run_from path n t u (suc k) e =
+    let next : n + (t + 1) ≡ u + 1 = omega (arith, e) in
+    ap (λ (z : Bool). z ∷ bits_from (from_step path n) (t + 1) k) (ap path e) ∙ ap (λ (z : List Bool). path u ∷ z) (run_from path n (t + 1) (u + 1) k next)
+
+-- the register before step n
+register_at : (path : ℕ → Bool) (n : ℕ) (register : List Bool) → register ≡ bits_from path n 6 → register ≡ bits_from (from_step path n) 0 6
+register_at path n register e = let same : n + 0 ≡ n = omega arith in e ∙ sym (run_from path n 0 n 6 same)
+
+register_of_path : (path : ℕ → Bool) (n : ℕ) (register : List Bool) → register ≡ bits_from (from_step path n) 0 6 → register ≡ bits_from path n 6
+register_of_path path n register e = let same : n + 0 ≡ n = omega arith in e ∙ run_from path n 0 n 6 same
+
+-- behind a symbol of so many steps
+register_behind : (path : ℕ → Bool) (n k u : ℕ) (register : List Bool) → u ≡ n + k → register ≡ bits_from (from_step (from_step path n) k) 0 6 → register ≡ bits_from (from_step path u) 0 6
+register_behind path n k u register e is =
+    let none : k + 0 ≡ k = omega arith in
+    let there : n + k ≡ u = omega (arith, e) in
+    register_at path u register (is ∙ run_from (from_step path n) k 0 k 6 none ∙ run_from path n k u 6 there)
 
 -- ---- before the first packet
 abbrev pub parts_of : Sender → Sender → List Bool → List Bool → TxState → Parts
 parts_of hp lp hp_bits lp_bits inner = record { hp_sender = hp; lp_sender = lp; hp_waiting = hp_bits; lp_waiting = lp_bits; inner = inner }
 
-no_bits : (need : ℕ) (waiting : List Bool) → waiting ≡ [] → (packets_in (0 * need) waiting ≡ 0) × ((0 * need + length waiting) % 1632 ≡ 0)
-no_bits need waiting e = let size : length waiting ≡ 0 = ap length e in (omega (arith, size), omega (arith, size))
+no_bits : (a : ℕ) (waiting : List Bool) → a ≡ 0 → waiting ≡ [] → (packets_in a waiting ≡ 0) × ((a + length waiting) % 1632 ≡ 0)
+no_bits a waiting none e = let size : length waiting ≡ 0 = ap length e in (omega (arith, none, size), omega (arith, none, size))
 
-nothing_taken : (need : ℕ) → 0 * need ≡ 0
-nothing_taken need = omega arith
-
-pub kept_at_start : (m : Mode) (s : Settings) (p : Parts) (next : NextSymbol) (room : ℕ) → s.mode ≡ m → p.inner.settings ≡ s → p.inner.hp ≡ zeros → p.inner.lp ≡ zeros → p.hp_waiting ≡ [] → p.lp_waiting ≡ [] → next.settings ≡ s → next.number ≡ 0 → payload s.mode ≤ room → IsKept m s 0 p next room
-kept_at_start m s p next room mode inner hp lp hp_bits lp_bits out first labels = record {
+pub kept_at_start : NoSteps → (m : Mode) (s : Settings) (p : Parts) (next : NextSymbol) (room : ℕ) → s.mode ≡ m → p.inner.settings ≡ s → p.inner.hp ≡ zeros → p.inner.lp ≡ zeros → p.hp_waiting ≡ [] → p.lp_waiting ≡ [] → next.settings ≡ s → next.number ≡ 0 → payload s.mode ≤ room → IsKept m s 0 p next room
+kept_at_start none m s p next room mode inner hp lp hp_bits lp_bits out first labels = record {
   mode = mode;
   inner = inner;
   hp_register = ap length hp;
   lp_register = ap length lp;
   out = out;
   symbol = first;
-  hp_whole = (no_bits (need s Hp) p.hp_waiting hp_bits).1;
-  lp_whole = (no_bits (need s Lp) p.lp_waiting lp_bits).1;
+  hp_whole = (no_bits (steps_before s Hp 0) p.hp_waiting (none s Hp) hp_bits).1;
+  lp_whole = (no_bits (steps_before s Lp 0) p.lp_waiting (none s Lp) lp_bits).1;
   labels = labels;
 }
 
 zeros_begin : (bytes : ℕ → ℕ) → zeros ≡ bits_from (path_of bytes) 0 6
 zeros_begin bytes = refl
 
-pub has_put_nothing : (s : Settings) (p : Parts) → p.inner.settings ≡ s → p.inner.hp ≡ zeros → p.inner.lp ≡ zeros → Sends p.hp_sender [] → Sends p.lp_sender [] → p.hp_waiting ≡ [] → p.lp_waiting ≡ [] → (inputs : Inputs) → HasPut (transmitter s 0 p) inputs
-has_put_nothing s p inner hp lp hp_sends lp_sends hp_bits lp_bits inputs = record {
+pub has_put_nothing : NoSteps → (s : Settings) (p : Parts) → p.inner.settings ≡ s → p.inner.hp ≡ zeros → p.inner.lp ≡ zeros → Sends p.hp_sender [] → Sends p.lp_sender [] → p.hp_waiting ≡ [] → p.lp_waiting ≡ [] → (inputs : Inputs) → HasPut (transmitter s 0 p) inputs
+has_put_nothing none s p inner hp lp hp_sends lp_sends hp_bits lp_bits inputs = record {
   settings = inner;
-  hp = holds_none p.hp_sender p.hp_waiting (inputs Hp) (packets_in (0 * need s Hp) p.hp_waiting) (0 * need s Hp) hp_sends hp_bits (no_bits (need s Hp) p.hp_waiting hp_bits).0 (nothing_taken (need s Hp));
-  lp = holds_none p.lp_sender p.lp_waiting (inputs Lp) (packets_in (0 * need s Lp) p.lp_waiting) (0 * need s Lp) lp_sends lp_bits (no_bits (need s Lp) p.lp_waiting lp_bits).0 (nothing_taken (need s Lp));
+  hp = holds_none p.hp_sender p.hp_waiting (inputs Hp) (packets_in (steps_before s Hp 0) p.hp_waiting) (steps_before s Hp 0) hp_sends hp_bits (no_bits (steps_before s Hp 0) p.hp_waiting (none s Hp) hp_bits).0 (none s Hp);
+  lp = holds_none p.lp_sender p.lp_waiting (inputs Lp) (packets_in (steps_before s Lp 0) p.lp_waiting) (steps_before s Lp 0) lp_sends lp_bits (no_bits (steps_before s Lp 0) p.lp_waiting (none s Lp) lp_bits).0 (none s Lp);
   inner = at;
 }
   where
-    at : IsAtSymbol p.inner (paths_of inputs) 0
-    at Hp = register_none (outer_byte (inputs Hp)) (0 * need p.inner.settings Hp) p.inner.hp (nothing_taken (need p.inner.settings Hp)) (hp ∙ zeros_begin (outer_byte (inputs Hp)))
-    at Lp = register_none (outer_byte (inputs Lp)) (0 * need p.inner.settings Lp) p.inner.lp (nothing_taken (need p.inner.settings Lp)) (lp ∙ zeros_begin (outer_byte (inputs Lp)))
+    at : IsBefore p.inner (paths_at s inputs 0)
+    at Hp = register_at (paths_of inputs Hp) (steps_before s Hp 0) p.inner.hp (register_none (outer_byte (inputs Hp)) (steps_before s Hp 0) p.inner.hp (none s Hp) (hp ∙ zeros_begin (outer_byte (inputs Hp))))
+    at Lp = register_at (paths_of inputs Lp) (steps_before s Lp 0) p.inner.lp (register_none (outer_byte (inputs Lp)) (steps_before s Lp 0) p.inner.lp (none s Lp) (lp ∙ zeros_begin (outer_byte (inputs Lp))))
 
-pub none_put : (s : Settings) (p : Parts) → p.hp_waiting ≡ [] → p.lp_waiting ≡ [] → ((transmitter s 0 p).hp ≡ 0) × ((transmitter s 0 p).lp ≡ 0)
-none_put s p hp_bits lp_bits = ((no_bits (need s Hp) p.hp_waiting hp_bits).0, (no_bits (need s Lp) p.lp_waiting lp_bits).0)
+pub none_put : NoSteps → (s : Settings) (p : Parts) → p.hp_waiting ≡ [] → p.lp_waiting ≡ [] → ((transmitter s 0 p).hp ≡ 0) × ((transmitter s 0 p).lp ≡ 0)
+none_put none s p hp_bits lp_bits = ((no_bits (steps_before s Hp 0) p.hp_waiting (none s Hp) hp_bits).0, (no_bits (steps_before s Lp 0) p.lp_waiting (none s Lp) lp_bits).0)
 
 -- ---- other streams that begin alike
 pub other_streams : SameBeginning → OtherStreams
 other_streams alike t inputs other h same = record {
   settings = h.settings;
-  hp = holds_other alike t.parts.hp_sender t.parts.hp_waiting (inputs Hp) (other Hp) t.hp (t.made * need t.settings Hp) h.hp (same Hp);
-  lp = holds_other alike t.parts.lp_sender t.parts.lp_waiting (inputs Lp) (other Lp) t.lp (t.made * need t.settings Lp) h.lp (same Lp);
+  hp = holds_other alike t.parts.hp_sender t.parts.hp_waiting (inputs Hp) (other Hp) t.hp (steps_before t.settings Hp t.made) h.hp (same Hp);
+  lp = holds_other alike t.parts.lp_sender t.parts.lp_waiting (inputs Lp) (other Lp) t.lp (steps_before t.settings Lp t.made) h.lp (same Lp);
   inner = at;
 }
   where
-    within : (σ : Stream) (n : ℕ) → t.made * need t.settings σ ≤ 1632 * n → t.made * need t.parts.inner.settings σ ≤ 1632 * n
-    within σ n l = subst (λ (z : Settings). t.made * need z σ ≤ 1632 * n) (sym h.settings) l
-
-    at : IsAtSymbol t.parts.inner (paths_of other) t.made
-    at Hp = register_other alike (inputs Hp) (other Hp) t.hp (t.made * need t.parts.inner.settings Hp) t.parts.inner.hp (within Hp t.hp h.hp.within) (same Hp) (h.inner Hp)
-    at Lp = register_other alike (inputs Lp) (other Lp) t.lp (t.made * need t.parts.inner.settings Lp) t.parts.inner.lp (within Lp t.lp h.lp.within) (same Lp) (h.inner Lp)
+    at : IsBefore t.parts.inner (paths_at t.settings other t.made)
+    at Hp = register_at (paths_of other Hp) (steps_before t.settings Hp t.made) t.parts.inner.hp
+        (register_other alike (inputs Hp) (other Hp) t.hp (steps_before t.settings Hp t.made) t.parts.inner.hp h.hp.within (same Hp) (register_of_path (paths_of inputs Hp) (steps_before t.settings Hp t.made) t.parts.inner.hp (h.inner Hp)))
+    at Lp = register_at (paths_of other Lp) (steps_before t.settings Lp t.made) t.parts.inner.lp
+        (register_other alike (inputs Lp) (other Lp) t.lp (steps_before t.settings Lp t.made) t.parts.inner.lp h.lp.within (same Lp) (register_of_path (paths_of inputs Lp) (steps_before t.settings Lp t.made) t.parts.inner.lp (h.inner Lp)))
 
 -- ---- a packet more
 -- a modulator after a packet
@@ -174,51 +178,51 @@ one_packet a old new e = (go (length old) (length new) e, λ h. rest (length old
 abbrev pub Feeds : Sender → List Bool → Sender → List Bool → List ℕ → Type 0
 Feeds sender waiting new_sender new_waiting packet = (packets : List (List ℕ)) (n taken : ℕ) → HoldsBits sender waiting packets n taken → packet ≡ packet_at packets n → HoldsBits new_sender new_waiting packets (n + 1) taken
 
-pub put_hp : (m : Mode) (s : Settings) (made : ℕ) (p : Parts) (next : NextSymbol) (room : ℕ) (sender : Sender) (waiting : List Bool) (packet : List ℕ) → IsKept m s made p next room → length p.hp_waiting < need s Hp
+pub put_hp : SymbolsTakeAlike → (m : Mode) (s : Settings) (made : ℕ) (p : Parts) (next : NextSymbol) (room : ℕ) (sender : Sender) (waiting : List Bool) (packet : List ℕ) → IsKept m s made p next room → length p.hp_waiting < need s Hp
     → length waiting ≡ length p.hp_waiting + 1632 → Feeds p.hp_sender p.hp_waiting sender waiting packet
     → WasPut (transmitter s made p) (transmitter s made (parts_of sender p.lp_sender waiting p.lp_waiting p.inner)) packet
-put_hp m s made p next room sender waiting packet kept few amount feeds =
-    let want : wanted (transmitter s made p) ≡ Some Hp = want_hp m s made p next room kept few in
-    let one : packets_in (made * need s Hp) waiting ≡ packets_in (made * need s Hp) p.hp_waiting + 1 = (one_packet (made * need s Hp) p.hp_waiting waiting amount).0 in
+put_hp more m s made p next room sender waiting packet kept few amount feeds =
+    let want : wanted (transmitter s made p) ≡ Some Hp = want_hp more m s made p next room kept few in
+    let one : packets_in (steps_before s Hp made) waiting ≡ packets_in (steps_before s Hp made) p.hp_waiting + 1 = (one_packet (steps_before s Hp made) p.hp_waiting waiting amount).0 in
     record {
       counts = subst (λ (z : Option Stream). HasOneMore z (transmitter s made p) (transmitter s made (parts_of sender p.lp_sender waiting p.lp_waiting p.inner))) (sym want) (one, refl);
       put = λ inputs h is.
-          let here : packet ≡ packet_at (inputs Hp) (packets_in (made * need s Hp) p.hp_waiting) =
-          subst (λ (z : Option Stream). IfSome z (λ σ. packet ≡ packet_at (inputs σ) (by_stream (packets_in (made * need s Hp) p.hp_waiting) (packets_in (made * need s Lp) p.lp_waiting) σ))) want is in
+          let here : packet ≡ packet_at (inputs Hp) (packets_in (steps_before s Hp made) p.hp_waiting) =
+          subst (λ (z : Option Stream). IfSome z (λ σ. packet ≡ packet_at (inputs σ) (by_stream (packets_in (steps_before s Hp made) p.hp_waiting) (packets_in (steps_before s Lp made) p.lp_waiting) σ))) want is in
           record {
             settings = h.settings;
-            hp = subst (λ (z : ℕ). HoldsBits sender waiting (inputs Hp) z (made * need s Hp)) (sym one) (feeds (inputs Hp) (packets_in (made * need s Hp) p.hp_waiting) (made * need s Hp) h.hp here);
+            hp = subst (λ (z : ℕ). HoldsBits sender waiting (inputs Hp) z (steps_before s Hp made)) (sym one) (feeds (inputs Hp) (packets_in (steps_before s Hp made) p.hp_waiting) (steps_before s Hp made) h.hp here);
             lp = h.lp;
             inner = h.inner;
           };
     }
 
-pub put_lp : (m : Mode) (s : Settings) (made : ℕ) (p : Parts) (next : NextSymbol) (room : ℕ) (sender : Sender) (waiting : List Bool) (packet : List ℕ) → IsKept m s made p next room → need s Hp ≤ length p.hp_waiting → length p.lp_waiting < need s Lp
+pub put_lp : SymbolsTakeAlike → (m : Mode) (s : Settings) (made : ℕ) (p : Parts) (next : NextSymbol) (room : ℕ) (sender : Sender) (waiting : List Bool) (packet : List ℕ) → IsKept m s made p next room → need s Hp ≤ length p.hp_waiting → length p.lp_waiting < need s Lp
     → length waiting ≡ length p.lp_waiting + 1632 → Feeds p.lp_sender p.lp_waiting sender waiting packet
     → WasPut (transmitter s made p) (transmitter s made (parts_of p.hp_sender sender p.hp_waiting waiting p.inner)) packet
-put_lp m s made p next room sender waiting packet kept many few amount feeds =
-    let want : wanted (transmitter s made p) ≡ Some Lp = want_lp m s made p next room kept many few in
-    let one : packets_in (made * need s Lp) waiting ≡ packets_in (made * need s Lp) p.lp_waiting + 1 = (one_packet (made * need s Lp) p.lp_waiting waiting amount).0 in
+put_lp more m s made p next room sender waiting packet kept many few amount feeds =
+    let want : wanted (transmitter s made p) ≡ Some Lp = want_lp more m s made p next room kept many few in
+    let one : packets_in (steps_before s Lp made) waiting ≡ packets_in (steps_before s Lp made) p.lp_waiting + 1 = (one_packet (steps_before s Lp made) p.lp_waiting waiting amount).0 in
     record {
       counts = subst (λ (z : Option Stream). HasOneMore z (transmitter s made p) (transmitter s made (parts_of p.hp_sender sender p.hp_waiting waiting p.inner))) (sym want) (refl, one);
       put = λ inputs h is.
-          let here : packet ≡ packet_at (inputs Lp) (packets_in (made * need s Lp) p.lp_waiting) =
-          subst (λ (z : Option Stream). IfSome z (λ σ. packet ≡ packet_at (inputs σ) (by_stream (packets_in (made * need s Hp) p.hp_waiting) (packets_in (made * need s Lp) p.lp_waiting) σ))) want is in
+          let here : packet ≡ packet_at (inputs Lp) (packets_in (steps_before s Lp made) p.lp_waiting) =
+          subst (λ (z : Option Stream). IfSome z (λ σ. packet ≡ packet_at (inputs σ) (by_stream (packets_in (steps_before s Hp made) p.hp_waiting) (packets_in (steps_before s Lp made) p.lp_waiting) σ))) want is in
           record {
             settings = h.settings;
             hp = h.hp;
-            lp = subst (λ (z : ℕ). HoldsBits sender waiting (inputs Lp) z (made * need s Lp)) (sym one) (feeds (inputs Lp) (packets_in (made * need s Lp) p.lp_waiting) (made * need s Lp) h.lp here);
+            lp = subst (λ (z : ℕ). HoldsBits sender waiting (inputs Lp) z (steps_before s Lp made)) (sym one) (feeds (inputs Lp) (packets_in (steps_before s Lp made) p.lp_waiting) (steps_before s Lp made) h.lp here);
             inner = h.inner;
           };
     }
 
 pub kept_hp : (m : Mode) (s : Settings) (made : ℕ) (p : Parts) (next : NextSymbol) (room : ℕ) (sender : Sender) (waiting : List Bool) → IsKept m s made p next room → length waiting ≡ length p.hp_waiting + 1632 → IsKept m s made (parts_of sender p.lp_sender waiting p.lp_waiting p.inner) next room
 kept_hp m s made p next room sender waiting kept amount =
-    record { mode = kept.mode; inner = kept.inner; hp_register = kept.hp_register; lp_register = kept.lp_register; out = kept.out; symbol = kept.symbol; hp_whole = (one_packet (made * need s Hp) p.hp_waiting waiting amount).1 kept.hp_whole; lp_whole = kept.lp_whole; labels = kept.labels }
+    record { mode = kept.mode; inner = kept.inner; hp_register = kept.hp_register; lp_register = kept.lp_register; out = kept.out; symbol = kept.symbol; hp_whole = (one_packet (steps_before s Hp made) p.hp_waiting waiting amount).1 kept.hp_whole; lp_whole = kept.lp_whole; labels = kept.labels }
 
 pub kept_lp : (m : Mode) (s : Settings) (made : ℕ) (p : Parts) (next : NextSymbol) (room : ℕ) (sender : Sender) (waiting : List Bool) → IsKept m s made p next room → length waiting ≡ length p.lp_waiting + 1632 → IsKept m s made (parts_of p.hp_sender sender p.hp_waiting waiting p.inner) next room
 kept_lp m s made p next room sender waiting kept amount =
-    record { mode = kept.mode; inner = kept.inner; hp_register = kept.hp_register; lp_register = kept.lp_register; out = kept.out; symbol = kept.symbol; hp_whole = kept.hp_whole; lp_whole = (one_packet (made * need s Lp) p.lp_waiting waiting amount).1 kept.lp_whole; labels = kept.labels }
+    record { mode = kept.mode; inner = kept.inner; hp_register = kept.hp_register; lp_register = kept.lp_register; out = kept.out; symbol = kept.symbol; hp_whole = kept.hp_whole; lp_whole = (one_packet (steps_before s Lp made) p.lp_waiting waiting amount).1 kept.lp_whole; labels = kept.labels }
 
 -- the list of packets put grows by the packet
 pub stands_more : OtherStreams → (old new : Transmitter) (packet : List ℕ) → WasPut old new packet → (packets : Inputs) → StandsFor old packets → StandsFor new (with_packet packets (wanted old) packet)
@@ -267,17 +271,16 @@ stands_more others old new packet was packets st = go (wanted old) refl
 abbrev pub after_symbol : Settings → Parts → TxState → Parts
 after_symbol s p inner = parts_of p.hp_sender p.lp_sender (drop (need s Hp) p.hp_waiting) (drop (need s Lp) p.lp_waiting) inner
 
-bits_taken : (need made : ℕ) (waiting : List Bool) → need ≤ length waiting → (packets_in ((made + 1) * need) (drop need waiting) ≡ packets_in (made * need) waiting) × ((made * need + length waiting) % 1632 ≡ 0 → ((made + 1) * need + length (drop need waiting)) % 1632 ≡ 0)
-bits_taken need made waiting l =
-    let next : (made + 1) * need ≡ made * need + need = omega arith in
+bits_taken : (a b need : ℕ) (waiting : List Bool) → b ≡ a + need → need ≤ length waiting → (packets_in b (drop need waiting) ≡ packets_in a waiting) × ((a + length waiting) % 1632 ≡ 0 → (b + length (drop need waiting)) % 1632 ≡ 0)
+bits_taken a b need waiting next l =
     let size : length (drop need waiting) ≡ length waiting - need = length-drop need waiting in
-    let same : (made + 1) * need + length (drop need waiting) ≡ made * need + length waiting = omega (arith, next, size, l) in
+    let same : b + length (drop need waiting) ≡ a + length waiting = omega (arith, next, size, l) in
     (ap (λ (z : ℕ). z / 1632) same, λ h. ap (λ (z : ℕ). z % 1632) same ∙ h)
 
-pub kept_symbol : (m : Mode) (s : Settings) (made : ℕ) (p : Parts) (next after : NextSymbol) (room left : ℕ) (inner : TxState) → IsKept m s made p next room → wanted (transmitter s made p) ≡ None
+pub kept_symbol : SymbolsTakeAlike → (m : Mode) (s : Settings) (made : ℕ) (p : Parts) (next after : NextSymbol) (room left : ℕ) (inner : TxState) → IsKept m s made p next room → wanted (transmitter s made p) ≡ None
     → inner.settings ≡ p.inner.settings → length inner.hp ≡ 6 → length inner.lp ≡ 6 → after.settings ≡ next.settings → after.number ≡ (next.number + 1) % 272 → left ≡ room → IsKept m s (made + 1) (after_symbol s p inner) after left
-kept_symbol m s made p next after room left inner kept none same hp lp out number capacity =
-    let wait = bits_wait m s made p next room kept none in
+kept_symbol more m s made p next after room left inner kept none same hp lp out number capacity =
+    let wait = bits_wait more m s made p next room kept none in
     record {
       mode = kept.mode;
       inner = same ∙ kept.inner;
@@ -285,63 +288,72 @@ kept_symbol m s made p next after room left inner kept none same hp lp out numbe
       lp_register = lp;
       out = out ∙ kept.out;
       symbol = omega (arith, number, kept.symbol);
-      hp_whole = (bits_taken (need s Hp) made p.hp_waiting wait.0).1 kept.hp_whole;
-      lp_whole = (bits_taken (need s Lp) made p.lp_waiting wait.1).1 kept.lp_whole;
+      hp_whole = (bits_taken (steps_before s Hp made) (steps_before s Hp (made + 1)) (need s Hp) p.hp_waiting (more s Hp made) wait.0).1 kept.hp_whole;
+      lp_whole = (bits_taken (steps_before s Lp made) (steps_before s Lp (made + 1)) (need s Lp) p.lp_waiting (more s Lp made) wait.1).1 kept.lp_whole;
       labels = omega (arith, kept.labels, capacity);
     }
 
-pub counts_kept : (m : Mode) (s : Settings) (made : ℕ) (p : Parts) (next : NextSymbol) (room : ℕ) (inner : TxState) → IsKept m s made p next room → wanted (transmitter s made p) ≡ None
+pub counts_kept : SymbolsTakeAlike → (m : Mode) (s : Settings) (made : ℕ) (p : Parts) (next : NextSymbol) (room : ℕ) (inner : TxState) → IsKept m s made p next room → wanted (transmitter s made p) ≡ None
     → ((transmitter s (made + 1) (after_symbol s p inner)).hp ≡ (transmitter s made p).hp) × ((transmitter s (made + 1) (after_symbol s p inner)).lp ≡ (transmitter s made p).lp)
-counts_kept m s made p next room inner kept none =
-    let wait = bits_wait m s made p next room kept none in
-    ((bits_taken (need s Hp) made p.hp_waiting wait.0).0, (bits_taken (need s Lp) made p.lp_waiting wait.1).0)
+counts_kept more m s made p next room inner kept none =
+    let wait = bits_wait more m s made p next room kept none in
+    ((bits_taken (steps_before s Hp made) (steps_before s Hp (made + 1)) (need s Hp) p.hp_waiting (more s Hp made) wait.0).0, (bits_taken (steps_before s Lp made) (steps_before s Lp (made + 1)) (need s Lp) p.lp_waiting (more s Lp made) wait.1).0)
 
 -- the bits that the symbol takes, at the settings of the inner coder
-pub hp_input : (m : Mode) (s : Settings) (made : ℕ) (p : Parts) (next : NextSymbol) (room : ℕ) (inputs : Inputs) → IsKept m s made p next room → wanted (transmitter s made p) ≡ None → HasPut (transmitter s made p) inputs
-    → take (need p.inner.settings Hp) p.hp_waiting ≡ input_bits p.inner.settings (paths_of inputs) made Hp
-hp_input m s made p next room inputs kept none h =
-    let wait = bits_wait m s made p next room kept none in
-    subst (λ (z : Settings). take (need z Hp) p.hp_waiting ≡ input_bits z (paths_of inputs) made Hp) (sym kept.inner)
-    (bits_next p.hp_sender p.hp_waiting (inputs Hp) (packets_in (made * need s Hp) p.hp_waiting) (made * need s Hp) (need s Hp) h.hp wait.0)
+pub hp_input : SymbolsTakeAlike → (m : Mode) (s : Settings) (made : ℕ) (p : Parts) (next : NextSymbol) (room : ℕ) (inputs : Inputs) → IsKept m s made p next room → wanted (transmitter s made p) ≡ None → HasPut (transmitter s made p) inputs
+    → take (need p.inner.settings Hp) p.hp_waiting ≡ input_bits p.inner.settings (paths_at s inputs made) Hp
+hp_input more m s made p next room inputs kept none h =
+    let wait = bits_wait more m s made p next room kept none in
+    subst (λ (z : Settings). take (need z Hp) p.hp_waiting ≡ input_bits z (paths_at s inputs made) Hp) (sym kept.inner)
+    (bits_next p.hp_sender p.hp_waiting (inputs Hp) (packets_in (steps_before s Hp made) p.hp_waiting) (steps_before s Hp made) (need s Hp) h.hp wait.0
+    ∙ sym (run_from (paths_of inputs Hp) (steps_before s Hp made) 6 (steps_before s Hp made + 6) (need s Hp) refl))
 
-pub lp_input : (m : Mode) (s : Settings) (made : ℕ) (p : Parts) (next : NextSymbol) (room : ℕ) (inputs : Inputs) → IsKept m s made p next room → wanted (transmitter s made p) ≡ None → HasPut (transmitter s made p) inputs
-    → take (need p.inner.settings Lp) p.lp_waiting ≡ input_bits p.inner.settings (paths_of inputs) made Lp
-lp_input m s made p next room inputs kept none h =
-    let wait = bits_wait m s made p next room kept none in
-    subst (λ (z : Settings). take (need z Lp) p.lp_waiting ≡ input_bits z (paths_of inputs) made Lp) (sym kept.inner)
-    (bits_next p.lp_sender p.lp_waiting (inputs Lp) (packets_in (made * need s Lp) p.lp_waiting) (made * need s Lp) (need s Lp) h.lp wait.1)
+pub lp_input : SymbolsTakeAlike → (m : Mode) (s : Settings) (made : ℕ) (p : Parts) (next : NextSymbol) (room : ℕ) (inputs : Inputs) → IsKept m s made p next room → wanted (transmitter s made p) ≡ None → HasPut (transmitter s made p) inputs
+    → take (need p.inner.settings Lp) p.lp_waiting ≡ input_bits p.inner.settings (paths_at s inputs made) Lp
+lp_input more m s made p next room inputs kept none h =
+    let wait = bits_wait more m s made p next room kept none in
+    subst (λ (z : Settings). take (need z Lp) p.lp_waiting ≡ input_bits z (paths_at s inputs made) Lp) (sym kept.inner)
+    (bits_next p.lp_sender p.lp_waiting (inputs Lp) (packets_in (steps_before s Lp made) p.lp_waiting) (steps_before s Lp made) (need s Lp) h.lp wait.1
+    ∙ sym (run_from (paths_of inputs Lp) (steps_before s Lp made) 6 (steps_before s Lp made + 6) (need s Lp) refl))
 
-pub put_kept : (m : Mode) (s : Settings) (made : ℕ) (p : Parts) (next : NextSymbol) (room : ℕ) (inner : TxState) (inputs : Inputs) → IsKept m s made p next room → wanted (transmitter s made p) ≡ None → inner.settings ≡ p.inner.settings
-    → IsAtSymbol inner (paths_of inputs) (made + 1) → HasPut (transmitter s made p) inputs → HasPut (transmitter s (made + 1) (after_symbol s p inner)) inputs
-put_kept m s made p next room inner inputs kept none same at h =
-    let wait = bits_wait m s made p next room kept none in
-    let counts = counts_kept m s made p next room inner kept none in
-    let hp_next : (made + 1) * need s Hp ≡ made * need s Hp + need s Hp = row made (need s Hp) in
-    let lp_next : (made + 1) * need s Lp ≡ made * need s Lp + need s Lp = row made (need s Lp) in
+pub put_kept : SymbolsTakeAlike → (m : Mode) (s : Settings) (made : ℕ) (p : Parts) (next : NextSymbol) (room : ℕ) (inner : TxState) (inputs : Inputs) → IsKept m s made p next room → wanted (transmitter s made p) ≡ None → inner.settings ≡ p.inner.settings
+    → IsBefore inner (behind p.inner.settings (paths_at s inputs made)) → HasPut (transmitter s made p) inputs → HasPut (transmitter s (made + 1) (after_symbol s p inner)) inputs
+put_kept more m s made p next room inner inputs kept none same at h =
+    let wait = bits_wait more m s made p next room kept none in
+    let counts = counts_kept more m s made p next room inner kept none in
     record {
       settings = same ∙ kept.inner;
-      hp = subst (λ (z : ℕ). HoldsBits p.hp_sender (drop (need s Hp) p.hp_waiting) (inputs Hp) z ((made + 1) * need s Hp)) (sym counts.0)
-          (holds_rest p.hp_sender p.hp_waiting (drop (need s Hp) p.hp_waiting) (inputs Hp) (packets_in (made * need s Hp) p.hp_waiting) (made * need s Hp) (need s Hp) ((made + 1) * need s Hp) h.hp wait.0 refl hp_next);
-      lp = subst (λ (z : ℕ). HoldsBits p.lp_sender (drop (need s Lp) p.lp_waiting) (inputs Lp) z ((made + 1) * need s Lp)) (sym counts.1)
-          (holds_rest p.lp_sender p.lp_waiting (drop (need s Lp) p.lp_waiting) (inputs Lp) (packets_in (made * need s Lp) p.lp_waiting) (made * need s Lp) (need s Lp) ((made + 1) * need s Lp) h.lp wait.1 refl lp_next);
-      inner = at;
+      hp = subst (λ (z : ℕ). HoldsBits p.hp_sender (drop (need s Hp) p.hp_waiting) (inputs Hp) z (steps_before s Hp (made + 1))) (sym counts.0)
+          (holds_rest p.hp_sender p.hp_waiting (drop (need s Hp) p.hp_waiting) (inputs Hp) (packets_in (steps_before s Hp made) p.hp_waiting) (steps_before s Hp made) (need s Hp) (steps_before s Hp (made + 1)) h.hp wait.0 refl (more s Hp made));
+      lp = subst (λ (z : ℕ). HoldsBits p.lp_sender (drop (need s Lp) p.lp_waiting) (inputs Lp) z (steps_before s Lp (made + 1))) (sym counts.1)
+          (holds_rest p.lp_sender p.lp_waiting (drop (need s Lp) p.lp_waiting) (inputs Lp) (packets_in (steps_before s Lp made) p.lp_waiting) (steps_before s Lp made) (need s Lp) (steps_before s Lp (made + 1)) h.lp wait.1 refl (more s Lp made));
+      inner = ahead;
     }
   where
-    row : (a b : ℕ) → (a + 1) * b ≡ a * b + b
-    row a b = omega arith
+    takes : (σ : Stream) → steps_before s σ (made + 1) ≡ steps_before s σ made + need p.inner.settings σ
+    takes σ = subst (λ (z : Settings). steps_before s σ (made + 1) ≡ steps_before s σ made + need z σ) (sym kept.inner) (more s σ made)
+
+    ahead : IsBefore inner (paths_at s inputs (made + 1))
+    ahead Hp = register_behind (paths_of inputs Hp) (steps_before s Hp made) (need p.inner.settings Hp) (steps_before s Hp (made + 1)) inner.hp (takes Hp) (at Hp)
+    ahead Lp = register_behind (paths_of inputs Lp) (steps_before s Lp made) (need p.inner.settings Lp) (steps_before s Lp (made + 1)) inner.lp (takes Lp) (at Lp)
 
 pub stands_kept : (old new : Transmitter) (packets : Inputs) → new.hp ≡ old.hp → new.lp ≡ old.lp → (HasPut old packets → HasPut new packets) → StandsFor old packets → StandsFor new packets
 stands_kept old new packets hp lp put st = record { hp = st.hp ∙ sym hp; lp = st.lp ∙ sym lp; put = put st.put }
 
 -- what is written is the symbol of the transmission
-pub symbol_is : (s z : Settings) (made number : ℕ) (inputs : Inputs) (labels : List ℕ) → z ≡ s → number ≡ made % 272
+pub symbol_is : (s z y : Settings) (made number : ℕ) (inputs : Inputs) (labels : List ℕ) → y ≡ s → z ≡ s → number ≡ made % 272
     → ((l : ℕ → ℕ → Bool) → symbol_bytes s made l ≡ symbol_bytes s (made % 272) l)
     → ((l k : ℕ → ℕ → Bool) → Agree s l k → symbol_bytes s made l ≡ symbol_bytes s made k)
-    → Agree s (bits_of labels) (label_bit s (is_odd made) (coded_bits s (paths_of inputs) made)) → symbol_bytes z number (bits_of labels) ≡ tx_symbol s inputs made
+    → Agree s (bits_of labels) (label_bit s (is_odd made) (coded_bits s (paths_at s inputs made))) → symbol_bytes z number (bits_of labels) ≡ symbol_bytes y made (label_bit y (is_odd made) (coded_bits y (paths_at s inputs made)))
+symbol_is s z y made number inputs labels ey es en repeats follows agree =
+    ap (λ (x : Settings). symbol_bytes x number (bits_of labels)) es ∙ ap (λ (n : ℕ). symbol_bytes s n (bits_of labels)) en ∙ sym (repeats (bits_of labels))
+    ∙ follows (bits_of labels) (label_bit s (is_odd made) (coded_bits s (paths_at s inputs made))) agree
+    ∙ ap (λ (x : Settings). symbol_bytes x made (label_bit x (is_odd made) (coded_bits x (paths_at s inputs made)))) (sym ey)
+
+-- a symbol of the transmission has the settings of its super-frame
+tx_symbol_is : (s : Settings) (inputs : Inputs) (m : ℕ) → tx_symbol s inputs m ≡ symbol_bytes (settings_at s m) m (label_bit (settings_at s m) (is_odd m) (coded_bits (settings_at s m) (paths_at s inputs m)))
 unfolding tx_symbol tx_label
-symbol_is s z made number inputs labels es en repeats follows agree =
-    ap (λ (y : Settings). symbol_bytes y number (bits_of labels)) es ∙ ap (λ (n : ℕ). symbol_bytes s n (bits_of labels)) en ∙ sym (repeats (bits_of labels))
-    ∙ follows (bits_of labels) (tx_label s inputs made) agree
+tx_symbol_is s inputs m = refl
 
 -- the modulator after a symbol, whose parts took these bits
 pub record AfterSymbol (old new : Transmitter) : Type 0 where
@@ -352,28 +364,28 @@ pub record AfterSymbol (old new : Transmitter) : Type 0 where
 taken_at : (s z : Settings) (σ : Stream) (waiting new : List Bool) → z ≡ s → new ≡ drop (need z σ) waiting → drop (need s σ) waiting ≡ new
 taken_at s z σ waiting new e is = sym (is ∙ ap (λ (y : Settings). drop (need y σ) waiting) e)
 
-pub symbol_made : (m : Mode) (s : Settings) (made : ℕ) (p : Parts) (next : NextSymbol) (room : ℕ) (inner : TxState) (hp lp : List Bool) → IsKept m s made p next room → wanted (transmitter s made p) ≡ None → inner.settings ≡ p.inner.settings
+pub symbol_made : SymbolsTakeAlike → (m : Mode) (s : Settings) (made : ℕ) (p : Parts) (next : NextSymbol) (room : ℕ) (inner : TxState) (hp lp : List Bool) → IsKept m s made p next room → wanted (transmitter s made p) ≡ None → inner.settings ≡ p.inner.settings
     → hp ≡ drop (need p.inner.settings Hp) p.hp_waiting → lp ≡ drop (need p.inner.settings Lp) p.lp_waiting
-    → ((paths : Paths) (n : ℕ) → IsAtSymbol p.inner paths n → take (need p.inner.settings Hp) p.hp_waiting ≡ input_bits p.inner.settings paths n Hp → take (need p.inner.settings Lp) p.lp_waiting ≡ input_bits p.inner.settings paths n Lp → IsAtSymbol inner paths (n + 1))
+    → ((paths : Paths) → IsBefore p.inner paths → take (need p.inner.settings Hp) p.hp_waiting ≡ input_bits p.inner.settings paths Hp → take (need p.inner.settings Lp) p.lp_waiting ≡ input_bits p.inner.settings paths Lp → IsBefore inner (behind p.inner.settings paths))
     → AfterSymbol (transmitter s made p) (transmitter s (made + 1) (parts_of p.hp_sender p.lp_sender hp lp inner))
-symbol_made m s made p next room inner hp lp kept none same eh el goes =
+symbol_made more m s made p next room inner hp lp kept none same eh el goes =
     subst (λ (z : List Bool). AfterSymbol (transmitter s made p) (transmitter s (made + 1) (parts_of p.hp_sender p.lp_sender z lp inner))) (taken_at s p.inner.settings Hp p.hp_waiting hp kept.inner eh)
     (subst (λ (z : List Bool). AfterSymbol (transmitter s made p) (transmitter s (made + 1) (parts_of p.hp_sender p.lp_sender (drop (need s Hp) p.hp_waiting) z inner))) (taken_at s p.inner.settings Lp p.lp_waiting lp kept.inner el)
     (record {
-      hp = (counts_kept m s made p next room inner kept none).0;
-      lp = (counts_kept m s made p next room inner kept none).1;
-      put = λ inputs h. put_kept m s made p next room inner inputs kept none same (goes (paths_of inputs) made h.inner (hp_input m s made p next room inputs kept none h) (lp_input m s made p next room inputs kept none h)) h;
+      hp = (counts_kept more m s made p next room inner kept none).0;
+      lp = (counts_kept more m s made p next room inner kept none).1;
+      put = λ inputs h. put_kept more m s made p next room inner inputs kept none same (goes (paths_at s inputs made) h.inner (hp_input more m s made p next room inputs kept none h) (lp_input more m s made p next room inputs kept none h)) h;
     }))
 
 -- what is written
-pub bytes_made : (m : Mode) (s : Settings) (made : ℕ) (p : Parts) (next : NextSymbol) (room : ℕ) (labels : List ℕ) (inputs : Inputs) → IsKept m s made p next room → wanted (transmitter s made p) ≡ None
+pub bytes_made : SettingsStay → SymbolsTakeAlike → (m : Mode) (s : Settings) (made : ℕ) (p : Parts) (next : NextSymbol) (room : ℕ) (labels : List ℕ) (inputs : Inputs) → IsKept m s made p next room → wanted (transmitter s made p) ≡ None
     → ((l : ℕ → ℕ → Bool) → symbol_bytes s made l ≡ symbol_bytes s (made % 272) l)
     → ((l k : ℕ → ℕ → Bool) → Agree s l k → symbol_bytes s made l ≡ symbol_bytes s made k)
-    → ((paths : Paths) (n : ℕ) → IsAtSymbol p.inner paths n → take (need p.inner.settings Hp) p.hp_waiting ≡ input_bits p.inner.settings paths n Hp → take (need p.inner.settings Lp) p.lp_waiting ≡ input_bits p.inner.settings paths n Lp
-    → Agree p.inner.settings (bits_of labels) (label_bit p.inner.settings (is_odd made) (coded_bits p.inner.settings paths n)))
+    → ((paths : Paths) → IsBefore p.inner paths → take (need p.inner.settings Hp) p.hp_waiting ≡ input_bits p.inner.settings paths Hp → take (need p.inner.settings Lp) p.lp_waiting ≡ input_bits p.inner.settings paths Lp
+    → Agree p.inner.settings (bits_of labels) (label_bit p.inner.settings (is_odd made) (coded_bits p.inner.settings paths)))
     → HasPut (transmitter s made p) inputs → symbol_bytes next.settings next.number (bits_of labels) ≡ tx_symbol s inputs made
-bytes_made m s made p next room labels inputs kept none repeats follows agrees h =
-    let agree : Agree s (bits_of labels) (label_bit s (is_odd made) (coded_bits s (paths_of inputs) made)) =
-    subst (λ (z : Settings). Agree z (bits_of labels) (label_bit z (is_odd made) (coded_bits z (paths_of inputs) made))) kept.inner
-    (agrees (paths_of inputs) made h.inner (hp_input m s made p next room inputs kept none h) (lp_input m s made p next room inputs kept none h)) in
-    symbol_is s next.settings made next.number inputs labels kept.out kept.symbol repeats follows agree
+bytes_made stay more m s made p next room labels inputs kept none repeats follows agrees h =
+    let agree : Agree s (bits_of labels) (label_bit s (is_odd made) (coded_bits s (paths_at s inputs made))) =
+    subst (λ (z : Settings). Agree z (bits_of labels) (label_bit z (is_odd made) (coded_bits z (paths_at s inputs made)))) kept.inner
+    (agrees (paths_at s inputs made) h.inner (hp_input more m s made p next room inputs kept none h) (lp_input more m s made p next room inputs kept none h)) in
+    symbol_is s next.settings (settings_at s made) made next.number inputs labels (stay s (made / 272)) kept.out kept.symbol repeats follows agree ∙ sym (tx_symbol_is s inputs made)

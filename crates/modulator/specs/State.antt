@@ -1,15 +1,16 @@
 -- What is seen of a modulator, and what it stands for.
-use Rattle.std.specs.Prelude.{◌≡◌, ℕ, ◌+◌, ◌*◌, ◌/◌, ◌%◌, ◌≤◌, Bool, List, [], ◌∷◌, ◌++◌, length, Option, Some, None, IfSome}
-use Rattle.mode_set.specs.StreamTable.{need, payload}
+use Rattle.std.specs.Prelude.{◌≡◌, ℕ, ◌+◌, ◌/◌, ◌%◌, ◌≤◌, Bool, List, [], ◌∷◌, ◌++◌, length, Option, Some, None, IfSome}
+use Rattle.mode_set.specs.StreamTable.{payload}
 use Rattle.mode_set.specs.declared.modes.Mode.{Mode}
 use Rattle.mode_set.specs.declared.modes.Stream.{Stream}
 use Rattle.mode_set.specs.declared.modes.Stream.TheVariants.{Hp, Lp}
 use Rattle.mode_set.specs.declared.settings.Settings.{Settings}
 use Rattle.outer_chain.specs.Sent.{packet_at}
 use Rattle.outer_chain.specs.Sending.{Sender}
-use Rattle.inner_chain.specs.Labels.{TxState, IsAtSymbol}
+use Rattle.symbol_spans.specs.Spans.{steps_before}
+use Rattle.inner_chain.specs.Labels.{TxState, IsBefore}
 use Rattle.frame_build.specs.State.{NextSymbol}
-use Rattle.transmission.specs.Transmission.{Inputs, by_stream, paths_of}
+use Rattle.transmission.specs.Transmission.{Inputs, by_stream, paths_at}
 use Rattle.transmission.specs.Agenda.{next_stream}
 use Rattle.modulator.specs.Streams.{HoldsBits}
 
@@ -34,7 +35,7 @@ abbrev pub packets_in : ℕ → List Bool → ℕ
 packets_in taken waiting = (taken + length waiting) / 1632
 
 abbrev pub transmitter : Settings → ℕ → Parts → Transmitter
-transmitter s made parts = record { settings = s; made = made; hp = packets_in (made * need s Hp) parts.hp_waiting; lp = packets_in (made * need s Lp) parts.lp_waiting; parts = parts }
+transmitter s made parts = record { settings = s; made = made; hp = packets_in (steps_before s Hp made) parts.hp_waiting; lp = packets_in (steps_before s Lp made) parts.lp_waiting; parts = parts }
 
 -- what a modulator keeps: its parts are of the same settings and at the same symbol, each stream has whole packets, and there is room for the labels of a symbol
 pub record IsKept (m : Mode) (s : Settings) (made : ℕ) (parts : Parts) (next : NextSymbol) (room : ℕ) : Type 0 where
@@ -44,8 +45,8 @@ pub record IsKept (m : Mode) (s : Settings) (made : ℕ) (parts : Parts) (next :
   pub lp_register : length parts.inner.lp ≡ 6
   pub out : next.settings ≡ s
   pub symbol : next.number ≡ made % 272
-  pub hp_whole : (made * need s Hp + length parts.hp_waiting) % 1632 ≡ 0
-  pub lp_whole : (made * need s Lp + length parts.lp_waiting) % 1632 ≡ 0
+  pub hp_whole : (steps_before s Hp made + length parts.hp_waiting) % 1632 ≡ 0
+  pub lp_whole : (steps_before s Lp made + length parts.lp_waiting) % 1632 ≡ 0
   pub labels : payload s.mode ≤ room
 
 -- the stream of which the next symbol wants a packet; none where the packets suffice
@@ -55,9 +56,9 @@ wanted t = next_stream t.settings t.made t.hp t.lp
 -- The packets put are the first ones of these streams, which null packets follow without end; of their bits those of the symbols made were taken.
 pub record HasPut (t : Transmitter) (inputs : Inputs) : Type 0 where
   pub settings : t.parts.inner.settings ≡ t.settings
-  pub hp : HoldsBits t.parts.hp_sender t.parts.hp_waiting (inputs Hp) t.hp (t.made * need t.settings Hp)
-  pub lp : HoldsBits t.parts.lp_sender t.parts.lp_waiting (inputs Lp) t.lp (t.made * need t.settings Lp)
-  pub inner : IsAtSymbol t.parts.inner (paths_of inputs) t.made
+  pub hp : HoldsBits t.parts.hp_sender t.parts.hp_waiting (inputs Hp) t.hp (steps_before t.settings Hp t.made)
+  pub lp : HoldsBits t.parts.lp_sender t.parts.lp_waiting (inputs Lp) t.lp (steps_before t.settings Lp t.made)
+  pub inner : IsBefore t.parts.inner (paths_at t.settings inputs t.made)
 
 -- The modulator stands for these packet lists: they are the packets put.
 pub record StandsFor (t : Transmitter) (packets : Inputs) : Type 0 where

@@ -8,7 +8,7 @@ ghost use Rattle.transmission.specs.SuperFrames.{AreSuperFrames, super_frames};
 ghost use Rattle.modulator.specs.State.{HasOneMore, HasPut, IsNext, StandsFor, no_packets, wanted, with_packet};
 ghost use Rattle.modulator.specs.Wants.{stream_of};
 
-use crate::laws::other_streams;
+use crate::laws::{other_streams, symbols_take_alike};
 use crate::next_labels::next_labels;
 use crate::stream::StreamTx;
 use crate::want::Want;
@@ -87,6 +87,7 @@ impl<M: Carriers> Modulator<M> {
         ensures put { IfOk result (λ tx. (inputs : Inputs) → HasPut tx inputs) }
         ensures stands { IfOk result (λ tx. StandsFor tx no_packets) }
     {
+        symbols_take_alike();
         Ok(Modulator {
             settings: *settings,
             hp: StreamTx::new(alloc)?,
@@ -103,6 +104,7 @@ impl<M: Carriers> Modulator<M> {
     pub fn wants(&self) -> Want
         ensures { stream_of result ≡ wanted self.now }
     {
+        symbols_take_alike();
         want_of(&self.settings, &self.hp.waiting, &self.lp.waiting)
     }
 
@@ -116,6 +118,7 @@ impl<M: Carriers> Modulator<M> {
         ensures stands { (packets : Inputs) → StandsFor self.old packets → StandsFor self.new (with_packet packets (wanted self.old) packet.now) }
     {
         other_streams();
+        symbols_take_alike();
         match want_of(&self.settings, &self.hp.waiting, &self.lp.waiting) {
             Want::Hp => self.hp.put(packet),
             Want::Lp => self.lp.put(packet),
@@ -142,6 +145,7 @@ impl<M: Carriers> Modulator<M> {
         ensures len { vec_len to.new ≡ vec_len to.old + 5 * M.K }
         ensures capacity { vec_capacity to.new ≡ vec_capacity to.old }
     {
+        symbols_take_alike();
         symbols_repeat(&self.settings, self.made);
         symbols_follow_labels(&self.settings, self.made);
         next_labels(

@@ -2,7 +2,7 @@
 ghost use Rattle.std.specs.Prelude.{◌≡◌, ◌+◌, ◌-◌, ◌*◌, ◌%◌, ◌^◌, ◌<◌, ◌≤◌, ◌==◌, ℕ, List, [], drop, take, length, get_or, vec_capacity};
 ghost use Rattle.mode_set.specs.StreamTable.{label_bits, need, payload};
 ghost use Rattle.mode_set.specs.declared.modes.Stream.TheVariants.{Hp, Lp};
-ghost use Rattle.inner_chain.specs.Labels.{IsAtSymbol, Paths, coded_bits, input_bits, label_bit};
+ghost use Rattle.inner_chain.specs.Labels.{IsBefore, Paths, behind, coded_bits, input_bits, label_bit};
 ghost use Rattle.frame_build.specs.Symbol.{Agree, bits_of};
 
 use bit_pack::WaitBuf;
@@ -33,14 +33,14 @@ pub(crate) fn next_labels<M: Carriers>(
 
     ensures count { length labels.new.items ≡ payload inner.old.settings.mode }
     ensures small { (q : ℕ) → q < payload inner.old.settings.mode → get_or labels.new.items q 0 < 2 ^ label_bits inner.old.settings.shape }
-    ensures labels { (paths : Paths) (m : ℕ) → IsAtSymbol inner.old paths m
-        → take (need inner.old.settings Hp) hp.old ≡ input_bits inner.old.settings paths m Hp
-        → take (need inner.old.settings Lp) lp.old ≡ input_bits inner.old.settings paths m Lp
-        → Agree inner.old.settings (bits_of labels.new.items) (label_bit inner.old.settings odd (coded_bits inner.old.settings paths m)) }
-    ensures next { (paths : Paths) (m : ℕ) → IsAtSymbol inner.old paths m
-        → take (need inner.old.settings Hp) hp.old ≡ input_bits inner.old.settings paths m Hp
-        → take (need inner.old.settings Lp) lp.old ≡ input_bits inner.old.settings paths m Lp
-        → IsAtSymbol inner.new paths (m + 1) }
+    ensures labels { (paths : Paths) → IsBefore inner.old paths
+        → take (need inner.old.settings Hp) hp.old ≡ input_bits inner.old.settings paths Hp
+        → take (need inner.old.settings Lp) lp.old ≡ input_bits inner.old.settings paths Lp
+        → Agree inner.old.settings (bits_of labels.new.items) (label_bit inner.old.settings odd (coded_bits inner.old.settings paths)) }
+    ensures next { (paths : Paths) → IsBefore inner.old paths
+        → take (need inner.old.settings Hp) hp.old ≡ input_bits inner.old.settings paths Hp
+        → take (need inner.old.settings Lp) lp.old ≡ input_bits inner.old.settings paths Lp
+        → IsBefore inner.new (behind inner.old.settings paths) }
 {
     labels.clear();
     inner.labels(odd, hp, lp, labels);

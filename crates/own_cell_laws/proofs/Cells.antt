@@ -1,5 +1,5 @@
 -- The cell that stands for a label, where it is received near its point.
-use Rattle.std.proofs.Common.{◌≡◌, ℕ, zero, suc, ◌+◌, ◌%◌, ◌*◌, ◌<◌, ◌≤◌, List, ◌∷◌, length, get_or, refl, sym, ap, ap₂, ◌∙◌, subst, arith, Bool, true, false, cond, not, ◌||◌}
+use Rattle.std.proofs.Common.{◌≡◌, ℕ, zero, suc, ◌+◌, ◌/◌, ◌%◌, ◌*◌, ◌<◌, ◌≤◌, List, ◌∷◌, length, get_or, refl, sym, ap, ap₂, ◌∙◌, subst, arith, Bool, true, false, cond, not, ◌||◌}
 use Rattle.std.specs.Prelude.{IsTrue, filter, count_by, slice_index, ◌==◌}
 use Rattle.std.specs.List.{range_with_len}
 use Rattle.spec_words.specs.Words.{numbers}
@@ -15,6 +15,8 @@ use Rattle.frame_build.specs.Symbol.{cell_at, cell_of_kind}
 use Rattle.soft_metric.specs.Weights.{weighted}
 use Rattle.qam_map.specs.Cells.{cell_of}
 use Rattle.inner_chain.specs.CostPairs.{weight_of, costs_on, weighted_costs_on}
+use Rattle.symbol_spans.specs.Spans.{settings_at}
+use Rattle.symbol_spans.specs.Laws.{ModeStays}
 use Rattle.transmission.specs.Transmission.{Inputs, tx_cell, tx_label}
 use Rattle.transmission.specs.SuperFrames.{symbols_of}
 use Rattle.reception.specs.Cells.{symbol_cells, symbol_weights}
@@ -101,36 +103,53 @@ carrier_of s m q counts l =
     record { within = within; free = h.0; kind_is = (counts.numbered (slice_index (payload_carriers s.mode (m % 68)) q) q within).1 (l, refl) }
 
 -- ---- the cell of a label
-pub point_is : (s : Settings) (inputs : Inputs) (m q k : ℕ) → kind s.mode (m % 68) k ≡ Payload q → tx_cell s inputs m k ≡ map_cell s.shape s.hierarchy (tx_label s inputs m q)
+pub point_is : (s : Settings) (inputs : Inputs) (m q k : ℕ) → kind (settings_at s m).mode (m % 68) k ≡ Payload q
+    → tx_cell s inputs m k ≡ map_cell (settings_at s m).shape (settings_at s m).hierarchy (tx_label s inputs m q)
 unfolding tx_cell cell_at cell_of_kind
-point_is s inputs m q k e = ap (cell_of_kind s m (tx_label s inputs m) k) e
+point_is s inputs m q k e = ap (cell_of_kind (settings_at s m) m (tx_label s inputs m) k) e
 
 -- the cell that a receiver finds on a payload place
 abbrev pub cell_on : Settings → List ℕ → ℕ → ℕ → Cell
-cell_on s bytes m q = cell_of (symbol_cells s bytes m) (slice_index (payload_carriers s.mode (m % 68)) q)
+cell_on s bytes m q = cell_of (symbol_cells s bytes m) (slice_index (payload_carriers (settings_at s m).mode (m % 68)) q)
 
-near_label : (s : Settings) (inputs : Inputs) (bytes : List ℕ) (m q : ℕ) → IsWithin s inputs bytes → m < symbols_of s inputs → IsCarrierOf s m q (slice_index (payload_carriers s.mode (m % 68)) q)
-    → IsNear s.shape s.hierarchy (map_cell s.shape s.hierarchy (tx_label s inputs m q)) (cell_on s bytes m q)
-near_label s inputs bytes m q w l c =
-    let k : ℕ = slice_index (payload_carriers s.mode (m % 68)) q in
-    subst (λ (z : Cell). IsNear s.shape s.hierarchy z (cell_on s bytes m q)) (point_is s inputs m q k c.kind_is) (w.near m k l c.within c.free)
+-- a payload carrier of the symbol's settings is one of the receiver's
+pub record IsFree (s : Settings) (m k : ℕ) : Type 0 where
+  pub within : k < carriers s.mode
+  pub free : IsTrue (is_payload s.mode (m % 68) k)
+
+is_free : ModeStays → (s : Settings) (m q k : ℕ) → IsCarrierOf (settings_at s m) m q k → IsFree s m k
+is_free stays s m q k c = record {
+  within = subst (λ (z : Mode). k < carriers z) (stays s (m / 272)) c.within;
+  free = subst (λ (z : Mode). IsTrue (is_payload z (m % 68) k)) (stays s (m / 272)) c.free;
+}
+
+near_label : ModeStays → (s : Settings) (inputs : Inputs) (bytes : List ℕ) (m q : ℕ) → IsWithin s inputs bytes → m < symbols_of s inputs → IsCarrierOf (settings_at s m) m q (slice_index (payload_carriers (settings_at s m).mode (m % 68)) q)
+    → IsNear (settings_at s m).shape (settings_at s m).hierarchy (map_cell (settings_at s m).shape (settings_at s m).hierarchy (tx_label s inputs m q)) (cell_on s bytes m q)
+near_label stays s inputs bytes m q w l c =
+    let k : ℕ = slice_index (payload_carriers (settings_at s m).mode (m % 68)) q in
+    let f : IsFree s m k = is_free stays s m q k c in
+    subst (λ (z : Cell). IsNear (settings_at s m).shape (settings_at s m).hierarchy z (cell_on s bytes m q)) (point_is s inputs m q k c.kind_is) (w.near m k l f.within f.free)
 
 -- each bit of the label costs less than the other bit, by 15 at least
-pub label_favoured : NearPointsFavourTheirBits → (s : Settings) (inputs : Inputs) (bytes : List ℕ) (m q e : ℕ) → IsWithin s inputs bytes → m < symbols_of s inputs
-    → AreCounted s.mode (m % 68) → q < payload s.mode → e < label_bits s.shape
-    → cost s.shape s.hierarchy (on_axis (cell_on s bytes m q) e) e (tx_label s inputs m q e) + 15 ≤ cost s.shape s.hierarchy (on_axis (cell_on s bytes m q) e) e (not (tx_label s inputs m q e))
-label_favoured favour s inputs bytes m q e w l counts lq le = favour s.shape s.hierarchy (tx_label s inputs m q) (cell_on s bytes m q) e le (near_label s inputs bytes m q w l (carrier_of s m q counts lq))
+pub label_favoured : NearPointsFavourTheirBits → ModeStays → (s : Settings) (inputs : Inputs) (bytes : List ℕ) (m q e : ℕ) → IsWithin s inputs bytes → m < symbols_of s inputs
+    → AreCounted (settings_at s m).mode (m % 68) → q < payload (settings_at s m).mode → e < label_bits (settings_at s m).shape
+    → cost (settings_at s m).shape (settings_at s m).hierarchy (on_axis (cell_on s bytes m q) e) e (tx_label s inputs m q e) + 15 ≤ cost (settings_at s m).shape (settings_at s m).hierarchy (on_axis (cell_on s bytes m q) e) e (not (tx_label s inputs m q e))
+label_favoured favour stays s inputs bytes m q e w l counts lq le =
+    favour (settings_at s m).shape (settings_at s m).hierarchy (tx_label s inputs m q) (cell_on s bytes m q) e le (near_label stays s inputs bytes m q w l (carrier_of (settings_at s m) m q counts lq))
 
 -- the weight that a receiver finds on a payload place
 abbrev pub weight_on : Settings → List ℕ → ℕ → ℕ → ℕ
-weight_on s bytes m q = weight_of (symbol_weights s bytes m) (slice_index (payload_carriers s.mode (m % 68)) q)
+weight_on s bytes m q = weight_of (symbol_weights s bytes m) (slice_index (payload_carriers (settings_at s m).mode (m % 68)) q)
 
 -- it is at least 1
-pub some_weight : (s : Settings) (inputs : Inputs) (bytes : List ℕ) (m q : ℕ) → IsWithin s inputs bytes → m < symbols_of s inputs → AreCounted s.mode (m % 68) → q < payload s.mode → 1 ≤ weight_on s bytes m q
-some_weight s inputs bytes m q w l counts lq = let c = carrier_of s m q counts lq in w.weight m (slice_index (payload_carriers s.mode (m % 68)) q) l c.within c.free
+pub some_weight : ModeStays → (s : Settings) (inputs : Inputs) (bytes : List ℕ) (m q : ℕ) → IsWithin s inputs bytes → m < symbols_of s inputs → AreCounted (settings_at s m).mode (m % 68) → q < payload (settings_at s m).mode → 1 ≤ weight_on s bytes m q
+some_weight stays s inputs bytes m q w l counts lq =
+    let k : ℕ = slice_index (payload_carriers (settings_at s m).mode (m % 68)) q in
+    let f : IsFree s m k = is_free stays s m q k (carrier_of (settings_at s m) m q counts lq) in
+    w.weight m k l f.within f.free
 
 pub costs_are : (s : Settings) (bytes : List ℕ) (m q e : ℕ)
-    → weighted_costs_on s (symbol_cells s bytes m) (symbol_weights s bytes m) (m % 68) q e
-    ≡ weighted (cost s.shape s.hierarchy (on_axis (cell_on s bytes m q) e) e false, cost s.shape s.hierarchy (on_axis (cell_on s bytes m q) e) e true) (weight_on s bytes m q)
+    → weighted_costs_on (settings_at s m) (symbol_cells s bytes m) (symbol_weights s bytes m) (m % 68) q e
+    ≡ weighted (cost (settings_at s m).shape (settings_at s m).hierarchy (on_axis (cell_on s bytes m q) e) e false, cost (settings_at s m).shape (settings_at s m).hierarchy (on_axis (cell_on s bytes m q) e) e true) (weight_on s bytes m q)
 unfolding costs_on weighted_costs_on
 costs_are s bytes m q e = refl

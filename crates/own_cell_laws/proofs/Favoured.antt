@@ -1,7 +1,6 @@
 -- The costs of each step speak for the path that was sent.
-use Rattle.std.proofs.Common.{◌≡◌, ℕ, ◌+◌, ◌*◌, ◌%◌, ◌<◌, ◌≤◌, ◌⊎◌, inl, inr, List, refl, sym, ap, ◌∙◌, subst, Bool, true, false, cond, not, ◌||◌, arith}
+use Rattle.std.proofs.Common.{◌≡◌, ℕ, ◌+◌, ◌%◌, ◌<◌, ◌≤◌, ◌⊎◌, inl, inr, List, refl, sym, ◌∙◌, subst, Bool, true, false, cond, not, ◌||◌}
 use Rattle.std.specs.Prelude.{IsTrue, Option, Some, None}
-use Rattle.std.proofs.Math.Nat.{add_assoc}
 use Rattle.mode_set.specs.StreamTable.{coded, need, payload, rate, has_stream}
 use Rattle.mode_set.specs.Laws.{SymbolsHaveWholePeriods}
 use Rattle.mode_set.specs.declared.modes.Mode.{Mode}
@@ -12,7 +11,7 @@ use Rattle.code_paths.specs.Paths.{parity_x, parity_y}
 use Rattle.code_paths.specs.Favoured.{Favours, Allows, SpeaksFor}
 use Rattle.puncture.specs.SentBits.{X, Y, window, sent_bit}
 use Rattle.puncture.specs.Steps.{is_sent, number_of, sent_before, costs_at}
-use Rattle.puncture.specs.Laws.{StepsSendInOrder, StepsAreNumbered, PeriodsShift}
+use Rattle.puncture.specs.Laws.{StepsSendInOrder, StepsAreNumbered}
 use Rattle.bit_interleave.specs.Place.{place_in_label, word_of_bit, IsSent, EachBitIsFound}
 use Rattle.symbol_interleave.specs.Carried.{is_odd, HIsAPermutation, PlacesAndWordsAgree}
 use Rattle.qam_map.specs.Points.{on_axis}
@@ -20,14 +19,16 @@ use Rattle.soft_metric.specs.Costs.{cost, NearPointsFavourTheirBits}
 use Rattle.soft_metric.specs.Weights.{weighted, WeightsTellApart}
 use Rattle.inner_chain.specs.CostPairs.{payload_place, costs_of_bit}
 use Rattle.inner_chain.specs.PairLists.{pair_of}
-use Rattle.transmission.specs.Transmission.{Inputs, paths_of}
+use Rattle.symbol_spans.specs.Spans.{settings_at}
+use Rattle.symbol_spans.specs.Laws.{ModeStays}
+use Rattle.transmission.specs.Transmission.{Inputs, paths_at}
 use Rattle.transmission.specs.SuperFrames.{symbols_of}
 use Rattle.reception.specs.Cells.{symbol_cells, symbol_weights}
 use Rattle.own_cell_laws.specs.Returned.{IsWithin}
 use Rattle.own_cell_laws.specs.Counted.{AreCounted}
 use Rattle.own_cell_laws.proofs.Cells.{cell_on, weight_on, label_favoured, some_weight, costs_are}
 use Rattle.own_cell_laws.proofs.Places.{IsPlaced, placed, place_within, label_is}
-use Rattle.own_cell_laws.proofs.Steps.{AreParities, AreWithin, numbers_within, symbol_parities}
+use Rattle.own_cell_laws.proofs.Steps.{AreParities, AreWithin, numbers_within, parities}
 
 -- what is known of the layers below
 pub record AreKnown : Type 0 where
@@ -39,7 +40,7 @@ pub record AreKnown : Type 0 where
   pub apart : WeightsTellApart
   pub order : StepsSendInOrder
   pub numbers : StepsAreNumbered
-  pub shift : PeriodsShift
+  pub stays : ModeStays
   pub periods : SymbolsHaveWholePeriods
 
 -- ---- a coded bit
@@ -47,31 +48,34 @@ favours_of : WeightsTellApart → (b : Bool) (k : Bool → ℕ) (w : ℕ) (c : �
 favours_of apart true k w c e l some = subst (λ (z : ℕ × ℕ). z.1 < z.0) (sym e) (apart (k true) (k false) w l some)
 favours_of apart false k w c e l some = subst (λ (z : ℕ × ℕ). z.0 < z.1) (sym e) (apart (k false) (k true) w l some)
 
-pub bit_favoured : AreKnown → (s : Settings) (inputs : Inputs) (bytes : List ℕ) (m : ℕ) (σ : Stream) (d : ℕ) → IsWithin s inputs bytes → m < symbols_of s inputs → IsTrue (has_stream s.hierarchy σ) → d < coded s σ
-    → Favours (sent_bit (rate s σ) (paths_of inputs σ) (m * coded s σ + d)) (costs_of_bit s (symbol_cells s bytes m) (symbol_weights s bytes m) (m % 68) σ d).0 (costs_of_bit s (symbol_cells s bytes m) (symbol_weights s bytes m) (m % 68) σ d).1
+pub bit_favoured : AreKnown → (s : Settings) (inputs : Inputs) (bytes : List ℕ) (m : ℕ) (σ : Stream) (d : ℕ) → IsWithin s inputs bytes → m < symbols_of s inputs → IsTrue (has_stream (settings_at s m).hierarchy σ) → d < coded (settings_at s m) σ
+    → let c = costs_of_bit (settings_at s m) (symbol_cells s bytes m) (symbol_weights s bytes m) (m % 68) σ d in Favours (sent_bit (rate (settings_at s m) σ) (paths_at s inputs m σ) d) c.0 c.1
 bit_favoured known s inputs bytes m σ d w l exists few =
-    favours_of known.apart (sent_bit (rate s σ) (paths_of inputs σ) (m * coded s σ + d)) k (weight_on s bytes m q) (costs_of_bit s (symbol_cells s bytes m) (symbol_weights s bytes m) (m % 68) σ d) (costs_are s bytes m q e)
+    favours_of known.apart (sent_bit (rate z σ) (paths_at s inputs m σ) d) k (weight_on s bytes m q) (costs_of_bit z (symbol_cells s bytes m) (symbol_weights s bytes m) (m % 68) σ d) (costs_are s bytes m q e)
     (subst (λ (b : Bool). k b + 15 ≤ k (not b)) (label_is known.found known.agree s inputs m σ d sent few p)
-    (label_favoured known.favour s inputs bytes m q e w l (known.counts s.mode (m % 68)) placed_within p.place))
-    (some_weight s inputs bytes m q w l (known.counts s.mode (m % 68)) placed_within)
+    (label_favoured known.favour known.stays s inputs bytes m q e w l (known.counts z.mode (m % 68)) placed_within p.place))
+    (some_weight known.stays s inputs bytes m q w l (known.counts z.mode (m % 68)) placed_within)
   where
-    sent : IsSent s.shape s.hierarchy σ
-    sent = record { qpsk = s.kept.qpsk; exists = exists }
+    z : Settings
+    z = settings_at s m
 
-    p : IsPlaced s.shape s.hierarchy σ s.mode d
-    p = placed s.shape s.hierarchy σ s.mode d sent few
+    sent : IsSent z.shape z.hierarchy σ
+    sent = record { qpsk = z.kept.qpsk; exists = exists }
+
+    p : IsPlaced z.shape z.hierarchy σ z.mode d
+    p = placed z.shape z.hierarchy σ z.mode d sent few
 
     q : ℕ
-    q = payload_place s (m % 68) σ d
+    q = payload_place z (m % 68) σ d
 
     e : ℕ
-    e = place_in_label s.shape s.hierarchy σ d
+    e = place_in_label z.shape z.hierarchy σ d
 
-    placed_within : q < payload s.mode
-    placed_within = place_within known.permutation s.mode (is_odd (m % 68)) (word_of_bit s.shape s.hierarchy σ d) known.agree p.word
+    placed_within : q < payload z.mode
+    placed_within = place_within known.permutation z.mode (is_odd (m % 68)) (word_of_bit z.shape z.hierarchy σ d) known.agree p.word
 
     k : Bool → ℕ
-    k b = cost s.shape s.hierarchy (on_axis (cell_on s bytes m q) e) e b
+    k b = cost z.shape z.hierarchy (on_axis (cell_on s bytes m q) e) e b
 
 -- ---- a step
 -- a bit that is sent is favoured, and one that is not costs nothing
@@ -87,8 +91,8 @@ one_sent f ox oy false true i j x y some ex ey hx hy = inr (subst (λ (z : Optio
 one_sent f ox oy false false i j x y some ex ey hx hy = absurd (cc)
 
 -- the costs of step t of symbol m speak for a path that has there the bits that were sent
-pub step_speaks : AreKnown → (s : Settings) (inputs : Inputs) (bytes : List ℕ) (m t : ℕ) (σ : Stream) (p : List Bool) → IsWithin s inputs bytes → m < symbols_of s inputs → IsTrue (has_stream s.hierarchy σ) → t < need s σ
-    → parity_x p ≡ parity_x (window (paths_of inputs σ) (m * need s σ + t)) → parity_y p ≡ parity_y (window (paths_of inputs σ) (m * need s σ + t)) → SpeaksFor (pair_of s (symbol_cells s bytes m) (symbol_weights s bytes m) (m % 68) σ t) p
+pub step_speaks : AreKnown → (s : Settings) (inputs : Inputs) (bytes : List ℕ) (m t : ℕ) (σ : Stream) (p : List Bool) → IsWithin s inputs bytes → m < symbols_of s inputs → IsTrue (has_stream (settings_at s m).hierarchy σ) → t < need (settings_at s m) σ
+    → parity_x p ≡ parity_x (window (paths_at s inputs m σ) t) → parity_y p ≡ parity_y (window (paths_at s inputs m σ) t) → SpeaksFor (pair_of (settings_at s m) (symbol_cells s bytes m) (symbol_weights s bytes m) (m % 68) σ t) p
 unfolding pair_of
 step_speaks known s inputs bytes m t σ p w l exists few px py = record {
   x = allows_of f ox sx n (parity_x p) (known.numbers r t).x x_favoured;
@@ -96,8 +100,11 @@ step_speaks known s inputs bytes m t σ p w l exists few px py = record {
   sent = one_sent f ox oy sx sy n (n + cond sx 1 0) (parity_x p) (parity_y p) (known.numbers r t).some (known.numbers r t).x (known.numbers r t).y x_favoured y_favoured;
 }
   where
+    z : Settings
+    z = settings_at s m
+
     r : Rate
-    r = rate s σ
+    r = rate z σ
 
     n : ℕ
     n = sent_before r t
@@ -109,7 +116,7 @@ step_speaks known s inputs bytes m t σ p w l exists few px py = record {
     sy = is_sent r Y t
 
     f : ℕ → ℕ × ℕ
-    f = costs_of_bit s (symbol_cells s bytes m) (symbol_weights s bytes m) (m % 68) σ
+    f = costs_of_bit z (symbol_cells s bytes m) (symbol_weights s bytes m) (m % 68) σ
 
     ox : Option ℕ
     ox = number_of r X t
@@ -117,16 +124,16 @@ step_speaks known s inputs bytes m t σ p w l exists few px py = record {
     oy : Option ℕ
     oy = number_of r Y t
 
-    within : AreWithin sx sy n (coded s σ)
-    within = numbers_within known.numbers known.periods s σ t few
+    within : AreWithin sx sy n (coded z σ)
+    within = numbers_within known.numbers known.periods z σ t few
 
-    same : AreParities r (paths_of inputs σ) (m * need s σ + t) sx sy (m * coded s σ + n)
-    same = symbol_parities known.order known.numbers known.shift known.periods s (paths_of inputs σ) σ m t
+    same : AreParities r (paths_at s inputs m σ) t sx sy n
+    same = parities known.order known.numbers r (paths_at s inputs m σ) t
 
     x_favoured : sx ≡ true → Favours (parity_x p) (f n).0 (f n).1
     x_favoured e = subst (λ (b : Bool). Favours b (f n).0 (f n).1) (same.x e ∙ sym px) (bit_favoured known s inputs bytes m σ n w l exists (within.x e))
 
     y_favoured : sy ≡ true → Favours (parity_y p) (f (n + cond sx 1 0)).0 (f (n + cond sx 1 0)).1
     y_favoured e =
-        subst (λ (b : Bool). Favours b (f (n + cond sx 1 0)).0 (f (n + cond sx 1 0)).1) (ap (sent_bit r (paths_of inputs σ)) (sym (add_assoc (m * coded s σ) n (cond sx 1 0))) ∙ same.y e ∙ sym py)
+        subst (λ (b : Bool). Favours b (f (n + cond sx 1 0)).0 (f (n + cond sx 1 0)).1) (same.y e ∙ sym py)
         (bit_favoured known s inputs bytes m σ (n + cond sx 1 0) w l exists (within.y e))

@@ -1,13 +1,13 @@
 -- What comes back of a stream are its packets, and then null packets.
-use Rattle.std.proofs.Common.{◌≡◌, ℕ, zero, suc, ◌+◌, ◌-◌, ◌*◌, ◌≤◌, List, [], ◌∷◌, ◌++◌, length, take, refl, sym, ap, ◌∙◌, arith, append_assoc, append-nil}
+use Rattle.std.proofs.Common.{◌≡◌, ℕ, zero, suc, ◌+◌, ◌-◌, ◌≤◌, List, [], ◌∷◌, ◌++◌, length, take, refl, sym, ap, ◌∙◌, arith, append_assoc, append-nil}
 use Rattle.std.specs.Prelude.{replicate}
 use Rattle.std.specs.List.{concat}
 use Rattle.std.proofs.lemmas.List.{take_all, get_or_past}
 use Rattle.std.proofs.lemmas.List.Folds.{concat-append}
 use Rattle.std.proofs.Math.Seq.{take-suc}
-use Rattle.mode_set.specs.StreamTable.{words_per_super_frame}
 use Rattle.ts_packet.specs.Packet.{null_packet}
 use Rattle.outer_chain.specs.Sent.{packet_at, joined}
+use Rattle.symbol_spans.specs.Spans.{words_before}
 use Rattle.transmission.specs.SuperFrames.{super_frames, counts_of}
 use Rattle.transmission.specs.Laws.{TheFormulaIsLeast}
 use Rattle.own_cell_laws.specs.Returned.{words_of}
@@ -43,7 +43,7 @@ behind xs (suc j) =
 pub packets_then_nulls : TheFormulaIsLeast → PacketsThenNulls
 packets_then_nulls least s inputs σ exists =
     let enough = (least s (counts_of inputs)).suffices σ exists in
-    let all : words_of s inputs σ ≡ words_of s inputs σ - length (inputs σ) + length (inputs σ) = sum_up (super_frames s (counts_of inputs) * words_per_super_frame s σ) (length (inputs σ)) enough in
+    let all : words_of s inputs σ ≡ words_of s inputs σ - length (inputs σ) + length (inputs σ) = sum_up (words_before s σ (super_frames s (counts_of inputs))) (length (inputs σ)) enough in
     ap (joined (packet_at (inputs σ))) all ∙ behind (inputs σ) (words_of s inputs σ - length (inputs σ))
   where
     sum_up : (a n : ℕ) → n + 11 ≤ a → a - 11 ≡ a - 11 - n + n

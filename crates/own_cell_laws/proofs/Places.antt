@@ -17,7 +17,8 @@ use Rattle.bit_interleave.specs.Place.{place_in_label, word_of_bit, offset, stan
 use Rattle.symbol_interleave.specs.Carried.{h, carried, place_of_word, is_odd, HIsAPermutation, PlacesAndWordsAgree}
 use Rattle.inner_chain.specs.Labels.{number_at, label_bit, coded_bits}
 use Rattle.inner_chain.specs.CostPairs.{payload_place}
-use Rattle.transmission.specs.Transmission.{Inputs, paths_of, tx_label}
+use Rattle.symbol_spans.specs.Spans.{settings_at}
+use Rattle.transmission.specs.Transmission.{Inputs, paths_at, tx_label}
 
 -- ---- the place in the label, and the word
 -- a place of a stream with n bits a label from place f on
@@ -133,17 +134,14 @@ number_is s e w σ d eσ sent ep ew l found =
     ∙ found s.shape s.hierarchy σ (coded s σ) d sent l
 
 -- the label bit at the place of coded bit d is this bit
-pub label_is : EachBitIsFound → PlacesAndWordsAgree → (s : Settings) (inputs : Inputs) (m : ℕ) (σ : Stream) (d : ℕ) → IsSent s.shape s.hierarchy σ → d < coded s σ → IsPlaced s.shape s.hierarchy σ s.mode d
-    → tx_label s inputs m (payload_place s (m % 68) σ d) (place_in_label s.shape s.hierarchy σ d) ≡ coded_bits s (paths_of inputs) m σ d
-unfolding tx_label label_bit
-label_is found agree s inputs m σ d sent l p =
+label_bit_is : EachBitIsFound → PlacesAndWordsAgree → (s : Settings) (bits : Stream → ℕ → Bool) (m : ℕ) (σ : Stream) (d : ℕ) → IsSent s.shape s.hierarchy σ → d < coded s σ → IsPlaced s.shape s.hierarchy σ s.mode d
+    → label_bit s (is_odd m) bits (payload_place s (m % 68) σ d) (place_in_label s.shape s.hierarchy σ d) ≡ bits σ d
+unfolding label_bit
+label_bit_is found agree s bits m σ d sent l p =
     ap (λ (z : ℕ). bits (stream_at s.hierarchy e) (number_at s e z)) (carried_back ∙ refl)
     ∙ ap (bits (stream_at s.hierarchy e)) (number_is s e w σ d p.stream sent refl refl l found)
     ∙ ap (λ (τ : Stream). bits τ d) p.stream
   where
-    bits : Stream → ℕ → Bool
-    bits = coded_bits s (paths_of inputs) m
-
     e : ℕ
     e = place_in_label s.shape s.hierarchy σ d
 
@@ -152,3 +150,9 @@ label_is found agree s inputs m σ d sent l p =
 
     carried_back : carried s.mode (is_odd m) (payload_place s (m % 68) σ d) ≡ w
     carried_back = ap (λ (b : Bool). carried s.mode (is_odd m) (place_of_word s.mode b w)) (same_odd m) ∙ (agree s.mode (is_odd m) w p.word).1
+
+-- by the settings of its symbol
+pub label_is : EachBitIsFound → PlacesAndWordsAgree → (s : Settings) (inputs : Inputs) (m : ℕ) (σ : Stream) (d : ℕ) → let z = settings_at s m in IsSent z.shape z.hierarchy σ → d < coded z σ → IsPlaced z.shape z.hierarchy σ z.mode d
+    → tx_label s inputs m (payload_place z (m % 68) σ d) (place_in_label z.shape z.hierarchy σ d) ≡ coded_bits z (paths_at s inputs m) σ d
+unfolding tx_label
+label_is found agree s inputs m σ d sent l p = label_bit_is found agree (settings_at s m) (coded_bits (settings_at s m) (paths_at s inputs m)) m σ d sent l p

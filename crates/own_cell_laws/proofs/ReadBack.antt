@@ -1,5 +1,5 @@
 -- The cells of a transmission are read from its bytes.
-use Rattle.std.proofs.Common.{◌≡◌, ℕ, zero, suc, ◌+◌, ◌*◌, ◌/◌, ◌%◌, ◌^◌, ◌<◌, ◌≤◌, List, [], ◌∷◌, ◌++◌, length, take, drop, refl, sym, ap, ap₂, ◌∙◌, subst, arith, append_assoc, length-append, ltb, Bool, true, false, ◌&&◌, get_or}
+use Rattle.std.proofs.Common.{◌≡◌, ℕ, zero, suc, ◌+◌, ◌*◌, ◌/◌, ◌%◌, ◌^◌, ◌<◌, ◌≤◌, List, [], ◌∷◌, ◌++◌, length, take, drop, refl, sym, ap, ap₂, ◌∙◌, subst, arith, length-append, ltb, Bool, true, false, ◌&&◌, get_or}
 use Rattle.std.specs.Prelude.{ℤ, pos, unsigned_abs, flat_map}
 use Rattle.std.specs.Int.{cast_signed, cast_unsigned, w16}
 use Rattle.std.specs.List.{range_with_len}
@@ -30,6 +30,7 @@ use Rattle.soft_metric.specs.Costs.{IsNear}
 use Rattle.frame_build.specs.Symbol.{real, cell_of_kind, cell_at, cell_bytes, sent_bytes, cell_from, weight_from, cells_from, weights_from}
 use Rattle.soft_metric.specs.Weights.{weight_of_byte}
 use Rattle.inner_chain.specs.CostPairs.{weight_of}
+use Rattle.symbol_spans.specs.Spans.{settings_at}
 use Rattle.transmission.specs.Transmission.{Inputs, tx_label, tx_cell, tx_symbol, first_symbols}
 use Rattle.transmission.specs.SuperFrames.{symbols_of, tx}
 use Rattle.transmission.specs.Laws.{SymbolsAreCells, SymbolsAreLong}
@@ -111,7 +112,7 @@ kind_small s m labels k (Payload q) = record { re = real_small s.shape s.hierarc
 
 cell_small : (s : Settings) (inputs : Inputs) (m k : ℕ) → IsSmallCell (tx_cell s inputs m k)
 unfolding tx_cell cell_at
-cell_small s inputs m k = kind_small s m (tx_label s inputs m) k (kind s.mode (m % 68) k)
+cell_small s inputs m k = kind_small (settings_at s m) m (tx_label s inputs m) k (kind (settings_at s m).mode (m % 68) k)
 
 -- ---- a part among parts of one length
 pub record BeginsWith (xs part : List ℕ) : Type 0 where
@@ -243,7 +244,7 @@ some_read long cells s inputs m k lm lk = omega (arith, weights_are_read long ce
 pub own_are_within : SymbolsAreLong → SymbolsAreCells → OwnAreWithin
 own_are_within long cells s inputs = record {
   all = symbols_read long s inputs;
-  near = λ m k lm lk free. subst (IsNear s.shape s.hierarchy (tx_cell s inputs m k)) (sym (cells_are_read long cells s inputs m k lm lk)) (near_itself s.shape s.hierarchy (tx_cell s inputs m k));
+  near = λ m k lm lk free. subst (IsNear (settings_at s m).shape (settings_at s m).hierarchy (tx_cell s inputs m k)) (sym (cells_are_read long cells s inputs m k lm lk)) (near_itself (settings_at s m).shape (settings_at s m).hierarchy (tx_cell s inputs m k));
   weight = λ m k lm lk free. some_read long cells s inputs m k lm lk;
 }
 

@@ -1,5 +1,5 @@
 -- Costs that speak for the path that was sent give its bytes, and these the packets.
-use Rattle.std.proofs.Common.{◌≡◌, ℕ, zero, suc, ◌+◌, ◌-◌, ◌*◌, ◌/◌, ◌%◌, ◌<◌, List, [], ◌∷◌, ◌++◌, length, get_or, take, drop, map, refl, sym, ap, ◌∙◌, subst, arith, Bool, false, cond}
+use Rattle.std.proofs.Common.{◌≡◌, ℕ, zero, suc, ◌+◌, ◌-◌, ◌*◌, ◌/◌, ◌%◌, ◌<◌, ◌≤◌, List, [], ◌∷◌, ◌++◌, length, get_or, take, drop, map, refl, sym, ap, ◌∙◌, subst, arith, Bool, false, cond}
 use Rattle.std.specs.Prelude.{IsTrue, Some, replicate, slice_index, nat_lt}
 use Rattle.std.proofs.lemmas.Bool.{le-ltb}
 use Rattle.std.proofs.lemmas.List.{length-map}
@@ -7,8 +7,7 @@ use Rattle.std.proofs.lemmas.List.FromFn.{get_or-map-range_with_len}
 use Rattle.spec_words.specs.Bits.{bit, is_set}
 use Rattle.spec_words.specs.Words.{numbers}
 use Rattle.spec_words.proofs.Counting.{length-numbers}
-use Rattle.mode_set.specs.StreamTable.{need, has_stream, words_per_super_frame}
-use Rattle.mode_set.specs.Laws.{SuperFramesHaveWholeWords}
+use Rattle.mode_set.specs.StreamTable.{need}
 use Rattle.mode_set.specs.declared.modes.Start.{Start}
 use Rattle.mode_set.specs.declared.modes.Start.TheVariants.{Zero}
 use Rattle.mode_set.specs.declared.modes.Stream.{Stream}
@@ -26,9 +25,12 @@ use Rattle.outer_chain.specs.Sent.{ArePackets, outer_byte, outer_bytes, first_pa
 use Rattle.outer_chain.specs.SendingLaws.{ByteAfterByte}
 use Rattle.outer_chain.specs.Laws.{OuterAreBytes, OwnBytes, OwnTally}
 use Rattle.inner_chain.specs.PairLists.{pair_of}
-use Rattle.transmission.specs.Transmission.{Inputs, paths_of}
+use Rattle.inner_chain.specs.Labels.{from_step}
+use Rattle.symbol_spans.specs.Spans.{settings_at, exists_in, steps_of, steps_before, IsStepOf, words_before}
+use Rattle.symbol_spans.specs.Laws.{SettingsStay, StepsOfOneMore, StepsHaveSymbols, StepsAreOfAStream, ConstantSteps, SpansHaveWholeWords}
+use Rattle.transmission.specs.Transmission.{Inputs, paths_of, paths_at}
 use Rattle.transmission.specs.SuperFrames.{super_frames, counts_of, symbols_of}
-use Rattle.reception.specs.Cells.{symbols}
+use Rattle.reception.specs.Cells.{symbols, symbol_cells, symbol_weights}
 use Rattle.reception.specs.Costs.{costs}
 use Rattle.reception.specs.Laws.{CostsAreSteps, CostOfStep}
 use Rattle.reception.specs.Streams.{memory, start_of, Reception, Final}
@@ -92,31 +94,35 @@ sent_window bytes n t l =
     at : (k : ℕ) → k < 6 + n → bit (sent_path bytes n) k ≡ path_of bytes k
     at k m = sent_bits bytes n k m
 
+-- a path from one of its steps on
+window_from : (path : ℕ → Bool) (n t : ℕ) → window (from_step path n) t ≡ window path (n + t)
+window_from path n t =
+    seven _ _ _ _ _ _ _ _ _ _ _ _ _ _ refl (moved (t + 1) (n + t + 1) (omega arith)) (moved (t + 2) (n + t + 2) (omega arith)) (moved (t + 3) (n + t + 3) (omega arith)) (moved (t + 4) (n + t + 4) (omega arith)) (moved (t + 5) (n + t + 5) (omega arith)) (moved (t + 6) (n + t + 6) (omega arith))
+  where
+    moved : (k u : ℕ) → n + k ≡ u → path (n + k) ≡ path u
+    moved k u e = ap path e
+
 -- ---- the costs of all steps
 -- what is known of the costs of bytes
 pub record AreListed : Type 0 where
   pub long : CostsAreSteps
   pub step : CostOfStep
 
-row_of : (t q n : ℕ) → t < n * q → (t / q < n) × (t % q < q) × (t / q * q + t % q ≡ t)
-row_of t zero n l = absurd (omega (arith, l))
-row_of t (suc q) n l = (row (t / suc q) (t % suc q) whole, omega arith, whole)
-  where
-    whole : t / suc q * suc q + t % suc q ≡ t
-    whole = omega arith
+-- what is known of the steps of a transmission
+pub record AreSteps : Type 0 where
+  pub more : StepsOfOneMore
+  pub symbols : StepsHaveSymbols
+  pub streams : StepsAreOfAStream
 
-    row : (a b : ℕ) → a * suc q + b ≡ t → a < n
-    row a b e = grind arith
-
-all_speak : AreKnown → AreListed → ListsArePaths → (s : Settings) (inputs : Inputs) (bytes : List ℕ) (σ : Stream) → IsWithin s inputs bytes → IsTrue (has_stream s.hierarchy σ)
-    → IsShown (replicate 6 false) (costs s bytes σ) (sent_path (outer_byte (inputs σ)) (symbols s bytes * need s σ))
-all_speak known listed lists s inputs bytes σ w exists = record {
+all_speak : AreKnown → AreSteps → AreListed → ListsArePaths → (s : Settings) (inputs : Inputs) (bytes : List ℕ) (σ : Stream) → IsWithin s inputs bytes
+    → IsShown (replicate 6 false) (costs s bytes σ) (sent_path (outer_byte (inputs σ)) (steps_before s σ (symbols s bytes)))
+all_speak known steps listed lists s inputs bytes σ w = record {
   path = record { long = sent_long (outer_byte (inputs σ)) n ∙ ap (λ (z : ℕ). 6 + z) (sym long); start = sent_starts (outer_byte (inputs σ)) n };
   speak = speak_all d (costs s bytes σ) p each;
 }
   where
     n : ℕ
-    n = symbols s bytes * need s σ
+    n = steps_before s σ (symbols s bytes)
 
     p : List Bool
     p = sent_path (outer_byte (inputs σ)) n
@@ -127,13 +133,20 @@ all_speak known listed lists s inputs bytes σ w exists = record {
     long : length (costs s bytes σ) ≡ n
     long = listed.long s bytes σ
 
+    behind : (a b c : ℕ) → b ≡ a + c → (t : ℕ) → a ≤ t → t < b → (t - a < c) × (0 < c) × (a + (t - a) ≡ t)
+    behind a b c e t l k = (omega (arith, e, l, k), omega (arith, e, l, k), omega (arith, l))
+
     each : (t : ℕ) → t < length (costs s bytes σ) → SpeaksFor (get_or (costs s bytes σ) t d) (drop t p)
     each t l =
         let few : t < n = omega (arith, l, long) in
-        let row = row_of t (need s σ) (symbols s bytes) few in
-        let same : window (bit p) t ≡ window (paths_of inputs σ) (t / need s σ * need s σ + t % need s σ) = sent_window (outer_byte (inputs σ)) n t few ∙ ap (window (paths_of inputs σ)) (sym row.2) in
-        subst (λ (z : CostPair). SpeaksFor z (drop t p)) (sym (listed.step s bytes σ t d few))
-        (step_speaks known s inputs bytes (t / need s σ) (t % need s σ) σ (drop t p) w (subst (λ (z : ℕ). t / need s σ < z) w.all row.0) exists row.1 ((lists p t).x ∙ ap parity_x same) ((lists p t).y ∙ ap parity_y same))
+        let found = steps.symbols s σ (symbols s bytes) t few in
+        let m : ℕ = found.0 in
+        let o : IsStepOf s σ m t = found.2 in
+        let place = behind (steps_before s σ m) (steps_before s σ (m + 1)) (steps_of s σ m) (steps.more s σ m) t o.from o.to in
+        let same : window (bit p) t ≡ window (paths_at s inputs m σ) (t - steps_before s σ m) =
+        sent_window (outer_byte (inputs σ)) n t few ∙ ap (window (paths_of inputs σ)) (sym place.2) ∙ sym (window_from (paths_of inputs σ) (steps_before s σ m) (t - steps_before s σ m)) in
+        subst (λ (z : CostPair). SpeaksFor z (drop t p)) (sym (listed.step s bytes σ m t d found.1 o))
+        (step_speaks known s inputs bytes m (t - steps_before s σ m) σ (drop t p) w (subst (λ (z : ℕ). m < z) w.all found.1) (steps.streams s σ (m / 272) place.1).here place.0 ((lists p t).x ∙ ap parity_x same) ((lists p t).y ∙ ap parity_y same))
 
 -- ---- the bytes
 byte_small : (xs : List ℕ) (p : ℕ) → AreBytes xs → slice_index xs p < 256
@@ -155,49 +168,43 @@ pub record AreOwn : Type 0 where
   pub after : ByteAfterByte
   pub packets : OwnBytes
   pub tally : OwnTally
-  pub whole : SuperFramesHaveWholeWords
+  pub whole : SpansHaveWholeWords
 
 sent_bytes_of : AreOwn → (packets : List (List ℕ)) (n : ℕ) → ArePackets packets → bytes_of (drop 6 (sent_path (outer_byte packets) n)) ≡ outer_bytes packets (n / 8)
 unfolding outer_bytes
 sent_bytes_of own packets n h = ap bytes_of (sent_rest (outer_byte packets) n) ∙ own.first (outer_byte packets) n (outer_small own.bytes own.after packets h)
 
 -- as many words as the super-frames have
-words_are : (f need words symbols : ℕ) → symbols ≡ 272 * f → 1632 * words ≡ 272 * need → symbols * need / 8 / 204 ≡ f * words
-words_are f need words symbols e w =
-    let rows : symbols * need ≡ 272 * f * need = ap (λ (z : ℕ). z * need) e in
-    let whole : f * (1632 * words) ≡ f * (272 * need) = ap (λ (z : ℕ). f * z) w in
-    let all : symbols * need ≡ 1632 * (f * words) = omega (arith, rows, whole) in
-    eight (symbols * need) (f * words) all
-  where
-    eight : (a b : ℕ) → a ≡ 1632 * b → a / 8 / 204 ≡ b
-    eight a b h = omega (arith, h)
+words_are : (steps words : ℕ) → 1632 * words ≡ steps → steps / 8 / 204 ≡ words
+words_are steps words e = omega (arith, e)
 
 symbols_are : (s : Settings) (inputs : Inputs) → symbols_of s inputs ≡ 272 * super_frames s (counts_of inputs)
 unfolding symbols_of
 symbols_are s inputs = refl
 
 -- the bits at the end are those that were sent
-ended_bytes : AreKnown → AreListed → ListsArePaths → AreOwn → (s : Settings) (inputs : Inputs) (bytes : List ℕ) (r : Reception) (σ : Stream) (e : s.start ≡ Zero) → HavePackets s inputs → IsWithin s inputs bytes → (f : Final s bytes r)
-    → IsTrue (has_stream s.hierarchy σ) → bytes_of (f.bits σ) ≡ outer_bytes (inputs σ) (symbols s bytes * need s σ / 8)
-ended_bytes known listed lists own s inputs bytes r σ e have w f exists =
+ended_bytes : AreKnown → AreSteps → AreListed → ListsArePaths → AreOwn → (s : Settings) (inputs : Inputs) (bytes : List ℕ) (r : Reception) (σ : Stream) (e : s.start ≡ Zero) → HavePackets s inputs → IsWithin s inputs bytes → (f : Final s bytes r)
+    → IsTrue (exists_in s σ) → bytes_of (f.bits σ) ≡ outer_bytes (inputs σ) (steps_before s σ (symbols s bytes) / 8)
+ended_bytes known steps listed lists own s inputs bytes r σ e have w f exists =
     let ended : Ended memory (Some (replicate 6 false)) (costs s bytes σ) (f.bits σ) = subst (λ (z : Start). Ended memory (start_of z) (costs s bytes σ) (f.bits σ)) e (f.decoded σ) in
-    let n : ℕ = symbols s bytes * need s σ in
-    ap bytes_of ((own.keeps memory).ended (replicate 6 false) (sent_path (outer_byte (inputs σ)) n) (f.bits σ) (costs s bytes σ) (all_speak known listed lists s inputs bytes σ w exists) ended) ∙ sent_bytes_of own (inputs σ) n (have σ exists)
+    let n : ℕ = steps_before s σ (symbols s bytes) in
+    ap bytes_of ((own.keeps memory).ended (replicate 6 false) (sent_path (outer_byte (inputs σ)) n) (f.bits σ) (costs s bytes σ) (all_speak known steps listed lists s inputs bytes σ w) ended) ∙ sent_bytes_of own (inputs σ) n (have σ exists)
 
-word_count_is : AreOwn → (s : Settings) (inputs : Inputs) (bytes : List ℕ) (σ : Stream) → IsWithin s inputs bytes → symbols s bytes * need s σ / 8 / 204 - 11 ≡ words_of s inputs σ
+word_count_is : AreOwn → (s : Settings) (inputs : Inputs) (bytes : List ℕ) (σ : Stream) → IsWithin s inputs bytes → steps_before s σ (symbols s bytes) / 8 / 204 - 11 ≡ words_of s inputs σ
 word_count_is own s inputs bytes σ w =
-    ap (λ (z : ℕ). z - 11) (words_are (super_frames s (counts_of inputs)) (need s σ) (words_per_super_frame s σ) (symbols s bytes) (w.all ∙ symbols_are s inputs) (own.whole s σ))
+    let f : ℕ = super_frames s (counts_of inputs) in
+    ap (λ (z : ℕ). z - 11) (words_are (steps_before s σ (symbols s bytes)) (words_before s σ f) (own.whole s σ f ∙ ap (steps_before s σ) (sym (w.all ∙ symbols_are s inputs))))
 
-pub noise_law : AreKnown → AreListed → ListsArePaths → AreOwn → NoiseLaw
-noise_law known listed lists own s inputs bytes r e have w f σ exists =
-    own.packets (inputs σ) (symbols s bytes * need s σ / 8) (r.packets σ) (have σ exists) (subst (λ (z : List ℕ). Packets z (r.packets σ)) (ended_bytes known listed lists own s inputs bytes r σ e have w f exists) (f.packets σ))
+pub noise_law : AreKnown → AreSteps → AreListed → ListsArePaths → AreOwn → NoiseLaw
+noise_law known steps listed lists own s inputs bytes r e have w f σ exists =
+    own.packets (inputs σ) (steps_before s σ (symbols s bytes) / 8) (r.packets σ) (have σ exists) (subst (λ (z : List ℕ). Packets z (r.packets σ)) (ended_bytes known steps listed lists own s inputs bytes r σ e have w f exists) (f.packets σ))
     ∙ ap (first_packets (inputs σ)) (word_count_is own s inputs bytes σ w)
 
 all_clean : ℕ → Tally
 all_clean n = record { words = n; clean = n; corrected = 0; bad = 0; unphased = 0 }
 
-pub noise_is_clean : AreKnown → AreListed → ListsArePaths → AreOwn → NoiseIsClean
+pub noise_is_clean : AreKnown → AreSteps → AreListed → ListsArePaths → AreOwn → NoiseIsClean
 unfolding all_clean
-noise_is_clean known listed lists own s inputs bytes r e have w f σ exists =
-    own.tally (inputs σ) (symbols s bytes * need s σ / 8) (r.tally σ) (have σ exists) (subst (λ (z : List ℕ). Tallies z (r.tally σ)) (ended_bytes known listed lists own s inputs bytes r σ e have w f exists) (f.tally σ))
+noise_is_clean known steps listed lists own s inputs bytes r e have w f σ exists =
+    own.tally (inputs σ) (steps_before s σ (symbols s bytes) / 8) (r.tally σ) (have σ exists) (subst (λ (z : List ℕ). Tallies z (r.tally σ)) (ended_bytes known steps listed lists own s inputs bytes r σ e have w f exists) (f.tally σ))
     ∙ ap all_clean (word_count_is own s inputs bytes σ w)

@@ -1,10 +1,9 @@
 -- The numbers of the bits of a step, and what they are on a path.
 use Rattle.std.proofs.Common.{◌≡◌, ℕ, ◌+◌, ◌-◌, ◌*◌, ◌/◌, ◌%◌, ◌<◌, ◌≤◌, ◌⊎◌, inl, inr, [], ◌∷◌, length, map, refl, sym, ap, ◌∙◌, subst, arith, Bool, true, false, cond, ◌||◌}
-use Rattle.std.specs.Prelude.{count_by, nat_le, Some, None, option_map}
+use Rattle.std.specs.Prelude.{count_by, nat_le, Some, None}
 use Rattle.std.specs.List.{range_with_len}
 use Rattle.std.proofs.lemmas.Bool.{cases_lt}
 use Rattle.std.proofs.lemmas.List.Sums.{count_by-le-length}
-use Rattle.std.proofs.Math.Nat.{mul_assoc}
 use Rattle.code_paths.specs.Paths.{parity_x, parity_y}
 use Rattle.mode_set.specs.StreamTable.{coded, need, rate, steps_in_period, sent_in_period}
 use Rattle.mode_set.specs.Laws.{periods, SymbolsHaveWholePeriods}
@@ -12,9 +11,9 @@ use Rattle.mode_set.specs.declared.modes.Rate.{Rate}
 use Rattle.mode_set.specs.declared.modes.Rate.TheVariants.{R1of2, R2of3, R3of4, R5of6, R7of8}
 use Rattle.mode_set.specs.declared.modes.Stream.{Stream}
 use Rattle.mode_set.specs.declared.settings.Settings.{Settings}
-use Rattle.puncture.specs.SentBits.{Coded, X, Y, sent, sent_bit, window}
+use Rattle.puncture.specs.SentBits.{X, Y, sent, sent_bit, window}
 use Rattle.puncture.specs.Steps.{is_sent, number_of, sent_before, step_in_period, bits_sent}
-use Rattle.puncture.specs.Laws.{StepsSendInOrder, StepsAreNumbered, PeriodsShift}
+use Rattle.puncture.specs.Laws.{StepsSendInOrder, StepsAreNumbered}
 
 -- ---- how many bits are sent
 none_yet : (r : Rate) → count_by (λ c. nat_le (step_in_period c) 0) (sent r) ≡ 0
@@ -108,54 +107,3 @@ numbers_within law whole s σ t l =
 
     up : {b c : ℕ} (a : ℕ) → a ≤ b → b ≡ c → a ≤ c
     up a k e = omega (arith, k, e)
-
--- step t of symbol m is step m · need + t of the stream, and its bits have the numbers from m · coded on
-pub shifted : PeriodsShift → SymbolsHaveWholePeriods → (s : Settings) (σ : Stream) (m t : ℕ)
-    → (sent_before (rate s σ) (m * need s σ + t) ≡ m * coded s σ + sent_before (rate s σ) t) × ((xy : ℕ → Coded) → number_of (rate s σ) xy (m * need s σ + t) ≡ option_map (λ n. m * coded s σ + n) (number_of (rate s σ) xy t))
-shifted shift whole s σ m t =
-    let w = whole s σ in
-    let r : Rate = rate s σ in
-    let q : ℕ = m * periods s σ in
-    let steps : q * steps_in_period r ≡ m * need s σ = mul_assoc m (periods s σ) (steps_in_period r) ∙ ap (λ (z : ℕ). m * z) (sym w.need) in
-    let bits : q * sent_in_period r ≡ m * coded s σ = mul_assoc m (periods s σ) (sent_in_period r) ∙ ap (λ (z : ℕ). m * z) (sym w.coded) in
-    let h = shift r q t in (
-      ap (λ (z : ℕ). sent_before r (z + t)) (sym steps) ∙ h.before ∙ ap (λ (z : ℕ). z + sent_before r t) bits,
-      λ xy. ap (λ (z : ℕ). number_of r xy (z + t)) (sym steps) ∙ h.numbers xy ∙ ap (λ (z : ℕ). option_map (λ n. z + n) (number_of r xy t)) bits,
-    )
-
--- ---- the bits of a step of a symbol
-same_sent : (b c : Bool) (n k j : ℕ) → cond b (Some n) None ≡ option_map (λ i. k + i) (cond c (Some j) None) → b ≡ c
-same_sent true true n k j e = refl
-same_sent true false n k j e = absurd (cc)
-same_sent false true n k j e = absurd (cc)
-same_sent false false n k j e = refl
-
-pub symbol_parities : StepsSendInOrder → StepsAreNumbered → PeriodsShift → SymbolsHaveWholePeriods → (s : Settings) (path : ℕ → Bool) (σ : Stream) (m t : ℕ)
-    → AreParities (rate s σ) path (m * need s σ + t) (is_sent (rate s σ) X t) (is_sent (rate s σ) Y t) (m * coded s σ + sent_before (rate s σ) t)
-symbol_parities order law shift whole s path σ m t =
-    subst (λ (z : ℕ). AreParities r path u sx sy z) h.0
-    (subst (λ (b : Bool). AreParities r path u sx b (sent_before r u)) same_y
-    (subst (λ (b : Bool). AreParities r path u b (is_sent r Y u) (sent_before r u)) same_x (parities order law r path u)))
-  where
-    r : Rate
-    r = rate s σ
-
-    u : ℕ
-    u = m * need s σ + t
-
-    sx : Bool
-    sx = is_sent r X t
-
-    sy : Bool
-    sy = is_sent r Y t
-
-    h : (sent_before r u ≡ m * coded s σ + sent_before r t) × ((xy : ℕ → Coded) → number_of r xy u ≡ option_map (λ n. m * coded s σ + n) (number_of r xy t))
-    h = shifted shift whole s σ m t
-
-    same_x : is_sent r X u ≡ sx
-    same_x = same_sent (is_sent r X u) sx (sent_before r u) (m * coded s σ) (sent_before r t) (sym (law r u).x ∙ h.1 X ∙ ap (option_map (λ n. m * coded s σ + n)) (law r t).x)
-
-    same_y : is_sent r Y u ≡ sy
-    same_y =
-        same_sent (is_sent r Y u) sy (sent_before r u + cond (is_sent r X u) 1 0) (m * coded s σ) (sent_before r t + cond sx 1 0)
-        (sym (law r u).y ∙ h.1 Y ∙ ap (option_map (λ n. m * coded s σ + n)) (law r t).y)

@@ -11,6 +11,8 @@ use Rattle.mode_set.specs.declared.modes.Start.TheVariants.{Zero}
 use Rattle.mode_set.specs.declared.modes.Stream.TheVariants.{Hp, Lp}
 use Rattle.mode_set.specs.declared.settings.Settings.{Settings}
 use Rattle.qam_map.specs.Points.{tolerance}
+use Rattle.spec_words.specs.Words.{numbers}
+use Rattle.symbol_spans.specs.Spans.{settings_in, words_before}
 use Rattle.transmission.specs.Transmission.{Inputs, by_stream}
 use Rattle.own_cell_laws.specs.Returned.{words_of}
 
@@ -44,24 +46,30 @@ two_16 = record { mode = M2k; shape = Qam16; hierarchy = Alpha4; rate_hp = R1of2
 
 -- a super-frame without packets: 241 null packets
 nothing_sent : words_of base (counted 0 0) Hp ≡ 241
+unfolding settings_in words_before numbers
 nothing_sent = refl
 
 -- 8K, 64-QAM, 2/3, ten thousand packets: three super-frames
 ten_thousand : words_of fast (counted 10000 0) Hp ≡ 12085
+unfolding settings_in words_before numbers
 ten_thousand = refl
 
 -- 8K, 64-QAM, α = 2, 2/3 and 3/4, 1000 and 4000 packets: two super-frames
 hp_of_two : words_of two_64 (counted 1000 4000) Hp ≡ 2677
+unfolding settings_in words_before numbers
 hp_of_two = refl
 
 lp_of_two : words_of two_64 (counted 1000 4000) Lp ≡ 6037
+unfolding settings_in words_before numbers
 lp_of_two = refl
 
 -- 2K, 16-QAM, α = 4, 1/2 and 3/4, 100 and 200 packets: one super-frame, with 141 and 167 null packets, for cells moved by at most 1136
 hp_nulls : words_of two_16 (counted 100 200) Hp - 100 ≡ 141
+unfolding settings_in words_before numbers
 hp_nulls = refl
 
 lp_nulls : words_of two_16 (counted 100 200) Lp - 200 ≡ 167
+unfolding settings_in words_before numbers
 lp_nulls = refl
 
 moved : tolerance Qam16 Alpha4 ≡ 1136

@@ -1,12 +1,13 @@
 -- The laws of own cells, each the clause of a public function of the module laws.
 use Rattle.std.specs.Prelude.{◌≡◌, ℕ, ◌-◌, ◌<◌, IsTrue, List, ◌++◌, length, replicate}
 use Rattle.std.specs.List.{concat}
-use Rattle.mode_set.specs.StreamTable.{carriers, has_stream}
+use Rattle.mode_set.specs.StreamTable.{carriers}
 use Rattle.mode_set.specs.declared.modes.Start.TheVariants.{Zero}
 use Rattle.mode_set.specs.declared.modes.Stream.{Stream}
 use Rattle.mode_set.specs.declared.settings.Settings.{Settings}
 use Rattle.ts_packet.specs.Packet.{null_packet}
 use Rattle.qam_map.specs.Cells.{cell_of}
+use Rattle.symbol_spans.specs.Spans.{exists_in}
 use Rattle.transmission.specs.Transmission.{Inputs, tx_cell}
 use Rattle.transmission.specs.SuperFrames.{symbols_of, tx}
 use Rattle.reception.specs.Cells.{symbol_cells}
@@ -45,5 +46,5 @@ OwnAreClean = (s : Settings) (inputs : Inputs) (r : Reception) → s.start ≡ Z
 
 -- the packets of a stream, and null packets behind them
 abbrev pub PacketsThenNulls : Type 0
-PacketsThenNulls = (s : Settings) (inputs : Inputs) (σ : Stream) → IsTrue (has_stream s.hierarchy σ)
+PacketsThenNulls = (s : Settings) (inputs : Inputs) (σ : Stream) → IsTrue (exists_in s σ)
     → returned s inputs σ ≡ concat (inputs σ) ++ concat (replicate (words_of s inputs σ - length (inputs σ)) null_packet)

@@ -1,6 +1,6 @@
 -- What a receiver gives back of a transmission, and cells that are near those of one.
-use Rattle.std.specs.Prelude.{◌≡◌, ℕ, ◌-◌, ◌*◌, ◌%◌, ◌<◌, ◌≤◌, IsTrue, List}
-use Rattle.mode_set.specs.StreamTable.{carriers, has_stream, words_per_super_frame}
+use Rattle.std.specs.Prelude.{◌≡◌, ℕ, ◌-◌, ◌%◌, ◌<◌, ◌≤◌, IsTrue, List}
+use Rattle.mode_set.specs.StreamTable.{carriers}
 use Rattle.mode_set.specs.declared.modes.Stream.{Stream}
 use Rattle.mode_set.specs.declared.settings.Settings.{Settings}
 use Rattle.pilots.specs.Carriers.{is_payload}
@@ -9,13 +9,14 @@ use Rattle.outer_chain.specs.Sent.{ArePackets, first_packets}
 use Rattle.outer_chain.specs.Words.{Tally}
 use Rattle.qam_map.specs.Cells.{cell_of}
 use Rattle.inner_chain.specs.CostPairs.{weight_of}
+use Rattle.symbol_spans.specs.Spans.{settings_at, exists_in, words_before}
 use Rattle.transmission.specs.Transmission.{Inputs, tx_cell}
 use Rattle.transmission.specs.SuperFrames.{super_frames, counts_of, symbols_of}
 use Rattle.reception.specs.Cells.{symbols, symbol_cells, symbol_weights}
 
 -- the outer words of a stream that a receiver of a whole transmission gets: all but the eleven of its start-up
 abbrev pub words_of : Settings → Inputs → Stream → ℕ
-words_of s inputs σ = super_frames s (counts_of inputs) * words_per_super_frame s σ - 11
+words_of s inputs σ = words_before s σ (super_frames s (counts_of inputs)) - 11
 
 -- what comes back of a stream: a packet for each of these words, its own packets and then null packets
 abbrev pub returned : Settings → Inputs → Stream → List ℕ
@@ -23,22 +24,22 @@ returned s inputs σ = first_packets (inputs σ) (words_of s inputs σ)
 
 -- packets are what the streams that exist consist of
 abbrev pub HavePackets : Settings → Inputs → Type 0
-HavePackets s inputs = (σ : Stream) → IsTrue (has_stream s.hierarchy σ) → ArePackets (inputs σ)
+HavePackets s inputs = (σ : Stream) → IsTrue (exists_in s σ) → ArePackets (inputs σ)
 
 -- the streams that exist come back
 abbrev pub IsReturned : Settings → Inputs → (Stream → List ℕ) → Type 0
-IsReturned s inputs packets = (σ : Stream) → IsTrue (has_stream s.hierarchy σ) → packets σ ≡ returned s inputs σ
+IsReturned s inputs packets = (σ : Stream) → IsTrue (exists_in s σ) → packets σ ≡ returned s inputs σ
 
 -- all their words are clean
 abbrev pub AreClean : Settings → Inputs → (Stream → Tally) → Type 0
-AreClean s inputs tally = (σ : Stream) → IsTrue (has_stream s.hierarchy σ)
+AreClean s inputs tally = (σ : Stream) → IsTrue (exists_in s σ)
     → tally σ ≡ record { words = words_of s inputs σ; clean = words_of s inputs σ; corrected = 0; bad = 0; unphased = 0 }
 
 -- The bytes have as many whole symbols as the transmission, and each cell on a payload carrier is within the tolerance of the cell
--- that is sent, on both axes, and has a weight of at least 1. All other cells and weights are free, and so are bytes behind the last whole symbol.
+-- that is sent, by the settings of its symbol, on both axes, and has a weight of at least 1. All other cells and weights are free, and so are bytes behind the last whole symbol.
 pub record IsWithin (s : Settings) (inputs : Inputs) (bytes : List ℕ) : Type 0 where
   pub all : symbols s bytes ≡ symbols_of s inputs
   pub near : (m k : ℕ) → m < symbols_of s inputs → k < carriers s.mode → IsTrue (is_payload s.mode (m % 68) k)
-      → IsNear s.shape s.hierarchy (tx_cell s inputs m k) (cell_of (symbol_cells s bytes m) k)
+      → IsNear (settings_at s m).shape (settings_at s m).hierarchy (tx_cell s inputs m k) (cell_of (symbol_cells s bytes m) k)
   pub weight : (m k : ℕ) → m < symbols_of s inputs → k < carriers s.mode → IsTrue (is_payload s.mode (m % 68) k)
       → 1 ≤ weight_of (symbol_weights s bytes m) k

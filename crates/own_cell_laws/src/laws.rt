@@ -5,13 +5,14 @@ ghost use Rattle.own_cell_laws.specs.Laws.{NoiseLaw, NoiseIsClean, CellsAreRead,
 
 use bit_interleave::laws::each_bit_is_found;
 use code_paths::keeps_sent;
-use mode_set::{Mode, super_frames_have_whole_words, symbols_have_whole_periods};
+use mode_set::{Mode, symbols_have_whole_periods};
 use outer_chain::laws::{bits, own_bytes, sending};
 use pilots::{payload_carriers_are_numbered, symbols_have_as_many_payload_carriers};
-use puncture::{lists_are_paths, periods_shift, steps_are_numbered, steps_send_in_order};
+use puncture::{lists_are_paths, steps_are_numbered, steps_send_in_order};
 use reception::laws::costs;
 use soft_metric::laws::{near_points_favour_their_bits, weights_tell_apart};
 use symbol_interleave::laws::{h_is_a_permutation, places_and_words_agree};
+use symbol_spans::laws::{settings, steps, words};
 use transmission::laws::{super_frames, symbols};
 
 fn counted_at(mode: Mode, l: u8)
@@ -47,10 +48,11 @@ pub fn noise()
     weights_tell_apart();
     steps_send_in_order();
     steps_are_numbered();
-    periods_shift();
     lists_are_paths();
     symbols_have_whole_periods();
-    super_frames_have_whole_words();
+    settings();
+    steps();
+    words();
     keeps_sent();
     bits();
     sending();

@@ -22,7 +22,8 @@ use Rattle.run_clauses.proofs.Accepting.{all_accepted, no_refusal, not_sync_at, 
 use Rattle.run_steps.specs.Causes.{HasCause}
 use Rattle.run_steps.specs.Ended.{Ended, IsCaused, IsExact, Leaves, AreMade}
 use Rattle.run_steps.proofs.Whole.{run_done, run_refused}
-use Rattle.packet_runs.specs.Commands.{Coding, IsRefused, CodesTo, ClosesWith, CodesSoFar, packets_taken, settings_taken, coding_early, coding_command}
+use Rattle.run_clauses.specs.SettingsFile.{most_settings}
+use Rattle.packet_runs.specs.Commands.{Coding, IsRefused, CodesTo, ClosesWith, CodesSoFar, packets_taken, coding_early, coding_command}
 use Rattle.packet_runs.specs.Steps.{IsReady, AsksPorts, Ran, Tells, outcome_status, RunsCoding}
 use Rattle.packet_runs.proofs.Growing.{Grows, Ends, fronts, front_of}
 
@@ -31,7 +32,7 @@ pub record SettingsDone (settings : Option (List ℕ)) (start : Meaning) (s : So
   pub asked : (s.asked ≡ None) ⊎ (s.asked ≡ settings)
   pub attached : IsTrue (is_some settings) → s.attached ≡ true
   pub left : start.tells ≡ true → IsTrue (is_some settings) → s.left ≡ []
-  pub read : start.tells ≡ true → IsTrue (is_some settings) → s.attached ≡ true → (k : ℕ) × (k ≤ settings_taken settings) × (s.left ≡ drop k (named start.file settings))
+  pub read : start.tells ≡ true → IsTrue (is_some settings) → s.attached ≡ true → (k : ℕ) × (k ≤ most_settings + 1) × (s.left ≡ drop k (named start.file settings))
   pub accepted : start.tells ≡ true → coding_early settings start.file ≡ None
 
 -- nothing, of a command without settings

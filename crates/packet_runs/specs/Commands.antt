@@ -1,13 +1,11 @@
 -- The commands `disperse`, `outer` and `inner`: each codes the packets of a transport file, one after another.
 use Rattle.std.specs.Prelude.{◌≡◌, ◌≢◌, ◌≤◌, ◌⊎◌, ◌+◌, ◌-◌, ◌/◌, ℕ, ⊤, List, [], ◌∷◌, length, Option, None, Some, false}
-use Rattle.station_core.specs.declared.ports.InPort.{InPort}
 use Rattle.station_core.specs.declared.ports.InPort.TheVariants as ins
-use Rattle.station_core.specs.declared.ports.OutPort.{OutPort}
-use Rattle.station_core.specs.declared.ports.OutPort.TheVariants as outs
 use Rattle.mode_set.specs.declared.settings.Settings.{Settings}
 use Rattle.outer_chain.specs.Sent.{sent_bytes}
 use Rattle.run_clauses.specs.declared.work.Refusal.{Refusal}
 use Rattle.run_clauses.specs.Command.{Command, Files}
+use Rattle.run_clauses.specs.Ports.{by_input, byte_names}
 use Rattle.run_clauses.specs.Packets.{whole_packets, accepted, AreAccepted, first_packets, packets_of, counts_of, packet_refusal, most_packets_taken, closing_line}
 use Rattle.run_clauses.specs.SettingsFile.{most_settings, settings_refusal}
 use Rattle.run_clauses.specs.StatedSettings.{settings_of}
@@ -21,19 +19,20 @@ pub record Coding : Type 1 where
   -- packets give these bytes in all, once the last one was taken
   pub GivesInAll : Files → List (List ℕ) → List ℕ → Type 0
 
+-- packets give the same whether or not more of them may follow
+abbrev pub plain_coding : (List (List ℕ) → List ℕ) → Coding
+plain_coding coded = record {
+  Gives = λ file packets bytes. bytes ≡ coded packets;
+  GivesInAll = λ file packets bytes. bytes ≡ coded packets;
+}
+
 -- disperse: the packets, dispersed
 abbrev pub dispersing : Coding
-dispersing = record {
-  Gives = λ file packets bytes. bytes ≡ dispersed_packets packets;
-  GivesInAll = λ file packets bytes. bytes ≡ dispersed_packets packets;
-}
+dispersing = plain_coding dispersed_packets
 
 -- outer: the packets, dispersed, coded by the outer code, and interleaved
 abbrev pub outer_coding : Coding
-outer_coding = record {
-  Gives = λ file packets bytes. bytes ≡ sent_bytes packets;
-  GivesInAll = λ file packets bytes. bytes ≡ sent_bytes packets;
-}
+outer_coding = plain_coding sent_bytes
 
 -- inner: the same bytes coded by the inner code, at the rate of HP of the settings in this file. In all the last
 -- byte is filled with zeros.
@@ -66,49 +65,23 @@ abbrev pub CodesSoFar : Coding → ℕ → Files → List ℕ → List ℕ → L
 CodesSoFar k limit file input left bytes =
     k.Gives file (first_packets (packets_taken (file input) left) (file input)) bytes × (packets_taken (file input) left ≤ accepted limit (file input))
 
--- the files: the settings, of a command that has some, the packets at Hp, and the output at Bytes
-abbrev pub coding_reads : Option (List ℕ) → List ℕ → InPort → Option (List ℕ)
-coding_reads settings input ins.Settings = settings
-coding_reads settings input ins.Hp = Some input
-coding_reads settings input ins.Lp = None
-coding_reads settings input ins.Cells = None
-
-abbrev pub coding_writes : List ℕ → OutPort → Option (List ℕ)
-coding_writes output outs.Cells = None
-coding_writes output outs.Hp = None
-coding_writes output outs.Lp = None
-coding_writes output outs.Bytes = Some output
-coding_writes output outs.Report = None
-
 -- why the settings are refused, if there are some and they are
 abbrev pub coding_early : Option (List ℕ) → Files → Option Refusal
 coding_early None file = None
 coding_early (Some settings) file = settings_refusal (file settings)
 
--- the most bytes that are taken of the settings: one more than a settings file may have
-abbrev pub settings_taken : Option (List ℕ) → ℕ
-settings_taken None = 0
-settings_taken (Some settings) = most_settings + 1
-
--- the most bytes that are taken of each input
-abbrev pub coding_taken : Option (List ℕ) → List ℕ → ℕ → Files → InPort → ℕ
-coding_taken settings input limit file ins.Settings = settings_taken settings
-coding_taken settings input limit file ins.Hp = most_packets_taken limit (file input)
-coding_taken settings input limit file ins.Lp = 0
-coding_taken settings input limit file ins.Cells = 0
-
 -- A command that codes packets: its settings, if it has some, its statuses, its coding, its input and its output.
 -- Bytes is the only output, so what it comes to is said without its port.
 abbrev pub coding_command : Option (List ℕ) → List ℕ → Coding → List ℕ → List ℕ → Command
 coding_command settings statuses k input output = record {
-  reads = coding_reads settings input;
-  writes = coding_writes output;
+  reads = by_input settings (Some input) None None;
+  writes = byte_names output;
   statuses = statuses;
   memory_at_work = false;
   early_refusal = coding_early settings;
   header = λ file. None;
   work_refusal = λ limit file. packet_refusal limit (file input);
-  most_taken = coding_taken settings input;
+  most_taken = λ limit file. by_input (most_settings + 1) (most_packets_taken limit (file input)) 0 0;
   Comes = λ limit file port bytes. CodesTo k limit file input bytes;
   Prints = λ limit file lines. ClosesWith limit (file input) lines;
   ComesSoFar = λ limit file unread port bytes. CodesSoFar k limit file input (unread ins.Hp) bytes;

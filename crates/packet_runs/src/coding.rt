@@ -101,15 +101,14 @@ pub fn code_packets<'a, C: Coder, S: Station<'a>>(
         (S.meaning station.new).hp.left (S.meaning station.new).bytes_out.written result }
 {
     for number in 0..limits.packets {
-        match code_next(number, coder, station) {
-            Ok(None) => {}
-            Ok(Some(tail)) => {
+        match code_next(number, coder, station)? {
+            None => {}
+            Some(tail) => {
                 return Ok(Counts {
                     packets: number,
                     tail,
                 });
             }
-            Err(refusal) => return Err(refusal),
         }
     }
     end_at_limit(limits.packets, station)

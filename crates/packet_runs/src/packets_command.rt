@@ -25,10 +25,7 @@ fn code_all<'a, C: Coder, S: Station<'a>>(
     ensures cause { HasCause (S.meaning station.old) (S.meaning station.new) result }
     ensures ran { Ran (C.coded coder.old) (C.ended coder.old) limits.now.packets input.now (S.meaning station.old) (S.meaning station.new) result }
 {
-    match open(input, output, station) {
-        Ok(()) => {}
-        Err(refusal) => return Err(refusal),
-    }
+    open(input, output, station)?;
     match code_packets(limits, coder, station) {
         Ok(counts) => match write_end(coder, station) {
             Ok(()) => finish(counts, station),

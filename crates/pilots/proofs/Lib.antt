@@ -5,3 +5,5 @@ pub mod Periods
 pub mod Popcount
 pub mod References
 pub mod TpsCarriers
+pub mod Around
+pub mod Worked

@@ -1,3 +1,4 @@
 pub mod Carriers
+pub mod Around
 pub mod Reference
 pub mod Tables

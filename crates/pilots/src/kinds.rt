@@ -1,6 +1,7 @@
 // The kind of a carrier, and the payload carriers by their numbers.
 ghost use Rattle.std.specs.Prelude.{◌≡◌, ℕ, ◌<◌, ◌≤◌, All, length, slice_index};
 ghost use Rattle.mode_set.specs.StreamTable.{carriers, payload};
+ghost use Rattle.pilots.specs.Around.{is_pilot};
 ghost use Rattle.pilots.specs.Carriers.{kind, payload_carriers, tps_carriers};
 ghost use Rattle.pilots.specs.Tables.{in_set, rank, continual_set, tps_set, payload_set, below_words, payload_places};
 
@@ -75,6 +76,20 @@ pub fn kind(mode: Mode, l: u8, k: u32) -> CarrierKind
     }
     let (set, below) = payload(symbol);
     CarrierKind::Payload(k / PERIOD * PAYLOAD_IN_PERIOD + members_below(set, below, place))
+}
+
+/// Whether carrier `k` of symbol `l` of a frame is a pilot, continual or scattered (EN 300 744, 4.5.3 and
+/// 4.5.4).
+#[tactic(auto, unfolding(crate::specs::Around::is_pilot))]
+pub fn is_pilot(mode: Mode, l: u8, k: u32) -> bool
+    requires symbol { l < 68 }
+    requires carrier { k < carriers mode }
+    ensures { result ≡ is_pilot mode l k }
+{
+    match kind(mode, l, k) {
+        CarrierKind::Continual | CarrierKind::Scattered => true,
+        CarrierKind::Tps | CarrierKind::Payload(_) => false,
+    }
 }
 
 // The payload carriers of a symbol within a period.

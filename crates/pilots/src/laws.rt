@@ -3,6 +3,7 @@ ghost use Rattle.std.specs.Prelude.{◌≡◌, ℕ, ◌+◌, ◌%◌, ◌<◌, I
 ghost use Rattle.spec_words.specs.Bits.{xor};
 ghost use Rattle.mode_set.specs.StreamTable.{carriers, payload};
 ghost use Rattle.pilots.specs.Carriers.{kind, payload_carriers, AreNumbered};
+ghost use Rattle.pilots.specs.Around.{PilotsAreAround};
 ghost use Rattle.pilots.specs.Reference.{reference};
 
 use mode_set::Mode;
@@ -29,4 +30,10 @@ pub fn kinds_repeat(mode: Mode, l: u8)
 pub fn reference_recurs(k: u32)
     ensures ones { k < 11 → IsTrue (reference k) }
     ensures rule { reference (k + 11) ≡ xor (reference k) (reference (k + 2)) }
+{}
+
+/// Each carrier of a symbol is a pilot or stands between two that are at most twelve carriers apart
+/// (EN 300 744, 4.5.3 and 4.5.4).
+pub fn pilots_are_around()
+    ensures { PilotsAreAround }
 {}

@@ -12,9 +12,9 @@ mod sequence;
 mod sets;
 
 pub use carrier_kind::CarrierKind;
-pub use kinds::{carrier, kind, tps_carriers};
+pub use kinds::{carrier, is_pilot, kind, tps_carriers};
 pub use laws::{
-    kinds_repeat, payload_carriers_are_numbered, reference_recurs,
+    kinds_repeat, payload_carriers_are_numbered, pilots_are_around, reference_recurs,
     symbols_have_as_many_payload_carriers,
 };
 pub use sequence::reference;

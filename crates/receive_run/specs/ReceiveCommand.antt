@@ -2,34 +2,17 @@
 -- file of cells alone.
 use Rattle.std.specs.Prelude.{◌≡◌, ℕ, ◌+◌, ◌*◌, List, [], ◌∷◌, Option, None, Some, option_and_then, false}
 use Rattle.std.specs.Option.{option_map}
-use Rattle.station_core.specs.declared.ports.InPort.{InPort}
 use Rattle.station_core.specs.declared.ports.InPort.TheVariants as ins
-use Rattle.station_core.specs.declared.ports.OutPort.{OutPort}
-use Rattle.station_core.specs.declared.ports.OutPort.TheVariants as outs
 use Rattle.mode_set.specs.declared.settings.Settings.{Settings}
 use Rattle.frame_build.specs.CellFile.{header}
 use Rattle.reception.specs.Cells.{symbol_length}
-use Rattle.run_clauses.specs.Command.{Command, Files}
+use Rattle.run_clauses.specs.Command.{Command}
+use Rattle.run_clauses.specs.Ports.{by_input, stream_names}
 use Rattle.run_clauses.specs.SettingsFile.{most_settings}
 use Rattle.run_clauses.specs.StatedSettings.{settings_of}
 use Rattle.run_clauses.specs.StreamForm.{fitting_refusal}
 use Rattle.receive_run.specs.OwnLaws.{ReceiveLaws}
 use Rattle.receive_run.specs.Received.{cells_in, LinesCome, LinesSoFar, OutputComes, OutputSoFar, reception_refusal}
-
--- the settings and the cells are read
-abbrev pub reads_at : List ℕ → List ℕ → InPort → Option (List ℕ)
-reads_at settings cells ins.Settings = Some settings
-reads_at settings cells ins.Hp = None
-reads_at settings cells ins.Lp = None
-reads_at settings cells ins.Cells = Some cells
-
--- a transport file is written for each stream
-abbrev pub writes_at : List ℕ → Option (List ℕ) → OutPort → Option (List ℕ)
-writes_at hp lp outs.Cells = None
-writes_at hp lp outs.Hp = Some hp
-writes_at hp lp outs.Lp = lp
-writes_at hp lp outs.Bytes = None
-writes_at hp lp outs.Report = None
 
 -- the header with which the cells must begin is that of the settings' mode
 abbrev pub header_by : Option Settings → Option (List ℕ)
@@ -40,23 +23,17 @@ abbrev pub most_cells : Option Settings → ℕ
 most_cells None = 0
 most_cells (Some s) = 8 + (s.max_symbols + 1) * symbol_length s
 
-abbrev pub most_taken_at : List ℕ → Files → InPort → ℕ
-most_taken_at settings file ins.Settings = most_settings + 1
-most_taken_at settings file ins.Hp = 0
-most_taken_at settings file ins.Lp = 0
-most_taken_at settings file ins.Cells = most_cells (settings_of (file settings))
-
 -- receive SETTINGS CELLS HP, or receive SETTINGS CELLS HP LP
 abbrev pub receive_command : List ℕ → List ℕ → List ℕ → Option (List ℕ) → Command
 receive_command settings cells hp lp = record {
-  reads = reads_at settings cells;
-  writes = writes_at hp lp;
+  reads = by_input (Some settings) None None (Some cells);
+  writes = stream_names hp lp;
   statuses = 0 ∷ 3 ∷ 5 ∷ 6 ∷ 7 ∷ 8 ∷ 9 ∷ [];
   memory_at_work = false;
   early_refusal = λ file. fitting_refusal (file settings) lp;
   header = λ file. header_by (settings_of (file settings));
   work_refusal = λ limit file. option_and_then (λ s. reception_refusal s (cells_in (file cells))) (settings_of (file settings));
-  most_taken = λ limit file. most_taken_at settings file;
+  most_taken = λ limit file. by_input (most_settings + 1) 0 0 (most_cells (settings_of (file settings)));
   Comes = λ limit file port output. (s : Settings) × (settings_of (file settings) ≡ Some s) × OutputComes s (cells_in (file cells)) port output;
   Prints = λ limit file lines. (s : Settings) × (settings_of (file settings) ≡ Some s) × LinesCome s (cells_in (file cells)) lines;
   ComesSoFar = λ limit file unread port output.

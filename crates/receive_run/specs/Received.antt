@@ -43,11 +43,9 @@ pub record IsSoFar (s : Settings) (file left : List ℕ) (r : Reception) : Type 
 
 -- the packets that are written at a port
 abbrev pub packets_at : OutPort → Reception → List ℕ
-packets_at outs.Cells r = []
 packets_at outs.Hp r = r.packets Hp
 packets_at outs.Lp r = r.packets Lp
-packets_at outs.Bytes r = []
-packets_at outs.Report r = []
+packets_at port r = []
 
 -- The output at a port comes to the packets received.
 abbrev pub OutputComes : Settings → List ℕ → OutPort → List ℕ → Type 0

@@ -74,10 +74,7 @@ fn write_events<'a, S: Station<'a>>(events: &[Event], station: &mut S) -> Result
     }
     let mut text = EventText::new();
     for event in events {
-        match push_line(&event.line(), &mut text, station) {
-            Ok(()) => {}
-            Err(stop) => return Err(stop),
-        }
+        push_line(&event.line(), &mut text, station)?;
     }
     write_some(OutPort::Report, text.as_str().as_bytes(), station)
 }
@@ -96,14 +93,8 @@ pub(crate) fn write_out<'a, X: CellReceiver, S: Station<'a>>(
     ensures others { WritesOnly (S.meaning station.old) (S.meaning station.new) }
     ensures written { IsTrue (S.meaning station.old).tells → WritesOut two (X.gave receiver.now) (S.meaning station.old) (S.meaning station.new) result }
 {
-    match write_some(OutPort::Hp, receiver.hp(), station) {
-        Ok(()) => {}
-        Err(stop) => return Err(stop),
-    }
-    match write_lp(two, receiver.lp(), station) {
-        Ok(()) => {}
-        Err(stop) => return Err(stop),
-    }
+    write_some(OutPort::Hp, receiver.hp(), station)?;
+    write_lp(two, receiver.lp(), station)?;
     write_events(receiver.events(), station)
 }
 

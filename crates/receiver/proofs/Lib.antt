@@ -2,4 +2,3 @@ mod Voting
 mod Pending
 mod Stepping
 mod Feeding
-mod Symbols

@@ -24,9 +24,10 @@ pub record MayGive (x : StreamRx) : Type 0 where
   pub slots : 24 ≤ vec_capacity x.slots
   pub started : Started x.outer
 
--- a stream after so many symbols of so many steps each, before it has ended
+-- a stream after so many symbols of at most so many steps each, before it has ended
 pub record IsKeptStream (x : StreamRx) (steps taken : ℕ) : Type 0 where
   pub ready : IsReady x
   pub most : x.branch.most ≡ steps
-  pub steps_are : x.branch.decoder.steps ≡ taken * steps
+  pub few_steps : steps ≤ 31752
+  pub steps_were : x.branch.decoder.steps ≤ taken * steps
   pub counts : AreFew x.counts (40 * taken)

@@ -1,18 +1,16 @@
 -- What a receiver stands for.
 use Rattle.std.specs.Prelude.{◌≡◌, ℕ, ◌<◌, Bool, true, false, List, [], ◌++◌, All, Option, length}
 use Rattle.code_paths.specs.declared.costs.CostPair.{CostPair}
-use Rattle.code_paths.specs.Streams.{Reports}
 use Rattle.bit_pack.specs.Queue.{bits_of_bytes}
 use Rattle.mode_set.specs.declared.modes.Stream.{Stream}
-use Rattle.inner_decoder.specs.Seen.{DecoderState}
 use Rattle.inner_decoder.specs.Running.{BranchState}
-use Rattle.inner_decoder.specs.Tracking.{Stands, StandsEnded}
+use Rattle.stream_decoders.specs.Branches.{DecoderStands, HasGiven}
 use Rattle.outer_chain.specs.Running.{Finished}
 use Rattle.outer_chain.specs.Words.{Tally, word_count}
 use Rattle.reception.specs.Cells.{symbols}
 use Rattle.reception.specs.Costs.{costs}
 use Rattle.reception.specs.Frames.{tps_cells}
-use Rattle.reception.specs.Streams.{memory, start_of, Moment, so_far, at_end, IsDecoded, Reception, Receives}
+use Rattle.reception.specs.Streams.{start_of, Moment, so_far, at_end, IsDecoded, Reception, Receives}
 use Rattle.reception.specs.Lines.{stream_counts}
 use Rattle.reception.specs.Laws.{unfinished}
 use Rattle.receiver.specs.Framing.{FrameStands}
@@ -22,25 +20,17 @@ abbrev pub is_end : Moment → Bool
 is_end so_far = false
 is_end at_end = true
 
--- A decoder that goes on stands for the costs and the bits given. One that has ended stands for the costs and the bits at the
--- end: no bit waits, and the one state that is alive is the last six bits of the path.
-abbrev pub DecoderStands : Moment → DecoderState → Option (List Bool) → List CostPair → List Bool → Type 0
-DecoderStands so_far d a c bits = (d.ended ≡ false) × Stands memory d a c bits
-DecoderStands at_end d a c bits = (d.ended ≡ true) × StandsEnded memory d a c bits
-
 -- A stream stands for a start, the costs that it was given, and what it gave: the bytes of packets, the counts of words and the
--- reports. Its bits are those that the definitions give for these costs: whole bytes of them were taken, fewer than eight wait.
+-- reports. Of the bits that its decoder gave whole bytes were taken, fewer than eight wait.
 pub record StreamStands (moment : Moment) (x : StreamState) (a : Option (List Bool)) (c : List CostPair) (given : List ℕ) (tally : Tally) (steps : List ℕ) : Type 0 where
   pub bits : List Bool
-  pub decoder : DecoderStands moment x.branch.decoder a c bits
-  pub decoded : IsDecoded moment a c bits
+  pub has_given : HasGiven moment x.branch.decoder a c bits steps
   pub loaded : x.branch.loaded ≡ []
   pub bytes : List ℕ
   pub taken : bits ≡ bits_of_bytes bytes ++ x.branch.wait
   pub few : length x.branch.wait < 8
   pub small : All (λ b. b < 256) bytes
   pub finished : Finished x.outer bytes given tally (word_count bytes)
-  pub reports : Reports memory a c steps
   pub counts : x.counts ≡ stream_counts tally (length steps)
 
 -- a stream gave more: what it wrote behind `old`

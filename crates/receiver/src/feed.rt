@@ -8,7 +8,6 @@ ghost use Rattle.reception.specs.Lines.{counts_of};
 ghost use Rattle.reception.specs.Laws.{nothing};
 ghost use Rattle.reception.specs.Cells.{symbols};
 ghost use Rattle.reception.specs.Costs.{costs};
-ghost use Rattle.inner_decoder.specs.Starts as inner;
 ghost use Rattle.reception.specs.Feeds.{Feeds, Finishes};
 ghost use Rattle.receiver.specs.Seen.{stream_of};
 ghost use Rattle.receiver.specs.Standing.{StandsFor, HasBits};
@@ -16,28 +15,16 @@ ghost use Rattle.receiver.specs.Standing.{StandsFor, HasBits};
 use crate::RxOut;
 use crate::frames::FrameReader;
 use crate::stream::StreamRx;
-use crate::symbol::SymbolRx;
 use acs_lanes::LaneAcs;
-use frame_build::SymbolIn;
-use inner_chain::InnerRx;
-use inner_decoder::{Branch, StartState};
-use mode_set::{Carriers, Settings, Start, Stream};
+use inner_decoder::Branch;
+use mode_set::{Carriers, Settings, Stream};
 use rx_report::{Counts, StreamCounts};
 use std::alloc::{AllocError, Global};
 use std::marker::Model;
 use std::thread::Threads;
+use stream_decoders::{SymbolCosts, take_symbol};
 use survivor_ring::RingSurvivors;
 use word_workers::{Gate, OpenGate};
-
-// The start of the decoders.
-fn start_state(start: Start) -> StartState
-    ensures { inner.start_of result ≡ start_of start }
-{
-    match start {
-        Start::Zero => StartState::Zero,
-        Start::Any => StartState::Any,
-    }
-}
 
 // The counts of LP, where there is a hierarchy.
 fn where_layered(settings: &Settings, counts: StreamCounts) -> Option<StreamCounts>
@@ -57,31 +44,30 @@ fn where_layered(settings: &Settings, counts: StreamCounts) -> Option<StreamCoun
 /// refused.
 #[derive(Drop)]
 pub struct Receiver<M: Carriers> {
-    settings: Settings,
-    input: SymbolIn<M>,
-    streams: SymbolRx<M>,
-    taken: u64,
+    cells: SymbolCosts<M>,
+    hp: StreamRx,
+    lp: StreamRx,
+    frames: FrameReader,
     ended: bool,
 }
 
 impl<M: Carriers> Model for Receiver<M> {
     ghost use Rattle.receiver.specs.Seen.{ReceiverState};
     ghost use Rattle.receiver.specs.Kept.{IsReceiving};
-    ghost use Rattle.std.specs.Prelude.{vec_capacity};
 
     ghost Value = { ReceiverState };
 
     ghost view = { λ x. record {
-      settings = x.settings;
-      rest = x.input;
-      taken = x.taken;
-      hp = record { branch = x.streams.hp.branch; outer = x.streams.hp.outer; counts = x.streams.hp.counts };
-      lp = record { branch = x.streams.lp.branch; outer = x.streams.lp.outer; counts = x.streams.lp.counts };
-      frames = x.streams.frames;
+      settings = x.cells.settings;
+      rest = x.cells.rest;
+      taken = x.cells.taken;
+      hp = record { branch = x.hp.branch; outer = x.hp.outer; counts = x.hp.counts };
+      lp = record { branch = x.lp.branch; outer = x.lp.outer; counts = x.lp.counts };
+      frames = x.frames;
       ended = x.ended;
     } };
 
-    ghost invariant = { λ x. IsReceiving M.MODE M.K x.settings x.input x.streams.inner (vec_capacity x.streams.pairs) x.streams.hp x.streams.lp x.streams.frames x.taken x.ended };
+    ghost invariant = { λ x. IsReceiving x.cells.settings x.cells.taken x.hp x.lp x.frames x.ended };
 }
 
 impl<M: Carriers> Receiver<M> {
@@ -93,23 +79,13 @@ impl<M: Carriers> Receiver<M> {
         ensures taken { IfOk result (λ x. x.taken ≡ 0) }
         ensures stands { IfOk result (λ x. StandsFor so_far x [] nothing) }
     {
-        let start = start_state(settings.start);
-        let hp_steps = settings.need(Stream::Hp);
-        let lp_steps = settings.need(Stream::Lp);
         reception::laws::nothing();
         reception::laws::costs();
-        let streams = SymbolRx {
-            inner: InnerRx::new(alloc, settings)?,
-            pairs: Vec::with_capacity(alloc, hp_steps.max(lp_steps) as usize)?,
-            hp: StreamRx::new(alloc, start, hp_steps)?,
-            lp: StreamRx::new(alloc, start, lp_steps)?,
-            frames: FrameReader::new(),
-        };
         Ok(Receiver {
-            settings: *settings,
-            input: SymbolIn::new(alloc)?,
-            streams,
-            taken: 0,
+            cells: SymbolCosts::new(alloc, settings)?,
+            hp: StreamRx::new(alloc, settings.start, settings.need(Stream::Hp))?,
+            lp: StreamRx::new(alloc, settings.start, settings.need(Stream::Lp))?,
+            frames: FrameReader::new(),
             ended: false,
         })
     }
@@ -153,23 +129,24 @@ impl<M: Carriers> Receiver<M> {
         outer_chain::laws::bits();
         outer_chain::laws::receiving();
         out.clear();
-        let count = self.input.take(piece);
-        if !self.input.whole() {
+        let count = self.cells.feed(piece);
+        if !self.cells.whole() {
             return count;
         }
-        self.streams.take(
+        let settings = self.cells.settings();
+        self.frames.take(settings.mode, self.cells.cells());
+        take_symbol(
             rt,
             gate,
-            &self.settings,
-            self.taken,
-            self.input.cells(),
-            self.input.weights(),
-            &mut out.hp,
-            &mut out.lp,
+            !settings.hierarchy.is_flat(),
+            self.cells.pairs(Stream::Hp),
+            self.cells.pairs(Stream::Lp),
+            &mut self.hp.branch,
+            &mut self.lp.branch,
             &mut out.events,
         );
-        self.input.next();
-        self.taken += 1;
+        self.hp.give_on(rt, gate, settings.workers, &mut out.hp);
+        self.lp.give_on(rt, gate, settings.workers, &mut out.lp);
         count
     }
 
@@ -186,9 +163,9 @@ impl<M: Carriers> Receiver<M> {
         outer_chain::laws::bits();
         outer_chain::laws::receiving();
         out.clear();
-        let workers = self.settings.workers;
-        self.streams.hp.finish(rt, workers, &mut out.hp);
-        self.streams.lp.finish(rt, workers, &mut out.lp);
+        let workers = self.cells.settings().workers;
+        self.hp.finish(rt, workers, &mut out.hp);
+        self.lp.finish(rt, workers, &mut out.lp);
         self.ended = true;
     }
 
@@ -204,7 +181,7 @@ impl<M: Carriers> Receiver<M> {
         ensures number { result ≡ self.now.taken }
         ensures symbols { (moment : Moment) (bytes : List ℕ) (r : Reception) → StandsFor moment self.now bytes r → result ≡ symbols self.now.settings bytes }
     {
-        self.taken
+        self.cells.symbols()
     }
 
     /// The counts so far, or at the end.
@@ -213,12 +190,12 @@ impl<M: Carriers> Receiver<M> {
     {
         reception::laws::symbols();
         Counts {
-            symbols: self.taken,
-            tail: self.input.waiting(),
-            tps_read: self.streams.frames.read,
-            tps_bad: self.streams.frames.bad,
-            hp: self.streams.hp.counts,
-            lp: where_layered(&self.settings, self.streams.lp.counts),
+            symbols: self.cells.symbols(),
+            tail: self.cells.waiting(),
+            tps_read: self.frames.read,
+            tps_bad: self.frames.bad,
+            hp: self.hp.counts,
+            lp: where_layered(self.cells.settings(), self.lp.counts),
         }
     }
 
@@ -231,8 +208,8 @@ impl<M: Carriers> Receiver<M> {
         ensures stands { (moment : Moment) (bytes : List ℕ) (r : Reception) → StandsFor moment self.now bytes r → HasBits moment result.now (start_of self.now.settings.start) (costs self.now.settings bytes stream) }
     {
         match stream {
-            Stream::Hp => &self.streams.hp.branch,
-            Stream::Lp => &self.streams.lp.branch,
+            Stream::Hp => &self.hp.branch,
+            Stream::Lp => &self.lp.branch,
         }
     }
 }

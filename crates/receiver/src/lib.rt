@@ -11,7 +11,6 @@ mod feed;
 mod frames;
 mod out;
 mod stream;
-mod symbol;
 mod words;
 
 pub use feed::Receiver;

@@ -1,28 +1,26 @@
 // The receiving of one stream, symbol by symbol.
-ghost use Rattle.std.specs.Prelude.{◌≡◌, ◌+◌, ◌<◌, ◌≤◌, ◌^◌, ◌++◌, [], ℕ, List, Bool, map, length, vec_len, vec_capacity, IfOk, true, false};
+ghost use Rattle.std.specs.Prelude.{◌≡◌, ◌+◌, ◌<◌, ◌≤◌, ◌^◌, ◌++◌, [], ℕ, List, Bool, length, vec_len, vec_capacity, IfOk, true};
 ghost use Rattle.std.specs.declared.option.Option.{Option};
 ghost use Rattle.code_paths.specs.declared.costs.CostPair.{CostPair as Pair};
 ghost use Rattle.inner_decoder.specs.Events.{ats};
 ghost use Rattle.inner_decoder.specs.Running.{BranchState};
-ghost use Rattle.inner_decoder.specs.Starts.{start_of};
-ghost use Rattle.word_workers.specs.Symbols.{MayRun, HasRun};
+ghost use Rattle.stream_decoders.specs.Branches.{HasTaken};
 ghost use Rattle.outer_chain.specs.Words.{Tally, word_count};
 ghost use Rattle.outer_chain.specs.Running.{Finished, no_words};
-ghost use Rattle.reception.specs.Streams.{so_far, at_end};
-ghost use Rattle.reception.specs.Lines.{event_at, stream_counts};
+ghost use Rattle.reception.specs.Streams.{so_far, at_end, start_of};
+ghost use Rattle.reception.specs.Lines.{stream_counts};
 ghost use Rattle.receiver.specs.Words.{Started, Gives, AreFew};
 ghost use Rattle.receiver.specs.Standing.{StreamStands, StreamGave};
 ghost use Rattle.receiver.specs.Ready.{IsReady, MayGive, seen};
 
-use crate::words::{StreamBranch, WORDS, collect, decode, finish_words};
-use conv_code::CostPair;
-use inner_decoder::{StartState, Unmerged};
-use mode_set::Stream;
+use crate::words::{WORDS, collect, decode, finish_words};
+use mode_set::Start;
 use outer_chain::{OuterRx, WordSlot};
-use rx_report::{Event, StreamCounts};
+use rx_report::StreamCounts;
 use std::alloc::{AllocError, Global};
 use std::thread::Threads;
-use word_workers::{Gate, OpenGate, both};
+use stream_decoders::{StreamBranch, begin, end};
+use word_workers::{Gate, OpenGate};
 
 /// The decoder of one stream, and what becomes of the bits that it gives: bytes, words, packets and counts.
 #[derive(Drop)]
@@ -48,55 +46,10 @@ fn no_counts() -> StreamCounts
     }
 }
 
-/// Loads the pairs of a symbol.
-pub(crate) fn load(branch: &mut StreamBranch, pairs: &[CostPair])
-    requires going { branch.old.decoder.ended ≡ false }
-    requires none { branch.old.loaded ≡ [] }
-    requires room { length pairs.now ≤ branch.old.most }
-    ensures { branch.new ≡ record branch.old { loaded = pairs.now } }
-{
-    branch.load_all(pairs);
-}
-
-/// Runs a symbol of both decoders, side by side where there are two streams.
-pub(crate) fn run_branches<R: Threads + Sync, G: Gate>(
-    rt: &R,
-    gate: &G,
-    two: bool,
-    hp: &mut StreamBranch,
-    lp: &mut StreamBranch,
-)
-    requires hp { MayRun hp.old }
-    requires lp { MayRun lp.old }
-    ensures hp { HasRun hp.old hp.new }
-    ensures lp { HasRun lp.old lp.new }
-{
-    if two {
-        both(rt, gate, hp, lp);
-    } else {
-        hp.run_symbol();
-        lp.run_symbol();
-    }
-}
-
-/// Appends the reports of a symbol.
-fn push_events(stream: Stream, reports: &[Unmerged], to: &mut Vec<Event>)
-    requires room { vec_len to.old + length reports.now ≤ vec_capacity to.old }
-    ensures events { to.new.items ≡ to.old.items ++ map (event_at stream) (ats reports.now) }
-    ensures capacity { vec_capacity to.new ≡ vec_capacity to.old }
-{
-    for report in reports {
-        to.push_reserved(Event {
-            stream,
-            at: report.at,
-        });
-    }
-}
-
 impl StreamRx {
     /// A stream of which nothing was received, with room for the pairs of a symbol. The only error is want
     /// of memory.
-    pub(crate) fn new(alloc: Global, start: StartState, most: u32) -> Result<Self, AllocError>
+    pub(crate) fn new(alloc: Global, start: Start, most: u32) -> Result<Self, AllocError>
         ensures ready { IfOk result (λ x. IsReady x) }
         ensures steps { IfOk result (λ x. x.branch.decoder.steps ≡ 0) }
         ensures most { IfOk result (λ x. x.branch.most ≡ most) }
@@ -104,9 +57,8 @@ impl StreamRx {
         ensures stands { IfOk result (λ x. StreamStands so_far (seen x) (start_of start) [] [] no_words []) }
     {
         outer_chain::laws::receiving();
-        reception::laws::nothing();
         Ok(StreamRx {
-            branch: StreamBranch::new(alloc, start, most)?,
+            branch: begin(alloc, start, most)?,
             outer: OuterRx::new(alloc)?,
             slots: Vec::with_capacity(alloc, WORDS)?,
             counts: no_counts(),
@@ -139,51 +91,40 @@ impl StreamRx {
         self.slots.clear();
     }
 
-    /// Counts and appends the reports of the last symbol.
-    fn report(&mut self, stream: Stream, to: &mut Vec<Event>)
-        requires room { vec_len to.old + 16 ≤ vec_capacity to.old }
+    /// Counts the reports of the last symbol.
+    fn report(&mut self)
         requires few { AreFew self.old.counts (2 ^ 62) }
-        ensures events { to.new.items ≡ to.old.items ++ map (event_at stream) (ats self.old.branch.events) }
-        ensures len { vec_len to.new ≤ vec_len to.old + 16 }
-        ensures capacity { vec_capacity to.new ≡ vec_capacity to.old }
         ensures few { (n : ℕ) → AreFew self.old.counts n → AreFew self.new.counts (n + 16) }
         ensures counted { self.new ≡ record self.old { counts = record self.old.counts { unmerged = self.old.counts.unmerged + length self.old.branch.events } } }
     {
         let reports = self.branch.events();
-        push_events(stream, reports, to);
         self.counts.unmerged += reports.len() as u64;
     }
 
     /// Gives on what the decoder gave in a symbol: decodes the words that are then complete and appends
-    /// their packets, and appends the reports.
+    /// their packets, and counts the reports.
     pub(crate) fn give_on<R: Threads + Sync, G: Gate>(
         &mut self,
         rt: &R,
         gate: &G,
         workers: u8,
-        stream: Stream,
         to: &mut Vec<u8>,
-        events: &mut Vec<Event>,
     )
         requires some_worker { 1 ≤ workers }
         requires few_workers { workers ≤ 16 }
         requires may { MayGive self.old }
         requires counts { AreFew self.old.counts (2 ^ 60) }
         requires room { vec_len to.old + 4512 ≤ vec_capacity to.old }
-        requires event_room { vec_len events.old + 16 ≤ vec_capacity events.old }
         ensures ready { IsReady self.new }
         ensures rest { self.new.branch ≡ record self.old.branch { wait = self.new.branch.wait } }
         ensures counts { (n : ℕ) → AreFew self.old.counts n → AreFew self.new.counts (n + 40) }
         ensures capacity { vec_capacity to.new ≡ vec_capacity to.old }
-        ensures event_len { vec_len events.new ≤ vec_len events.old + 16 }
-        ensures event_capacity { vec_capacity events.new ≡ vec_capacity events.old }
-        ensures events { events.new.items ≡ events.old.items ++ map (event_at stream) (ats self.new.branch.events) }
-        ensures fed { (before : BranchState) (pairs : List Pair) → HasRun (record before { loaded = pairs }) self.old.branch
+        ensures fed { (before : BranchState) (pairs : List Pair) → HasTaken pairs before self.old.branch
             → (a : Option (List Bool)) (c : List Pair) (given : List ℕ) (tally : Tally) (reports : List ℕ) → StreamStands so_far (record { branch = before; outer = self.old.outer; counts = self.old.counts }) a c given tally reports
             → StreamGave so_far (seen self.new) a (c ++ pairs) given (reports ++ ats self.new.branch.events) to.old.items to.new.items }
     {
         self.give(rt, gate, workers, to);
-        self.report(stream, events);
+        self.report();
     }
 
     /// Decodes what is left, and appends the packets of the words that are then complete.
@@ -201,7 +142,7 @@ impl StreamRx {
         ensures ended_stream { (a : Option (List Bool)) (c : List Pair) (given : List ℕ) (tally : Tally) (reports : List ℕ) → StreamStands so_far (seen self.old) a c given tally reports
             → StreamGave at_end (seen self.new) a c given reports to.old.items to.new.items }
     {
-        self.branch.finish();
+        end(&mut self.branch);
         self.give(rt, &OpenGate, workers, to);
     }
 }

@@ -5,19 +5,14 @@ ghost use Rattle.outer_chain.specs.Words.{Tally, word_at, word_count};
 ghost use Rattle.outer_chain.specs.Running.{Finished, bytes_given, is_clean_outcome, is_corrected_outcome, is_bad_outcome};
 ghost use Rattle.receiver.specs.Words.{AreDecoded, DecodesAll, Started, Took, Passed, Collected, counted, Wrote, AreFew};
 
-use acs_lanes::LaneAcs;
-use inner_decoder::Branch;
 use outer_chain::laws::receiving;
 use outer_chain::{OuterRx, WordSlot};
 use rs204::Outcome;
 use rx_report::StreamCounts;
 use std::thread::Threads;
-use survivor_ring::RingSurvivors;
+use stream_decoders::StreamBranch;
 use ts_packet::Packet;
 use word_workers::{Gate, decode_all};
-
-/// The decoder of one stream.
-pub(crate) type StreamBranch = Branch<LaneAcs, RingSurvivors<2048>>;
 
 /// The most words that one symbol completes.
 pub(crate) const WORDS: usize = 24;

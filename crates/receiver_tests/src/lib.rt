@@ -4,8 +4,6 @@
 #![tactic(auto)]
 
 #[cfg(test)]
-mod receiving;
-#[cfg(test)]
 mod sending;
 #[cfg(test)]
 mod tests;

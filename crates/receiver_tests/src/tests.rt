@@ -1,35 +1,71 @@
 // Receptions with known outcomes.
-use crate::receiving::{
-    Reception, begin, counts_of, decoder_of, fed_in_pieces, feed, finish, lp_bytes, packets_of,
-    reports_of, symbols_of,
-};
-use crate::sending::{SYMBOL, null_symbols};
-use mode_set::{Mode2k, Start, Stream};
-use rx_report::{Counts, StreamCounts};
+use crate::sending::{SYMBOL, null_symbols, settings};
+use mode_set::{Start, Stream};
+use receiver_tools::{Cut, Given, Received, Reception};
+use rx_report::{Counts, Event, StreamCounts};
 use std::alloc::{AllocError, Global};
+use std::process::Abort;
 use std::rt::HostRuntime;
 use std::test::Fail;
+use std::thread::Threads;
 use ts_packet::Packet;
 
-fn total(packets: &[Vec<u8>]) -> usize {
-    let mut sum = 0usize;
-    for bytes in packets {
-        sum = sum.saturating_add(bytes.len());
-    }
-    sum
+// What is asked of a reception: how often something was given, the bytes of HP, those given at the end, whether all
+// packets are null packets with no packet of LP and no report beside them, and whether nothing was given between
+// two symbols.
+type Summary = (usize, usize, usize, bool, bool);
+
+// The reception of bytes that begin with the start of a transmission.
+fn received<R: Threads + Sync>(
+    rt: &R,
+    alloc: Global,
+    bytes: &[u8],
+    size: usize,
+) -> Result<Received, AllocError> {
+    Received::of(rt, alloc, &settings(Start::Zero), bytes, Cut::Size(size))
 }
 
-// After each symbol the same is given, however the bytes are cut: 16 symbols of 1512 bits have 14 whole words,
-// of which eleven are the start-up.
+// Are these whole null packets, and nothing beside them?
+fn are_nulls(given: &Given) -> bool {
+    let null = Packet::null();
+    for packet in given.hp.chunks(188) {
+        if packet != null.bytes().as_slice() {
+            return false;
+        }
+    }
+    given.lp.is_empty() && given.events.is_empty()
+}
+
+fn summary(received: &Received) -> Summary {
+    let mut sum = 0usize;
+    let mut last = 0usize;
+    let mut nulls = true;
+    for given in &received.given {
+        last = given.hp.len();
+        sum = sum.saturating_add(last);
+        nulls = nulls && are_nulls(given);
+    }
+    (received.given.len(), sum, last, nulls, received.quiet)
+}
+
+// Sixteen symbols, and three bytes.
+fn sixteen_symbols(rt: &impl Abort, alloc: Global) -> Result<Vec<u8>, AllocError> {
+    let mut bytes = null_symbols(rt, alloc, 16)?;
+    bytes.extend_from_slice(&[1, 2, 3])?;
+    Ok(bytes)
+}
+
+// After each symbol and at the end the same is given, however the bytes are cut: 16 symbols of 1512 bits have 14
+// whole words, of which eleven are the start-up, and the last whole word comes back at the end.
 #[test]
 fn pieces_of_any_size(rt: HostRuntime) -> Result<(), Fail> {
     let alloc = rt.alloc();
-    let mut bytes = null_symbols(&rt, alloc, 16)?;
-    bytes.extend_from_slice(&[1, 2, 3])?;
-    let (whole, _) = fed_in_pieces(&rt, alloc, &bytes, SYMBOL)?;
-    assert_eq!(rt; (whole.len(), total(&whole)), (16, 3 * 188));
+    let bytes = sixteen_symbols(&rt, alloc)?;
+    let whole = received(&rt, alloc, &bytes, SYMBOL)?;
+    let (given, sum, last, _, quiet) = summary(&whole);
+    assert_eq!(rt; (given, sum.wrapping_sub(last), quiet), (17, 3 * 188, true));
     for size in [1usize, 997, 8524, 8526, 20000] {
-        let (other, _) = fed_in_pieces(&rt, alloc, &bytes, size)?;
+        let other = received(&rt, alloc, &bytes, size)?;
         assert!(rt; other == whole, "pieces of {size} bytes");
     }
     Ok(())
@@ -41,32 +77,14 @@ fn pieces_of_any_size(rt: HostRuntime) -> Result<(), Fail> {
 fn null_super_frame_byte_by_byte(rt: HostRuntime) -> Result<(), Fail> {
     let alloc = rt.alloc();
     let bytes = null_symbols(&rt, alloc, 272)?;
-    assert_eq!(rt; bytes.len(), 2_318_800);
-    let (whole, mut by_symbols) = fed_in_pieces(&rt, alloc, &bytes, SYMBOL)?;
-    let (narrow, mut by_bytes) = fed_in_pieces(&rt, alloc, &bytes, 1)?;
-    assert_eq!(rt; (whole.len(), total(&whole)), (272, 240 * 188));
-    assert!(rt; narrow == whole);
-    for symbol in &whole {
-        assert!(rt; are_nulls(symbol));
-    }
-    finish(&rt, &mut by_symbols);
-    finish(&rt, &mut by_bytes);
-    for reception in [&by_symbols, &by_bytes] {
-        assert_eq!(rt; packets_of(reception), Packet::null().bytes().as_slice());
-        assert_eq!(rt; what_stands(reception), (272, 188, 0));
-        assert!(rt; counts_of(reception) == clean_counts());
-    }
+    let whole = received(&rt, alloc, &bytes, SYMBOL)?;
+    let narrow = received(&rt, alloc, &bytes, 1)?;
+    assert_eq!(rt;
+        (whole.taken, summary(&whole)),
+        (2_318_800, (273, 241 * 188, 188, true, true))
+    );
+    assert!(rt; narrow == whole && whole.counts == clean_counts());
     Ok(())
-}
-
-// Are these whole null packets?
-fn are_nulls(packets: &[u8]) -> bool {
-    for packet in packets.chunks(188) {
-        if packet != Packet::null().bytes().as_slice() {
-            return false;
-        }
-    }
-    true
 }
 
 // The counts of the super-frame of null packets: 241 words, of which none needed a correction.
@@ -97,12 +115,43 @@ fn lopsided_symbol(alloc: Global) -> Result<Vec<u8>, AllocError> {
     Ok(bytes)
 }
 
-// The symbols so far, and how many bytes of packets and how many reports the last call gave.
-fn what_stands(reception: &Reception<Mode2k>) -> (u64, usize, usize) {
-    let bytes = packets_of(reception)
-        .len()
-        .saturating_add(lp_bytes(reception));
-    (symbols_of(reception), bytes, reports_of(reception).len())
+// What stands after one symbol from any register, after two of the kind and at the end; of the decoder of HP after two
+// and at the end; and what the second symbol gave.
+#[derive(Drop)]
+struct Unmerged {
+    stands: [(u64, usize, usize); 3],
+    decoder: [(u32, bool); 2],
+    given: Given,
+    counts: Counts,
+}
+
+fn receive_twice<R: Threads + Sync>(
+    rt: &R,
+    alloc: Global,
+    bytes: &[u8],
+) -> Result<Unmerged, AllocError> {
+    let mut reception = Reception::begin(alloc, &settings(Start::Any))?;
+    reception.feed(rt, bytes);
+    let one = reception.stands();
+    reception.feed(rt, bytes);
+    let two = reception.stands();
+    let going = reception.decoder();
+    let given = reception.given(alloc)?;
+    reception.finish(rt);
+    Ok(Unmerged {
+        stands: [one, two, reception.stands()],
+        decoder: [going, reception.decoder()],
+        given,
+        counts: reception.counts(),
+    })
+}
+
+// Is this all that was reported?
+fn is_only_report(reports: &[Event], stream: Stream, at: u64) -> bool {
+    match reports.first() {
+        Some(report) => reports.len() == 1 && report.stream == stream && report.at == at,
+        None => false,
+    }
 }
 
 // Two such symbols, from any register: the paths do not merge.
@@ -110,20 +159,14 @@ fn what_stands(reception: &Reception<Mode2k>) -> (u64, usize, usize) {
 fn unmerged_at_2049(rt: HostRuntime) -> Result<(), Fail> {
     let alloc = rt.alloc();
     let bytes = lopsided_symbol(alloc)?;
-    let mut reception = begin(alloc, Start::Any)?;
-    feed(&rt, &mut reception, &bytes);
-    assert_eq!(rt; what_stands(&reception), (1, 0, 0));
-    feed(&rt, &mut reception, &bytes);
-    assert_eq!(rt; what_stands(&reception), (2, 0, 1));
-    for report in reports_of(&reception) {
-        assert!(rt; report.stream == Stream::Hp);
-        assert_eq!(rt; report.at, 2049);
-    }
-    assert_eq!(rt; decoder_of(&reception), (0, false));
-    finish(&rt, &mut reception);
-    assert_eq!(rt; decoder_of(&reception), (0, true));
-    assert_eq!(rt; what_stands(&reception).1, 0);
-    assert!(rt; counts_of(&reception) == unmerged_counts());
+    let found = receive_twice(&rt, alloc, &bytes)?;
+    assert_eq!(rt;
+        (found.stands, found.decoder),
+        ([(1, 0, 0), (2, 0, 1), (2, 0, 0)], [(0, false), (0, true)])
+    );
+    assert!(rt;
+        is_only_report(&found.given.events, Stream::Hp, 2049) && found.counts == unmerged_counts()
+    );
     Ok(())
 }
 

@@ -37,28 +37,6 @@ pub empty_parts : {A : Type 0} (f : ℕ → List A) (n : ℕ) → ((k : ℕ) →
 empty_parts f zero h = no_parts f
 empty_parts f (suc n) h = parts_end f n ∙ ap₂ (λ x y. x ++ y) (empty_parts f n h) (h n)
 
-pub parts_long : {A : Type 0} (f : ℕ → List A) (q n : ℕ) → ((k : ℕ) → length (f k) ≡ q) → length (flat_map f (numbers n)) ≡ n * q
-parts_long f q zero h = ap length (no_parts f) ∙ (omega arith)
-parts_long f q (suc n) h = ap length (parts_end f n) ∙ length-append (flat_map f (numbers n)) (f n) ∙ ap₂ (λ x y. x + y) (parts_long f q n h) (h n) ∙ (omega arith)
-
--- element t of parts of one length
-pub part_at : {A : Type 0} (f : ℕ → List A) (q n t : ℕ) (d : A) → ((k : ℕ) → length (f k) ≡ q) → t < n * q → get_or (flat_map f (numbers n)) t d ≡ get_or (f (t / q)) (t % q) d
-part_at f q zero t d h l = absurd (omega (arith, l))
-part_at {A} f q (suc n) t d h l = go (cases_lt t (n * q)) (λ s. part_at f q n t d h s)
-  where
-    long : length (flat_map f (numbers n)) ≡ n * q
-    long = parts_long f q n h
-
-    go : (t < n * q) ⊎ (n * q ≤ t) → (t < n * q → get_or (flat_map f (numbers n)) t d ≡ get_or (f (t / q)) (t % q) d) → get_or (flat_map f (numbers (suc n))) t d ≡ get_or (f (t / q)) (t % q) d
-    go (inl s) before = ap (λ (z : List A). get_or z t d) (parts_end f n) ∙ get_or_append_left (flat_map f (numbers n)) (f n) d t (omega (arith, s, long)) ∙ before s
-    go (inr s) before =
-        let within : t - n * q < q = omega (arith, s, l) in
-        let is : n * q + (t - n * q) ≡ t = omega (arith, s) in
-        let row : n ≡ t / q = sym (div-mul-add n q (t - n * q) within) ∙ ap (λ z. z / q) is in
-        let column : t - n * q ≡ t % q = sym (mod-mul-add n q (t - n * q) within) ∙ ap (λ z. z % q) is in
-        ap (λ (z : List A). get_or z t d) (parts_end f n) ∙ get_or-append_right (flat_map f (numbers n)) (f n) t d (omega (arith, s, long))
-        ∙ ap₂ (λ x y. get_or (f x) y d) row (ap (λ z. t - z) long ∙ column)
-
 -- ---- filters
 
 pub none_pass : {A : Type 0} (p : A → Bool) (xs : List A) → All (λ x. p x ≡ false) xs → filter p xs ≡ []

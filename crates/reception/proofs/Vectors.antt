@@ -14,6 +14,7 @@ use Rattle.tps_bch.specs.Bch.{bit_distance, tps_parity}
 use Rattle.tps_word.specs.Tps.{tps_word, tps_info, sync_word, length_bits, shape_bits, hierarchy_bits, rate_bits, guard_bits, mode_bits, signalled}
 use Rattle.tps_word.specs.Vote.{vote, bits_from}
 use Rattle.frame_build.specs.Symbol.{cell_from, weight_from, weights_from, tps_sign, real}
+use Rattle.symbol_spans.specs.Spans.{settings_in, steps_before}
 use Rattle.reception.specs.Cells.{symbols, tail, bytes_of_symbol, symbol_weights}
 use Rattle.reception.specs.Frames.{frame_bits}
 use Rattle.reception.specs.Streams.{Reception}
@@ -68,12 +69,12 @@ unfolding digits
 lines_of_two = refl
 
 event : event_lines midst (replicate 17050 0) (reported (2049 ∷ []) []) ≡ codes "hp unmerged at 2049\n"
-unfolding events numbers digits
+unfolding events settings_in steps_before numbers digits
 event = refl
 
 -- both streams have 1512 steps a symbol: step 3024 is the last of symbol 1
 order : event_lines (layered R1of2) (replicate 25575 0) (reported (2049 ∷ 3024 ∷ 3025 ∷ []) (3024 ∷ 4100 ∷ [])) ≡ codes "hp unmerged at 2049\nhp unmerged at 3024\nlp unmerged at 3024\nhp unmerged at 3025\nlp unmerged at 4100\n"
-unfolding events numbers digits
+unfolding events settings_in steps_before numbers digits
 order = refl
 
 -- the word of frame 1, and two TPS cells of its symbols; those of the symbols a to b are negated

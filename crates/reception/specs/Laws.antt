@@ -1,13 +1,12 @@
 -- The laws of reception, each the clause of a public function of the module laws.
-use Rattle.std.specs.Prelude.{◌≡◌, ℕ, ◌+◌, ◌*◌, ◌/◌, ◌%◌, ◌<◌, ◌≤◌, Bool, true, List, [], ◌++◌, map, length, drop, slice_index_or, Option, All}
+use Rattle.std.specs.Prelude.{◌≡◌, ℕ, ◌+◌, ◌-◌, ◌*◌, ◌%◌, ◌<◌, ◌≤◌, Bool, false, List, [], ◌++◌, map, length, drop, slice_index_or, Option, All}
 use Rattle.code_paths.specs.declared.costs.CostPair.{CostPair}
 use Rattle.code_paths.specs.Streams.{Given, Reports}
-use Rattle.mode_set.specs.Kept.{is_flat}
-use Rattle.mode_set.specs.StreamTable.{need}
 use Rattle.mode_set.specs.declared.modes.Start.{Start}
 use Rattle.mode_set.specs.declared.modes.Stream.{Stream}
 use Rattle.mode_set.specs.declared.modes.Stream.TheVariants.{Hp, Lp}
 use Rattle.mode_set.specs.declared.settings.Settings.{Settings}
+use Rattle.symbol_spans.specs.Spans.{settings_at, exists_in, steps_before, IsStepOf}
 use Rattle.outer_chain.specs.Words.{Tally}
 use Rattle.inner_chain.specs.PairLists.{pair_of}
 use Rattle.reception.specs.Cells.{symbol_length, symbols, tail, bytes_of_symbol, symbol_cells, symbol_weights}
@@ -81,16 +80,16 @@ NoCosts = (s : Settings) (σ : Stream) → costs s [] σ ≡ []
 
 -- one pair for each step of every whole symbol
 abbrev pub CostsAreSteps : Type 0
-CostsAreSteps = (s : Settings) (bytes : List ℕ) (σ : Stream) → length (costs s bytes σ) ≡ symbols s bytes * need s σ
+CostsAreSteps = (s : Settings) (bytes : List ℕ) (σ : Stream) → length (costs s bytes σ) ≡ steps_before s σ (symbols s bytes)
 
--- step t is one of symbol t / need
+-- step t is a step of the symbol that it falls in, counted there from 0
 abbrev pub CostOfStep : Type 0
-CostOfStep = (s : Settings) (bytes : List ℕ) (σ : Stream) (t : ℕ) (d : CostPair) → t < symbols s bytes * need s σ
-    → slice_index_or (costs s bytes σ) t d ≡ pair_of s (symbol_cells s bytes (t / need s σ)) (symbol_weights s bytes (t / need s σ)) (t / need s σ % 68) σ (t % need s σ)
+CostOfStep = (s : Settings) (bytes : List ℕ) (σ : Stream) (m t : ℕ) (d : CostPair) → m < symbols s bytes → IsStepOf s σ m t
+    → slice_index_or (costs s bytes σ) t d ≡ pair_of (settings_at s m) (symbol_cells s bytes m) (symbol_weights s bytes m) (m % 68) σ (t - steps_before s σ m)
 
--- without a hierarchy LP has no costs
-abbrev pub NoLowCosts : Type 0
-NoLowCosts = (s : Settings) (bytes : List ℕ) → is_flat s.hierarchy ≡ true → costs s bytes Lp ≡ []
+-- a stream that does not exist has no costs
+abbrev pub NoCostsWithout : Type 0
+NoCostsWithout = (s : Settings) (bytes : List ℕ) (σ : Stream) → exists_in s σ ≡ false → costs s bytes σ ≡ []
 
 -- ---- reports and events
 

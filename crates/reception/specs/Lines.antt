@@ -1,12 +1,12 @@
 -- The counts of a reception, and the lines of its report.
-use Rattle.std.specs.Prelude.{ℕ, ◌-◌, ◌/◌, ◌==◌, if◌then◌else◌, List, ◌++◌, None, Some, map, filter, flat_map, length}
+use Rattle.std.specs.Prelude.{ℕ, ◌+◌, ◌&&◌, nat_lt, nat_le, if◌then◌else◌, List, ◌++◌, None, Some, map, filter, flat_map, length}
 use Rattle.std.specs.List.{concat}
 use Rattle.spec_words.specs.Words.{numbers}
 use Rattle.mode_set.specs.Kept.{is_flat}
-use Rattle.mode_set.specs.StreamTable.{need}
 use Rattle.mode_set.specs.declared.modes.Stream.{Stream}
 use Rattle.mode_set.specs.declared.modes.Stream.TheVariants.{Hp, Lp}
 use Rattle.mode_set.specs.declared.settings.Settings.{Settings}
+use Rattle.symbol_spans.specs.Spans.{steps_before}
 use Rattle.outer_chain.specs.Words.{Tally}
 use Rattle.rx_report.specs.Text.{event_line}
 use Rattle.rx_report.specs.Text as text
@@ -20,9 +20,9 @@ use Rattle.reception.specs.Streams.{Reception}
 abbrev pub event_at : Stream → ℕ → Event
 event_at σ at = record { stream = σ; at = at }
 
--- the reports of a stream in symbol m: the step counted as `at` from 1 is one of symbol (at - 1) / need
+-- the reports of a stream in symbol m: the step counted as `at` from 1 is one of that symbol
 abbrev pub events_of : Settings → (Stream → List ℕ) → ℕ → Stream → List Event
-events_of s reports m σ = map (event_at σ) (filter (λ at. (at - 1) / need s σ == m) (reports σ))
+events_of s reports m σ = map (event_at σ) (filter (λ at. nat_lt (steps_before s σ m) at && nat_le at (steps_before s σ (m + 1))) (reports σ))
 
 -- all reports of n symbols: symbol after symbol, HP before LP
 unfoldable pub events : Settings → ℕ → (Stream → List ℕ) → List Event

@@ -1,9 +1,10 @@
 // The laws of reception, as contracts of functions that do nothing.
-ghost use Rattle.reception.specs.Laws.{SameSymbols, OneSymbolMore, TailIsUnfinished, MoreUnfinished, EndedSymbol, CellsStay, WeightsStay, TpsCellsStay, BitsOfCells, CostsGrow, SameCosts, NextCosts, NoCosts, CostsAreSteps, CostOfStep, NoLowCosts, ReportsAreSteps, NewReportsAreLater, NextEvents, NoEvents, OneLive, OneFinal, LiveGrows, FinalEndsLive, NothingGiven, NothingLive};
+ghost use Rattle.reception.specs.Laws.{SameSymbols, OneSymbolMore, TailIsUnfinished, MoreUnfinished, EndedSymbol, CellsStay, WeightsStay, TpsCellsStay, BitsOfCells, CostsGrow, SameCosts, NextCosts, NoCosts, CostsAreSteps, CostOfStep, NoCostsWithout, ReportsAreSteps, NewReportsAreLater, NextEvents, NoEvents, OneLive, OneFinal, LiveGrows, FinalEndsLive, NothingGiven, NothingLive};
 
 use code_paths::{
     ended_once, given_begins_ended, given_grows, given_once, reports_grow, reports_once,
 };
+use symbol_spans::laws::steps;
 
 /// Bytes end a symbol or do not, and more bytes leave its cells.
 pub fn symbols()
@@ -26,8 +27,10 @@ pub fn costs()
     ensures none { NoCosts }
     ensures long { CostsAreSteps }
     ensures step { CostOfStep }
-    ensures low { NoLowCosts }
-{}
+    ensures without { NoCostsWithout }
+{
+    steps();
+}
 
 /// Reports are steps of their symbols, and a symbol's events follow those before.
 pub fn events()
@@ -36,6 +39,7 @@ pub fn events()
     ensures next { NextEvents }
     ensures none { NoEvents }
 {
+    steps();
     reports_once();
 }
 

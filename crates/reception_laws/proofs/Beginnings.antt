@@ -2,19 +2,19 @@
 use Rattle.std.proofs.Common.{◌≡◌, ℕ, zero, suc, ◌+◌, ◌-◌, ◌*◌, ◌/◌, ◌<◌, ◌≤◌, Bool, false, List, ◌++◌, length, map, sym, ap, ap₂, ◌∙◌, subst, subst₂, arith, length-append, append_assoc, append-nil}
 use Rattle.std.specs.Prelude.{◌==◌, ◌↔◌, IsTrue, filter, flat_map, All}
 use Rattle.outer_chain.specs.Words.{count}
-use Rattle.std.proofs.lemmas.Bool.{ne_eqb}
 use Rattle.std.proofs.lemmas.List.Concat.{flat_map-append}
 use Rattle.std.proofs.lemmas.List.Elements.{All-weaker, filter-append}
-use Rattle.std.proofs.Math.Nat.{add-mul-div_right}
 use Rattle.spec_words.specs.Words.{numbers}
 use Rattle.code_paths.specs.declared.costs.CostPair.{CostPair}
 use Rattle.code_paths.specs.Streams.{Given, Reports}
-use Rattle.mode_set.specs.StreamTable.{carriers, need}
+use Rattle.mode_set.specs.StreamTable.{carriers}
 use Rattle.mode_set.specs.declared.modes.Stream.{Stream}
 use Rattle.mode_set.specs.declared.modes.Stream.TheVariants.{Hp, Lp}
 use Rattle.mode_set.specs.declared.settings.Settings.{Settings}
 use Rattle.rx_report.specs.Text.{event_line}
 use Rattle.rx_report.specs.declared.counts.Event.{Event}
+use Rattle.symbol_spans.specs.Spans.{steps_before}
+use Rattle.symbol_spans.specs.Laws.{StepsGrow}
 use Rattle.reception.specs.Cells.{symbols}
 use Rattle.reception.specs.Costs.{costs}
 use Rattle.reception.specs.Frames.{tps_cells, frame_bits, IsReadable, CountsFrames}
@@ -23,45 +23,31 @@ use Rattle.reception.specs.Lines.{event_at, events_of, events}
 use Rattle.reception.specs.Laws.{AreReports, CostsGrow, CostsAreSteps, NewReportsAreLater, LiveGrows, FinalEndsLive, SameSymbols, SameCosts, TpsCellsStay, BitsOfCells}
 use Rattle.reception.proofs.Numbered.{none_pass, same_parts, more_parts}
 use Rattle.reception.proofs.Reported.{IsBetween}
+use Rattle.reception.proofs.Happened.{in_symbol, is_behind}
 use Rattle.reception.proofs.Symbols.{more_count}
 use Rattle.reception_laws.specs.Laws.{SomeLive, LiveBeginsLive, LiveBeginsFinal, WholeSymbolsGive}
 
 -- ---- events
 
-abbrev in_symbol : ℕ → ℕ → ℕ → Bool
-in_symbol q m at = (at - 1) / q == m
-
--- a step behind n symbols is of none of them
-is_later : (q n k m at : ℕ) → m < n → IsBetween (n * q) (k * q) at → in_symbol q m at ≡ false
-is_later q n k m at l h = ne_eqb ((at - 1) / q) m (λ e. absurd (omega (arith, l, e, quotient)))
-  where
-    some : (q : ℕ) → IsBetween (n * q) (k * q) at → 0 < q
-    some zero h = absurd (omega (arith, h.0, h.1))
-    some (suc q) h = omega arith
-
-    quotient : (at - 1) / q ≡ (at - 1 - n * q) / q + n
-    quotient =
-        let is : at - 1 ≡ (at - 1 - n * q) + n * q = omega (arith, h.0) in
-        ap (λ z. z / q) is ∙ add-mul-div_right (at - 1 - n * q) n (some q h)
-
-module _ (later : NewReportsAreLater) (grow : CostsGrow) (steps : CostsAreSteps) (s : Settings) (bytes more : List ℕ) (before after : Stream → List ℕ)
+module _ (later : NewReportsAreLater) (grow : CostsGrow) (steps : CostsAreSteps) (first : StepsGrow) (s : Settings) (bytes more : List ℕ) (before after : Stream → List ℕ)
     (r : AreReports s bytes before) (q : AreReports s (bytes ++ more) after) (grows : (σ : Stream) → (rest : List ℕ) × (after σ ≡ before σ ++ rest)) where
-  new_within : (σ : Stream) → All (IsBetween (symbols s bytes * need s σ) (symbols s (bytes ++ more) * need s σ)) (grows σ).0
+  new_within : (σ : Stream) → All (IsBetween (steps_before s σ (symbols s bytes)) (steps_before s σ (symbols s (bytes ++ more)))) (grows σ).0
   new_within σ =
       let c = costs s bytes σ in
       let g = grow s bytes more σ in
-      let long : length c ≡ symbols s bytes * need s σ = steps s bytes σ in
-      let all : length c + length g.0 ≡ symbols s (bytes ++ more) * need s σ = sym (length-append c g.0) ∙ ap length (sym g.1) ∙ steps s (bytes ++ more) σ in
+      let long : length c ≡ steps_before s σ (symbols s bytes) = steps s bytes σ in
+      let all : length c + length g.0 ≡ steps_before s σ (symbols s (bytes ++ more)) = sym (length-append c g.0) ∙ ap length (sym g.1) ∙ steps s (bytes ++ more) σ in
       subst₂ (λ x y. All (IsBetween x y) (grows σ).0) long all
       (later memory (start_of s.start) c g.0 (before σ) (grows σ).0 (r σ) (subst₂ (λ x y. Reports memory (start_of s.start) x y) g.1 (grows σ).1 (q σ)))
 
   old_symbol : (m : ℕ) → m < symbols s bytes → (σ : Stream) → events_of s after m σ ≡ events_of s before m σ
   old_symbol m l σ =
-      let p = in_symbol (need s σ) m in
+      let p = in_symbol (steps_before s σ) m in
+      let up = first s σ (m + 1) (symbols s bytes) (omega (arith, l)) in
       ap (map (event_at σ))
       (ap (filter p) (grows σ).1 ∙ filter-append p (before σ) (grows σ).0
       ∙ ap (λ z. filter p (before σ) ++ z)
-      (none_pass p (grows σ).0 (All-weaker (IsBetween (symbols s bytes * need s σ) (symbols s (bytes ++ more) * need s σ)) (λ at. p at ≡ false) (λ at k. is_later (need s σ) (symbols s bytes) (symbols s (bytes ++ more)) m at l k) (grows σ).0 (new_within σ)))
+      (none_pass p (grows σ).0 (All-weaker (IsBetween (steps_before s σ (symbols s bytes)) (steps_before s σ (symbols s (bytes ++ more)))) (λ at. p at ≡ false) (λ at k. is_behind (steps_before s σ) m at (omega (arith, up, k.0))) (grows σ).0 (new_within σ)))
       ∙ append-nil (filter p (before σ)))
 
   abbrev of_symbol : (Stream → List ℕ) → ℕ → List Event
@@ -92,19 +78,19 @@ module _ (later : NewReportsAreLater) (grow : CostsGrow) (steps : CostsAreSteps)
 again : (a b c : List ℕ) → (rest : List ℕ) × (b ≡ a ++ rest) → (rest : List ℕ) × (c ≡ b ++ rest) → (rest : List ℕ) × (c ≡ a ++ rest)
 again a b c h k = (h.0 ++ k.0, k.1 ∙ ap (λ z. z ++ k.0) h.1 ∙ append_assoc a h.0 k.0)
 
-pub live_begins_live : NewReportsAreLater → CostsGrow → CostsAreSteps → LiveGrows → LiveBeginsLive
-live_begins_live later grow steps grows s bytes more r q x y =
+pub live_begins_live : NewReportsAreLater → CostsGrow → CostsAreSteps → StepsGrow → LiveGrows → LiveBeginsLive
+live_begins_live later grow steps first grows s bytes more r q x y =
     let g = grows s bytes more r q x y in
-    record { packets = g.packets; lines = lines_begin later grow steps s bytes more r.reports q.reports x.reports y.reports g.reports }
+    record { packets = g.packets; lines = lines_begin later grow steps first s bytes more r.reports q.reports x.reports y.reports g.reports }
 
-pub live_begins_final : SomeLive → NewReportsAreLater → CostsGrow → CostsAreSteps → LiveGrows → FinalEndsLive → LiveBeginsFinal
-live_begins_final some later grow steps grows ends s bytes more r q x y =
+pub live_begins_final : SomeLive → NewReportsAreLater → CostsGrow → CostsAreSteps → StepsGrow → LiveGrows → FinalEndsLive → LiveBeginsFinal
+live_begins_final some later grow steps first grows ends s bytes more r q x y =
     let m = some s (bytes ++ more) in
     let g = grows s bytes more r m.0 x m.1 in
     let e = ends s (bytes ++ more) m.0 q m.1 y in
     record {
       packets = λ σ. again (r.packets σ) (m.0.packets σ) (q.packets σ) (g.packets σ) (e.packets σ);
-      lines = lines_begin later grow steps s bytes more r.reports q.reports x.reports y.reports (λ σ. let h = g.reports σ in (h.0, e.reports σ ∙ h.1));
+      lines = lines_begin later grow steps first s bytes more r.reports q.reports x.reports y.reports (λ σ. let h = g.reports σ in (h.0, e.reports σ ∙ h.1));
     }
 
 -- ---- whole symbols

@@ -17,6 +17,7 @@ pub fn beginnings()
     ensures whole { WholeSymbolsGive }
 {
     existence();
+    symbol_spans::laws::steps();
     reception::laws::symbols();
     reception::laws::costs();
     reception::laws::events();

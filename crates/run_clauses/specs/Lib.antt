@@ -7,4 +7,5 @@ pub mod StreamForm
 pub mod Text
 pub mod Header
 pub mod Command
+pub mod Ports
 pub mod Run

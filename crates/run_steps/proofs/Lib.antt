@@ -6,3 +6,4 @@ pub mod Fitting
 pub mod Whole
 pub mod Early
 pub mod Taken
+pub mod HandedOn

@@ -4,28 +4,13 @@ use Rattle.std.specs.Prelude.{◌≡◌, ◌⊎◌, ℕ, Bool, true, false, List
 use Rattle.station_core.specs.Meaning.{Meaning, Sink, sink_at, IsUntouched}
 use Rattle.station_core.specs.declared.ports.OutPort.{OutPort}
 use Rattle.station_core.specs.declared.ports.OutPort.TheVariants as outs
+pub use Rattle.run_clauses.specs.Ports.{cell_names, stream_names}
 use Rattle.symbol_runs.specs.declared.stop.Stop.{Stop}
 use Rattle.symbol_runs.specs.declared.stop.Stop.TheVariants.{WriteFault}
 
 -- the name of the file that is written at each port
 abbrev pub Names : Type 0
 Names = OutPort → Option (List ℕ)
-
--- a transport file for each stream
-abbrev pub stream_names : List ℕ → Option (List ℕ) → Names
-stream_names hp lp outs.Cells = None
-stream_names hp lp outs.Hp = Some hp
-stream_names hp lp outs.Lp = lp
-stream_names hp lp outs.Bytes = None
-stream_names hp lp outs.Report = None
-
--- one file of cells
-abbrev pub cell_names : List ℕ → Names
-cell_names name outs.Cells = Some name
-cell_names name outs.Hp = None
-cell_names name outs.Lp = None
-cell_names name outs.Bytes = None
-cell_names name outs.Report = None
 
 -- nothing was asked at these ports
 abbrev pub AreUntouched : Names → Meaning → Type 0

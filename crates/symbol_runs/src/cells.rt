@@ -104,15 +104,11 @@ fn take_all<'a, X: SymbolWork<'a, S>, S: Station<'a>>(
     ensures taken { TakesAtMost ((max_symbols + 1) * (X.work (X.setup work.old)).size) (S.meaning station.old) (S.meaning station.new) }
     ensures all { TakesAll (X.work (X.setup work.old)) (X.stands work.new) max_symbols (S.meaning station.old).cells.left (S.meaning station.old) (S.meaning station.new) result }
 {
-    match work.begin(station) {
-        Ok(()) => {}
-        Err(stop) => return Err(stop),
-    }
+    work.begin(station)?;
     for number in 0..max_symbols {
-        match take_next(number, work, symbol, station) {
-            Ok(true) => {}
-            Ok(false) => return Ok(()),
-            Err(stop) => return Err(stop),
+        let goes_on = take_next(number, work, symbol, station)?;
+        if !goes_on {
+            return Ok(());
         }
     }
     take_rest(max_symbols, work, symbol, station)

@@ -2,7 +2,6 @@
 use Rattle.std.proofs.Common.{◌≡◌, ℕ, zero, suc, ◌+◌, ◌-◌, ◌*◌, ◌/◌, ◌%◌, ◌<◌, ◌≤◌, ◌⊎◌, inl, inr, List, [], ◌∷◌, refl, sym, ap, ◌∙◌, subst, arith, Bool, true, false, cond, IsTrue}
 use Rattle.std.specs.Prelude.{slice_index, slice_index_or, nat_lt}
 use Rattle.std.proofs.lemmas.Bool.{cases_lt, lt-ltb, le-ltb}
-use Rattle.std.proofs.Math.Nat.{mul_assoc}
 use Rattle.spec_words.specs.Bits.{is_set}
 use Rattle.spec_words.specs.Words.{first_below}
 use Rattle.mode_set.specs.Kept.{is_flat, is_qpsk}
@@ -26,7 +25,9 @@ use Rattle.symbol_interleave.specs.Carried.{h, carried, is_odd, HIsAPermutation,
 use Rattle.outer_chain.specs.Sent.{packet_at, outer_byte}
 use Rattle.inner_chain.specs.Labels.{number_at, label_bit}
 use Rattle.frame_build.specs.Symbol.{symbol_bytes, Agree}
-use Rattle.transmission.specs.Transmission.{Inputs, paths_of, tx_label, tx_symbol}
+use Rattle.symbol_spans.specs.Spans.{settings_at, steps_of, steps_before}
+use Rattle.symbol_spans.specs.Laws.{SettingsStay, StepsOfOneMore}
+use Rattle.transmission.specs.Transmission.{Inputs, paths_at, tx_label, tx_symbol}
 use Rattle.transmission.specs.SuperFrames.{packets_for}
 use Rattle.transmission.specs.Laws.{SameBeginning}
 use Rattle.transmission.proofs.PacketCounts.{the_packets_are_least}
@@ -267,55 +268,55 @@ periods_of R7of8 c n e = (omega arith, omega arith)
 periods : (s : Settings) (σ : Stream) → ((coded s σ - need s σ) * sent_in_period (rate s σ) ≡ coded s σ) × ((coded s σ - need s σ) * steps_in_period (rate s σ) ≡ need s σ)
 periods s σ = periods_of (rate s σ) (coded s σ) (need s σ) (whole_of s.mode (width s.shape s.hierarchy σ) (rate s σ))
 
--- coded bit d of symbol m
-same_coded_bit : SentBitsHaveSteps → (s : Settings) (σ : Stream) (m d : ℕ) (path other : ℕ → Bool) → d < coded s σ → ((i : ℕ) → i < (m + 1) * need s σ + 6 → path i ≡ other i) → sent_bit (rate s σ) path (m * coded s σ + d) ≡ sent_bit (rate s σ) other (m * coded s σ + d)
-same_coded_bit steps s σ m d path other l same =
+-- coded bit d of a symbol, along the paths from its first step on
+same_coded_bit : SentBitsHaveSteps → (s : Settings) (σ : Stream) (d : ℕ) (path other : ℕ → Bool) → d < coded s σ → ((i : ℕ) → i < need s σ + 6 → path i ≡ other i) → sent_bit (rate s σ) path d ≡ sent_bit (rate s σ) other d
+same_coded_bit steps s σ d path other l same =
     let p = periods s σ in
-    same_sent steps (rate s σ) path other (m * coded s σ + d) ((m + 1) * (coded s σ - need s σ))
-    (bits m d (coded s σ) (coded s σ - need s σ) (sent_in_period (rate s σ)) p.0 l)
-    (λ i k. same i (steps_at m i (need s σ) (coded s σ - need s σ) (steps_in_period (rate s σ)) p.1 k))
+    same_sent steps (rate s σ) path other d (coded s σ - need s σ) (below_as d (coded s σ) ((coded s σ - need s σ) * sent_in_period (rate s σ)) p.0 l)
+    (λ i k. same i (below_six i ((coded s σ - need s σ) * steps_in_period (rate s σ)) (need s σ) p.1 k))
   where
-    bits : (m d c p n : ℕ) → p * n ≡ c → d < c → m * c + d < (m + 1) * p * n
-    bits m d c p n e l =
-        let all : (m + 1) * p * n ≡ (m + 1) * (p * n) = mul_assoc (m + 1) p n in
-        let row : (m + 1) * (p * n) ≡ (m + 1) * c = ap (λ (z : ℕ). (m + 1) * z) e in
-        let next : (m + 1) * c ≡ m * c + c = omega arith in
-        sum_up (m * c) ((m + 1) * p * n) (all ∙ row ∙ next)
-      where
-        sum_up : (a b : ℕ) → b ≡ a + c → a + d < b
-        sum_up a b q = omega (arith, q, l)
+    below_as : (d c n : ℕ) → n ≡ c → d < c → d < n
+    below_as d c n e k = omega (arith, e, k)
 
-    steps_at : (m i n p k : ℕ) → p * k ≡ n → i < (m + 1) * p * k + 6 → i < (m + 1) * n + 6
-    steps_at m i n p k e l =
-        let all : (m + 1) * p * k ≡ (m + 1) * n = mul_assoc (m + 1) p k ∙ ap (λ (z : ℕ). (m + 1) * z) e in
-        sum_up ((m + 1) * p * k) ((m + 1) * n) all l
-      where
-        sum_up : (a b : ℕ) → a ≡ b → i < a + 6 → i < b + 6
-        sum_up a b q t = omega (arith, q, t)
+    below_six : (i a b : ℕ) → a ≡ b → i < a + 6 → i < b + 6
+    below_six i a b e k = omega (arith, e, k)
 
 -- ---- symbols
 -- what the outer coding of packets gives depends on these packets alone
 abbrev pub SameBytes : Type 0
 SameBytes = (packets other : List (List ℕ)) (n : ℕ) → ((i : ℕ) → i < n → packet_at packets i ≡ packet_at other i) → (p : ℕ) → p < 204 * n → outer_byte packets p ≡ outer_byte other p
 
-same_paths : SameBytes → (s : Settings) (inputs other : Inputs) (m : ℕ) (σ : Stream) → ((i : ℕ) → i < packets_for s σ (m + 1) → packet_at (inputs σ) i ≡ packet_at (other σ) i)
-    → (i : ℕ) → i < (m + 1) * need s σ + 6 → paths_of inputs σ i ≡ paths_of other σ i
-same_paths bytes s inputs other m σ same i l =
-    same_path (outer_byte (inputs σ)) (outer_byte (other σ)) (204 * packets_for s σ (m + 1)) i (bytes (inputs σ) (other σ) (packets_for s σ (m + 1)) same)
-    (sum_up ((m + 1) * need s σ) (packets_for s σ (m + 1)) (the_packets_are_least s σ (m + 1)).enough l)
+same_paths : SameBytes → StepsOfOneMore → (s : Settings) (inputs other : Inputs) (m : ℕ) (σ : Stream) → ((i : ℕ) → i < packets_for s σ (m + 1) → packet_at (inputs σ) i ≡ packet_at (other σ) i)
+    → (i : ℕ) → i < steps_of s σ m + 6 → paths_at s inputs m σ i ≡ paths_at s other m σ i
+same_paths bytes more s inputs other m σ same i l =
+    same_path (outer_byte (inputs σ)) (outer_byte (other σ)) (204 * packets_for s σ (m + 1)) (steps_before s σ m + i) (bytes (inputs σ) (other σ) (packets_for s σ (m + 1)) same)
+    (sum_up (steps_before s σ (m + 1)) (steps_before s σ m) (steps_of s σ m) (packets_for s σ (m + 1)) (more s σ m) (the_packets_are_least s σ (m + 1)).enough l)
   where
-    sum_up : (a b : ℕ) → a ≤ 1632 * b → i < a + 6 → i < 8 * (204 * b) + 6
-    sum_up a b q t = omega (arith, q, t)
+    sum_up : (c a n b : ℕ) → c ≡ a + n → c ≤ 1632 * b → i < n + 6 → a + i < 8 * (204 * b) + 6
+    sum_up c a n b e q t = omega (arith, e, q, t)
 
-same_labels : SameBytes → EachBitIsFound → HIsAPermutation → PlacesAndWordsAgree → SentBitsHaveSteps → (s : Settings) (inputs other : Inputs) (m : ℕ) → ((σ : Stream) (i : ℕ) → i < packets_for s σ (m + 1) → packet_at (inputs σ) i ≡ packet_at (other σ) i)
-    → Agree s (tx_label s inputs m) (tx_label s other m)
+-- what is known of the coding of a symbol
+pub record AreCoded : Type 0 where
+  pub bytes : SameBytes
+  pub more : StepsOfOneMore
+  pub found : EachBitIsFound
+  pub permutation : HIsAPermutation
+  pub agree : PlacesAndWordsAgree
+  pub steps : SentBitsHaveSteps
+
+same_labels : AreCoded → (s : Settings) (inputs other : Inputs) (m : ℕ) → ((σ : Stream) (i : ℕ) → i < packets_for s σ (m + 1) → packet_at (inputs σ) i ≡ packet_at (other σ) i)
+    → Agree (settings_at s m) (tx_label s inputs m) (tx_label s other m)
 unfolding tx_label label_bit
-same_labels bytes found perm agree steps s inputs other m same q e l k =
-    let σ : Stream = stream_at s.hierarchy e in
-    let w : ℕ = carried s.mode (is_odd m) q in
-    same_coded_bit steps s σ m (number_at s e w) (paths_of inputs σ) (paths_of other σ) (number_within found s e w k (word_within perm agree s.mode (is_odd m) q l)) (same_paths bytes s inputs other m σ (same σ))
+same_labels known s inputs other m same q e l k =
+    let z : Settings = settings_at s m in
+    let σ : Stream = stream_at z.hierarchy e in
+    let w : ℕ = carried z.mode (is_odd m) q in
+    same_coded_bit known.steps z σ (number_at z e w) (paths_at s inputs m σ) (paths_at s other m σ) (number_within known.found z e w k (word_within known.permutation known.agree z.mode (is_odd m) q l))
+    (same_paths known.bytes known.more s inputs other m σ (same σ))
 
-pub same_beginning : (s : Settings) (m : ℕ) → ((labels more : ℕ → ℕ → Bool) → Agree s labels more → symbol_bytes s m labels ≡ symbol_bytes s m more)
-    → SameBytes → EachBitIsFound → HIsAPermutation → PlacesAndWordsAgree → SentBitsHaveSteps → SameBeginning s m
+-- symbols follow their labels, by the settings of the symbol
+pub same_beginning : (s : Settings) (m : ℕ) → SettingsStay → AreCoded → ((labels more : ℕ → ℕ → Bool) → Agree s labels more → symbol_bytes s m labels ≡ symbol_bytes s m more) → SameBeginning s m
 unfolding tx_symbol
-same_beginning s m follows bytes found perm agree steps inputs other same = follows (tx_label s inputs m) (tx_label s other m) (same_labels bytes found perm agree steps s inputs other m same)
+same_beginning s m stay known follows inputs other same =
+    subst (λ (z : Settings). ((labels more : ℕ → ℕ → Bool) → Agree z labels more → symbol_bytes z m labels ≡ symbol_bytes z m more)) (sym (stay s (m / 272))) follows
+    (tx_label s inputs m) (tx_label s other m) (same_labels known s inputs other m same)

@@ -1,5 +1,5 @@
 -- The number of super-frames is the least that suffices.
-use Rattle.std.proofs.Common.{◌≡◌, ℕ, ◌+◌, ◌-◌, ◌*◌, ◌/◌, ◌<◌, ◌≤◌, ◌⊎◌, inl, inr, refl, arith, Bool, true, false, IsTrue, max, not}
+use Rattle.std.proofs.Common.{◌≡◌, ℕ, ◌+◌, ◌-◌, ◌*◌, ◌/◌, ◌<◌, ◌≤◌, ◌⊎◌, inl, inr, refl, sym, ◌∙◌, arith, Bool, true, false, IsTrue, max, not}
 use Rattle.std.proofs.lemmas.Nat.{le-div}
 use Rattle.std.proofs.lemmas.Bool.{cases_lt}
 use Rattle.std.proofs.Math.Nat.{mul-le-mul_right, le-max_left, le-max_right, max-le}
@@ -18,6 +18,8 @@ use Rattle.mode_set.specs.declared.modes.Rate.TheVariants.{R1of2, R2of3, R3of4, 
 use Rattle.mode_set.specs.declared.modes.Stream.{Stream}
 use Rattle.mode_set.specs.declared.modes.Stream.TheVariants.{Hp, Lp}
 use Rattle.mode_set.specs.declared.settings.Settings.{Settings}
+use Rattle.symbol_spans.specs.Spans.{exists_in, words_before}
+use Rattle.symbol_spans.specs.Laws.{WordsGrow}
 use Rattle.transmission.specs.SuperFrames.{Suffices, AreSuperFrames, super_frames_for, super_frames}
 use Rattle.transmission.specs.Laws.{TheFormulaIsLeast, OneNumber, TooFew, Enough}
 use Rattle.transmission.proofs.Rounding.{enough, least}
@@ -84,9 +86,24 @@ unfolding frames
 short_enough true f g k l m = l
 short_enough false f g k l m = let n : g ≤ k = m refl in max-le l n
 
-pub the_formula_is_least : TheFormulaIsLeast
+-- all super-frames are alike
+pub record AreAlike : Type 0 where
+  pub words : (s : Settings) (σ : Stream) (n : ℕ) → words_before s σ n ≡ n * words_per_super_frame s σ
+  pub streams : (s : Settings) (σ : Stream) → exists_in s σ ≡ has_stream s.hierarchy σ
+
+-- so many super-frames carry a stream, by the words of one
+abbrev Carries : Settings → (Stream → ℕ) → ℕ → Stream → Type 0
+Carries s counts n σ = IsTrue (has_stream s.hierarchy σ) → counts σ + 11 ≤ n * words_per_super_frame s σ
+
+carries : AreAlike → (s : Settings) (counts : Stream → ℕ) (n : ℕ) → Suffices s counts n → (σ : Stream) → Carries s counts n σ
+carries alike s counts n all σ has = let w = alike.words s σ n in let l = all σ (alike.streams s σ ∙ has) in omega (arith, w, l)
+
+suffices : AreAlike → (s : Settings) (counts : Stream → ℕ) (n : ℕ) → ((σ : Stream) → Carries s counts n σ) → Suffices s counts n
+suffices alike s counts n all σ exists = let w = alike.words s σ n in let l = all σ (sym (alike.streams s σ) ∙ exists) in omega (arith, w, l)
+
+pub the_formula_is_least : AreAlike → TheFormulaIsLeast
 unfolding frames
-the_formula_is_least s counts =
+the_formula_is_least alike s counts =
     let b : Bool = is_flat s.hierarchy in
     let f : ℕ = super_frames_for s counts Hp in
     let g : ℕ = super_frames_for s counts Lp in
@@ -95,41 +112,38 @@ the_formula_is_least s counts =
     let hp_fits : f ≤ frames b f g = long_enough b f g in
     record {
       some = omega (arith, one, hp_fits);
-      suffices = each s counts;
+      suffices = suffices alike s counts (frames b f g) (each s counts);
       least = λ k at_least all. short_enough b f g k
-          (least (counts Hp + 11) (words_per_super_frame s Hp) k some_hp (all Hp refl))
-          (λ has. least (counts Lp + 11) (words_per_super_frame s Lp) k (some_words s Lp has) (all Lp has));
+          (least (counts Hp + 11) (words_per_super_frame s Hp) k some_hp (carries alike s counts k all Hp refl))
+          (λ has. least (counts Lp + 11) (words_per_super_frame s Lp) k (some_words s Lp has) (carries alike s counts k all Lp has));
     }
   where
-    each : (s : Settings) (counts : Stream → ℕ) → Suffices s counts (frames (is_flat s.hierarchy) (super_frames_for s counts Hp) (super_frames_for s counts Lp))
+    each : (s : Settings) (counts : Stream → ℕ) (σ : Stream) → Carries s counts (frames (is_flat s.hierarchy) (super_frames_for s counts Hp) (super_frames_for s counts Lp)) σ
     each s counts Hp has = at_max (words_per_super_frame s Hp) (super_frames_for s counts Hp) (frames (is_flat s.hierarchy) (super_frames_for s counts Hp) (super_frames_for s counts Lp)) (counts Hp + 11) (enough (counts Hp + 11) (words_per_super_frame s Hp) (some_words s Hp has)) (long_enough (is_flat s.hierarchy) (super_frames_for s counts Hp) (super_frames_for s counts Lp))
     each s counts Lp has = at_max (words_per_super_frame s Lp) (super_frames_for s counts Lp) (frames (is_flat s.hierarchy) (super_frames_for s counts Hp) (super_frames_for s counts Lp)) (counts Lp + 11) (enough (counts Lp + 11) (words_per_super_frame s Lp) (some_words s Lp has)) (long_enough_lp (is_flat s.hierarchy) (super_frames_for s counts Hp) (super_frames_for s counts Lp) has)
 
 -- from the definition alone, for any number that has it
-pub too_few_for : (s : Settings) (counts : Stream → ℕ) (k n : ℕ) (σ : Stream) → AreSuperFrames s counts k → IsTrue (has_stream s.hierarchy σ) → n * words_per_super_frame s σ < counts σ + 11 → n < k
-too_few_for s counts k n σ are has few = go (cases_lt n k)
+too_few_for : WordsGrow → (s : Settings) (counts : Stream → ℕ) (k n : ℕ) (σ : Stream) → AreSuperFrames s counts k → IsTrue (exists_in s σ) → words_before s σ n < counts σ + 11 → n < k
+too_few_for grow s counts k n σ are has few = go (cases_lt n k)
   where
+    go_on : (c a b : ℕ) → c + 11 ≤ a → a ≤ b → b < c + 11 → n < k
+    go_on c a b x y z = absurd (omega (arith, x, y, z))
+
     go : (n < k) ⊎ (k ≤ n) → n < k
     go (inl l) = l
-    go (inr l) =
-        let more : k * words_per_super_frame s σ ≤ n * words_per_super_frame s σ = mul-le-mul_right (words_per_super_frame s σ) l in
-        let all : counts σ + 11 ≤ k * words_per_super_frame s σ = are.suffices σ has in
-        go_on (counts σ) (k * words_per_super_frame s σ) (n * words_per_super_frame s σ) all more few
-      where
-        go_on : (c a b : ℕ) → c + 11 ≤ a → a ≤ b → b < c + 11 → n < k
-        go_on c a b x y z = absurd (omega (arith, x, y, z))
+    go (inr l) = go_on (counts σ) (words_before s σ k) (words_before s σ n) (are.suffices σ has) (grow s σ k n l) few
 
-pub one_for : (s : Settings) (counts : Stream → ℕ) (k n : ℕ) → AreSuperFrames s counts k → AreSuperFrames s counts n → k ≡ n
+one_for : (s : Settings) (counts : Stream → ℕ) (k n : ℕ) → AreSuperFrames s counts k → AreSuperFrames s counts n → k ≡ n
 one_for s counts k n a b =
     let l : k ≤ n = a.least n b.some b.suffices in
     let m : n ≤ k = b.least k a.some a.suffices in
     omega (arith, l, m)
 
-pub one_number : OneNumber
-one_number s counts n are = one_for s counts (super_frames s counts) n (the_formula_is_least s counts) are
+pub one_number : TheFormulaIsLeast → OneNumber
+one_number least s counts n are = one_for s counts (super_frames s counts) n (least s counts) are
 
-pub too_few : TooFew
-too_few s counts n σ has few = too_few_for s counts (super_frames s counts) n σ (the_formula_is_least s counts) has few
+pub too_few : WordsGrow → TheFormulaIsLeast → TooFew
+too_few grow least s counts n σ has few = too_few_for grow s counts (super_frames s counts) n σ (least s counts) has few
 
-pub enough_frames : Enough
-enough_frames s counts n some all = (the_formula_is_least s counts).least n some all
+pub enough_frames : TheFormulaIsLeast → Enough
+enough_frames least s counts n some all = (least s counts).least n some all

@@ -12,7 +12,7 @@ use Rattle.transmission.specs.Transmission.{Inputs, by_stream}
 use Rattle.transmission.specs.SuperFrames.{packets_for, symbols_of}
 use Rattle.transmission.specs.Agenda.{Item, ask_limit, take_packet, send_symbol, takes, items_of, agenda, next_stream, Refusal, Limit, packet_refusal, refusal, first_refusal, done, is_send}
 use Rattle.transmission.specs.AgendaLaws.{IsAt, StopsAt, WorkBegins, TakesOfHp, TakesOfLp, SendsSymbol, StopsAtLimit, StopsAtPacket, EndsUnrefused, SentSoFar}
-use Rattle.transmission.proofs.PacketCounts.{packets_grow, no_packets}
+use Rattle.transmission.specs.Laws.{NoPackets, PacketsGrow}
 use Rattle.transmission.proofs.Items.{AreClear, both_clear, found_at, found_none, taken_at, taken_all, taken_through, count_both, takes_clear, takes_send, takes_part, numbers_at, numbers_to}
 
 -- ---- which stream is wanted
@@ -45,8 +45,8 @@ none_yet : (most : ℕ) (inputs : Inputs) (σ : Stream) (p : ℕ) → p < by_str
 none_yet most inputs Hp p l = absurd (omega (arith, l))
 none_yet most inputs Lp p l = absurd (omega (arith, l))
 
-pub work_begins : WorkBegins
-work_begins s most inputs = begins (packets_for s Hp 0) (packets_for s Lp 0) (packets_for s Hp 1) (packets_for s Lp 1) (no_packets s Hp) (no_packets s Lp)
+pub work_begins : NoPackets → WorkBegins
+work_begins none s most inputs = begins (packets_for s Hp 0) (packets_for s Lp 0) (packets_for s Hp 1) (packets_for s Lp 1) (none s Hp) (none s Lp)
   where
     begins : (a b c d : ℕ) → packets_for s Hp 0 ≡ 0 → packets_for s Lp 0 ≡ 0 → IsAt s most inputs 0 0 0
     begins a b c d e f = record {
@@ -124,13 +124,13 @@ takes_of_lp s most inputs m hp lp at wanted ok = record {
     accepted Hp p l = at.accepted Hp p l
     accepted Lp p l = below_next (packet_refusal most inputs Lp) lp (at.accepted Lp) ok p l
 
-pub sends_symbol : SendsSymbol
-sends_symbol s most inputs m hp lp at wanted less = record {
+pub sends_symbol : PacketsGrow → SendsSymbol
+sends_symbol grow s most inputs m hp lp at wanted less = record {
   within = omega (arith, less);
   hp_least = both.0;
-  hp_most = up (packets_for s Hp (m + 1)) (packets_for s Hp (m + 1 + 1)) hp at.hp_most (packets_grow s Hp (m + 1) (m + 1 + 1) (omega arith));
+  hp_most = up (packets_for s Hp (m + 1)) (packets_for s Hp (m + 1 + 1)) hp at.hp_most (grow s Hp (m + 1) (m + 1 + 1) (omega arith));
   lp_least = both.1;
-  lp_most = up (packets_for s Lp (m + 1)) (packets_for s Lp (m + 1 + 1)) lp at.lp_most (packets_grow s Lp (m + 1) (m + 1 + 1) (omega arith));
+  lp_most = up (packets_for s Lp (m + 1)) (packets_for s Lp (m + 1 + 1)) lp at.lp_most (grow s Lp (m + 1) (m + 1 + 1) (omega arith));
   in_order = λ l. never (packets_for s Lp (m + 1)) l at.lp_most;
   accepted = at.accepted;
 }
@@ -158,17 +158,17 @@ limit_refused : (s : Settings) (most : ℕ) (inputs : Inputs) (m : ℕ) → s.ma
 limit_refused s most inputs m l = let test : nat_le s.max_symbols m ≡ true = le-leb s.max_symbols m l in rw test refl
 
 -- the packets of symbol m, where all of them were taken
-stream_clear : (s : Settings) (most : ℕ) (inputs : Inputs) (σ : Stream) (k n : ℕ) → packets_for s σ (k + 1) ≤ n → ((p : ℕ) → p < n → packet_refusal most inputs σ p ≡ None) → AreClear (refusal s most inputs) (takes s σ k)
-stream_clear s most inputs σ k n all ok =
+stream_clear : PacketsGrow → (s : Settings) (most : ℕ) (inputs : Inputs) (σ : Stream) (k n : ℕ) → packets_for s σ (k + 1) ≤ n → ((p : ℕ) → p < n → packet_refusal most inputs σ p ≡ None) → AreClear (refusal s most inputs) (takes s σ k)
+stream_clear grow s most inputs σ k n all ok =
     takes_clear (refusal s most inputs) σ (packets_for s σ k) (packets_for s σ (k + 1) - packets_for s σ k)
-    (λ p l. ok p (below_or p (packets_for s σ (k + 1)) n (up_to (packets_for s σ k) (packets_for s σ (k + 1)) p (packets_grow s σ k (k + 1) (omega arith)) l) all))
+    (λ p l. ok p (below_or p (packets_for s σ (k + 1)) n (up_to (packets_for s σ k) (packets_for s σ (k + 1)) p (grow s σ k (k + 1) (omega arith)) l) all))
 
-items_clear : (s : Settings) (most : ℕ) (inputs : Inputs) (k hp lp : ℕ) → k < s.max_symbols → packets_for s Hp (k + 1) ≤ hp → packets_for s Lp (k + 1) ≤ lp
+items_clear : PacketsGrow → (s : Settings) (most : ℕ) (inputs : Inputs) (k hp lp : ℕ) → k < s.max_symbols → packets_for s Hp (k + 1) ≤ hp → packets_for s Lp (k + 1) ≤ lp
     → ((σ : Stream) (p : ℕ) → p < by_stream hp lp σ → packet_refusal most inputs σ p ≡ None) → AreClear (refusal s most inputs) (items_of s k)
 unfolding items_of
-items_clear s most inputs k hp lp less h l ok =
+items_clear grow s most inputs k hp lp less h l ok =
     both_clear r ((ask_limit k ∷ takes s Hp k) ++ takes s Lp k) (send_symbol k ∷ [])
-    (both_clear r (ask_limit k ∷ takes s Hp k) (takes s Lp k) (limit_clear s most inputs k less, stream_clear s most inputs Hp k hp h (ok Hp)) (stream_clear s most inputs Lp k lp l (ok Lp)))
+    (both_clear r (ask_limit k ∷ takes s Hp k) (takes s Lp k) (limit_clear s most inputs k less, stream_clear grow s most inputs Hp k hp h (ok Hp)) (stream_clear grow s most inputs Lp k lp l (ok Lp)))
     (refl, tt)
   where
     r : Item → Option Refusal
@@ -183,9 +183,9 @@ symbols_clear s most inputs a (suc n) h =
 abbrev before : Settings → ℕ → List Item
 before s m = flat_map (items_of s) (numbers m)
 
-before_clear : (s : Settings) (most : ℕ) (inputs : Inputs) (m hp lp : ℕ) → IsAt s most inputs m hp lp → AreClear (refusal s most inputs) (before s m)
+before_clear : PacketsGrow → (s : Settings) (most : ℕ) (inputs : Inputs) (m hp lp : ℕ) → IsAt s most inputs m hp lp → AreClear (refusal s most inputs) (before s m)
 unfolding numbers
-before_clear s most inputs m hp lp at = symbols_clear s most inputs 0 m each
+before_clear grow s most inputs m hp lp at = symbols_clear s most inputs 0 m each
   where
     chain : (a b c : ℕ) → a ≤ b → b ≤ c → a ≤ c
     chain a b c l k = omega (arith, l, k)
@@ -193,9 +193,9 @@ before_clear s most inputs m hp lp at = symbols_clear s most inputs 0 m each
     each : (k : ℕ) → k < 0 + m → AreClear (refusal s most inputs) (items_of s k)
     each k l =
         let upto : k + 1 ≤ m = omega (arith, l) in
-        items_clear s most inputs k hp lp (omega (arith, l, at.within))
-        (chain (packets_for s Hp (k + 1)) (packets_for s Hp m) hp (packets_grow s Hp (k + 1) m upto) at.hp_least)
-        (chain (packets_for s Lp (k + 1)) (packets_for s Lp m) lp (packets_grow s Lp (k + 1) m upto) at.lp_least) at.accepted
+        items_clear grow s most inputs k hp lp (omega (arith, l, at.within))
+        (chain (packets_for s Hp (k + 1)) (packets_for s Hp m) hp (grow s Hp (k + 1) m upto) at.hp_least)
+        (chain (packets_for s Lp (k + 1)) (packets_for s Lp m) lp (grow s Lp (k + 1) m upto) at.lp_least) at.accepted
 
 one_send : (s : Settings) (k : ℕ) → count_by is_send (items_of s k) ≡ 1
 unfolding items_of
@@ -238,10 +238,10 @@ agenda_to : (s : Settings) (inputs : Inputs) (m : ℕ) → m ≤ symbols_of s in
 unfolding agenda
 agenda_to s inputs m l = ap (flat_map (items_of s)) (numbers_to m (symbols_of s inputs) l) ∙ flat_map-append (items_of s) (numbers m) (range_with_len m (symbols_of s inputs - m))
 
-pub stops_at_limit : StopsAtLimit
+pub stops_at_limit : PacketsGrow → StopsAtLimit
 unfolding items_of
-stops_at_limit s most inputs m hp lp at more past =
-    stops s most inputs (before s m) _ (ask_limit m) (Limit s.max_symbols) m (agenda_at s inputs m more) (before_clear s most inputs m hp lp at) (limit_refused s most inputs m past) (sends_before s m)
+stops_at_limit grow s most inputs m hp lp at more past =
+    stops s most inputs (before s m) _ (ask_limit m) (Limit s.max_symbols) m (agenda_at s inputs m more) (before_clear grow s most inputs m hp lp at) (limit_refused s most inputs m past) (sends_before s m)
 
 -- where the packets before packet p of the takes were taken
 takes_at : (s : Settings) (σ : Stream) (m p : ℕ) → packets_for s σ m ≤ p → p < packets_for s σ (m + 1)
@@ -265,14 +265,14 @@ lp_place pre hps a b sent more q x = simp append_assoc
 part_clear : (s : Settings) (most : ℕ) (inputs : Inputs) (σ : Stream) (a p : ℕ) → a ≤ p → ((i : ℕ) → i < p → packet_refusal most inputs σ i ≡ None) → AreClear (refusal s most inputs) (map (take_packet σ) (range_with_len a (p - a)))
 part_clear s most inputs σ a p l ok = takes_clear (refusal s most inputs) σ a (p - a) (λ i k. ok i (up_to a p i l k))
 
-stops_at_hp : (s : Settings) (most : ℕ) (inputs : Inputs) (m hp lp : ℕ) (e : Refusal) → IsAt s most inputs m hp lp → m < symbols_of s inputs → m < s.max_symbols → hp < packets_for s Hp (m + 1) → packet_refusal most inputs Hp hp ≡ Some e → StopsAt s most inputs e m
+stops_at_hp : PacketsGrow → (s : Settings) (most : ℕ) (inputs : Inputs) (m hp lp : ℕ) (e : Refusal) → IsAt s most inputs m hp lp → m < symbols_of s inputs → m < s.max_symbols → hp < packets_for s Hp (m + 1) → packet_refusal most inputs Hp hp ≡ Some e → StopsAt s most inputs e m
 unfolding items_of
-stops_at_hp s most inputs m hp lp e at more less few refused =
+stops_at_hp grow s most inputs m hp lp e at more less few refused =
     stops s most inputs (before s m ++ ask_limit m ∷ front) _ (take_packet Hp hp) e m
     (agenda_at s inputs m more
     ∙ ap (λ (z : List Item). before s m ++ ((((ask_limit m ∷ z) ++ takes s Lp m) ++ send_symbol m ∷ []) ++ rest)) (takes_at s Hp m hp at.hp_least few)
     ∙ hp_place (before s m) front behind (takes s Lp m) (send_symbol m ∷ []) rest (ask_limit m) (take_packet Hp hp))
-    (both_clear r (before s m) (ask_limit m ∷ front) (before_clear s most inputs m hp lp at) (limit_clear s most inputs m less, part_clear s most inputs Hp (packets_for s Hp m) hp at.hp_least (at.accepted Hp)))
+    (both_clear r (before s m) (ask_limit m ∷ front) (before_clear grow s most inputs m hp lp at) (limit_clear s most inputs m less, part_clear s most inputs Hp (packets_for s Hp m) hp at.hp_least (at.accepted Hp)))
     refused
     (count_both (before s m) (ask_limit m ∷ front) ∙ sum_up _ _ _ (sends_before s m) (count_both (ask_limit m ∷ []) front) (takes_send Hp (packets_for s Hp m) (hp - packets_for s Hp m)))
   where
@@ -291,16 +291,16 @@ stops_at_hp s most inputs m hp lp e at more less few refused =
     sum_up : (a b c : ℕ) → a ≡ m → b ≡ 0 + c → c ≡ 0 → a + b ≡ m
     sum_up a b c p q t = omega (arith, p, q, t)
 
-stops_at_lp : (s : Settings) (most : ℕ) (inputs : Inputs) (m hp lp : ℕ) (e : Refusal) → IsAt s most inputs m hp lp → m < symbols_of s inputs → m < s.max_symbols → packets_for s Hp (m + 1) ≤ hp → lp < packets_for s Lp (m + 1)
+stops_at_lp : PacketsGrow → (s : Settings) (most : ℕ) (inputs : Inputs) (m hp lp : ℕ) (e : Refusal) → IsAt s most inputs m hp lp → m < symbols_of s inputs → m < s.max_symbols → packets_for s Hp (m + 1) ≤ hp → lp < packets_for s Lp (m + 1)
     → packet_refusal most inputs Lp lp ≡ Some e → StopsAt s most inputs e m
 unfolding items_of
-stops_at_lp s most inputs m hp lp e at more less all few refused =
+stops_at_lp grow s most inputs m hp lp e at more less all few refused =
     stops s most inputs (before s m ++ ((ask_limit m ∷ takes s Hp m) ++ front)) _ (take_packet Lp lp) e m
     (agenda_at s inputs m more
     ∙ ap (λ (z : List Item). before s m ++ ((((ask_limit m ∷ takes s Hp m) ++ z) ++ send_symbol m ∷ []) ++ rest)) (takes_at s Lp m lp at.lp_least few)
     ∙ lp_place (before s m) (takes s Hp m) front behind (send_symbol m ∷ []) rest (ask_limit m) (take_packet Lp lp))
-    (both_clear r (before s m) ((ask_limit m ∷ takes s Hp m) ++ front) (before_clear s most inputs m hp lp at)
-    (both_clear r (ask_limit m ∷ takes s Hp m) front (limit_clear s most inputs m less, stream_clear s most inputs Hp m hp all (at.accepted Hp)) (part_clear s most inputs Lp (packets_for s Lp m) lp at.lp_least (at.accepted Lp))))
+    (both_clear r (before s m) ((ask_limit m ∷ takes s Hp m) ++ front) (before_clear grow s most inputs m hp lp at)
+    (both_clear r (ask_limit m ∷ takes s Hp m) front (limit_clear s most inputs m less, stream_clear grow s most inputs Hp m hp all (at.accepted Hp)) (part_clear s most inputs Lp (packets_for s Lp m) lp at.lp_least (at.accepted Lp))))
     refused
     (count_both (before s m) ((ask_limit m ∷ takes s Hp m) ++ front)
     ∙ sum_up _ _ _ _ _ (sends_before s m) (count_both (ask_limit m ∷ takes s Hp m) front) (count_both (ask_limit m ∷ []) (takes s Hp m)) (takes_send Hp (packets_for s Hp m) (packets_for s Hp (m + 1) - packets_for s Hp m)) (takes_send Lp (packets_for s Lp m) (lp - packets_for s Lp m)))
@@ -320,26 +320,26 @@ stops_at_lp s most inputs m hp lp e at more less all few refused =
     sum_up : (a b c d e : ℕ) → a ≡ m → b ≡ c + e → c ≡ 0 + d → d ≡ 0 → e ≡ 0 → a + b ≡ m
     sum_up a b c d e p q t u v = omega (arith, p, q, t, u, v)
 
-pub stops_at_packet : StopsAtPacket
-stops_at_packet s most inputs m hp lp Hp e at more less wanted refused = stops_at_hp s most inputs m hp lp e at more less (wants_hp s m hp lp wanted) refused
-stops_at_packet s most inputs m hp lp Lp e at more less wanted refused = let both = wants_lp s m hp lp wanted in stops_at_lp s most inputs m hp lp e at more less both.0 both.1 refused
+pub stops_at_packet : PacketsGrow → StopsAtPacket
+stops_at_packet grow s most inputs m hp lp Hp e at more less wanted refused = stops_at_hp grow s most inputs m hp lp e at more less (wants_hp s m hp lp wanted) refused
+stops_at_packet grow s most inputs m hp lp Lp e at more less wanted refused = let both = wants_lp s m hp lp wanted in stops_at_lp grow s most inputs m hp lp e at more less both.0 both.1 refused
 
-pub ends_unrefused : EndsUnrefused
+pub ends_unrefused : PacketsGrow → EndsUnrefused
 unfolding first_refusal done agenda
-ends_unrefused s most inputs m hp lp at all =
-    let clear : AreClear (refusal s most inputs) (before s (symbols_of s inputs)) = subst (λ (z : ℕ). AreClear (refusal s most inputs) (before s z)) all (before_clear s most inputs m hp lp at) in
+ends_unrefused grow s most inputs m hp lp at all =
+    let clear : AreClear (refusal s most inputs) (before s (symbols_of s inputs)) = subst (λ (z : ℕ). AreClear (refusal s most inputs) (before s z)) all (before_clear grow s most inputs m hp lp at) in
     record {
       none = found_none (refusal s most inputs) (before s (symbols_of s inputs)) clear;
       sent = ap (count_by is_send) (taken_all (refusal s most inputs) (before s (symbols_of s inputs)) clear) ∙ sends_before s (symbols_of s inputs);
     }
 
-pub sent_so_far : SentSoFar
+pub sent_so_far : PacketsGrow → SentSoFar
 unfolding done
-sent_so_far s most inputs m hp lp at within =
+sent_so_far grow s most inputs m hp lp at within =
     let rest : List Item = flat_map (items_of s) (range_with_len m (symbols_of s inputs - m)) in
     let behind : List Item = take_while (λ i. is_none (refusal s most inputs i)) rest in
     let is : count_by is_send (take_while (λ i. is_none (refusal s most inputs i)) (agenda s inputs)) ≡ count_by is_send (before s m ++ behind) =
-    ap (λ (z : List Item). count_by is_send (take_while (λ i. is_none (refusal s most inputs i)) z)) (agenda_to s inputs m within) ∙ ap (count_by is_send) (taken_through (refusal s most inputs) (before s m) rest (before_clear s most inputs m hp lp at)) in
+    ap (λ (z : List Item). count_by is_send (take_while (λ i. is_none (refusal s most inputs i)) z)) (agenda_to s inputs m within) ∙ ap (count_by is_send) (taken_through (refusal s most inputs) (before s m) rest (before_clear grow s most inputs m hp lp at)) in
     sum_up _ _ _ _ is (count_both (before s m) behind) (sends_before s m)
   where
     sum_up : (all both a b : ℕ) → all ≡ both → both ≡ a + b → a ≡ m → m ≤ all

@@ -1,5 +1,5 @@
 -- Symbols as lists of bytes, one after another.
-use Rattle.std.proofs.Common.{◌≡◌, ℕ, zero, suc, ◌+◌, ◌-◌, ◌*◌, ◌≤◌, List, [], ◌∷◌, ◌++◌, length, take, drop, refl, sym, ap, ◌∙◌, subst, arith, append_assoc, append-nil}
+use Rattle.std.proofs.Common.{◌≡◌, ℕ, zero, suc, ◌+◌, ◌-◌, ◌*◌, ◌/◌, ◌≤◌, List, [], ◌∷◌, ◌++◌, length, take, drop, refl, sym, ap, ◌∙◌, subst, arith, append_assoc, append-nil}
 use Rattle.std.specs.Prelude.{flat_map}
 use Rattle.std.specs.List.{range_with_len}
 use Rattle.std.proofs.lemmas.List.{length-append, take-append-drop}
@@ -8,15 +8,18 @@ use Rattle.std.proofs.lemmas.List.Concat.{flat_map-append}
 use Rattle.spec_words.specs.Words.{numbers}
 use Rattle.spec_words.proofs.Counting.{numbers_end}
 use Rattle.mode_set.specs.StreamTable.{carriers}
+use Rattle.mode_set.specs.declared.modes.Mode.{Mode}
 use Rattle.mode_set.specs.declared.settings.Settings.{Settings}
+use Rattle.symbol_spans.specs.Spans.{settings_at}
+use Rattle.symbol_spans.specs.Laws.{ModeStays}
 use Rattle.qam_map.specs.declared.cell.Cell.{Cell}
 use Rattle.frame_build.specs.Symbol.{cell_bytes, sent_bytes, symbol_bytes, cell_at}
 use Rattle.transmission.specs.Transmission.{Inputs, tx_label, tx_cell, tx_symbol, first_symbols}
 use Rattle.transmission.specs.Laws.{SymbolsAreCells, SymbolsAreLong, NoSymbol, OneSymbolMore, FrontOfSymbols, PartOfSymbols}
 
-pub symbols_are_cells : SymbolsAreCells
+pub symbols_are_cells : ModeStays → SymbolsAreCells
 unfolding tx_symbol tx_cell symbol_bytes
-symbols_are_cells s inputs m = refl
+symbols_are_cells stays s inputs m = ap (λ (z : Mode). flat_map (λ k. sent_bytes (cell_at (settings_at s m) m (tx_label s inputs m) k)) (numbers (carriers z))) (stays s (m / 272))
 
 five : (c : Cell) → length (sent_bytes c) ≡ 5
 unfolding sent_bytes cell_bytes
@@ -30,9 +33,11 @@ all_long f c a (suc n) each =
     let both : length (f a ++ flat_map f (range_with_len (a + 1) n)) ≡ length (f a) + length (flat_map f (range_with_len (a + 1) n)) = length-append (f a) (flat_map f (range_with_len (a + 1) n)) in
     omega (arith, rest, here, both)
 
-pub symbols_are_long : SymbolsAreLong
+pub symbols_are_long : ModeStays → SymbolsAreLong
 unfolding tx_symbol symbol_bytes numbers
-symbols_are_long s inputs m = all_long (λ k. sent_bytes (cell_at s m (tx_label s inputs m) k)) 5 0 (carriers s.mode) (λ k. five (cell_at s m (tx_label s inputs m) k))
+symbols_are_long stays s inputs m =
+    all_long (λ k. sent_bytes (cell_at (settings_at s m) m (tx_label s inputs m) k)) 5 0 (carriers (settings_at s m).mode) (λ k. five (cell_at (settings_at s m) m (tx_label s inputs m) k))
+    ∙ ap (λ (z : Mode). 5 * carriers z) (stays s (m / 272))
 
 pub no_symbol : NoSymbol
 unfolding first_symbols numbers

@@ -8,6 +8,8 @@ use Rattle.mode_set.specs.declared.modes.Shape.TheVariants.{Qpsk, Qam16, Qam64}
 use Rattle.mode_set.specs.declared.modes.Rate.{Rate}
 use Rattle.mode_set.specs.declared.modes.Rate.TheVariants.{R1of2, R2of3, R3of4, R5of6, R7of8}
 use Rattle.mode_set.specs.declared.modes.Stream.TheVariants.{Hp, Lp}
+use Rattle.spec_words.specs.Words.{numbers}
+use Rattle.symbol_spans.specs.Spans.{settings_in, steps_before}
 use Rattle.transmission.specs.Transmission.{by_stream}
 use Rattle.transmission.specs.SuperFrames.{super_frames, packets_for}
 use Rattle.transmission.proofs.VectorSettings.{flat, two_16, two_64}
@@ -80,7 +82,9 @@ longer_lp = refl
 
 -- the packets of the first symbols: one outer word has 1632 bits
 first_packets : map (packets_for (flat M2k Qpsk R1of2) Hp) (0 ∷ 1 ∷ 2 ∷ 3 ∷ 272 ∷ []) ≡ 0 ∷ 1 ∷ 2 ∷ 3 ∷ 252 ∷ []
+unfolding settings_in steps_before numbers
 first_packets = refl
 
 none_of_lp : packets_for (flat M8k Qam64 R2of3) Lp 272 ≡ 0
+unfolding settings_in steps_before numbers
 none_of_lp = refl

@@ -1,11 +1,12 @@
 -- The laws of symbols and of their number, each the clause of a public function of the module laws.
 use Rattle.std.specs.Prelude.{◌≡◌, ℕ, ◌+◌, ◌*◌, ◌<◌, ◌≤◌, IsTrue, [], ◌++◌, length, flat_map, take}
 use Rattle.spec_words.specs.Words.{numbers}
-use Rattle.mode_set.specs.StreamTable.{carriers, has_stream, words_per_super_frame}
+use Rattle.mode_set.specs.StreamTable.{carriers}
 use Rattle.mode_set.specs.declared.modes.Stream.{Stream}
 use Rattle.mode_set.specs.declared.settings.Settings.{Settings}
 use Rattle.outer_chain.specs.Sent.{packet_at}
 use Rattle.frame_build.specs.Symbol.{sent_bytes}
+use Rattle.symbol_spans.specs.Spans.{exists_in, words_before}
 use Rattle.transmission.specs.Transmission.{Inputs, tx_cell, tx_symbol, first_symbols}
 use Rattle.transmission.specs.SuperFrames.{Suffices, AreSuperFrames, super_frames, packets_for, ArePacketsFor}
 
@@ -45,7 +46,7 @@ OneNumber = (s : Settings) (counts : Stream → ℕ) (n : ℕ) → AreSuperFrame
 
 -- super-frames that do not carry a stream are too few, and those that carry all are enough
 abbrev pub TooFew : Type 0
-TooFew = (s : Settings) (counts : Stream → ℕ) (n : ℕ) (σ : Stream) → IsTrue (has_stream s.hierarchy σ) → n * words_per_super_frame s σ < counts σ + 11 → n < super_frames s counts
+TooFew = (s : Settings) (counts : Stream → ℕ) (n : ℕ) (σ : Stream) → IsTrue (exists_in s σ) → words_before s σ n < counts σ + 11 → n < super_frames s counts
 
 abbrev pub Enough : Type 0
 Enough = (s : Settings) (counts : Stream → ℕ) (n : ℕ) → 1 ≤ n → Suffices s counts n → super_frames s counts ≤ n
@@ -60,6 +61,6 @@ NoPackets = (s : Settings) (σ : Stream) → packets_for s σ 0 ≡ 0
 abbrev pub PacketsGrow : Type 0
 PacketsGrow = (s : Settings) (σ : Stream) (m n : ℕ) → m ≤ n → packets_for s σ m ≤ packets_for s σ n
 
--- a super-frame has whole words
+-- super-frames have whole words
 abbrev pub PacketsOfSuperFrames : Type 0
-PacketsOfSuperFrames = (s : Settings) (σ : Stream) (n : ℕ) → packets_for s σ (272 * n) ≡ n * words_per_super_frame s σ
+PacketsOfSuperFrames = (s : Settings) (σ : Stream) (n : ℕ) → packets_for s σ (272 * n) ≡ words_before s σ n

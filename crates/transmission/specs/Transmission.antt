@@ -7,9 +7,10 @@ use Rattle.mode_set.specs.declared.settings.Settings.{Settings}
 use Rattle.puncture.specs.SentBits.{path_of}
 use Rattle.symbol_interleave.specs.Carried.{is_odd}
 use Rattle.outer_chain.specs.Sent.{outer_byte}
-use Rattle.inner_chain.specs.Labels.{Paths, label_bit, coded_bits}
+use Rattle.inner_chain.specs.Labels.{Paths, from_step, label_bit, coded_bits}
 use Rattle.qam_map.specs.declared.cell.Cell.{Cell}
 use Rattle.frame_build.specs.Symbol.{cell_at, symbol_bytes}
+use Rattle.symbol_spans.specs.Spans.{settings_at, steps_before}
 
 -- the packets of each stream, which null packets follow without end
 abbrev pub Inputs : Type 0
@@ -24,17 +25,22 @@ by_stream hp lp Lp = lp
 abbrev pub paths_of : Inputs → Paths
 paths_of inputs σ = path_of (outer_byte (inputs σ))
 
--- bit e of the label on payload place q of symbol m: the coded bit of its stream that stands there (4.3.3, 4.3.4)
+-- the paths from the first step of symbol m on
+abbrev pub paths_at : Settings → Inputs → ℕ → Paths
+paths_at s inputs m σ = from_step (paths_of inputs σ) (steps_before s σ m)
+
+-- bit e of the label on payload place q of symbol m: the coded bit of its stream that stands there, where the symbol has the first sent bits
+-- of the paths from its first step on (4.3.3, 4.3.4)
 unfoldable pub tx_label : Settings → Inputs → ℕ → ℕ → ℕ → Bool
-tx_label s inputs m q e = label_bit s (is_odd m) (coded_bits s (paths_of inputs) m) q e
+tx_label s inputs m q e = label_bit (settings_at s m) (is_odd m) (coded_bits (settings_at s m) (paths_at s inputs m)) q e
 
 -- the cell of carrier k in symbol m of a transmission: a pilot, a TPS cell, or the point of its label (4.3.5, 4.4 to 4.6)
 unfoldable pub tx_cell : Settings → Inputs → ℕ → ℕ → Cell
-tx_cell s inputs m k = cell_at s m (tx_label s inputs m) k
+tx_cell s inputs m k = cell_at (settings_at s m) m (tx_label s inputs m) k
 
 -- the bytes of symbol m, carriers rising
 unfoldable pub tx_symbol : Settings → Inputs → ℕ → List ℕ
-tx_symbol s inputs m = symbol_bytes s m (tx_label s inputs m)
+tx_symbol s inputs m = symbol_bytes (settings_at s m) m (tx_label s inputs m)
 
 -- those of the first n symbols
 unfoldable pub first_symbols : Settings → Inputs → ℕ → List ℕ

@@ -5,10 +5,11 @@ ghost use Rattle.transmission.specs.AgendaLaws.{WorkBegins, TakesOfHp, TakesOfLp
 
 use bit_interleave::laws::each_bit_is_found;
 use frame_build::symbols_follow_labels;
-use mode_set::{Settings, super_frames_have_whole_words};
+use mode_set::Settings;
 use outer_chain::laws::sending;
 use puncture::sent_bits_have_steps;
 use symbol_interleave::laws::{h_is_a_permutation, places_and_words_agree};
+use symbol_spans::laws::{settings as super_frame_settings, steps, words};
 
 /// Symbols are the bytes of their cells, five a carrier, one symbol after another.
 pub fn symbols()
@@ -18,13 +19,17 @@ pub fn symbols()
     ensures next { OneSymbolMore }
     ensures front { FrontOfSymbols }
     ensures part { PartOfSymbols }
-{}
+{
+    super_frame_settings();
+}
 
 /// A symbol depends on the packets of the symbols up to it alone: it is the same for all streams that
 /// begin with these packets, null packets behind the end among them.
 pub fn symbols_begin_alike(settings: &Settings, m: u64)
     ensures { SameBeginning settings.now m }
 {
+    super_frame_settings();
+    steps();
     symbols_follow_labels(settings, m);
     each_bit_is_found();
     h_is_a_permutation();
@@ -40,7 +45,10 @@ pub fn super_frames()
     ensures one { OneNumber }
     ensures too_few { TooFew }
     ensures enough { Enough }
-{}
+{
+    super_frame_settings();
+    words();
+}
 
 /// The packets of so many symbols are the least whose words have the symbols' input bits; a super-frame
 /// has whole words.
@@ -50,7 +58,8 @@ pub fn packets()
     ensures grow { PacketsGrow }
     ensures super_frames { PacketsOfSuperFrames }
 {
-    super_frames_have_whole_words();
+    steps();
+    words();
 }
 
 /// How the work goes along its order: it begins, takes packets, sends symbols, and stops at the first
@@ -65,4 +74,6 @@ pub fn work()
     ensures ends { EndsUnrefused }
     ensures so_far { SentSoFar }
     ensures at_fault { SentAtFault }
-{}
+{
+    packets();
+}

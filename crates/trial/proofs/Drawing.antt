@@ -21,11 +21,12 @@ use Rattle.mode_set.specs.declared.settings.Settings.{Settings}
 use Rattle.ts_packet.specs.Packet.{null_packet}
 use Rattle.rand_pcg.specs.Lcg.{Lcg}
 use Rattle.load_gen.specs.Draws.{after, generator, count_of, packet_of, packet_words}
+use Rattle.symbol_spans.specs.Spans.{exists_in, words_before}
 use Rattle.transmission.specs.SuperFrames.{packets_for, counts_of, super_frames, symbols_of, Suffices}
 use Rattle.transmission.specs.Laws.{TheFormulaIsLeast, Enough, NoPackets, PacketsGrow, PacketsOfSuperFrames}
 use Rattle.trial.specs.Drawn.{drawn, drawn_count, drawn_before, drawn_for, packets_from, packets_of_symbol, hp_count}
 use Rattle.trial.specs.Laws.{OneSuperFrame, AllAreDrawn, DrawnInOrder, NullsBehind}
-use Rattle.trial.proofs.Parts.{parts_long, part_is}
+use Rattle.symbol_spans.proofs.Parts.{parts_long, part_is}
 
 -- ---- a super-frame carries at least 252 words of a stream
 half_needed : (r : Rate) (c : ℕ) → 3024 ≤ c → 1512 ≤ c * steps_in_period r / sent_in_period r
@@ -95,11 +96,16 @@ none_where : (b : Bool) (x p : ℕ) → (not b ≡ true → x ≤ p) → cond b 
 none_where true x p h = omega arith
 none_where false x p h = h refl
 
-within : PacketsOfSuperFrames → (s : Settings) (number : ℕ) (σ : Stream) → drawn_count s number σ ≤ packets_for s σ 272
-within frames s number Hp = within_words (hp_count number) (packets_for s Hp 272) (words_per_super_frame s Hp) (frames s Hp 1) (many_words s Hp refl) (few s number Hp)
-within frames s number Lp =
+-- all super-frames are alike
+pub record AreAlike : Type 0 where
+  pub words : (s : Settings) (σ : Stream) (n : ℕ) → words_before s σ n ≡ n * words_per_super_frame s σ
+  pub streams : (s : Settings) (σ : Stream) → exists_in s σ ≡ has_stream s.hierarchy σ
+
+within : AreAlike → PacketsOfSuperFrames → (s : Settings) (number : ℕ) (σ : Stream) → drawn_count s number σ ≤ packets_for s σ 272
+within alike frames s number Hp = within_words (hp_count number) (packets_for s Hp 272) (words_per_super_frame s Hp) (frames s Hp 1 ∙ alike.words s Hp 1) (many_words s Hp refl) (few s number Hp)
+within alike frames s number Lp =
     none_where (is_flat s.hierarchy) (count_of (after 1 (generator number))) (packets_for s Lp 272)
-    (λ has. within_words (count_of (after 1 (generator number))) (packets_for s Lp 272) (words_per_super_frame s Lp) (frames s Lp 1) (many_words s Lp has) (few_counted (after 1 (generator number))))
+    (λ has. within_words (count_of (after 1 (generator number))) (packets_for s Lp 272) (words_per_super_frame s Lp) (frames s Lp 1 ∙ alike.words s Lp 1) (many_words s Lp has) (few_counted (after 1 (generator number))))
 
 -- ---- symbol after symbol
 least_grows : (c a b : ℕ) → a ≤ b → min c a ≤ min c b
@@ -127,11 +133,11 @@ none_before none s number σ = least_of_none (drawn_count s number σ) (packets_
 more_before : PacketsGrow → (s : Settings) (number : ℕ) (σ : Stream) (i j : ℕ) → i ≤ j → drawn_before s number σ i ≤ drawn_before s number σ j
 more_before grow s number σ i j l = least_grows (drawn_count s number σ) (packets_for s σ i) (packets_for s σ j) (grow s σ i j l)
 
-pub all_are_drawn : NoPackets → PacketsGrow → PacketsOfSuperFrames → AllAreDrawn
+pub all_are_drawn : AreAlike → NoPackets → PacketsGrow → PacketsOfSuperFrames → AllAreDrawn
 unfolding drawn
-all_are_drawn none grow frames s number σ =
+all_are_drawn alike none grow frames s number σ =
     parts_long (packets_of_symbol s number σ) (drawn_before s number σ) (symbol_long s number σ) (more_before grow s number σ) 272 (none_before none s number σ)
-    ∙ least_of_more (drawn_count s number σ) (packets_for s σ 272) (within frames s number σ)
+    ∙ least_of_more (drawn_count s number σ) (packets_for s σ 272) (within alike frames s number σ)
 
 pub drawn_in_order : NoPackets → PacketsGrow → DrawnInOrder
 unfolding drawn
@@ -150,9 +156,11 @@ one_of n a b = omega (arith, a, b)
 fits : (c d w : ℕ) → c ≡ d → d ≤ 199 → 252 ≤ w → c + 11 ≤ 1 * w
 fits c d w e l k = omega (arith, e, l, k)
 
-pub one_super_frame : TheFormulaIsLeast → Enough → AllAreDrawn → OneSuperFrame
+pub one_super_frame : AreAlike → TheFormulaIsLeast → Enough → AllAreDrawn → OneSuperFrame
 unfolding symbols_of
-one_super_frame least enough all s number =
-    let suffices : Suffices s (counts_of (drawn s number)) 1 = λ σ has. fits (length (drawn s number σ)) (drawn_count s number σ) (words_per_super_frame s σ) (all s number σ) (few s number σ) (many_words s σ has) in
+one_super_frame alike least enough all s number =
+    let suffices : Suffices s (counts_of (drawn s number)) 1 =
+    λ σ exists. subst (λ (n : ℕ). length (drawn s number σ) + 11 ≤ n) (sym (alike.words s σ 1))
+    (fits (length (drawn s number σ)) (drawn_count s number σ) (words_per_super_frame s σ) (all s number σ) (few s number σ) (many_words s σ (sym (alike.streams s σ) ∙ exists))) in
     ap (λ (n : ℕ). 272 * n)
     (one_of (super_frames s (counts_of (drawn s number))) (least s (counts_of (drawn s number))).some (enough s (counts_of (drawn s number)) 1 (omega arith) suffices))

@@ -1,4 +1,3 @@
-pub mod Parts
 pub mod Drawing
 pub mod SmallCells
 pub mod Returning

@@ -1,5 +1,5 @@
 -- Both parts of a cell are small, so cells are read from their bytes.
-use Rattle.std.proofs.Common.{◌≡◌, ℕ, zero, suc, ◌+◌, ◌*◌, ◌%◌, ◌^◌, ◌<◌, ◌≤◌, List, [], ◌∷◌, ◌++◌, length, drop, refl, sym, ap, ap₂, ◌∙◌, subst, arith, append_assoc, length-append, ltb, Bool, true, false, ◌&&◌}
+use Rattle.std.proofs.Common.{◌≡◌, ℕ, zero, suc, ◌+◌, ◌*◌, ◌%◌, ◌^◌, ◌<◌, ◌≤◌, List, [], ◌∷◌, ◌++◌, length, drop, refl, sym, ap, ap₂, ◌∙◌, subst, arith, length-append, ltb, Bool, true, false, ◌&&◌}
 use Rattle.std.specs.Prelude.{ℤ, unsigned_abs, flat_map}
 use Rattle.std.specs.Int.{cast_signed, cast_unsigned, w16}
 use Rattle.std.specs.List.{range_with_len}
@@ -24,6 +24,7 @@ use Rattle.pilots.specs.Reference.{reference}
 use Rattle.qam_map.specs.declared.cell.Cell.{Cell}
 use Rattle.qam_map.specs.Points.{value_of, real_bits, imaginary_bits}
 use Rattle.frame_build.specs.Symbol.{real, cell_of_kind, cell_at, cell_bytes, sent_bytes, cell_from}
+use Rattle.symbol_spans.specs.Spans.{settings_at}
 use Rattle.transmission.specs.Transmission.{Inputs, tx_label, tx_cell, tx_symbol}
 use Rattle.transmission.specs.Laws.{SymbolsAreCells}
 use Rattle.trial.specs.Fed.{fed_cell, fed_symbol}
@@ -106,7 +107,7 @@ kind_small s m labels k (Payload q) = made _ _ (real_small s.shape s.hierarchy (
 
 pub cells_are_small : CellsAreSmall
 unfolding tx_cell cell_at
-cells_are_small s inputs m k = kind_small s m (tx_label s inputs m) k (kind s.mode (m % 68) k)
+cells_are_small s inputs m k = kind_small (settings_at s m) m (tx_label s inputs m) k (kind (settings_at s m).mode (m % 68) k)
 
 -- ---- a part among parts of one length
 record BeginsWith (xs part : List ℕ) : Type 0 where

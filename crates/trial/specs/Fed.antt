@@ -10,13 +10,14 @@ use Rattle.qam_map.specs.declared.cell.Cell.{Cell}
 use Rattle.qam_map.specs.Points.{tolerance}
 use Rattle.frame_build.specs.Symbol.{sent_bytes}
 use Rattle.load_gen.specs.Draws.{after, shift_of}
+use Rattle.symbol_spans.specs.Spans.{settings_at}
 use Rattle.transmission.specs.Transmission.{tx_cell}
 use Rattle.transmission.specs.SuperFrames.{symbols_of}
 use Rattle.trial.specs.Drawn.{before, drawn, shifts_from}
 
--- word i of the shifts of symbol m, as a shift by at most the tolerance
+-- word i of the shifts of symbol m, as a shift by at most the tolerance of the symbol's settings
 abbrev pub shift : Settings → ℕ → ℕ → ℕ → ℤ
-shift s number m i = shift_of (tolerance s.shape s.hierarchy) (after i (shifts_from s number m (before s number m)))
+shift s number m i = shift_of (tolerance (settings_at s m).shape (settings_at s m).hierarchy) (after i (shifts_from s number m (before s number m)))
 
 -- the cell on payload place q, moved: the real axis by shift 2q, the imaginary one by shift 2q + 1
 abbrev pub moved : Settings → ℕ → ℕ → ℕ → Cell → Cell

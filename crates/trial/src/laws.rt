@@ -9,6 +9,8 @@ pub fn packets()
     ensures order { DrawnInOrder }
     ensures nulls { NullsBehind }
 {
+    symbol_spans::laws::settings();
+    symbol_spans::laws::words();
     transmission::laws::packets();
     transmission::laws::super_frames();
 }

@@ -15,6 +15,7 @@ use Rattle.qam_map.specs.declared.cell.Cell.{Cell}
 use Rattle.qam_map.specs.Points.{tolerance}
 use Rattle.inner_chain.specs.Labels.{label_bit, number_at}
 use Rattle.frame_build.specs.Symbol.{cell_at, sent_bytes, cell_of_kind}
+use Rattle.symbol_spans.specs.Spans.{settings_in, settings_at, steps_before}
 use Rattle.transmission.specs.Transmission.{Inputs, by_stream, tx_cell, tx_label}
 use Rattle.transmission.specs.SuperFrames.{symbols_of}
 use Rattle.reception.specs.Streams.{Reception, Final}
@@ -32,12 +33,12 @@ module _ (s : Settings) (w : ℕ) (k : IsKept s.shape s.hierarchy s.rate_lp w s.
 
   -- the generator stands before each symbol where it stands with other workers
   before_alike : (m : ℕ) → before s number m ≡ before t number m
-  unfolding before
+  unfolding before settings_in steps_before
   before_alike zero = refl
   before_alike (suc m) = ap (symbol_from s number m) (before_alike m)
 
   packets_alike : (σ : Stream) (m : ℕ) → packets_of_symbol s number σ m ≡ packets_of_symbol t number σ m
-  unfolding packets_of_symbol
+  unfolding packets_of_symbol settings_in steps_before
   packets_alike σ m = ap (λ (g : Lcg). map (λ i. packet_of (after (packet_words * i) (by_stream g (lp_from s number m g) σ))) (numbers (drawn_for s number σ m))) (before_alike m)
 
   drawn_alike : drawn s number ≡ drawn t number
@@ -53,21 +54,23 @@ module _ (s : Settings) (w : ℕ) (k : IsKept s.shape s.hierarchy s.rate_lp w s.
   kinds_alike m labels c (Payload q) = refl
 
   cells_alike : (inputs : Inputs) (m c : ℕ) → tx_cell s inputs m c ≡ tx_cell t inputs m c
-  unfolding tx_cell tx_label cell_at label_bit number_at
+  unfolding tx_cell tx_label cell_at label_bit number_at settings_in steps_before
   cells_alike inputs m c = kinds_alike m (tx_label s inputs m) c (kind s.mode (m % 68) c)
 
   -- and it is disturbed alike
   shifts_alike : (m : ℕ) → shifts_from s number m (before s number m) ≡ shifts_from t number m (before t number m)
+  unfolding settings_in steps_before
   shifts_alike m = ap (shifts_from s number m) (before_alike m)
 
   -- the cell on payload place q, moved by the shifts that are drawn from here, and negated or not
   abbrev by_shifts : ℕ → Cell → ℕ → Lcg → Cell
   by_shifts m c q g =
-      let shift : ℕ → ℤ = λ i. shift_of (tolerance s.shape s.hierarchy) (after i g) in
+      let shift : ℕ → ℤ = λ i. shift_of (tolerance (settings_at s m).shape (settings_at s m).hierarchy) (after i g) in
       let moved : Cell = record { re = c.re +ℤ shift (2 * q); im = c.im +ℤ shift (2 * q + 1) } in
       if m % 17 == 16 then negated moved else moved
 
   disturbed_alike : (m : ℕ) (cell : Cell) (kd : CarrierKind) → disturbed s number m cell kd ≡ disturbed t number m cell kd
+  unfolding settings_in
   disturbed_alike m cell Continual = refl
   disturbed_alike m cell Scattered = refl
   disturbed_alike m cell Tps = refl

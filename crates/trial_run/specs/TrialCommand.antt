@@ -1,7 +1,5 @@
 -- The command `trial SETTINGS NUMBER`: what it comes to, from its settings and its number alone.
 use Rattle.std.specs.Prelude.{◌≡◌, ◌<◌, ◌≤◌, ◌+◌, ℕ, nat_lt, if◌then◌else◌, List, [], ◌∷◌, ◌++◌, codes, decimal, Option, Some, None, option_and_then, false}
-use Rattle.station_core.specs.declared.ports.InPort.{InPort}
-use Rattle.station_core.specs.declared.ports.InPort.TheVariants as ins
 use Rattle.mode_set.specs.declared.modes.Stream.{Stream}
 use Rattle.mode_set.specs.declared.modes.Stream.TheVariants.{Hp, Lp}
 use Rattle.mode_set.specs.declared.settings.Settings.{Settings}
@@ -12,6 +10,7 @@ use Rattle.trial.specs.declared.counts.TrialCounts.{TrialCounts}
 use Rattle.trial.specs.Outcome.{TrialGives, at_zero, trial_counts}
 use Rattle.worker_laws.specs.Alike.{DifferInWorkers}
 use Rattle.run_clauses.specs.Command.{Command}
+use Rattle.run_clauses.specs.Ports.{by_input}
 use Rattle.run_clauses.specs.SettingsFile.{most_settings, settings_refusal}
 use Rattle.run_clauses.specs.StatedSettings.{settings_of}
 use Rattle.run_clauses.specs.declared.work.Refusal.{Refusal}
@@ -54,30 +53,17 @@ pub record TrialLaws (stated : Option Settings) (number : ℕ) : Type 0 where
   -- By settings that differ from the stated ones in the number of workers alone, it prints the same.
   pub alike : (s t : Settings) → stated ≡ Some s → DifferInWorkers s t → (lines : List ℕ) → TrialPrints s number lines → TrialPrints t number lines
 
--- the most bytes that are taken of the settings; no other file is read
-abbrev pub trial_takes : InPort → ℕ
-trial_takes ins.Settings = most_settings + 1
-trial_takes ins.Hp = 0
-trial_takes ins.Lp = 0
-trial_takes ins.Cells = 0
-
--- the name of the file that is read at a port
-abbrev pub trial_reads : List ℕ → InPort → Option (List ℕ)
-trial_reads settings ins.Settings = Some settings
-trial_reads settings ins.Hp = None
-trial_reads settings ins.Lp = None
-trial_reads settings ins.Cells = None
-
+-- trial SETTINGS NUMBER. No file but the settings is read.
 abbrev pub trial_command : List ℕ → ℕ → Command
 trial_command settings number = record {
-  reads = trial_reads settings;
+  reads = by_input (Some settings) None None None;
   writes = λ port. None;
   statuses = 0 ∷ 3 ∷ 5 ∷ 6 ∷ 7 ∷ 8 ∷ [];
   memory_at_work = false;
   early_refusal = λ file. settings_refusal (file settings);
   header = λ file. None;
   work_refusal = λ limit file. option_and_then trial_refusal (settings_of (file settings));
-  most_taken = λ limit file. trial_takes;
+  most_taken = λ limit file. by_input (most_settings + 1) 0 0 0;
   Comes = λ limit file port bytes. bytes ≡ [];
   Prints = λ limit file lines. (s : Settings) × (settings_of (file settings) ≡ Some s) × TrialPrints s number lines;
   ComesSoFar = λ limit file unread port bytes. bytes ≡ [];

@@ -117,6 +117,7 @@ fn next_cell<M: Carriers>(
 {
     cells();
     symbols();
+    symbol_spans::laws::settings();
     draws_add();
     let cell = read_cell(sent, k as usize);
     let kind = kind(M::MODE, (symbol % 68) as u8, k);

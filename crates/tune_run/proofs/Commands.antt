@@ -18,7 +18,7 @@ use Rattle.run_clauses.specs.Command.{Command, Files, is_among}
 use Rattle.run_clauses.specs.StatedSettings.{settings_of}
 use Rattle.run_clauses.specs.Text.{refusal_status}
 use Rattle.symbol_runs.specs.Work.{Written}
-use Rattle.symbol_runs.specs.Outputs.{stream_names}
+use Rattle.run_clauses.specs.Ports.{stream_names}
 use Rattle.symbol_runs.specs.Cells.{GivenUpTo}
 use Rattle.symbol_runs.specs.Commands as commands
 use Rattle.symbol_runs.specs.Commands.{CellCommand, Come, ComesRefused, MayRefuse}

@@ -19,7 +19,7 @@ use Rattle.run_steps.specs.Ended.{Ended}
 use Rattle.run_steps.proofs.Early.{RefusedEarly, early_ended, refused_early}
 use Rattle.run_steps.proofs.Whole.{run_refused}
 use Rattle.symbol_runs.specs.Commands.{SettingsDone}
-use Rattle.symbol_runs.specs.Outputs.{stream_names}
+use Rattle.run_clauses.specs.Ports.{stream_names}
 use Rattle.symbol_runs.specs.Runs.{IsReady}
 use Rattle.symbol_runs.proofs.Ending.{run_of}
 use Rattle.symbol_runs.proofs.Ending.{ready as cells_ready}

@@ -6,7 +6,7 @@ use Rattle.frame_build.specs.CellFile.{header}
 use Rattle.run_clauses.specs.declared.work.Refusal.TheVariants.{Memory}
 use Rattle.run_clauses.specs.Text.{refusal_text}
 use Rattle.run_steps.specs.Report.{WritesText}
-use Rattle.symbol_runs.specs.Outputs.{stream_names}
+use Rattle.run_clauses.specs.Ports.{stream_names}
 use Rattle.symbol_runs.specs.Runs.{RunsCells}
 use Rattle.tune_run.specs.Working.{tuning_work}
 

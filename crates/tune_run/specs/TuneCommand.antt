@@ -1,16 +1,17 @@
 -- The command `tune`: the files that it reads and writes, and what it comes to, from its settings and the file of cells alone. Of the settings only the mode, the workers and the limit are used.
-use Rattle.std.specs.Prelude.{◌≡◌, ℕ, ◌≤◌, true, List, [], ◌∷◌, ◌++◌, Option, None, Some, is_some, option_and_then}
+use Rattle.std.specs.Prelude.{◌≡◌, ℕ, ◌+◌, ◌≤◌, true, List, [], ◌∷◌, ◌++◌, Option, None, Some, is_some, option_and_then}
 use Rattle.station_core.specs.declared.ports.InPort.TheVariants as ins
 use Rattle.station_core.specs.declared.ports.OutPort.{OutPort}
 use Rattle.station_core.specs.declared.ports.OutPort.TheVariants as outs
 use Rattle.mode_set.specs.declared.settings.Settings.{Settings}
 use Rattle.reception.specs.Cells.{symbols}
 use Rattle.run_clauses.specs.Command.{Command}
-use Rattle.run_clauses.specs.SettingsFile.{settings_refusal}
+use Rattle.run_clauses.specs.Ports.{by_input, stream_names}
+use Rattle.run_clauses.specs.SettingsFile.{most_settings, settings_refusal}
 use Rattle.run_clauses.specs.StatedSettings.{settings_of}
 use Rattle.symbol_runs.specs.Work.{Written}
 use Rattle.receive_run.specs.Received.{cells_in}
-use Rattle.receive_run.specs.ReceiveCommand.{header_by, most_taken_at, reads_at, writes_at}
+use Rattle.receive_run.specs.ReceiveCommand.{header_by, most_cells}
 use Rattle.tune_run.specs.LeastPlace.{Searches}
 use Rattle.tune_run.specs.Tuned.{ComesTo, GivesLive, tune_refusal}
 
@@ -41,14 +42,14 @@ pub record TuneLaws (stated : Option Settings) (file : List ℕ) : Type 0 where
 -- tune SETTINGS CELLS HP, or tune SETTINGS CELLS HP LP
 abbrev pub tune_command : List ℕ → List ℕ → List ℕ → Option (List ℕ) → Command
 tune_command settings cells hp lp = record {
-  reads = reads_at settings cells;
-  writes = writes_at hp lp;
+  reads = by_input (Some settings) None None (Some cells);
+  writes = stream_names hp lp;
   statuses = 0 ∷ 3 ∷ 5 ∷ 6 ∷ 7 ∷ 8 ∷ 9 ∷ 10 ∷ 11 ∷ [];
   memory_at_work = true;
   early_refusal = λ file. settings_refusal (file settings);
   header = λ file. header_by (settings_of (file settings));
   work_refusal = λ limit file. option_and_then (λ s. tune_refusal s (is_some lp) (cells_in (file cells))) (settings_of (file settings));
-  most_taken = λ limit file. most_taken_at settings file;
+  most_taken = λ limit file. by_input (most_settings + 1) 0 0 (most_cells (settings_of (file settings)));
   Comes = λ limit file port output. (s : Settings) × (settings_of (file settings) ≡ Some s) × PortComes s lp (cells_in (file cells)) port output;
   Prints = λ limit file lines. (s : Settings) × (settings_of (file settings) ≡ Some s) × PortComes s lp (cells_in (file cells)) outs.Report lines;
   ComesSoFar = λ limit file unread port output. (s : Settings) × (settings_of (file settings) ≡ Some s) × PortSoFar s lp (file cells) (unread ins.Cells) port output;

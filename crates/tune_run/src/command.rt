@@ -8,7 +8,7 @@ ghost use Rattle.station_core.specs.Meaning.{IsFresh};
 ghost use Rattle.run_clauses.specs.Run.{Run};
 ghost use Rattle.receive_run.specs.Feeder.{IsFed};
 ghost use Rattle.symbol_runs.specs.Runs.{IsReady};
-ghost use Rattle.symbol_runs.specs.Outputs.{stream_names};
+ghost use Rattle.run_clauses.specs.Ports.{stream_names};
 ghost use Rattle.tune_run.specs.Runs.{RunsTuning, RunsOrLacks};
 ghost use Rattle.tune_run.specs.TuneCommand.{tune_command};
 

@@ -1,4 +1,3 @@
-mod Parts
 mod Upgraded
 mod Plain
 mod Vectors

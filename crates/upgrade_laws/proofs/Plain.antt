@@ -1,9 +1,8 @@
 -- What upgraded cells cost.
-use Rattle.std.proofs.Common.{◌≡◌, ℕ, zero, suc, ◌+◌, ◌*◌, ◌/◌, ◌%◌, ◌<◌, List, refl, sym, ap, ◌∙◌, subst, arith}
+use Rattle.std.proofs.Common.{◌≡◌, ℕ, zero, suc, ◌-◌, ◌*◌, ◌/◌, ◌%◌, ◌<◌, List, refl, sym, ap, ◌∙◌, subst, arith}
 use Rattle.std.specs.Prelude.{slice_index, slice_index_or, Option, Some, None}
-use Rattle.std.proofs.Math.Nat.{mul-zero, div-lt_iff_lt-mul}
 use Rattle.code_paths.specs.declared.costs.CostPair.{CostPair}
-use Rattle.mode_set.specs.StreamTable.{need, rate}
+use Rattle.mode_set.specs.StreamTable.{rate}
 use Rattle.mode_set.specs.declared.modes.Stream.{Stream}
 use Rattle.mode_set.specs.declared.settings.Settings.{Settings}
 use Rattle.puncture.specs.SentBits.{X, Y}
@@ -13,6 +12,7 @@ use Rattle.qam_map.specs.declared.cell.Cell.{Cell}
 use Rattle.soft_metric.specs.Weights.{full_weight, weighted, WholeWeightChangesNothing}
 use Rattle.inner_chain.specs.CostPairs.{payload_place, weight_of, weighted_costs_on, costs_of_bit}
 use Rattle.inner_chain.specs.PairLists.{pair_of}
+use Rattle.symbol_spans.specs.Spans.{settings_at, steps_before, IsStepOf}
 use Rattle.reception.specs.Cells.{symbol_cells, symbol_weights}
 use Rattle.reception.specs.Costs.{costs}
 use Rattle.reception.specs.Laws.{CostsAreSteps, CostOfStep}
@@ -32,21 +32,16 @@ plain_pair : WholeWeightChangesNothing → (s : Settings) (cells : List Cell) (w
 unfolding pair_of
 plain_pair law s cells weights l σ t w = record { x = same_costs law s cells weights l σ (number_of (rate s σ) X t) w; y = same_costs law s cells weights l σ (number_of (rate s σ) Y t) w }
 
--- the symbol of a step
-symbol_of : (n q t : ℕ) → t < n * q → t / q < n
-symbol_of n zero t l = absurd (omega (arith, l, mul-zero n))
-symbol_of n (suc q) t l = (div-lt_iff_lt-mul {k = suc q} {x = t} {y = n} (omega arith)).1 l
-
 pub upgraded_costs_are_plain : WholeWeightChangesNothing → CostsAreSteps → CostOfStep → UpgradedCostsArePlain
-upgraded_costs_are_plain law long step s bytes σ = record { long = long s (upgraded s.mode bytes) σ ∙ ap (λ (z : ℕ). z * need s σ) (upgraded_are_whole s bytes).many; pairs = pairs }
+upgraded_costs_are_plain law long step s bytes σ = record { long = long s (upgraded s.mode bytes) σ ∙ ap (steps_before s σ) (upgraded_are_whole s bytes).many; pairs = pairs }
   where
-    pairs : (t : ℕ) (d : CostPair) → t < old_symbols s.mode bytes * need s σ
-        → IsPlainPairOf s (old_symbol_cells s.mode bytes (t / need s σ)) (t / need s σ % 68) σ (t % need s σ) (slice_index_or (costs s (upgraded s.mode bytes) σ) t d)
-    pairs t d l =
-        let m : ℕ = t / need s σ in
+    pairs : (m t : ℕ) (d : CostPair) → m < old_symbols s.mode bytes → IsStepOf s σ m t
+        → IsPlainPairOf (settings_at s m) (old_symbol_cells s.mode bytes m) (m % 68) σ (t - steps_before s σ m) (slice_index_or (costs s (upgraded s.mode bytes) σ) t d)
+    pairs m t d l o =
+        let z : Settings = settings_at s m in
+        let i : ℕ = t - steps_before s σ m in
         let up : List ℕ = upgraded s.mode bytes in
-        let in_old : m < old_symbols s.mode bytes = symbol_of (old_symbols s.mode bytes) (need s σ) t l in
-        let within = subst (λ (n : ℕ). t < n * need s σ) (sym (upgraded_are_whole s bytes).many) l in
-        let plain = plain_pair law s (symbol_cells s up m) (symbol_weights s up m) (m % 68) σ (t % need s σ) (λ k. whole_weights s bytes m k in_old) in
-        let seen = subst (λ (c : CostPair). IsPlainPairOf s (symbol_cells s up m) (m % 68) σ (t % need s σ) c) (sym (step s up σ t d within)) plain in
-        subst (λ (cells : List Cell). IsPlainPairOf s cells (m % 68) σ (t % need s σ) (slice_index_or (costs s up σ) t d)) (same_cells s bytes m in_old) seen
+        let within = subst (λ (n : ℕ). m < n) (sym (upgraded_are_whole s bytes).many) l in
+        let plain = plain_pair law z (symbol_cells s up m) (symbol_weights s up m) (m % 68) σ i (λ k. whole_weights s bytes m k l) in
+        let seen = subst (λ (c : CostPair). IsPlainPairOf z (symbol_cells s up m) (m % 68) σ i c) (sym (step s up σ m t d within o)) plain in
+        subst (λ (cells : List Cell). IsPlainPairOf z cells (m % 68) σ i (slice_index_or (costs s up σ) t d)) (same_cells s bytes m l) seen

@@ -1,5 +1,5 @@
 -- Upgraded cells are the old ones, with whole weights.
-use Rattle.std.proofs.Common.{◌≡◌, ℕ, zero, suc, ◌+◌, ◌-◌, ◌*◌, ◌/◌, ◌%◌, ◌<◌, ◌≤◌, List, [], ◌∷◌, ◌++◌, length, map, take, drop, get_or, refl, sym, ap, ◌∙◌, arith, ◌⊎◌, inl, inr, length-take, length-drop}
+use Rattle.std.proofs.Common.{◌≡◌, ℕ, zero, suc, ◌+◌, ◌*◌, ◌/◌, ◌%◌, ◌<◌, ◌≤◌, List, [], ◌∷◌, ◌++◌, length, map, drop, get_or, refl, sym, ap, ◌∙◌, arith, ◌⊎◌, inl, inr, length-take, length-drop}
 use Rattle.std.specs.Prelude.{pos, slice_index, flat_map}
 use Rattle.std.specs.Int.{cast_signed, w16}
 use Rattle.std.specs.List.{range_with_len}
@@ -16,10 +16,10 @@ use Rattle.qam_map.specs.declared.cell.Cell.{Cell}
 use Rattle.soft_metric.specs.Weights.{full_weight, weight_of_byte}
 use Rattle.frame_build.specs.Symbol.{cell_from, weight_from, cells_from, weights_from}
 use Rattle.inner_chain.specs.CostPairs.{weight_of}
-use Rattle.reception.specs.Cells.{symbol_length, symbols, tail, bytes_of_symbol, symbol_cells, symbol_weights}
+use Rattle.reception.specs.Cells.{symbol_length, bytes_of_symbol, symbol_cells, symbol_weights}
 use Rattle.upgrade_laws.specs.OldCells.{old_symbols, old_cell, old_cell_from, old_symbol_cells, upgraded_cell, upgraded_cells, upgraded}
 use Rattle.upgrade_laws.specs.Laws.{UpgradedAreWhole, UpgradedCellsAreOld}
-use Rattle.upgrade_laws.proofs.Parts.{same_below, parts_long, part_is}
+use Rattle.frame_build.proofs.Parts.{same_below, parts_long, part_is}
 
 -- ---- bytes
 four_are : (p : List ℕ) → length p ≡ 4 → p ≡ get_or p 0 0 ∷ get_or p 1 0 ∷ get_or p 2 0 ∷ get_or p 3 0 ∷ []

@@ -1,9 +1,9 @@
 -- The laws of upgraded cells, each the clause of a public function of the module laws.
-use Rattle.std.specs.Prelude.{◌≡◌, ℕ, ◌*◌, ◌/◌, ◌%◌, ◌<◌, List, length, slice_index_or}
+use Rattle.std.specs.Prelude.{◌≡◌, ℕ, ◌-◌, ◌%◌, ◌<◌, List, length, slice_index_or}
 use Rattle.code_paths.specs.declared.costs.CostPair.{CostPair}
-use Rattle.mode_set.specs.StreamTable.{need}
 use Rattle.mode_set.specs.declared.modes.Stream.{Stream}
 use Rattle.mode_set.specs.declared.settings.Settings.{Settings}
+use Rattle.symbol_spans.specs.Spans.{settings_at, steps_before, IsStepOf}
 use Rattle.reception.specs.Cells.{symbols, tail, symbol_cells}
 use Rattle.reception.specs.Costs.{costs}
 use Rattle.upgrade_laws.specs.OldCells.{old_symbols, old_symbol_cells, upgraded}
@@ -23,9 +23,9 @@ UpgradedCellsAreOld = (s : Settings) (bytes : List ℕ) (m : ℕ) → m < old_sy
 
 -- the costs of upgraded cells, one pair for each step of the old symbols, are the costs of the old cells without weights
 pub record ArePlain (s : Settings) (bytes : List ℕ) (σ : Stream) : Type 0 where
-  pub long : length (costs s (upgraded s.mode bytes) σ) ≡ old_symbols s.mode bytes * need s σ
-  pub pairs : (t : ℕ) (d : CostPair) → t < old_symbols s.mode bytes * need s σ
-      → IsPlainPairOf s (old_symbol_cells s.mode bytes (t / need s σ)) (t / need s σ % 68) σ (t % need s σ) (slice_index_or (costs s (upgraded s.mode bytes) σ) t d)
+  pub long : length (costs s (upgraded s.mode bytes) σ) ≡ steps_before s σ (old_symbols s.mode bytes)
+  pub pairs : (m t : ℕ) (d : CostPair) → m < old_symbols s.mode bytes → IsStepOf s σ m t
+      → IsPlainPairOf (settings_at s m) (old_symbol_cells s.mode bytes m) (m % 68) σ (t - steps_before s σ m) (slice_index_or (costs s (upgraded s.mode bytes) σ) t d)
 
 abbrev pub UpgradedCostsArePlain : Type 0
 UpgradedCostsArePlain = (s : Settings) (bytes : List ℕ) (σ : Stream) → ArePlain s bytes σ

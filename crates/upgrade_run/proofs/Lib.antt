@@ -1,6 +1,5 @@
 pub mod OldCells
-pub mod Files
-pub mod Calls
-pub mod Commands
-pub mod WholeRun
+pub mod Joined
+pub mod Sound
+pub mod Laws
 pub mod Worked

@@ -66,19 +66,6 @@ cells_behind bytes more n (suc k) l =
     ∙ ap (λ (c : List ℕ). upgraded_cells n bytes ++ c) (sym (one_cell k more))
     ∙ ap (λ (z : ℕ). upgraded_cells n bytes ++ upgraded_cells z more) (sym last)
 
--- first cells begin more cells
-pub cells_begin : (bytes : List ℕ) (n k : ℕ) → (rest : List ℕ) × (upgraded_cells (n + k) bytes ≡ upgraded_cells n bytes ++ rest)
-cells_begin bytes n zero = let none : n + 0 ≡ n = omega arith in ([], ap (λ (z : ℕ). upgraded_cells z bytes) none ∙ sym (append-nil (upgraded_cells n bytes)))
-cells_begin bytes n (suc k) =
-    let next : n + suc k ≡ n + k + 1 = omega arith in
-    let b = cells_begin bytes n k in (
-      b.0 ++ upgraded_cell bytes (n + k),
-      ap (λ (z : ℕ). upgraded_cells z bytes) next
-          ∙ one_cell (n + k) bytes
-          ∙ ap (λ (c : List ℕ). c ++ upgraded_cell bytes (n + k)) b.1
-          ∙ append_assoc (upgraded_cells n bytes) b.0 (upgraded_cell bytes (n + k)),
-    )
-
 -- a room that begins with n new cells, into which one more was put
 pub put_one : (bytes room cell : List ℕ) (n count four five : ℕ) → n < count → length bytes ≡ 4 * count → length room ≡ 5 * count → four ≡ 4 → five ≡ 5
     → take (5 * n) room ≡ upgraded_cells n bytes → cell ≡ take four (drop (4 * n) bytes) ++ full_weight ∷ []

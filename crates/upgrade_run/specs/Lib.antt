@@ -1,4 +1,3 @@
 pub mod Upgrading
+pub mod OwnLaws
 pub mod UpgradeCommand
-pub mod Working
-pub mod Runs

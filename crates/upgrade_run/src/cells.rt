@@ -27,7 +27,7 @@ fn upgrade_cells(count: u32, old_cells: &[u8], room: &mut [u8])
     }
 }
 
-/// The same in the room of a symbol.
+/// The same in the room of a symbol, whatever stood there.
 pub(crate) fn upgrade_symbol(carriers: u32, symbol: &[u8], room: &mut Vec<u8>)
     requires cells { length symbol.now ≡ 4 * carriers }
     requires long { length room.old.items ≡ 5 * carriers }

@@ -4,16 +4,17 @@ ghost use Rattle.station_core.specs.Meaning.{IsFresh};
 ghost use Rattle.run_clauses.specs.Run.{Run};
 ghost use Rattle.symbol_runs.specs.Outputs.{cell_names};
 ghost use Rattle.symbol_runs.specs.Runs.{IsReady};
-ghost use Rattle.upgrade_run.specs.Runs.{RunsOrLacks};
+ghost use Rattle.cell_conversions.specs.Runs.{RunsOrLacks};
+ghost use Rattle.upgrade_run.specs.Upgrading.{upgrading};
 ghost use Rattle.upgrade_run.specs.UpgradeCommand.{upgrade_command};
 
-use crate::work::UpgradeWork;
+use crate::upgrader::Upgrader;
+use cell_conversions::run_conversion;
 use mode_set::Settings;
 use run_clauses::{Limits, Refusal};
 use run_steps::{read_settings, refuse};
 use station_core::Station;
 use std::alloc::Global;
-use symbol_runs::{CellFile, run_cells};
 
 // Takes the memory of a symbol of each version, and upgrades the old cells.
 fn upgrade_accepted<'a, S: Station<'a>>(
@@ -24,7 +25,7 @@ fn upgrade_accepted<'a, S: Station<'a>>(
     station: &mut S,
 ) -> u8
     requires ready { IsReady (cell_names new_cells.now) (S.meaning station.old) }
-    ensures { RunsOrLacks settings.now old_cells.now new_cells.now (S.meaning station.old) (S.meaning station.new) result }
+    ensures { RunsOrLacks (upgrading settings.now.mode) settings.now.max_symbols old_cells.now new_cells.now (S.meaning station.old) (S.meaning station.new) result }
 {
     let carriers = settings.mode.carriers() as usize;
     let Ok(mut symbol) = vec![in alloc; 0u8; 4 * carriers] else {
@@ -33,20 +34,17 @@ fn upgrade_accepted<'a, S: Station<'a>>(
     let Ok(room) = vec![in alloc; 0u8; 5 * carriers] else {
         return refuse(&Refusal::Memory, station);
     };
-    let mut work = UpgradeWork {
+    let upgrader = Upgrader {
         mode: settings.mode,
         room,
-        symbols: 0,
-        tail: 0,
     };
-    let files = CellFile { name: new_cells };
-    run_cells(
+    run_conversion(
         settings.max_symbols,
-        old_cells,
         None,
-        &files,
-        &mut work,
+        upgrader,
         &mut symbol,
+        old_cells,
+        new_cells,
         station,
     )
 }

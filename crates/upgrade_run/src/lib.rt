@@ -7,6 +7,6 @@
 
 mod cells;
 mod command;
-mod work;
+mod upgrader;
 
 pub use command::upgrade;

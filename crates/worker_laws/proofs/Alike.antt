@@ -6,7 +6,6 @@ use Rattle.spec_words.specs.Words.{numbers}
 use Rattle.code_paths.specs.declared.costs.CostPair.{CostPair}
 use Rattle.code_paths.specs.Streams.{Reports}
 use Rattle.mode_set.specs.Kept.{IsKept}
-use Rattle.mode_set.specs.StreamTable.{need}
 use Rattle.mode_set.specs.declared.modes.Mode.{Mode}
 use Rattle.mode_set.specs.declared.modes.Shape.{Shape}
 use Rattle.mode_set.specs.declared.modes.Hierarchy.{Hierarchy}
@@ -18,6 +17,7 @@ use Rattle.mode_set.specs.declared.settings.Settings.{Settings}
 use Rattle.qam_map.specs.declared.cell.Cell.{Cell}
 use Rattle.inner_chain.specs.CostPairs.{costs_on, weighted_costs_on}
 use Rattle.inner_chain.specs.PairLists.{pair_of}
+use Rattle.symbol_spans.specs.Spans.{settings_in, exists_in, steps_of, steps_before}
 use Rattle.reception.specs.Cells.{symbols, symbol_cells, symbol_weights, bytes_of_symbol}
 use Rattle.reception.specs.Costs.{symbol_costs, costs}
 use Rattle.reception.specs.Frames.{tps_cells, frame_bits, CountsWords}
@@ -64,8 +64,8 @@ module _ (s : Settings) (w : ℕ) (k : IsKept s.shape s.hierarchy s.rate_lp w s.
       }
 
   symbol_alike : (bytes : List ℕ) (σ : Stream) (m : ℕ) → symbol_costs s bytes σ m ≡ symbol_costs (with_workers s w k) bytes σ m
-  unfolding symbol_costs symbol_cells symbol_weights bytes_of_symbol
-  symbol_alike bytes σ m = λ i. map (λ t. pair_alike (symbol_cells s bytes m) (symbol_weights s bytes m) (m % 68) σ t i) (numbers (need s σ))
+  unfolding symbol_costs symbol_cells symbol_weights bytes_of_symbol settings_in
+  symbol_alike bytes σ m = λ i. map (λ t. pair_alike (symbol_cells s bytes m) (symbol_weights s bytes m) (m % 68) σ t i) (numbers (steps_of s σ m))
 
   costs_alike : (bytes : List ℕ) (σ : Stream) → costs s bytes σ ≡ costs (with_workers s w k) bytes σ
   unfolding costs
@@ -86,7 +86,7 @@ module _ (s : Settings) (w : ℕ) (k : IsKept s.shape s.hierarchy s.rate_lp w s.
   }
 
   lines : (bytes : List ℕ) (r : Reception) → (event_lines (with_workers s w k) bytes r ≡ event_lines s bytes r) × (closing_lines (with_workers s w k) bytes r ≡ closing_lines s bytes r)
-  unfolding events
+  unfolding events settings_in steps_before
   lines bytes r = (refl, refl)
 
 pub same_live : SameLive

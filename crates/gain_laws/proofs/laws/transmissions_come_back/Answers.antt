@@ -6,7 +6,7 @@ pub returns-clause-symbols : goal.returns-clause-symbols
 returns-clause-symbols c = come_back c.flat_gain_is_removed.ensures.flat
 
 pub returns-clause-transmissions : goal.returns-clause-transmissions
-returns-clause-transmissions c = all_come_back c.flat_gain_is_removed.ensures.flat
+returns-clause-transmissions c = all_come_back c.flat_gain_is_removed.ensures.flat c.settings.ensures.mode
 
 pub returns-clause-tolerated : goal.returns-clause-tolerated
 returns-clause-tolerated c = tolerated

@@ -8,16 +8,23 @@ use Rattle.modulate_run.specs.declared.inputs.PacketInputs.{PacketInputs}
 use Rattle.modulate_run.specs.Seen.{Seen}
 use Rattle.modulate_run.specs.Work.{IsAtWork}
 use Rattle.modulate_run.specs.Reporting.{Finishes}
-use Rattle.modulate_run.specs.Steps.{first_inputs}
+use Rattle.modulate_run.specs.Steps.{Ran, first_inputs}
 use Rattle.run_steps.proofs.Fitting.{copied_some}
+use Rattle.run_steps.proofs.HandedOn.{handed_on}
 use Rattle.modulate_run.proofs.Endings.{starts, unwritten, refused_with, finished}
 use Rattle.modulate_run.proofs.run.modulate_all.Goals as goal
 
-pub returns-in-Err-clause-ran : goal.returns-in-Err-clause-ran
-returns-in-Err-clause-ran g c = inl c.in-Err.ensures.opened
+pub returns-in_err-open-clause-ran : goal.returns-in_err-open-clause-ran
+returns-in_err-open-clause-ran g c =
+    let old : Meaning = g.S.Station.meaning c.args.station.now in
+    let mid : Meaning = g.S.Station.meaning c.open.new.station in
+    let s = (g.T.Transmitter.seen c.args.tx.now).settings in
+    handed_on c.from_residual.result c.in_err-open.field-0.0
+    (Ran s c.args.limits.now.packets c.args.names.hp.now (option_copied c.args.names.lp) c.args.names.cells.now old mid)
+    c.from_residual.ensures.1 (inl c.in_err-open.ensures.opened)
 
-pub returns-in-Ok-send_file-clause-ran : goal.returns-in-Ok-send_file-clause-ran
-returns-in-Ok-send_file-clause-ran g c =
+pub returns-in-Ok-clause-ran : goal.returns-in-Ok-clause-ran
+returns-in-Ok-clause-ran g c =
     let old : Meaning = g.S.Station.meaning c.args.station.now in
     let mid : Meaning = g.S.Station.meaning c.open.new.station in
     let fin : Meaning = g.S.Station.meaning c.send_file.new.station in
@@ -31,14 +38,14 @@ returns-in-Ok-send_file-clause-ran g c =
     let files : Stream → List ℕ = files_of old.file hp lp in
     let two : c.is_some-two.result ≡ is_some lp = c.is_some-two.ensures ∙ copied_some c.args.names.lp in
     let first : c.first.result ≡ first_inputs (is_some lp) = c.first.ensures ∙ ap first_inputs two in
-    let start = starts t.settings limit hp lp cells old mid c.in-Ok.ensures.opened c.work.ensures.begins c.requires.ready.lp_attached t put c.requires.new (c.requires.stands (inputs_of files)) in
+    let start = starts t.settings limit hp lp cells old mid c.in_ok-open.ensures.opened c.work.ensures.begins c.requires.ready.lp_attached t put c.requires.new (c.requires.stands (inputs_of files)) in
     let start' = subst (λ (i : PacketInputs). IsAtWork limit files mid i t put) (sym first) start in
-    finished t.settings limit hp lp cells old mid c.in-Ok.ensures.opened fin new c.send_file.ensures.others c.in-Ok-send_file.counts
-    (λ told. c.in-Ok-send_file.ensures.modulates told files start' (unwritten t.settings limit hp lp cells old mid c.in-Ok.ensures.opened)) c.finish.result c.finish.ensures.kind
-    (subst (λ (b : Bool). Finishes b c.in-Ok-send_file.counts fin new c.finish.result) two c.finish.ensures.finished)
+    finished t.settings limit hp lp cells old mid c.in_ok-open.ensures.opened fin new c.send_file.ensures.others c.in-Ok.counts
+    (λ told. c.in-Ok.ensures.modulates told files start' (unwritten t.settings limit hp lp cells old mid c.in_ok-open.ensures.opened)) c.finish.result c.finish.ensures.kind
+    (subst (λ (b : Bool). Finishes b c.in-Ok.counts fin new c.finish.result) two c.finish.ensures.finished)
 
-pub returns-in-Err-send_file-clause-ran : goal.returns-in-Err-send_file-clause-ran
-returns-in-Err-send_file-clause-ran g c =
+pub returns-in-Err-clause-ran : goal.returns-in-Err-clause-ran
+returns-in-Err-clause-ran g c =
     let old : Meaning = g.S.Station.meaning c.args.station.now in
     let mid : Meaning = g.S.Station.meaning c.open.new.station in
     let fin : Meaning = g.S.Station.meaning c.send_file.new.station in
@@ -52,7 +59,7 @@ returns-in-Err-send_file-clause-ran g c =
     let files : Stream → List ℕ = files_of old.file hp lp in
     let two : c.is_some-two.result ≡ is_some lp = c.is_some-two.ensures ∙ copied_some c.args.names.lp in
     let first : c.first.result ≡ first_inputs (is_some lp) = c.first.ensures ∙ ap first_inputs two in
-    let start = starts t.settings limit hp lp cells old mid c.in-Ok.ensures.opened c.work.ensures.begins c.requires.ready.lp_attached t put c.requires.new (c.requires.stands (inputs_of files)) in
+    let start = starts t.settings limit hp lp cells old mid c.in_ok-open.ensures.opened c.work.ensures.begins c.requires.ready.lp_attached t put c.requires.new (c.requires.stands (inputs_of files)) in
     let start' = subst (λ (i : PacketInputs). IsAtWork limit files mid i t put) (sym first) start in
-    refused_with t.settings limit hp lp cells old mid c.in-Ok.ensures.opened fin new c.send_file.ensures.others c.in-Err-send_file.refusal
-    (λ told. c.in-Err-send_file.ensures.modulates told files start' (unwritten t.settings limit hp lp cells old mid c.in-Ok.ensures.opened)) c.close_refused.ensures.closed
+    refused_with t.settings limit hp lp cells old mid c.in_ok-open.ensures.opened fin new c.send_file.ensures.others c.in-Err.refusal
+    (λ told. c.in-Err.ensures.modulates told files start' (unwritten t.settings limit hp lp cells old mid c.in_ok-open.ensures.opened)) c.close_refused.ensures.closed

@@ -5,6 +5,7 @@ use Rattle.run_clauses.specs.declared.work.Refusal.TheVariants.{Limit}
 use Rattle.modulate_run.specs.ModulateCommand.{inputs_of}
 use Rattle.modulate_run.specs.Seen.{Seen}
 use Rattle.modulate_run.specs.Work.{CountsAt, Ends, Modulates}
+use Rattle.run_steps.proofs.HandedOn.{handed_on}
 use Rattle.modulate_run.proofs.Keeping.{keeps_again}
 use Rattle.modulate_run.proofs.WholeWork.{begins, ends_done, ends_at_limit, due_at, due_more, more_again}
 use Rattle.modulate_run.proofs.symbols.send_all.Goals as goal
@@ -23,8 +24,8 @@ loop-symbol-init g c = record {
   works = λ t files w. (w, begins c.super_frames.ensures.least (g.T.Transmitter.seen c.args.tx.now).settings (inputs_of files));
 }
 
-pub returns-in-Err-clause-modulates : goal.returns-in-Err-clause-modulates
-returns-in-Err-clause-modulates g c = λ t files w.
+pub returns-in_err-next_symbol-clause-modulates : goal.returns-in_err-next_symbol-clause-modulates
+returns-in_err-next_symbol-clause-modulates g c = λ t files w.
     let m : Meaning = g.S.Station.meaning c.next_symbol.new.station in
     let seen : Seen = g.T.Transmitter.seen c.args.tx.now in
     let seen' : Seen = g.T.Transmitter.seen c.loop-symbol.tx in
@@ -33,9 +34,11 @@ returns-in-Err-clause-modulates g c = λ t files w.
     let tells = ap (λ (x : Meaning). x.tells) inv.others in
     let works = inv.works t files w in
     let due = due_at files seen seen' c.loop-symbol.symbol c.args.settings.now.max_symbols inv.settings inv.made (ap (λ (s : Settings). s.max_symbols) c.requires.same) works.1 c.loop-symbol-test.true in
-    let same : seen''.settings ≡ seen.settings = c.in-Err.ensures.settings ∙ inv.settings in
-    let e = c.in-Err.ensures.sends (tells ∙ t) files due works.0 in
-    (subst (λ (s : Settings). Ends s c.args.limits.now.packets files m c.in-Err.refusal) same e.0, e.1)
+    let same : seen''.settings ≡ seen.settings = c.in_err-next_symbol.ensures.settings ∙ inv.settings in
+    let e = c.in_err-next_symbol.ensures.sends (tells ∙ t) files due works.0 in
+    let refusal = c.in_err-next_symbol.field-0.0 in
+    handed_on c.from_residual.result refusal (Modulates seen.settings c.args.limits.now.packets files m) c.from_residual.ensures.1
+    (subst (λ (s : Settings). Ends s c.args.limits.now.packets files m refusal) same e.0, e.1)
 
 pub returns-in-Some-clause-modulates : goal.returns-in-Some-clause-modulates
 returns-in-Some-clause-modulates g c = λ t files w.
@@ -47,9 +50,9 @@ returns-in-Some-clause-modulates g c = λ t files w.
     let tells = ap (λ (x : Meaning). x.tells) inv.others in
     let works = inv.works t files w in
     let due = due_at files seen seen' c.loop-symbol.symbol c.args.settings.now.max_symbols inv.settings inv.made (ap (λ (s : Settings). s.max_symbols) c.requires.same) works.1 c.loop-symbol-test.true in
-    let same : seen''.settings ≡ seen.settings = c.in-Ok.ensures.settings ∙ inv.settings in
-    let made : seen''.made ≡ c.loop-symbol.symbol + 1 = c.in-Ok.ensures.made ∙ ap (λ (n : ℕ). n + 1) inv.made in
-    let written = c.in-Ok.ensures.sends (tells ∙ t) files due works.0 in
+    let same : seen''.settings ≡ seen.settings = c.in_ok-next_symbol.ensures.settings ∙ inv.settings in
+    let made : seen''.made ≡ c.loop-symbol.symbol + 1 = c.in_ok-next_symbol.ensures.made ∙ ap (λ (n : ℕ). n + 1) inv.made in
+    let written = c.in_ok-next_symbol.ensures.sends (tells ∙ t) files due works.0 in
     subst (λ (s : Settings). Modulates s c.args.limits.now.packets files m (Ok c.in-Some.counts)) same
     (ends_done c.args.limits.now.packets files m c.next_symbol.new.inputs seen'' (g.T.Transmitter.stands c.next_symbol.new.tx) written c.work.ensures.ends (c.loop-symbol.symbol + 1) c.in-Some.counts made
     (subst (λ (s : Settings). CountsAt s c.next_symbol.new.inputs (c.loop-symbol.symbol + 1) (Some c.in-Some.counts)) (sym (same ∙ c.requires.same)) c.in-Some.ensures))
@@ -63,7 +66,7 @@ loop-symbol-preserved g c =
     let seen' : Seen = g.T.Transmitter.seen c.loop-symbol.tx in
     let seen'' : Seen = g.T.Transmitter.seen c.next_symbol.new.tx in
     let inv = c.loop-symbol.invariant in
-    let e = c.in-Ok.ensures in
+    let e = c.in_ok-next_symbol.ensures in
     let tells = ap (λ (x : Meaning). x.tells) inv.others in
     let same : seen''.settings ≡ seen.settings = e.settings ∙ inv.settings in
     let made : seen''.made ≡ c.loop-symbol.symbol + 1 = e.made ∙ ap (λ (n : ℕ). n + 1) inv.made in
@@ -82,7 +85,7 @@ loop-symbol-preserved g c =
           let due = due_at files seen seen' c.loop-symbol.symbol c.args.settings.now.max_symbols inv.settings inv.made (ap (λ (s : Settings). s.max_symbols) c.requires.same) works.1 c.loop-symbol-test.true in
           let written = e.sends (tells ∙ t) files due works.0 in (
             written,
-            more_again c.packets.ensures.super_frames c.super_frames.ensures.least c.args.limits.now.packets files m'' c.next_symbol.new.inputs seen seen'' (g.T.Transmitter.stands c.next_symbol.new.tx)
+            more_again c.packets.ensures.super_frames c.super_frames.ensures.least c.settings.ensures.exist c.args.limits.now.packets files m'' c.next_symbol.new.inputs seen seen'' (g.T.Transmitter.stands c.next_symbol.new.tx)
                 written c.loop-symbol.symbol same made
                 (subst (λ (s : Settings). CountsAt s c.next_symbol.new.inputs (c.loop-symbol.symbol + 1) None) (sym (same ∙ c.requires.same)) c.in-None.ensures) works.1 (λ none. c.requires.two (inv.met (e.met none))),
           );

@@ -9,24 +9,24 @@ pub returns-clause-hp_register : goal.returns-clause-hp_register
 returns-clause-hp_register g c =
     let st = c.args.inner.now in
     let own = own_paths st c.args.hp.now c.args.lp.now in
-    ap length (c.labels.ensures.next own 0 (own_at st c.args.hp.now c.args.lp.now c.requires.hp_register c.requires.lp_register) (own_hp st c.args.hp.now c.args.lp.now c.requires.hp_register c.requires.hp) (own_lp st c.args.hp.now c.args.lp.now c.requires.lp_register c.requires.lp) Hp)
+    ap length (c.labels.ensures.next own (own_at st c.args.hp.now c.args.lp.now c.requires.hp_register c.requires.lp_register) (own_hp st c.args.hp.now c.args.lp.now c.requires.hp_register c.requires.hp) (own_lp st c.args.hp.now c.args.lp.now c.requires.lp_register c.requires.lp) Hp)
 
 pub returns-clause-lp_register : goal.returns-clause-lp_register
 returns-clause-lp_register g c =
     let st = c.args.inner.now in
     let own = own_paths st c.args.hp.now c.args.lp.now in
-    ap length (c.labels.ensures.next own 0 (own_at st c.args.hp.now c.args.lp.now c.requires.hp_register c.requires.lp_register) (own_hp st c.args.hp.now c.args.lp.now c.requires.hp_register c.requires.hp) (own_lp st c.args.hp.now c.args.lp.now c.requires.lp_register c.requires.lp) Lp)
+    ap length (c.labels.ensures.next own (own_at st c.args.hp.now c.args.lp.now c.requires.hp_register c.requires.lp_register) (own_hp st c.args.hp.now c.args.lp.now c.requires.hp_register c.requires.hp) (own_lp st c.args.hp.now c.args.lp.now c.requires.lp_register c.requires.lp) Lp)
 
 pub returns-clause-count : goal.returns-clause-count
 returns-clause-count g c =
     let st = c.args.inner.now in
     let own = own_paths st c.args.hp.now c.args.lp.now in
-    labels_count st.settings c.args.odd (coded_bits st.settings own 0) _ c.labels.new.to.items
-    (c.labels.ensures.labels own 0 (own_at st c.args.hp.now c.args.lp.now c.requires.hp_register c.requires.lp_register) (own_hp st c.args.hp.now c.args.lp.now c.requires.hp_register c.requires.hp) (own_lp st c.args.hp.now c.args.lp.now c.requires.lp_register c.requires.lp)) c.clear.ensures.items
+    labels_count st.settings c.args.odd (coded_bits st.settings own) _ c.labels.new.to.items
+    (c.labels.ensures.labels own (own_at st c.args.hp.now c.args.lp.now c.requires.hp_register c.requires.lp_register) (own_hp st c.args.hp.now c.args.lp.now c.requires.hp_register c.requires.hp) (own_lp st c.args.hp.now c.args.lp.now c.requires.lp_register c.requires.lp)) c.clear.ensures.items
 
 pub returns-clause-small : goal.returns-clause-small
 returns-clause-small g c =
     let st = c.args.inner.now in
     let own = own_paths st c.args.hp.now c.args.lp.now in
-    labels_small st.settings c.args.odd (coded_bits st.settings own 0) _ c.labels.new.to.items
-    (c.labels.ensures.labels own 0 (own_at st c.args.hp.now c.args.lp.now c.requires.hp_register c.requires.lp_register) (own_hp st c.args.hp.now c.args.lp.now c.requires.hp_register c.requires.hp) (own_lp st c.args.hp.now c.args.lp.now c.requires.lp_register c.requires.lp)) c.clear.ensures.items
+    labels_small st.settings c.args.odd (coded_bits st.settings own) _ c.labels.new.to.items
+    (c.labels.ensures.labels own (own_at st c.args.hp.now c.args.lp.now c.requires.hp_register c.requires.lp_register) (own_hp st c.args.hp.now c.args.lp.now c.requires.hp_register c.requires.hp) (own_lp st c.args.hp.now c.args.lp.now c.requires.lp_register c.requires.lp)) c.clear.ensures.items

@@ -3,7 +3,7 @@ use Rattle.mode_set.specs.declared.modes.Mode.{Mode}
 use Rattle.mode_set.specs.declared.modes.Mode.TheVariants.{M2k, M8k}
 use Rattle.own_cell_laws.specs.Counted.{AreCounted}
 use Rattle.own_cell_laws.proofs.Favoured.{AreKnown}
-use Rattle.own_cell_laws.proofs.Received.{AreListed, AreOwn, noise_law, noise_is_clean}
+use Rattle.own_cell_laws.proofs.Received.{AreListed, AreOwn, AreSteps, noise_law, noise_is_clean}
 use Rattle.own_cell_laws.proofs.laws.noise.Goals as goal
 
 both : ((l : ℕ) → AreCounted M2k l) → ((l : ℕ) → AreCounted M8k l) → (m : Mode) (l : ℕ) → AreCounted m l
@@ -21,9 +21,10 @@ returns c =
       apart = c.weights_tell_apart.ensures;
       order = c.steps_send_in_order.ensures;
       numbers = c.steps_are_numbered.ensures;
-      shift = c.periods_shift.ensures;
+      stays = c.settings.ensures.mode;
       periods = c.symbols_have_whole_periods.ensures;
     } in
+    let steps : AreSteps = record { more = c.steps.ensures.next; symbols = c.steps.ensures.symbols; streams = c.steps.ensures.streams } in
     let listed : AreListed = record { long = c.costs.ensures.long; step = c.costs.ensures.step } in
     let own : AreOwn = record {
       keeps = c.keeps_sent.ensures.law;
@@ -32,6 +33,6 @@ returns c =
       after = c.sending.ensures.bytes;
       packets = c.own_bytes.ensures.packets;
       tally = c.own_bytes.ensures.tally;
-      whole = c.super_frames_have_whole_words.ensures;
+      whole = c.words.ensures.whole;
     } in
-    record { packets = noise_law known listed c.lists_are_paths.ensures own; clean = noise_is_clean known listed c.lists_are_paths.ensures own }
+    record { packets = noise_law known steps listed c.lists_are_paths.ensures own; clean = noise_is_clean known steps listed c.lists_are_paths.ensures own }

@@ -1,6 +1,8 @@
 use Rattle.std.proofs.Common.{◌≡◌, ℕ, List, refl, ◌∙◌, ap, subst, arith}
 use Rattle.station_core.specs.Meaning.{Meaning}
 use Rattle.run_clauses.specs.Packets.{first_packets}
+use Rattle.run_steps.proofs.HandedOn.{handed_on}
+use Rattle.packet_runs.specs.Coding.{Codes}
 use Rattle.packet_runs.proofs.Keeping.{keeps_again}
 use Rattle.packet_runs.proofs.Progress.{Progress, started, goes_on, refused, ended, next_packets, gives_first, taken}
 use Rattle.packet_runs.proofs.coding.code_packets.Goals as goal
@@ -17,16 +19,19 @@ loop-number-init g c = record {
   contents = λ t. started _ _ _ _ c.requires.empty;
 }
 
-pub returns-in-Err-clause-contents : goal.returns-in-Err-clause-contents
-returns-in-Err-clause-contents g c = λ t.
+pub returns-in_err-code_next-clause-contents : goal.returns-in_err-code_next-clause-contents
+returns-in_err-code_next-clause-contents g c = λ t.
     let inv = c.loop-number.invariant in
     let m : Meaning = g.S.Station.meaning c.args.station.now in
     let tells = ap (λ (x : Meaning). x.tells) inv.others in
     let packets : List (List ℕ) = first_packets c.loop-number.number m.hp.left in
-    let step = c.in-Err.ensures.contents (tells ∙ t) in
-    refused _ _ _ _ _ _ _ (inv.contents t) _ c.in-Err.refusal _ _ c.loop-number-test.true
-    (λ is. gives_first _ _ packets _ _ inv.same (taken c.in-Err.refusal c.in-Err.ensures.gives is packets (tells ∙ t) (inv.took t)))
-    step
+    let refusal = c.in_err-code_next.field-0.0 in
+    let after : Meaning = g.S.Station.meaning c.code_next.new.station in
+    let step = c.in_err-code_next.ensures.contents (tells ∙ t) in
+    handed_on c.from_residual.result refusal (Codes (g.C.Coder.coded c.args.coder.now) c.args.limits.now.packets m.hp.left m.bytes_out.written after.hp.left after.bytes_out.written) c.from_residual.ensures.1
+    (refused _ _ _ _ _ _ _ (inv.contents t) _ refusal _ _ c.loop-number-test.true
+    (λ is. gives_first _ _ packets _ _ inv.same (taken refusal c.in_err-code_next.ensures.gives is packets (tells ∙ t) (inv.took t)))
+    step)
 
 pub loop-number-preserved : goal.loop-number-preserved
 loop-number-preserved g c =
@@ -36,7 +41,7 @@ loop-number-preserved g c =
     let inv = c.loop-number.invariant in
     let tells = ap (λ (x : Meaning). x.tells) inv.others in
     let packets : List (List ℕ) = first_packets c.loop-number.number m.hp.left in
-    let e = rw c.in-Ok-None.field-0-is at c.in-Ok-None.ensures in
+    let e = rw c.in-None.is at c.in_ok-code_next.ensures in
     record {
       others = keeps_again m m' m'' inv.others e.others;
       read_faults = e.cause.reads ∙ inv.read_faults;

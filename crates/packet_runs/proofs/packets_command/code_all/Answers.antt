@@ -12,10 +12,10 @@ returns-in-Ok-write_end-clause-ran g c =
     let done : Meaning = g.S.Station.meaning c.code_packets.new.station in
     let fin : Meaning = g.S.Station.meaning c.write_end.new.station in
     let new : Meaning = g.S.Station.meaning c.finish.new.station in
-    let work = c.in-Ok-code_packets.ensures in
-    let counts = c.in-Ok-code_packets.counts in
+    let work = c.in-Ok.ensures in
+    let counts = c.in-Ok.counts in
     let end = c.in-Ok-write_end.ensures in
-    finished (g.C.Coder.coded c.args.coder.now) (g.C.Coder.ended c.args.coder.now) c.args.limits.now.packets c.args.input.now c.args.output.now old mid c.in-Ok.ensures.opened done counts work.others work.contents
+    finished (g.C.Coder.coded c.args.coder.now) (g.C.Coder.ended c.args.coder.now) c.args.limits.now.packets c.args.input.now c.args.output.now old mid c.in_ok-open.ensures.opened done counts work.others work.contents
     (g.C.Coder.piece c.write_end.new.coder)
     (λ t. ends_first (g.C.Coder.coded c.args.coder.now) (g.C.Coder.ended c.args.coder.now) _ _ (first_packets counts.packets mid.hp.left) _ work.same work.same_end (end.gives (first_packets counts.packets mid.hp.left) (work.took t)))
     fin new _ end.others end.contents c.finish.ensures.finished
@@ -27,10 +27,10 @@ returns-in-Err-write_end-clause-ran g c =
     let done : Meaning = g.S.Station.meaning c.code_packets.new.station in
     let fin : Meaning = g.S.Station.meaning c.write_end.new.station in
     let new : Meaning = g.S.Station.meaning c.close_refused.new.station in
-    let work = c.in-Ok-code_packets.ensures in
-    let counts = c.in-Ok-code_packets.counts in
+    let work = c.in-Ok.ensures in
+    let counts = c.in-Ok.counts in
     let end = c.in-Err-write_end.ensures in
-    refused_end (g.C.Coder.coded c.args.coder.now) (g.C.Coder.ended c.args.coder.now) c.args.limits.now.packets c.args.input.now c.args.output.now old mid c.in-Ok.ensures.opened done counts work.others work.contents
+    refused_end (g.C.Coder.coded c.args.coder.now) (g.C.Coder.ended c.args.coder.now) c.args.limits.now.packets c.args.input.now c.args.output.now old mid c.in_ok-open.ensures.opened done counts work.others work.contents
     (g.C.Coder.piece c.write_end.new.coder)
     (λ t. ends_first (g.C.Coder.coded c.args.coder.now) (g.C.Coder.ended c.args.coder.now) _ _ (first_packets counts.packets mid.hp.left) _ work.same work.same_end (end.gives (first_packets counts.packets mid.hp.left) (work.took t)))
     c.in-Err-write_end.fault fin new end.others end.contents c.close_refused.ensures.closed
@@ -41,9 +41,9 @@ returns-in-Ok-write_end-clause-asks g c =
     let done : Meaning = g.S.Station.meaning c.code_packets.new.station in
     let fin : Meaning = g.S.Station.meaning c.write_end.new.station in
     let new : Meaning = g.S.Station.meaning c.finish.new.station in
-    let counts = c.in-Ok-code_packets.counts in
-    let keeps = keeps_again mid done fin c.in-Ok-code_packets.ensures.others c.in-Ok-write_end.ensures.others in
-    asks_worked c.args.input.now c.args.output.now (g.S.Station.meaning c.args.station.now) mid new c.in-Ok.ensures.opened
+    let counts = c.in-Ok.counts in
+    let keeps = keeps_again mid done fin c.in-Ok.ensures.others c.in-Ok-write_end.ensures.others in
+    asks_worked c.args.input.now c.args.output.now (g.S.Station.meaning c.args.station.now) mid new c.in_ok-open.ensures.opened
     (works_finished mid fin new counts c.finish.result keeps c.finish.ensures.finished)
     (later_finished mid fin new counts c.finish.result keeps c.finish.ensures.finished)
 
@@ -53,7 +53,7 @@ returns-in-Err-write_end-clause-asks g c =
     let done : Meaning = g.S.Station.meaning c.code_packets.new.station in
     let fin : Meaning = g.S.Station.meaning c.write_end.new.station in
     let new : Meaning = g.S.Station.meaning c.close_refused.new.station in
-    let keeps = keeps_again mid done fin c.in-Ok-code_packets.ensures.others c.in-Err-write_end.ensures.others in
-    asks_worked c.args.input.now c.args.output.now (g.S.Station.meaning c.args.station.now) mid new c.in-Ok.ensures.opened
+    let keeps = keeps_again mid done fin c.in-Ok.ensures.others c.in-Err-write_end.ensures.others in
+    asks_worked c.args.input.now c.args.output.now (g.S.Station.meaning c.args.station.now) mid new c.in_ok-open.ensures.opened
     (works_closed mid fin new keeps c.close_refused.ensures.closed)
     (later_closed mid fin new keeps c.close_refused.ensures.closed)

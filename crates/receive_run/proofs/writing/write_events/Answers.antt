@@ -3,7 +3,8 @@ use Rattle.std.proofs.lemmas.List.{append-nil}
 use Rattle.station_core.specs.Meaning.{Meaning}
 use Rattle.station_core.specs.declared.ports.OutPort.TheVariants as outs
 use Rattle.symbol_runs.specs.Writing.{WritesAt}
-use Rattle.receive_run.specs.Writing.{event_text}
+use Rattle.run_steps.proofs.HandedOn.{handed_on}
+use Rattle.receive_run.specs.Writing.{Appends, event_text}
 use Rattle.receive_run.proofs.Events.{event_more, waits_more, waits_front, events_split, events_written}
 use Rattle.receive_run.proofs.Keeping.{report_again}
 use Rattle.receive_run.proofs.writing.write_events.Goals as goal
@@ -17,16 +18,17 @@ loop-event-init g c = record {
   written = λ t. ([], sym (append-nil (g.S.Station.meaning c.args.station.now).report.written), c.new-text.ensures);
 }
 
-pub returns-in-Err-clause-written : goal.returns-in-Err-clause-written
-returns-in-Err-clause-written g c = λ t.
+pub returns-in_err-push_line-clause-written : goal.returns-in_err-push_line-clause-written
+returns-in_err-push_line-clause-written g c = λ t.
     let m : Meaning = g.S.Station.meaning c.args.station.now in
     let m' : Meaning = g.S.Station.meaning c.loop-event.station in
     let m'' : Meaning = g.S.Station.meaning c.push_line.new.station in
     let inv = c.loop-event.invariant in
     let i : ℕ = c.loop-event.event-index in
     let events = c.args.events.now in
-    let e = c.in-Err.ensures.pushes (ap (λ (x : Meaning). x.tells) inv.others ∙ t) in
+    let e = c.in_err-push_line.ensures.pushes (ap (λ (x : Meaning). x.tells) inv.others ∙ t) in
     let f = waits_front c.loop-event.text.bytes m.report.written m'.report.written m''.report.written (event_text (take i events)) (event_text events) (event_text (drop i events)) e.1 (inv.written t) (events_split events i) e.2 in
+    handed_on c.from_residual.result c.in_err-push_line.field-0.0 (Appends (event_text events) m.report.written m''.report.written) c.from_residual.ensures.1
     (e.0, f.0, f.1)
 
 pub loop-event-preserved : goal.loop-event-preserved
@@ -35,7 +37,7 @@ loop-event-preserved g c =
     let m' : Meaning = g.S.Station.meaning c.loop-event.station in
     let m'' : Meaning = g.S.Station.meaning c.push_line.new.station in
     let inv = c.loop-event.invariant in
-    let e = c.in-Ok.ensures in
+    let e = c.in_ok-push_line.ensures in
     let i : ℕ = c.loop-event.event-index in
     record {
       printing = record { created = ap (λ (x : Meaning). x.report.created) e.others ∙ inv.printing.created; opened = ap (λ (x : Meaning). x.report.closed) e.others ∙ inv.printing.opened };

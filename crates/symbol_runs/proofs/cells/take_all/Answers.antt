@@ -3,24 +3,28 @@ use Rattle.station_core.specs.Meaning.{Meaning}
 use Rattle.symbol_runs.specs.declared.stop.Stop.{Stop}
 use Rattle.symbol_runs.specs.Work.{AreOpen, Work, Written}
 use Rattle.symbol_runs.specs.Cells.{IsWorking, Next, Stopped, TakesAll, TakesAtMost}
+use Rattle.run_steps.proofs.HandedOn.{handed_on}
 use Rattle.symbol_runs.proofs.Ends.{begun, few_more, not_begun}
 use Rattle.symbol_runs.proofs.Loop.{goes}
 use Rattle.symbol_runs.proofs.Sinks.{keeps_again, keeps_written, still_open}
 use Rattle.symbol_runs.proofs.Steps.{moved}
 use Rattle.symbol_runs.proofs.cells.take_all.Goals as goal
 
-pub returns-in-Err-clause-all : goal.returns-in-Err-clause-all
-returns-in-Err-clause-all g c =
+pub returns-in_err-begin-clause-all : goal.returns-in_err-begin-clause-all
+returns-in_err-begin-clause-all g c =
     let m : Meaning = g.S.Station.meaning c.args.station.now in
     let m' : Meaning = g.S.Station.meaning c.begin.new.station in
     let w : Work = g.X.SymbolWork.work (g.X.SymbolWork.setup c.args.work.now) in
-    not_begun w c.args.max_symbols (g.X.SymbolWork.stands c.begin.new.self) m m' c.in-Err.ensures.others (omega (arith, c.requires.some, c.requires.size)) c.in-Err.stop c.in-Err.ensures.begins
+    let stand = g.X.SymbolWork.stands c.begin.new.self in
+    let stop : Stop = c.in_err-begin.field-0.0 in
+    handed_on c.from_residual.result stop (TakesAll w stand c.args.max_symbols m.cells.left m m') c.from_residual.ensures.1
+    (not_begun w c.args.max_symbols stand m m' c.in_err-begin.ensures.others (omega (arith, c.requires.some, c.requires.size)) stop c.in_err-begin.ensures.begins)
 
 pub loop-number-init : goal.loop-number-init
 loop-number-init g c =
     let m : Meaning = g.S.Station.meaning c.args.station.now in
     let m' : Meaning = g.S.Station.meaning c.begin.new.station in
-    let e = c.in-Ok.ensures in
+    let e = c.in_ok-begin.ensures in
     let s0 = g.X.SymbolWork.setup c.args.work.now in
     let s1 = g.X.SymbolWork.setup c.begin.new.self in
     record {
@@ -41,7 +45,7 @@ take_next-requires g c κs =
     let m1 : Meaning = g.S.Station.meaning c.begin.new.station in
     let m2 : Meaning = g.S.Station.meaning c.loop-number.station in
     let inv = c.loop-number.invariant in
-    let e = c.in-Ok.ensures in
+    let e = c.in_ok-begin.ensures in
     let s0 = g.X.SymbolWork.setup c.args.work.now in
     let s1 = g.X.SymbolWork.setup c.begin.new.self in
     let s2 = g.X.SymbolWork.setup c.loop-number.work in
@@ -63,13 +67,13 @@ take_next-requires g c κs =
     let fits : n < 2 ^ 32 = omega (arith, c.ranges.max_symbols.fits, c.loop-number.auto.number-end) in
     ((refl, tt), (c.requires.able, (inv.attached, (open2, (long2, (some, goes (g.X.SymbolWork.work s2) (omega (arith, some, long2)) stand2 m.cells.left m m2 is.0 is.1 n was size fits))))))
 
-pub returns-in-Ok-false-clause-taken : goal.returns-in-Ok-false-clause-taken
-returns-in-Ok-false-clause-taken g c =
+pub returns-then-not-goes_on-clause-taken : goal.returns-then-not-goes_on-clause-taken
+returns-then-not-goes_on-clause-taken g c =
     let m : Meaning = g.S.Station.meaning c.args.station.now in
     let m1 : Meaning = g.S.Station.meaning c.begin.new.station in
     let m2 : Meaning = g.S.Station.meaning c.loop-number.station in
     let inv = c.loop-number.invariant in
-    let e = c.in-Ok.ensures in
+    let e = c.in_ok-begin.ensures in
     let s0 = g.X.SymbolWork.setup c.args.work.now in
     let s1 = g.X.SymbolWork.setup c.begin.new.self in
     let s2 = g.X.SymbolWork.setup c.loop-number.work in
@@ -89,15 +93,15 @@ returns-in-Ok-false-clause-taken g c =
     let stand3 = g.X.SymbolWork.stands c.take_next.new.work in
     few_more n (g.X.SymbolWork.work s0).size c.args.max_symbols is.0 m m2 m3 (ap (λ (x : Meaning). x.tells) inv.others ∙ ap (λ (x : Meaning). x.tells) e.others) was.are
     (moved s0 s2 (λ x. length is.0 ≡ n * (g.X.SymbolWork.work x).size) same size) (omega (arith, c.loop-number.auto.number-end))
-    (moved s0 s2 (λ x. TakesAtMost (g.X.SymbolWork.work x).size m2 m3) same c.in-Ok-false.ensures.taken)
+    (moved s0 s2 (λ x. TakesAtMost (g.X.SymbolWork.work x).size m2 m3) same c.in_ok-goes_on.ensures.taken)
 
-pub returns-in-Err-take_next-clause-taken : goal.returns-in-Err-take_next-clause-taken
-returns-in-Err-take_next-clause-taken g c =
+pub returns-in_err-goes_on-clause-taken : goal.returns-in_err-goes_on-clause-taken
+returns-in_err-goes_on-clause-taken g c =
     let m : Meaning = g.S.Station.meaning c.args.station.now in
     let m1 : Meaning = g.S.Station.meaning c.begin.new.station in
     let m2 : Meaning = g.S.Station.meaning c.loop-number.station in
     let inv = c.loop-number.invariant in
-    let e = c.in-Ok.ensures in
+    let e = c.in_ok-begin.ensures in
     let s0 = g.X.SymbolWork.setup c.args.work.now in
     let s1 = g.X.SymbolWork.setup c.begin.new.self in
     let s2 = g.X.SymbolWork.setup c.loop-number.work in
@@ -117,15 +121,15 @@ returns-in-Err-take_next-clause-taken g c =
     let stand3 = g.X.SymbolWork.stands c.take_next.new.work in
     few_more n (g.X.SymbolWork.work s0).size c.args.max_symbols is.0 m m2 m3 (ap (λ (x : Meaning). x.tells) inv.others ∙ ap (λ (x : Meaning). x.tells) e.others) was.are
     (moved s0 s2 (λ x. length is.0 ≡ n * (g.X.SymbolWork.work x).size) same size) (omega (arith, c.loop-number.auto.number-end))
-    (moved s0 s2 (λ x. TakesAtMost (g.X.SymbolWork.work x).size m2 m3) same c.in-Err-take_next.ensures.taken)
+    (moved s0 s2 (λ x. TakesAtMost (g.X.SymbolWork.work x).size m2 m3) same c.in_err-goes_on.ensures.taken)
 
-pub returns-in-Ok-false-clause-all : goal.returns-in-Ok-false-clause-all
-returns-in-Ok-false-clause-all g c =
+pub returns-then-not-goes_on-clause-all : goal.returns-then-not-goes_on-clause-all
+returns-then-not-goes_on-clause-all g c =
     let m : Meaning = g.S.Station.meaning c.args.station.now in
     let m1 : Meaning = g.S.Station.meaning c.begin.new.station in
     let m2 : Meaning = g.S.Station.meaning c.loop-number.station in
     let inv = c.loop-number.invariant in
-    let e = c.in-Ok.ensures in
+    let e = c.in_ok-begin.ensures in
     let s0 = g.X.SymbolWork.setup c.args.work.now in
     let s1 = g.X.SymbolWork.setup c.begin.new.self in
     let s2 = g.X.SymbolWork.setup c.loop-number.work in
@@ -146,17 +150,17 @@ returns-in-Ok-false-clause-all g c =
     let lt : n < c.args.max_symbols = c.loop-number-test.true in
     let next : Next (g.X.SymbolWork.work s0) stand3 c.args.max_symbols m.cells.left n m m3 (Ok false) =
     moved s0 s2 (λ x. Next (g.X.SymbolWork.work x) stand3 c.args.max_symbols m.cells.left n m m3 (Ok false)) same
-    (subst (λ (b : Bool). Next (g.X.SymbolWork.work s2) stand3 c.args.max_symbols m.cells.left n m m3 (Ok b)) c.in-Ok-false.field-0-test
-    (c.in-Ok-false.ensures.next c.args.max_symbols m.cells.left is.0 is.1 m lt size was)) in
+    (subst (λ (b : Bool). Next (g.X.SymbolWork.work s2) stand3 c.args.max_symbols m.cells.left n m m3 (Ok b)) c.if-not-goes_on.true
+    (c.in_ok-goes_on.ensures.next c.args.max_symbols m.cells.left is.0 is.1 m lt size was)) in
     (next.0, next.1, next.2, omega (arith, next.3, lt), next.4)
 
-pub returns-in-Err-take_next-clause-all : goal.returns-in-Err-take_next-clause-all
-returns-in-Err-take_next-clause-all g c =
+pub returns-in_err-goes_on-clause-all : goal.returns-in_err-goes_on-clause-all
+returns-in_err-goes_on-clause-all g c =
     let m : Meaning = g.S.Station.meaning c.args.station.now in
     let m1 : Meaning = g.S.Station.meaning c.begin.new.station in
     let m2 : Meaning = g.S.Station.meaning c.loop-number.station in
     let inv = c.loop-number.invariant in
-    let e = c.in-Ok.ensures in
+    let e = c.in_ok-begin.ensures in
     let s0 = g.X.SymbolWork.setup c.args.work.now in
     let s1 = g.X.SymbolWork.setup c.begin.new.self in
     let s2 = g.X.SymbolWork.setup c.loop-number.work in
@@ -174,9 +178,10 @@ returns-in-Err-take_next-clause-all g c =
     let size : length is.0 ≡ n * (g.X.SymbolWork.work s2).size = moved s2 s1 (λ x. length is.0 ≡ n * (g.X.SymbolWork.work x).size) (sym inv.setup) is.3 in
     let m3 : Meaning = g.S.Station.meaning c.take_next.new.station in
     let stand3 = g.X.SymbolWork.stands c.take_next.new.work in
-    let stop : Stop = c.in-Err-take_next.stop in
-    moved s0 s2 (λ x. m3.tells ≡ true → Stopped (g.X.SymbolWork.work x) c.args.max_symbols m.cells.left m m3 stop) same
-    (c.in-Err-take_next.ensures.next c.args.max_symbols m.cells.left is.0 is.1 m c.loop-number-test.true size was)
+    let stop : Stop = c.in_err-goes_on.field-0.0 in
+    handed_on c.from_residual-in_err-goes_on.result stop (TakesAll (g.X.SymbolWork.work s0) stand3 c.args.max_symbols m.cells.left m m3) c.from_residual-in_err-goes_on.ensures.1
+    (moved s0 s2 (λ x. m3.tells ≡ true → Stopped (g.X.SymbolWork.work x) c.args.max_symbols m.cells.left m m3 stop) same
+    (c.in_err-goes_on.ensures.next c.args.max_symbols m.cells.left is.0 is.1 m c.loop-number-test.true size was))
 
 pub loop-number-preserved : goal.loop-number-preserved
 loop-number-preserved g c =
@@ -185,7 +190,7 @@ loop-number-preserved g c =
     let m3 : Meaning = g.S.Station.meaning c.take_next.new.station in
     let stand3 = g.X.SymbolWork.stands c.take_next.new.work in
     let inv = c.loop-number.invariant in
-    let e = c.in-Ok-true.ensures in
+    let e = c.in_ok-goes_on.ensures in
     let s1 = g.X.SymbolWork.setup c.begin.new.self in
     let s2 = g.X.SymbolWork.setup c.loop-number.work in
     let stand2 = g.X.SymbolWork.stands c.loop-number.work in
@@ -204,7 +209,7 @@ loop-number-preserved g c =
           let was : IsWorking (g.X.SymbolWork.work s2) stand2 file start m2 is.0 is.1 = moved s2 s1 (λ x. IsWorking (g.X.SymbolWork.work x) stand2 file start m2 is.0 is.1) (sym inv.setup) is.2 in
           let size : length is.0 ≡ n * (g.X.SymbolWork.work s2).size = moved s2 s1 (λ x. length is.0 ≡ n * (g.X.SymbolWork.work x).size) (sym inv.setup) is.3 in
           moved s1 s2 (λ x. Next (g.X.SymbolWork.work x) stand3 c.args.max_symbols file n start m3 (Ok true)) inv.setup
-          (subst (λ (b : Bool). Next (g.X.SymbolWork.work s2) stand3 c.args.max_symbols file n start m3 (Ok b)) c.in-Ok-true.field-0-test
+          (subst (λ (b : Bool). Next (g.X.SymbolWork.work s2) stand3 c.args.max_symbols file n start m3 (Ok b)) c.if-not-goes_on.false
           (e.next c.args.max_symbols file is.0 is.1 start c.loop-number-test.true size was));
     }
 
@@ -214,7 +219,7 @@ take_rest-requires g c κs =
     let m1 : Meaning = g.S.Station.meaning c.begin.new.station in
     let m2 : Meaning = g.S.Station.meaning c.loop-number.station in
     let inv = c.loop-number.invariant in
-    let e = c.in-Ok.ensures in
+    let e = c.in_ok-begin.ensures in
     let s0 = g.X.SymbolWork.setup c.args.work.now in
     let s1 = g.X.SymbolWork.setup c.begin.new.self in
     let s2 = g.X.SymbolWork.setup c.loop-number.work in
@@ -242,7 +247,7 @@ returns-clause-taken g c =
     let m1 : Meaning = g.S.Station.meaning c.begin.new.station in
     let m2 : Meaning = g.S.Station.meaning c.loop-number.station in
     let inv = c.loop-number.invariant in
-    let e = c.in-Ok.ensures in
+    let e = c.in_ok-begin.ensures in
     let s0 = g.X.SymbolWork.setup c.args.work.now in
     let s1 = g.X.SymbolWork.setup c.begin.new.self in
     let s2 = g.X.SymbolWork.setup c.loop-number.work in
@@ -270,7 +275,7 @@ returns-clause-all g c =
     let m1 : Meaning = g.S.Station.meaning c.begin.new.station in
     let m2 : Meaning = g.S.Station.meaning c.loop-number.station in
     let inv = c.loop-number.invariant in
-    let e = c.in-Ok.ensures in
+    let e = c.in_ok-begin.ensures in
     let s0 = g.X.SymbolWork.setup c.args.work.now in
     let s1 = g.X.SymbolWork.setup c.begin.new.self in
     let s2 = g.X.SymbolWork.setup c.loop-number.work in

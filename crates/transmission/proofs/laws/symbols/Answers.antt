@@ -2,10 +2,10 @@ use Rattle.transmission.proofs.SymbolLists.{symbols_are_cells, symbols_are_long,
 use Rattle.transmission.proofs.laws.symbols.Goals as goal
 
 pub returns-clause-cells : goal.returns-clause-cells
-returns-clause-cells c = symbols_are_cells
+returns-clause-cells c = symbols_are_cells c.settings.ensures.mode
 
 pub returns-clause-long : goal.returns-clause-long
-returns-clause-long c = symbols_are_long
+returns-clause-long c = symbols_are_long c.settings.ensures.mode
 
 pub returns-clause-none : goal.returns-clause-none
 returns-clause-none c = no_symbol

@@ -3,7 +3,7 @@ use Rattle.transmission.proofs.Points.{work_begins, takes_of_hp, takes_of_lp, se
 use Rattle.transmission.proofs.laws.work.Goals as goal
 
 pub returns-clause-begins : goal.returns-clause-begins
-returns-clause-begins c = work_begins
+returns-clause-begins c = work_begins c.packets.ensures.none
 
 pub returns-clause-takes_hp : goal.returns-clause-takes_hp
 returns-clause-takes_hp c = takes_of_hp
@@ -12,19 +12,19 @@ pub returns-clause-takes_lp : goal.returns-clause-takes_lp
 returns-clause-takes_lp c = takes_of_lp
 
 pub returns-clause-sends : goal.returns-clause-sends
-returns-clause-sends c = sends_symbol
+returns-clause-sends c = sends_symbol c.packets.ensures.grow
 
 pub returns-clause-at_limit : goal.returns-clause-at_limit
-returns-clause-at_limit c = stops_at_limit
+returns-clause-at_limit c = stops_at_limit c.packets.ensures.grow
 
 pub returns-clause-at_packet : goal.returns-clause-at_packet
-returns-clause-at_packet c = stops_at_packet
+returns-clause-at_packet c = stops_at_packet c.packets.ensures.grow
 
 pub returns-clause-ends : goal.returns-clause-ends
-returns-clause-ends c = ends_unrefused
+returns-clause-ends c = ends_unrefused c.packets.ensures.grow
 
 pub returns-clause-so_far : goal.returns-clause-so_far
-returns-clause-so_far c = sent_so_far
+returns-clause-so_far c = sent_so_far c.packets.ensures.grow
 
 pub returns-clause-at_fault : goal.returns-clause-at_fault
-returns-clause-at_fault c = sent_at_fault
+returns-clause-at_fault c = sent_at_fault c.packets.ensures.grow

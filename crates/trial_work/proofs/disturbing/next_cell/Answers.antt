@@ -48,7 +48,7 @@ returns-clause-cell g c =
     c.disturb_cell.ensures.cell
     ∙ ap (λ (n : ℕ). disturbed_by n (m % 17 == 16) d.load c.read_cell-cell.result c.kind-kind.result) c.tolerance-delta.ensures
     ∙ ap (λ (kd : CarrierKind). disturbed_by (tolerance s.shape s.hierarchy) (m % 17 == 16) d.load c.read_cell-cell.result kd) (c.kind-kind.ensures.kind ∙ ap (λ (z : Mode). kind z (m % 68) c.args.k) c.MODE.ensures)
-    ∙ next_cell_is c.draws_add.ensures s d.number m c.args.k g.M.Carriers.MODE c.requires.mode d.load c.requires.load c.read_cell-cell.result cell
+    ∙ next_cell_is c.draws_add.ensures s d.number m c.args.k g.M.Carriers.MODE c.requires.mode d.load c.requires.load c.settings.ensures.same c.read_cell-cell.result cell
 
 pub returns-clause-draws : goal.returns-clause-draws
 returns-clause-draws g c =

@@ -5,7 +5,8 @@ use Rattle.station_core.specs.Meaning.{Meaning}
 use Rattle.mode_set.specs.declared.settings.Settings.{Settings}
 use Rattle.frame_build.specs.CellFile.{header}
 use Rattle.run_steps.proofs.Fitting.{copied_some}
-use Rattle.symbol_runs.specs.Outputs.{Names, stream_names}
+use Rattle.run_clauses.specs.Ports.{stream_names}
+use Rattle.symbol_runs.specs.Outputs.{Names}
 use Rattle.symbol_runs.specs.Runs.{RunsCells}
 use Rattle.tune_run.specs.Working.{tuning_work}
 use Rattle.tune_run.proofs.command.tune_by.Goals as goal

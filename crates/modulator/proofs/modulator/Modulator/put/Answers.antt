@@ -1,14 +1,14 @@
 -- The packet goes to the stream that is wanted.
-use Rattle.std.proofs.Common.{refl, sym, subst}
-use Rattle.std.specs.Prelude.{vec_capacity}
+use Rattle.std.proofs.Common.{◌≡◌, refl, sym, subst}
+use Rattle.std.specs.Prelude.{None, vec_capacity}
 use Rattle.modulator.specs.State.{Transmitter, transmitter, HasPut, IsNext, StandsFor, wanted, with_packet}
-use Rattle.modulator.proofs.Stepping.{parts_of, put_hp, put_lp, stands_more}
+use Rattle.modulator.proofs.Stepping.{parts_of, put_hp, put_lp, stands_more, want_none}
 use Rattle.modulator.proofs.modulator.Modulator.put.Goals as goal
 
 pub returns-in-Hp-clause-put : goal.returns-in-Hp-clause-put
 returns-in-Hp-clause-put g c = λ inputs h is.
     let i = c.self.inside in
-    let was = put_hp g.M.Carriers.MODE i.settings i.made (parts_of i.hp.outer i.lp.outer i.hp.waiting i.lp.waiting i.inner) i.out (vec_capacity i.labels) c.put.new.self.outer c.put.new.self.waiting c.args.packet.now c.self.invariant
+    let was = put_hp c.symbols_take_alike.ensures.next g.M.Carriers.MODE i.settings i.made (parts_of i.hp.outer i.lp.outer i.hp.waiting i.lp.waiting i.inner) i.out (vec_capacity i.labels) c.put.new.self.outer c.put.new.self.waiting c.args.packet.now c.self.invariant
     (c.in-Hp.ensures.hp refl) c.put.ensures.amount c.put.ensures.holds in
     was.put inputs (subst (λ (t : Transmitter). HasPut t inputs) (sym c.self.view_is) h) (subst (λ (t : Transmitter). IsNext t inputs c.args.packet.now) (sym c.self.view_is) is)
 
@@ -16,7 +16,7 @@ pub returns-in-Hp-clause-stands : goal.returns-in-Hp-clause-stands
 returns-in-Hp-clause-stands g c = λ packets st.
     let i = c.self.inside in
     let new : Transmitter = transmitter i.settings i.made (parts_of c.put.new.self.outer i.lp.outer c.put.new.self.waiting i.lp.waiting i.inner) in
-    let was = put_hp g.M.Carriers.MODE i.settings i.made (parts_of i.hp.outer i.lp.outer i.hp.waiting i.lp.waiting i.inner) i.out (vec_capacity i.labels) c.put.new.self.outer c.put.new.self.waiting c.args.packet.now c.self.invariant
+    let was = put_hp c.symbols_take_alike.ensures.next g.M.Carriers.MODE i.settings i.made (parts_of i.hp.outer i.lp.outer i.hp.waiting i.lp.waiting i.inner) i.out (vec_capacity i.labels) c.put.new.self.outer c.put.new.self.waiting c.args.packet.now c.self.invariant
     (c.in-Hp.ensures.hp refl) c.put.ensures.amount c.put.ensures.holds in
     subst (λ (t : Transmitter). StandsFor new (with_packet packets (wanted t) c.args.packet.now)) c.self.view_is
     (stands_more c.other_streams.ensures _ new c.args.packet.now was packets (subst (λ (t : Transmitter). StandsFor t packets) (sym c.self.view_is) st))
@@ -25,7 +25,7 @@ pub returns-in-Lp-clause-put : goal.returns-in-Lp-clause-put
 returns-in-Lp-clause-put g c = λ inputs h is.
     let i = c.self.inside in
     let both = c.in-Lp.ensures.lp refl in
-    let was = put_lp g.M.Carriers.MODE i.settings i.made (parts_of i.hp.outer i.lp.outer i.hp.waiting i.lp.waiting i.inner) i.out (vec_capacity i.labels) c.put-in-Lp.new.self.outer c.put-in-Lp.new.self.waiting c.args.packet.now c.self.invariant
+    let was = put_lp c.symbols_take_alike.ensures.next g.M.Carriers.MODE i.settings i.made (parts_of i.hp.outer i.lp.outer i.hp.waiting i.lp.waiting i.inner) i.out (vec_capacity i.labels) c.put-in-Lp.new.self.outer c.put-in-Lp.new.self.waiting c.args.packet.now c.self.invariant
     both.0 both.1 c.put-in-Lp.ensures.amount c.put-in-Lp.ensures.holds in
     was.put inputs (subst (λ (t : Transmitter). HasPut t inputs) (sym c.self.view_is) h) (subst (λ (t : Transmitter). IsNext t inputs c.args.packet.now) (sym c.self.view_is) is)
 
@@ -34,7 +34,15 @@ returns-in-Lp-clause-stands g c = λ packets st.
     let i = c.self.inside in
     let both = c.in-Lp.ensures.lp refl in
     let new : Transmitter = transmitter i.settings i.made (parts_of i.hp.outer c.put-in-Lp.new.self.outer i.hp.waiting c.put-in-Lp.new.self.waiting i.inner) in
-    let was = put_lp g.M.Carriers.MODE i.settings i.made (parts_of i.hp.outer i.lp.outer i.hp.waiting i.lp.waiting i.inner) i.out (vec_capacity i.labels) c.put-in-Lp.new.self.outer c.put-in-Lp.new.self.waiting c.args.packet.now c.self.invariant
+    let was = put_lp c.symbols_take_alike.ensures.next g.M.Carriers.MODE i.settings i.made (parts_of i.hp.outer i.lp.outer i.hp.waiting i.lp.waiting i.inner) i.out (vec_capacity i.labels) c.put-in-Lp.new.self.outer c.put-in-Lp.new.self.waiting c.args.packet.now c.self.invariant
     both.0 both.1 c.put-in-Lp.ensures.amount c.put-in-Lp.ensures.holds in
     subst (λ (t : Transmitter). StandsFor new (with_packet packets (wanted t) c.args.packet.now)) c.self.view_is
     (stands_more c.other_streams.ensures _ new c.args.packet.now was packets (subst (λ (t : Transmitter). StandsFor t packets) (sym c.self.view_is) st))
+
+-- where a symbol is wanted no packet is
+pub returns-in-Symbol-clause-stands : goal.returns-in-Symbol-clause-stands
+returns-in-Symbol-clause-stands g c =
+    let i = c.self.inside in
+    let both = c.in-Symbol.ensures.symbol refl in
+    let none = want_none c.symbols_take_alike.ensures.next g.M.Carriers.MODE i.settings i.made (parts_of i.hp.outer i.lp.outer i.hp.waiting i.lp.waiting i.inner) i.out (vec_capacity i.labels) c.self.invariant both.0 both.1 in
+    absurd (c.requires.wanted (subst (λ (t : Transmitter). wanted t ≡ None) c.self.view_is none))

@@ -11,7 +11,7 @@ pub returns-clause-put : goal.returns-clause-put
 returns-clause-put g c = λ inputs h.
     let i = c.self.inside in
     let none = subst (λ (t : Transmitter). wanted t ≡ None) (sym c.self.view_is) c.requires.wanted in
-    let after = symbol_made g.M.Carriers.MODE i.settings i.made (parts_of i.hp.outer i.lp.outer i.hp.waiting i.lp.waiting i.inner) i.out (vec_capacity i.labels) c.next_labels.new.inner c.next_labels.new.hp c.next_labels.new.lp c.self.invariant none
+    let after = symbol_made c.symbols_take_alike.ensures.next g.M.Carriers.MODE i.settings i.made (parts_of i.hp.outer i.lp.outer i.hp.waiting i.lp.waiting i.inner) i.out (vec_capacity i.labels) c.next_labels.new.inner c.next_labels.new.hp c.next_labels.new.lp c.self.invariant none
     c.next_labels.ensures.settings c.next_labels.ensures.hp c.next_labels.ensures.lp c.next_labels.ensures.next in
     after.put inputs (subst (λ (t : Transmitter). HasPut t inputs) (sym c.self.view_is) h)
 
@@ -19,7 +19,7 @@ pub returns-clause-stands : goal.returns-clause-stands
 returns-clause-stands g c = λ packets st.
     let i = c.self.inside in
     let none = subst (λ (t : Transmitter). wanted t ≡ None) (sym c.self.view_is) c.requires.wanted in
-    let after = symbol_made g.M.Carriers.MODE i.settings i.made (parts_of i.hp.outer i.lp.outer i.hp.waiting i.lp.waiting i.inner) i.out (vec_capacity i.labels) c.next_labels.new.inner c.next_labels.new.hp c.next_labels.new.lp c.self.invariant none
+    let after = symbol_made c.symbols_take_alike.ensures.next g.M.Carriers.MODE i.settings i.made (parts_of i.hp.outer i.lp.outer i.hp.waiting i.lp.waiting i.inner) i.out (vec_capacity i.labels) c.next_labels.new.inner c.next_labels.new.hp c.next_labels.new.lp c.self.invariant none
     c.next_labels.ensures.settings c.next_labels.ensures.hp c.next_labels.ensures.lp c.next_labels.ensures.next in
     stands_kept _ _ packets after.hp after.lp (after.put packets) (subst (λ (t : Transmitter). StandsFor t packets) (sym c.self.view_is) st)
 
@@ -27,7 +27,7 @@ pub returns-clause-bytes : goal.returns-clause-bytes
 returns-clause-bytes g c = λ inputs h.
     let i = c.self.inside in
     let none = subst (λ (t : Transmitter). wanted t ≡ None) (sym c.self.view_is) c.requires.wanted in
-    let made = bytes_made g.M.Carriers.MODE i.settings i.made (parts_of i.hp.outer i.lp.outer i.hp.waiting i.lp.waiting i.inner) i.out (vec_capacity i.labels) c.next_labels.new.labels.items inputs c.self.invariant none
+    let made = bytes_made c.symbols_take_alike.ensures.same c.symbols_take_alike.ensures.next g.M.Carriers.MODE i.settings i.made (parts_of i.hp.outer i.lp.outer i.hp.waiting i.lp.waiting i.inner) i.out (vec_capacity i.labels) c.next_labels.new.labels.items inputs c.self.invariant none
     c.symbols_repeat.ensures c.symbols_follow_labels.ensures c.next_labels.ensures.labels (subst (λ (t : Transmitter). HasPut t inputs) (sym c.self.view_is) h) in
     c.write.ensures.bytes
     ∙ ap (λ (z : List ℕ). c.args.to.now.items ++ symbol_bytes i.out.settings i.out.number (bits_of z)) c.deref.ensures.value

@@ -1,72 +1,98 @@
-use Rattle.std.proofs.Common.{◌≡◌, ℕ, ◌+◌, ◌*◌, ◌%◌, List, ◌++◌, length, map, refl, sym, ap, ◌∙◌, subst}
-use Rattle.std.proofs.lemmas.Bool.{true≢false}
-use Rattle.spec_words.specs.Words.{numbers}
-use Rattle.mode_set.specs.StreamTable.{carriers, need}
+use Rattle.std.proofs.Common.{ℕ, ◌≡◌, ◌+◌, ◌*◌, ◌^◌, ◌≤◌, true, false, List, ◌++◌, length, map, refl, sym, ap, ◌∙◌, subst, arith}
+use Rattle.code_paths.specs.declared.costs.CostPair.{CostPair}
+use Rattle.mode_set.specs.StreamTable.{need}
 use Rattle.mode_set.specs.declared.modes.Stream.TheVariants.{Hp, Lp}
-use Rattle.frame_build.specs.Symbol.{cells_from, weights_from}
-use Rattle.inner_chain.specs.PairLists.{pair_of}
+use Rattle.mode_set.specs.declared.settings.Settings.{Settings}
 use Rattle.inner_decoder.specs.Events.{ats}
+use Rattle.inner_decoder.specs.Running.{BranchState}
 use Rattle.rx_report.specs.declared.counts.Event.{Event}
+use Rattle.pilots.specs.Carriers.{tps_carriers}
+use Rattle.qam_map.specs.declared.cell.Cell.{Cell}
+use Rattle.qam_map.specs.Cells.{cell_of}
+use Rattle.receiver.specs.Framing.{FrameStands}
 use Rattle.reception.specs.Lines.{event_at}
 use Rattle.reception.specs.Feeds.{Output, Feeds}
 use Rattle.reception.specs.Streams.{so_far}
-use Rattle.receiver.specs.Ready.{seen}
+use Rattle.stream_decoders.specs.Branches.{HasTaken}
+use Rattle.receiver.specs.Ready.{seen, IsKeptStream}
 use Rattle.receiver.specs.Seen.{ReceiverState}
 use Rattle.receiver.specs.Standing.{StreamGave, StandsFor}
-use Rattle.receiver.proofs.Feeding.{feeds_within, feeds_whole, still_unfinished, taken_is, within_is, ends_is}
+use Rattle.receiver.proofs.Feeding.{state, feeds_within, feeds_whole}
+use Rattle.receiver.proofs.Stepping.{may_take, may_give, keeps}
 use Rattle.receiver.proofs.feed.Receiver.feed_gated.Goals as goal
-
-pub invariant_of-self : goal.invariant_of-self
-invariant_of-self g c = record {
-  mode_is = c.self.invariant.mode_is;
-  inner_is = c.self.invariant.inner_is;
-  unfinished = still_unfinished c.self.inside.input c.args.piece.now c.take-count.new.self c.take-count.result g.M.Carriers.K c.self.invariant.unfinished c.take-count.ensures.count c.take-count.ensures.taken (λ e. true≢false (sym (c.if-not-whole.ensures.1 e)));
-  hp_room = c.self.invariant.hp_room;
-  lp_room = c.self.invariant.lp_room;
-  hp_kept = c.self.invariant.hp_kept;
-  lp_kept = c.self.invariant.lp_kept;
-  few_taken = c.self.invariant.few_taken;
-  symbol = c.self.invariant.symbol;
-  few_frames = c.self.invariant.few_frames;
-}
 
 pub returns-then-not-whole-clause-fed : goal.returns-then-not-whole-clause-fed
 returns-then-not-whole-clause-fed g c = λ b r.
-    let x : ReceiverState = record { settings = c.self.inside.settings; rest = c.self.inside.input; taken = c.self.inside.taken; hp = seen c.self.inside.streams.hp; lp = seen c.self.inside.streams.lp; frames = c.self.inside.streams.frames; ended = c.self.inside.ended } in
-    let y : ReceiverState = record { settings = c.self.inside.settings; rest = c.take-count.new.self; taken = c.self.inside.taken; hp = seen c.self.inside.streams.hp; lp = seen c.self.inside.streams.lp; frames = c.self.inside.streams.frames; ended = c.self.inside.ended } in
-    let n = c.take-count.result in
-    let k : ℕ = g.M.Carriers.K in
-    let e : k ≡ carriers c.self.inside.settings.mode = g.M.Carriers.k_of ∙ ap carriers (sym c.self.invariant.mode_is) in
-    let l = still_unfinished c.self.inside.input c.args.piece.now c.take-count.new.self n k c.self.invariant.unfinished c.take-count.ensures.count c.take-count.ensures.taken (λ e. true≢false (sym (c.if-not-whole.ensures.1 e))) in
-    subst (λ (z : ReceiverState). StandsFor so_far z b r → Feeds (StandsFor so_far y) z.settings b c.args.piece.now r n c.clear.new.self) c.self.view_is
-    (λ h. feeds_within c.symbols.ensures.same c.symbols.ensures.unfinished c.symbols.ensures.tps c.symbols.ensures.bits c.costs.ensures.same c.bits.ensures.byte c.receiving.ensures.all x y b c.args.piece.now n r c.clear.new.self
-    (within_is c.symbols.ensures.tail x b c.args.piece.now c.take-count.new.self n k r h e c.take-count.ensures.count c.take-count.ensures.taken l)
-    (taken_is c.symbols.ensures.tail x b c.args.piece.now n k r h e c.take-count.ensures.count)
-    (ap (λ (z : List ℕ). record x { rest = z }) c.take-count.ensures.taken) c.clear.ensures h)
+    let x = c.self.inside in
+    let n = c.feed-count.result in
+    subst (λ (z : ReceiverState). StandsFor so_far z b r → Feeds (StandsFor so_far (state c.feed-count.new.self (seen x.hp) (seen x.lp) x.frames x.ended)) z.settings b c.args.piece.now r n c.clear.new.self) c.self.view_is
+    (λ h. feeds_within c.symbols.ensures.same c.symbols.ensures.tps c.symbols.ensures.bits c.costs.ensures.same c.bits.ensures.byte c.receiving.ensures.all x.cells c.feed-count.new.self (seen x.hp) (seen x.lp) x.frames x.ended b c.args.piece.now n r c.clear.new.self
+    c.feed-count.ensures.settings c.feed-count.ensures.fed (sym c.if-not-whole.ensures.whole) c.clear.ensures h)
 
 pub returns-clause-fed : goal.returns-clause-fed
 returns-clause-fed g c = λ b r.
-    let x : ReceiverState = record { settings = c.self.inside.settings; rest = c.self.inside.input; taken = c.self.inside.taken; hp = seen c.self.inside.streams.hp; lp = seen c.self.inside.streams.lp; frames = c.self.inside.streams.frames; ended = c.self.inside.ended } in
-    let y : ReceiverState = record { settings = c.self.inside.settings; rest = c.next.new.self; taken = c.self.inside.taken + 1; hp = seen c.take.new.self.hp; lp = seen c.take.new.self.lp; frames = c.take.new.self.frames; ended = c.self.inside.ended } in
-    let out : Output = record { hp = c.take.new.hp.items; lp = c.take.new.lp.items; events = c.take.new.events.items } in
-    let n = c.take-count.result in
-    let k : ℕ = g.M.Carriers.K in
-    let e : k ≡ carriers c.self.inside.settings.mode = g.M.Carriers.k_of ∙ ap carriers (sym c.self.invariant.mode_is) in
-    let l : length c.take-count.new.self ≡ 5 * k = c.if-not-whole.ensures.0 refl in
+    let x = c.self.inside in
+    let n = c.feed-count.result in
+    let new = c.feed-count.new.self in
+    let hp = seen c.give_on.new.self in
+    let lp = seen c.give_on-2.new.self in
+    let out : Output = record { hp = c.give_on.new.to.items; lp = c.give_on-2.new.to.items; events = c.take_symbol.new.events.items } in
     let empty = c.out.view_is ∙ c.clear.ensures in
-    let hp_steps : List ℕ = ats c.take.new.self.hp.branch.events in
-    let lp_steps : List ℕ = ats c.take.new.self.lp.branch.events in
-    subst (λ (z : ReceiverState). StandsFor so_far z b r → Feeds (StandsFor so_far y) z.settings b c.args.piece.now r n out) c.self.view_is
+    let hp_steps : List ℕ = ats c.give_on.new.self.branch.events in
+    let lp_steps : List ℕ = ats c.give_on-2.new.self.branch.events in
+    let hp_same = ap (λ (z : BranchState). z.events) c.give_on.ensures.rest in
+    let lp_same = ap (λ (z : BranchState). z.events) c.give_on-2.ensures.rest in
+    subst (λ (z : ReceiverState). StandsFor so_far z b r → Feeds (StandsFor so_far (state new hp lp c.take.new.self x.ended)) z.settings b c.args.piece.now r n out) c.self.view_is
     (λ h. feeds_whole
-    (record { next = c.symbols.ensures.next; ended = c.symbols.ensures.ended; stay = c.symbols.ensures.tps; bits = c.symbols.ensures.bits; costs_next = c.costs.ensures.next; events_next = c.events.ensures.next; one = c.bits.ensures.byte; all = c.receiving.ensures.all })
-    x y b c.args.piece.now n k r out c.cells.result.now c.weights.result.now hp_steps lp_steps
-    (ends_is c.symbols.ensures.tail x b c.args.piece.now c.take-count.new.self n k r h e c.take-count.ensures.count c.take-count.ensures.taken l)
-    (taken_is c.symbols.ensures.tail x b c.args.piece.now n k r h e c.take-count.ensures.count)
-    refl (ap (λ (z : ReceiverState). z.ended) c.self.view_is ∙ c.requires.going) refl c.next.ensures
-    (c.cells.ensures.cells ∙ ap (λ (z : List ℕ). cells_from z k) c.take-count.ensures.taken) (c.weights.ensures.weights ∙ ap (λ (z : List ℕ). weights_from z k) c.take-count.ensures.taken) e
+    (record { next = c.symbols.ensures.next; stay = c.symbols.ensures.tps; bits = c.symbols.ensures.bits; events_next = c.events.ensures.next; one = c.bits.ensures.byte; all = c.receiving.ensures.all })
+    x.cells new (seen x.hp) (seen x.lp) hp lp x.frames c.take.new.self x.ended b c.args.piece.now n r out hp_steps lp_steps
+    (ap (λ (z : ReceiverState). z.ended) c.self.view_is ∙ c.requires.going) c.feed-count.ensures.settings c.feed-count.ensures.fed (sym c.if-not-whole.ensures.whole)
     (record {
-      hp_gave = λ a s d t q m. subst (λ (z : List ℕ). StreamGave so_far (seen c.take.new.self.hp) a (s ++ map (pair_of c.self.inside.settings c.cells.result.now c.weights.result.now (c.self.inside.taken % 68) Hp) (numbers (need c.self.inside.settings Hp))) d (q ++ hp_steps) z c.take.new.hp.items) (ap (λ (o : Output). o.hp) empty) (c.take.ensures.hp_gave a s d t q m);
-      lp_gave = λ a s d t q m. subst (λ (z : List ℕ). StreamGave so_far (seen c.take.new.self.lp) a (s ++ map (pair_of c.self.inside.settings c.cells.result.now c.weights.result.now (c.self.inside.taken % 68) Lp) (numbers (need c.self.inside.settings Lp))) d (q ++ lp_steps) z c.take.new.lp.items) (ap (λ (o : Output). o.lp) empty) (c.take.ensures.lp_gave a s d t q m);
-      events_are = c.take.ensures.events ∙ ap (λ (z : List Event). z ++ map (event_at Hp) hp_steps ++ map (event_at Lp) lp_steps) (ap (λ (o : Output). o.events) empty);
-      framed = c.take.ensures.framed;
+      hp_gave = λ a s d t q m. subst (λ (z : List ℕ). StreamGave so_far hp a (s ++ new.hp) d (q ++ hp_steps) z c.give_on.new.to.items) (ap (λ (o : Output). o.hp) empty)
+          (c.give_on.ensures.fed x.hp.branch new.hp (subst (λ (z : List CostPair). HasTaken z x.hp.branch c.take_symbol.new.hp) c.pairs.ensures.pairs c.take_symbol.ensures.hp) a s d t q m);
+      lp_gave = λ a s d t q m. subst (λ (z : List ℕ). StreamGave so_far lp a (s ++ new.lp) d (q ++ lp_steps) z c.give_on-2.new.to.items) (ap (λ (o : Output). o.lp) empty)
+          (c.give_on-2.ensures.fed x.lp.branch new.lp (subst (λ (z : List CostPair). HasTaken z x.lp.branch c.take_symbol.new.lp) c.pairs-2.ensures.pairs c.take_symbol.ensures.lp) a s d t q m);
+      events_are = c.take_symbol.ensures.events ∙ ap (λ (z : List Event). z ++ map (event_at Hp) (ats c.take_symbol.new.hp.events) ++ map (event_at Lp) (ats c.take_symbol.new.lp.events)) (ap (λ (o : Output). o.events) empty)
+          ∙ ap (λ z. map (event_at Hp) (ats z) ++ map (event_at Lp) (ats c.take_symbol.new.lp.events)) (sym hp_same) ∙ ap (λ z. map (event_at Hp) hp_steps ++ map (event_at Lp) (ats z)) (sym lp_same);
+      framed = subst (λ (z : Settings). (shown : ℕ → List Cell) (m : ℕ) → shown m ≡ map (cell_of new.cells) (tps_carriers z.mode) → FrameStands z.mode x.frames shown m → FrameStands z.mode c.take.new.self shown (m + 1)) c.settings-settings.ensures.settings
+          (subst (λ (z : List Cell). (shown : ℕ → List Cell) (m : ℕ) → shown m ≡ map (cell_of z) (tps_carriers c.settings-settings.result.now.mode) → FrameStands c.settings-settings.result.now.mode x.frames shown m → FrameStands c.settings-settings.result.now.mode c.take.new.self shown (m + 1)) c.cells.ensures.cells c.take.ensures.taken);
     }) h)
+
+pub take_symbol-requires-clause-hp : goal.take_symbol-requires-clause-hp
+take_symbol-requires-clause-hp g c κs within =
+    let e = ap (λ (z : ReceiverState). z.ended) c.self.view_is ∙ c.requires.going in
+    let few = ap (λ (z : ReceiverState). z.taken) c.self.view_is in
+    may_take c.self.inside.hp _ (need c.self.inside.cells.settings Hp) c.self.inside.cells.taken (c.self.invariant.hp_kept e) (omega (arith, few, c.requires.few)) (subst (λ (z : Settings). length c.pairs.result.now ≤ need z Hp) c.feed-count.ensures.settings c.pairs.ensures.few)
+
+pub take_symbol-requires-clause-lp : goal.take_symbol-requires-clause-lp
+take_symbol-requires-clause-lp g c κs within =
+    let e = ap (λ (z : ReceiverState). z.ended) c.self.view_is ∙ c.requires.going in
+    let few = ap (λ (z : ReceiverState). z.taken) c.self.view_is in
+    may_take c.self.inside.lp _ (need c.self.inside.cells.settings Lp) c.self.inside.cells.taken (c.self.invariant.lp_kept e) (omega (arith, few, c.requires.few)) (subst (λ (z : Settings). length c.pairs-2.result.now ≤ need z Lp) c.feed-count.ensures.settings c.pairs-2.ensures.few)
+
+pub give_on-requires-clause-may : goal.give_on-requires-clause-may
+give_on-requires-clause-may g c κs within =
+    let e = ap (λ (z : ReceiverState). z.ended) c.self.view_is ∙ c.requires.going in
+    may_give c.self.inside.hp c.take_symbol.new.hp _ (c.self.invariant.hp_kept e).ready c.take_symbol.ensures.hp
+
+pub give_on-requires-2-clause-may : goal.give_on-requires-2-clause-may
+give_on-requires-2-clause-may g c κs within =
+    let e = ap (λ (z : ReceiverState). z.ended) c.self.view_is ∙ c.requires.going in
+    may_give c.self.inside.lp c.take_symbol.new.lp _ (c.self.invariant.lp_kept e).ready c.take_symbol.ensures.lp
+
+pub invariant_of-self-2 : goal.invariant_of-self-2
+invariant_of-self-2 g c =
+    let e = ap (λ (z : ReceiverState). z.ended) c.self.view_is ∙ c.requires.going in
+    let x = c.self.inside in
+    let more = c.feed-count.ensures.ended (sym c.if-not-whole.ensures.whole) in
+    record {
+      hp_kept = λ _. subst (λ (z : Settings). IsKeptStream c.give_on.new.self (need z Hp) c.feed-count.new.self.taken) (sym c.feed-count.ensures.settings) (subst (λ k. IsKeptStream c.give_on.new.self (need x.cells.settings Hp) k) (sym more)
+          (keeps x.hp c.give_on.new.self c.take_symbol.new.hp _ (need x.cells.settings Hp) x.cells.taken (c.self.invariant.hp_kept e) (subst (λ (z : Settings). length c.pairs.result.now ≤ need z Hp) c.feed-count.ensures.settings c.pairs.ensures.few)
+          c.take_symbol.ensures.hp c.give_on.ensures.rest c.give_on.ensures.ready c.give_on.ensures.counts));
+      lp_kept = λ _. subst (λ (z : Settings). IsKeptStream c.give_on-2.new.self (need z Lp) c.feed-count.new.self.taken) (sym c.feed-count.ensures.settings) (subst (λ k. IsKeptStream c.give_on-2.new.self (need x.cells.settings Lp) k) (sym more)
+          (keeps x.lp c.give_on-2.new.self c.take_symbol.new.lp _ (need x.cells.settings Lp) x.cells.taken (c.self.invariant.lp_kept e) (subst (λ (z : Settings). length c.pairs-2.result.now ≤ need z Lp) c.feed-count.ensures.settings c.pairs-2.ensures.few)
+          c.take_symbol.ensures.lp c.give_on-2.ensures.rest c.give_on-2.ensures.ready c.give_on-2.ensures.counts));
+      few_taken = omega (arith, more, c.requires.few, ap (λ (z : ReceiverState). z.taken) c.self.view_is);
+      symbol = c.take.ensures.symbol;
+      few_frames = omega (arith, more, c.take.ensures.few, c.self.invariant.few_frames);
+    }

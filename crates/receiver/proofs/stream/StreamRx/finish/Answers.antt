@@ -8,5 +8,5 @@ returns-clause-counts g c = λ n h. few_more _ (n + 24) (n + 40) (omega arith) (
 
 pub returns-clause-ended_stream : goal.returns-clause-ended_stream
 returns-clause-ended_stream g c = λ a s d t r h.
-    finish_gave c.args.self.now.branch c.finish.new.self c.give.new.self.branch c.args.self.now.outer c.give.new.self.outer c.args.self.now.counts c.give.new.self.counts _ _
-    c.finish.ensures.rest c.finish.ensures.ended c.finish.ensures.finished c.give.ensures.rest c.give.ensures.wait c.give.ensures.gives a s d t r h
+    finish_gave c.args.self.now.branch c.end.new.branch c.give.new.self.branch c.args.self.now.outer c.give.new.self.outer c.args.self.now.counts c.give.new.self.counts _ _
+    c.end.ensures.ended c.give.ensures.rest c.give.ensures.wait c.give.ensures.gives a s d t r h

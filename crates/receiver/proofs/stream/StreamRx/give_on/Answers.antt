@@ -1,10 +1,8 @@
-use Rattle.std.proofs.Common.{ℕ, ◌+◌, ◌^◌, Bool, List, ◌++◌, length, refl, sym, ap, ◌∙◌, subst, arith}
-use Rattle.std.specs.Prelude.{Option}
+use Rattle.std.proofs.Common.{ℕ, ◌+◌, ◌^◌, List, ◌++◌, length, sym, ap, ◌∙◌, subst, arith}
 use Rattle.code_paths.specs.declared.costs.CostPair.{CostPair}
 use Rattle.inner_decoder.specs.Events.{ats}
-use Rattle.inner_decoder.specs.Running.{BranchState, RanSymbol}
-use Rattle.inner_decoder.specs.Tracking.{Stands}
-use Rattle.reception.specs.Streams.{memory, so_far}
+use Rattle.inner_decoder.specs.Running.{BranchState}
+use Rattle.reception.specs.Streams.{so_far}
 use Rattle.receiver.specs.Ready.{IsReady, seen}
 use Rattle.receiver.specs.Standing.{StreamGave}
 use Rattle.receiver.specs.declared.stream.StreamRx.{StreamRx}
@@ -12,8 +10,8 @@ use Rattle.receiver.proofs.Pending.{few_more}
 use Rattle.receiver.proofs.Stepping.{symbol_gave, length_ats}
 use Rattle.receiver.proofs.stream.StreamRx.give_on.Goals as goal
 
-pub report-requires-clause-few : goal.report-requires-clause-few
-report-requires-clause-few g c = few_more _ (2 ^ 60 + 24) (2 ^ 62) (omega arith) (c.give.ensures.few (2 ^ 60) c.requires.counts)
+pub report-requires : goal.report-requires
+report-requires g c = record { few = few_more _ (2 ^ 60 + 24) (2 ^ 62) (omega arith) (c.give.ensures.few (2 ^ 60) c.requires.counts) }
 
 pub returns-clause-ready : goal.returns-clause-ready
 returns-clause-ready g c =
@@ -32,8 +30,10 @@ returns-clause-counts g c = λ n h. few_more _ (n + 24 + 16) (n + 40) (omega ari
 pub returns-clause-fed : goal.returns-clause-fed
 returns-clause-fed g c = λ before xs run a s d t r h.
     let x = c.give.new.self in
-    let ran = subst (λ (z : BranchState). (a : Option (List Bool)) (s : List CostPair) (g : List Bool) → Stands memory before.decoder a s g → RanSymbol memory c.args.self.now.branch.decoder a s g xs before.wait c.args.self.now.branch.wait (ats z.events)) (sym c.give.ensures.rest) run.ran in
-    let gave = symbol_gave before (record before { loaded = xs }) c.args.self.now.branch x.branch c.args.self.now.outer x.outer c.args.self.now.counts x.counts (record x.counts { unmerged = x.counts.unmerged + length x.branch.events }) xs (ats x.branch.events) c.args.to.now.items c.give.new.to.items
-    refl ran run.going run.loaded c.give.ensures.rest c.give.ensures.wait c.give.ensures.gives
-    (ap (λ (k : ℕ). record x.counts { unmerged = x.counts.unmerged + k }) (sym (length_ats x.branch.events))) a s d t r h in
-    subst (λ (z : StreamRx). StreamGave so_far (seen z) a (s ++ xs) d (r ++ ats z.branch.events) c.args.to.now.items c.give.new.to.items) (sym c.report.ensures.counted) gave
+    let ran : BranchState = c.args.self.now.branch in
+    let same = ap (λ (z : BranchState). z.events) c.give.ensures.rest in
+    let gave = symbol_gave before ran x.branch c.args.self.now.outer x.outer c.args.self.now.counts x.counts (record x.counts { unmerged = x.counts.unmerged + length x.branch.events }) xs c.args.to.now.items c.give.new.to.items
+    run c.give.ensures.rest c.give.ensures.wait c.give.ensures.gives
+    (ap (λ (k : ℕ). record x.counts { unmerged = x.counts.unmerged + k }) (ap length same ∙ sym (length_ats ran.events))) a s d t r h in
+    subst (λ (z : StreamRx). StreamGave so_far (seen z) a (s ++ xs) d (r ++ ats z.branch.events) c.args.to.now.items c.give.new.to.items) (sym c.report.ensures.counted)
+    (subst (λ es. StreamGave so_far (seen (record x { counts = record x.counts { unmerged = x.counts.unmerged + length x.branch.events } })) a (s ++ xs) d (r ++ ats es) c.args.to.now.items c.give.new.to.items) (sym same) gave)

@@ -1,0 +1,5 @@
+mod Moving
+mod Rooms
+mod Giving
+mod Keeping
+mod Feeding

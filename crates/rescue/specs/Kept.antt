@@ -1,0 +1,63 @@
+-- What a receiver that rescues words keeps.
+use Rattle.std.specs.Prelude.{◌≡◌, ℕ, ◌*◌, ◌^◌, ◌≤◌, Bool, false, List, Option, vec_capacity}
+use Rattle.code_paths.specs.declared.costs.CostPair.{CostPair}
+use Rattle.mode_set.specs.StreamTable.{need}
+use Rattle.mode_set.specs.declared.modes.Stream.TheVariants.{Hp, Lp}
+use Rattle.mode_set.specs.declared.settings.Settings.{Settings}
+use Rattle.reception.specs.Streams.{so_far}
+use Rattle.rescue_words.specs.Rescued.{RescueTally}
+use Rattle.inner_decoder.specs.Running.{BranchState}
+use Rattle.stream_decoders.specs.Branches.{HasTaken}
+use Rattle.rescue.specs.Seen.{StreamState}
+use Rattle.rescue.specs.Standing.{StreamStands}
+use Rattle.rescue.specs.declared.stream.StreamRx.{StreamRx}
+
+abbrev pub seen : StreamRx → StreamState
+seen x = record { branch = x.branch; margins = x.margins; bytes = x.bytes.items; byte_margins = x.byte_margins.items; words = x.words; unmerged = x.unmerged }
+
+-- there is room for what a symbol brings
+pub record HasRoom (x : StreamRx) : Type 0 where
+  pub block : 1279 ≤ vec_capacity x.block
+  pub bytes : 4608 ≤ vec_capacity x.bytes
+  pub byte_margins : 4608 ≤ vec_capacity x.byte_margins
+
+-- a stream that stands for something
+pub record StandsForSome (x : StreamState) : Type 0 where
+  pub a : Option (List Bool)
+  pub c : List CostPair
+  pub given : List ℕ
+  pub tally : RescueTally
+  pub steps : List ℕ
+  pub stands : StreamStands so_far x a c given tally steps
+
+-- a stream whose decoder has run these pairs, from where the stream stood for something
+pub record RanFrom (pairs : List CostPair) (x : StreamRx) : Type 0 where
+  pub before : BranchState
+  pub taken : HasTaken pairs before x.branch
+  pub some : StandsForSome (record (seen x) { branch = before })
+
+-- no count is above n
+pub record AreFew (x : StreamState) (n : ℕ) : Type 0 where
+  pub words : x.words.counts.words ≤ n
+  pub unmerged : x.unmerged ≤ n
+
+-- a stream between two symbols, before it has ended
+pub record IsReady (x : StreamRx) : Type 0 where
+  pub going : x.branch.decoder.ended ≡ false
+  pub margins : x.margins.ended ≡ false
+  pub room : HasRoom x
+  pub some : StandsForSome (seen x)
+
+-- a stream after so many symbols of at most so many steps each, before it has ended
+pub record IsKeptStream (x : StreamRx) (steps taken : ℕ) : Type 0 where
+  pub ready : IsReady x
+  pub most : x.branch.most ≡ steps
+  pub few_steps : steps ≤ 31752
+  pub steps_were : x.branch.decoder.steps ≤ taken * steps
+  pub counts : AreFew (seen x) (4400 * taken)
+
+-- until the end both streams have had the symbols taken
+pub record IsRescuing (settings : Settings) (taken : ℕ) (hp lp : StreamRx) (ended : Bool) : Type 0 where
+  pub hp_kept : ended ≡ false → IsKeptStream hp (need settings Hp) taken
+  pub lp_kept : ended ≡ false → IsKeptStream lp (need settings Lp) taken
+  pub few_taken : taken ≤ 2 ^ 32

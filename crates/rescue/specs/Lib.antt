@@ -1,0 +1,4 @@
+pub mod Seen
+pub mod Moves
+pub mod Standing
+pub mod Kept

@@ -1,0 +1,140 @@
+// The receiver that rescues words.
+ghost use Rattle.std.specs.Prelude.{◌≡◌, ◌+◌, ◌-◌, ◌*◌, ◌<◌, ◌≤◌, ◌^◌, [], ℕ, List, true, false, min, length, IfOk};
+ghost use Rattle.reception.specs.Cells.{symbols};
+ghost use Rattle.reception.specs.Streams.{so_far, at_end, Moment};
+ghost use Rattle.rescue_reception.specs.Streams.{Rescue as Rescued, nothing};
+ghost use Rattle.rescue_reception.specs.Feeds.{Feeds, Finishes};
+ghost use Rattle.rescue.specs.Standing.{StandsFor};
+
+use crate::RescueOut;
+use crate::stream::StreamRx;
+use mode_set::{Carriers, Settings, Stream};
+use std::alloc::{AllocError, Global};
+use std::marker::Model;
+use std::thread::Threads;
+use stream_decoders::{SymbolCosts, take_symbol};
+use word_workers::OpenGate;
+
+/// Receives the cells of a transmission, as bytes that are cut anywhere, and gives the packets of its streams as far as they are
+/// decided: of each word that has no nearest codeword the eight least sure bytes are erased.
+///
+/// It stands for the bytes that it has had and for what it gave. No call but `new` takes memory or is refused.
+#[derive(Drop)]
+pub struct Rescue<M: Carriers> {
+    cells: SymbolCosts<M>,
+    hp: StreamRx,
+    lp: StreamRx,
+    ended: bool,
+}
+
+impl<M: Carriers> Model for Rescue<M> {
+    ghost use Rattle.rescue.specs.Seen.{RescueState};
+    ghost use Rattle.rescue.specs.Kept.{IsRescuing, seen};
+
+    ghost Value = { RescueState };
+
+    ghost view = { λ x. record {
+      settings = x.cells.settings;
+      rest = x.cells.rest;
+      taken = x.cells.taken;
+      hp = seen x.hp;
+      lp = seen x.lp;
+      ended = x.ended;
+    } };
+
+    ghost invariant = { λ x. IsRescuing x.cells.settings x.cells.taken x.hp x.lp x.ended };
+}
+
+impl<M: Carriers> Rescue<M> {
+    /// A receiver that has had no byte. It takes all its memory; the only error is want of it.
+    pub fn new(alloc: Global, settings: &Settings) -> Result<Self, AllocError>
+        requires mode { settings.now.mode ≡ M.MODE }
+        ensures settings { IfOk result (λ x. x.settings ≡ settings.now) }
+        ensures going { IfOk result (λ x. x.ended ≡ false) }
+        ensures taken { IfOk result (λ x. x.taken ≡ 0) }
+        ensures stands { IfOk result (λ x. StandsFor so_far x [] nothing) }
+    {
+        reception::laws::costs();
+        outer_chain::laws::bits();
+        rescue_words::laws::receiving();
+        Ok(Rescue {
+            cells: SymbolCosts::new(alloc, settings)?,
+            hp: StreamRx::new(alloc, settings.start, settings.need(Stream::Hp))?,
+            lp: StreamRx::new(alloc, settings.start, settings.need(Stream::Lp))?,
+            ended: false,
+        })
+    }
+
+    /// Takes bytes from the front of the piece, as many as it has or the current symbol wants, and answers how many. `out` has
+    /// then exactly what became defined by them.
+    ///
+    /// Fewer than 2^32 symbols were received so far, and the receiver has not ended.
+    pub fn feed<R: Threads + Sync>(&mut self, rt: &R, piece: &[u8], out: &mut RescueOut) -> usize
+        requires going { self.old.ended ≡ false }
+        requires few { self.old.taken < 2 ^ 32 }
+        ensures settings { self.new.settings ≡ self.old.settings }
+        ensures going { self.new.ended ≡ false }
+        ensures count { result ≡ min (length piece.now) (5 * M.K - length self.old.rest) }
+        ensures taken { self.new.taken ≤ self.old.taken + 1 }
+        ensures fed { (bytes : List ℕ) (r : Rescued) → StandsFor so_far self.old bytes r → Feeds (StandsFor so_far self.new) self.old.settings bytes piece.now r result out.new }
+    {
+        reception::laws::symbols();
+        reception::laws::costs();
+        reception::laws::events();
+        outer_chain::laws::bits();
+        rescue_words::laws::receiving();
+        out.clear();
+        let count = self.cells.feed(piece);
+        if !self.cells.whole() {
+            return count;
+        }
+        let hp_pairs = self.cells.pairs(Stream::Hp);
+        let lp_pairs = self.cells.pairs(Stream::Lp);
+        take_symbol(
+            rt,
+            &OpenGate,
+            !self.cells.settings().hierarchy.is_flat(),
+            hp_pairs,
+            lp_pairs,
+            &mut self.hp.branch,
+            &mut self.lp.branch,
+            &mut out.events,
+        );
+        self.hp.give_on(hp_pairs, &mut out.hp);
+        self.lp.give_on(lp_pairs, &mut out.lp);
+        count
+    }
+
+    /// Ends the reception: `out` has then the rest of the packets.
+    ///
+    /// The receiver has not ended.
+    pub fn finish(&mut self, out: &mut RescueOut)
+        requires going { self.old.ended ≡ false }
+        ensures settings { self.new.settings ≡ self.old.settings }
+        ensures ended { self.new.ended ≡ true }
+        ensures taken { self.new.taken ≡ self.old.taken }
+        ensures finished { (bytes : List ℕ) (r : Rescued) → StandsFor so_far self.old bytes r → Finishes (StandsFor at_end self.new) self.old.settings bytes r out.new }
+    {
+        outer_chain::laws::bits();
+        rescue_words::laws::receiving();
+        out.clear();
+        self.hp.finish(&mut out.hp);
+        self.lp.finish(&mut out.lp);
+        self.ended = true;
+    }
+
+    /// Was `finish` called?
+    pub fn ended(&self) -> bool
+        ensures { result ≡ self.now.ended }
+    {
+        self.ended
+    }
+
+    /// The whole symbols received so far.
+    pub fn symbols(&self) -> u64
+        ensures number { result ≡ self.now.taken }
+        ensures symbols { (moment : Moment) (bytes : List ℕ) (r : Rescued) → StandsFor moment self.now bytes r → result ≡ symbols self.now.settings bytes }
+    {
+        self.cells.symbols()
+    }
+}

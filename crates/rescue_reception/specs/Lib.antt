@@ -1,0 +1,4 @@
+pub mod Known
+pub mod Streams
+pub mod Lines
+pub mod Feeds

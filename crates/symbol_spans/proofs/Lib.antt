@@ -1,0 +1,4 @@
+mod Adding
+mod Constant
+mod Vectors
+pub mod Parts
