@@ -40,7 +40,7 @@ use Rattle.tune_in.specs.OfBytes.{FoundStaysInBytes, HasNoPlace, IsFoundIn, rest
 use Rattle.tune_in.specs.Places.{Announces, IsPlace, OneFound, begin}
 use Rattle.tune_in.specs.declared.frame.Found.{Found}
 use Rattle.tune_in.proofs.Votes.{bits_agree}
-use Rattle.tune_run.specs.LeastPlace.{HoldsNone, HoldsPlace, held, place_of}
+use Rattle.tune_in.specs.LeastPlace.{HoldsNone, HoldsPlace, held, place_of}
 use Rattle.tune_run.specs.Tuned.{ComesTo, GivesFinal, GivesLive, IsNothing, Tuned, at_place, fits, refusal_at, tune_refusal}
 use Rattle.tune_run.proofs.LeastPlaces.{searches}
 use Rattle.tune_run.proofs.Bytes.{rest_within, same_length, same_symbols, start, symbols_grow, symbols_limited}

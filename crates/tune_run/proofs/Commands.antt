@@ -27,7 +27,7 @@ use Rattle.receive_run.specs.ReceiveCommand.{header_by, most_cells}
 use Rattle.receive_run.proofs.Commands.{behind, symbols_none}
 use Rattle.receive_run.proofs.Parts.{some_bytes}
 use Rattle.tune_in.specs.OfBytes.{HasNoPlace}
-use Rattle.tune_run.specs.LeastPlace.{HoldsNone}
+use Rattle.tune_in.specs.LeastPlace.{HoldsNone}
 use Rattle.tune_run.specs.Tuned.{ComesTo, GivesFinal, GivesLive, fits, tune_refusal}
 use Rattle.tune_run.specs.TuneCommand.{IsSoFar, LinesSoFar, tune_command}
 use Rattle.tune_run.specs.Working.{RefusesTuning, TuningReasons, tuning_work}

@@ -26,7 +26,7 @@ use Rattle.tps_word.proofs.Places.{length-info}
 use Rattle.reception.specs.Frames.{tps_cells}
 use Rattle.tune_in.specs.Places.{Announces, IsFound, IsPlace, OneFound}
 use Rattle.tune_in.specs.declared.frame.Found.{Found}
-use Rattle.tune_run.specs.LeastPlace.{HoldsNone, HoldsPlace, Searches, first_answer, bools, shapes, hierarchies, rates, guards, is_half, fit_together, is_signalled, fields_of, held, place_of}
+use Rattle.tune_in.specs.LeastPlace.{HoldsNone, HoldsPlace, Searches, first_answer, bools, shapes, hierarchies, rates, guards, is_half, fit_together, is_signalled, fields_of, held, place_of}
 
 -- ---- the first answer
 

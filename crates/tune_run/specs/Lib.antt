@@ -1,4 +1,3 @@
-pub mod LeastPlace
 pub mod Tuned
 pub mod TuneCommand
 pub mod Working

@@ -12,7 +12,7 @@ use Rattle.run_clauses.specs.StatedSettings.{settings_of}
 use Rattle.symbol_runs.specs.Work.{Written}
 use Rattle.receive_run.specs.Received.{cells_in}
 use Rattle.receive_run.specs.ReceiveCommand.{header_by, most_cells}
-use Rattle.tune_run.specs.LeastPlace.{Searches}
+use Rattle.tune_in.specs.LeastPlace.{Searches}
 use Rattle.tune_run.specs.Tuned.{ComesTo, GivesLive, tune_refusal}
 
 -- at a port a run comes to this

@@ -17,7 +17,7 @@ use Rattle.receive_run.specs.Working.{LiveGives, FinalGives}
 use Rattle.tune_in.specs.Announced.{IsAnnounced}
 use Rattle.tune_in.specs.OfBytes.{HasNoPlace, IsFoundIn, rest}
 use Rattle.tune_in.specs.declared.frame.Found.{Found}
-use Rattle.tune_run.specs.LeastPlace.{HoldsNone, HoldsPlace, place_of}
+use Rattle.tune_in.specs.LeastPlace.{HoldsNone, HoldsPlace, place_of}
 
 -- the line of a place: the number of its first symbol, and that of the frame
 abbrev pub place_line : Found → List ℕ

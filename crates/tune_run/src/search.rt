@@ -1,8 +1,9 @@
 // The search for a place in the symbols of a file.
-ghost use Rattle.std.specs.Prelude.{◌≡◌, ◌≤◌, ◌<◌, ◌^◌, ◌++◌, [], ℕ, List, length};
+ghost use Rattle.std.specs.Prelude.{◌≡◌, ◌≤◌, ◌<◌, ◌^◌, ◌++◌, [], ℕ, List, length, IfSome};
 ghost use Rattle.mode_set.specs.declared.modes.Mode.{Mode};
 ghost use Rattle.mode_set.specs.declared.settings.Settings.{Settings};
 ghost use Rattle.reception.specs.Cells.{symbol_length, symbols, tail};
+ghost use Rattle.tps_word.specs.Tps.{IsValid};
 ghost use Rattle.tune_run.specs.Searching.{Searched};
 
 use frame_build::SymbolIn;
@@ -23,7 +24,9 @@ pub(crate) trait PlaceSearch {
     fn take(&mut self, piece: &[u8]) -> Option<Found>
         requires going { (s : Settings) × (bytes : List ℕ) × (s.mode ≡ mode) × stands self.old s bytes × (symbols s bytes < 2 ^ 32) }
         ensures takes { (s : Settings) (bytes : List ℕ) → s.mode ≡ mode → stands self.old s bytes → tail s bytes ≡ 0 → length piece.now ≤ symbol_length s
-            → Searched s (stands self.new s) (bytes ++ piece.now) result };
+            → Searched s (stands self.new s) (bytes ++ piece.now) result }
+        ensures place { IfSome result (λ found. found.place < 2 ^ 32) }
+        ensures word { IfSome result (λ found. IsValid found.word) };
 }
 
 /// A tuner, with room for a symbol.

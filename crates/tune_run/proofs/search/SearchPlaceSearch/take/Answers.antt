@@ -20,6 +20,8 @@ returns-then-piece-K g c = record {
       let many : carriers s.mode ≡ g.M.Carriers.K = ap carriers mode ∙ sym g.M.Carriers.k_of in
       let within : IsWithin s bytes c.args.piece.now = omega (arith, none, fits, c.if-piece-K.true, c.K.ensures, many) in
       not_whole c.symbols.ensures.same c.symbols.ensures.cells c.symbols_of_bytes.ensures.none s c.args.self.now.tuner c.args.self.now.symbol bytes c.args.piece.now within is;
+  place = tt;
+  word = tt;
 }
 
 pub returns : goal.returns
@@ -43,4 +45,6 @@ returns g c = record {
       (subst (λ (l : List (List Cell)). Answers s.mode l c.symbol-found.result) list (subst (λ (m : Mode). Answers m (symbols_of s bytes ++ c.cells.result.now ∷ []) c.symbol-found.result) (sym mode) (c.symbol-found.ensures.answer (symbols_of s bytes) before)))
       (subst (λ (l : List (List Cell)). IfNone c.symbol-found.result (StandsFor s.mode c.symbol-found.new.self l)) list (subst (λ (m : Mode). IfNone c.symbol-found.result (StandsFor m c.symbol-found.new.self (symbols_of s bytes ++ c.cells.result.now ∷ []))) (sym mode) (c.symbol-found.ensures.stands (symbols_of s bytes) before)))
       c.symbol-found.ensures.symbols c.symbol-found.ensures.found c.symbol-found.ensures.place c.symbol-found.ensures.word;
+  place = c.symbol-found.ensures.place;
+  word = c.symbol-found.ensures.word;
 }
