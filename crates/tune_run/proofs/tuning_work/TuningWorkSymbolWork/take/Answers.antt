@@ -61,7 +61,7 @@ returns-in-Some-clause-takes g c = λ bytes before stood gives whole fits.
       ),
     ))
     (λ after gave. behind_gives a s two b.work.two st.0 (bytes ++ piece) after p.two_is st.3 p.is_announced is_in gave) (λ r no. absurd no)
-    (c.take.ensures.takes s st.0 bytes st.1 p.is_announced.mode_is (ap (λ (n : ℕ). 5 * n) c.carriers.ensures) p.is_behind whole fits)
+    (c.take.ensures.takes s st.0 bytes st.1 p.is_announced.mode_is (ap (λ (n : ℕ). 5 * n) c.carriers.ensures) p.is_behind whole (omega (arith, fits, c.carriers.ensures)))
 
 pub take-requires-2 : goal.take-requires-2
 take-requires-2 g c =
