@@ -1,7 +1,6 @@
 -- Behind a place symbols are passed over, and then received.
-use Rattle.std.proofs.Common.{◌≡◌, ◌≢◌, ℕ, ◌+◌, ◌-◌, ◌*◌, ◌<◌, ◌≤◌, ◌^◌, Bool, List, [], ◌++◌, ◌⊎◌, inl, inr, length, Result, Ok, Err, refl, ◌∙◌, sym, ap, subst, arith}
+use Rattle.std.proofs.Common.{◌≡◌, ◌≢◌, ℕ, ◌+◌, ◌<◌, ◌≤◌, ◌^◌, Bool, List, [], ◌++◌, ◌⊎◌, inl, inr, length, Result, Ok, refl, ◌∙◌, sym, subst, arith}
 use Rattle.station_core.specs.Meaning.{Meaning}
-use Rattle.station_core.specs.declared.ports.OutPort.{OutPort}
 use Rattle.mode_set.specs.declared.settings.Settings.{Settings}
 use Rattle.reception.specs.Cells.{symbol_length, symbols, tail}
 use Rattle.reception.specs.Laws.{EndsSymbol, IsWithin, OneSymbolMore, SameSymbols}
@@ -9,13 +8,12 @@ use Rattle.run_clauses.specs.declared.work.Refusal.{Refusal}
 use Rattle.symbol_runs.specs.declared.stop.Stop.{Stop}
 use Rattle.symbol_runs.specs.Work.{Does, Written}
 use Rattle.receive_run.specs.Working.{LiveGives, reception_work}
-use Rattle.receive_run.specs.Working as receiving
 use Rattle.symbol_runs.specs.Work as works
 use Rattle.tune_in.specs.OfBytes.{rest}
 use Rattle.tune_in.specs.Places.{begin}
 use Rattle.tune_in.specs.declared.frame.Found.{Found}
 use Rattle.tune_run.specs.Working.{IsBehind}
-use Rattle.tune_run.proofs.Bytes.{more_rest, no_rest, no_rest_yet, rest_fewer, rest_whole, same_length, same_symbols, same_tail}
+use Rattle.tune_run.proofs.Bytes.{more_rest, no_rest, no_rest_yet, rest_fewer, same_symbols}
 use Rattle.tune_run.proofs.Calls.{does_as, does_nothing}
 
 module _ (standing : List ℕ → Written → Type 0) (a s : Settings) (two : Bool) (found : Found) (same : a.mode ≡ s.mode) where

@@ -1,13 +1,13 @@
 -- What first bytes of the cells give begins what the run comes to.
-use Rattle.std.proofs.Common.{◌≡◌, ◌≢◌, ℕ, ◌+◌, ◌-◌, ◌*◌, ◌/◌, ◌<◌, ◌≤◌, min, Bool, true, false, not, List, [], ◌∷◌, ◌++◌, ◌⊎◌, inl, inr, length, take, drop, Option, Some, None, refl, ◌∙◌, sym, ap, subst, arith, append_assoc, length-take-le, take-append-drop}
-use Rattle.std.specs.Prelude.{IsTrue, flat_map, if◌then◌else◌, is_some}
+use Rattle.std.proofs.Common.{◌≡◌, ℕ, ◌+◌, ◌-◌, ◌*◌, ◌/◌, ◌<◌, ◌≤◌, Bool, true, false, not, List, [], ◌∷◌, ◌++◌, ◌⊎◌, inl, inr, length, take, drop, Option, Some, None, refl, ◌∙◌, sym, ap, subst, arith, append_assoc, take-append-drop}
+use Rattle.std.specs.Prelude.{flat_map, if◌then◌else◌, is_some}
 use Rattle.std.specs.Option.{option_or}
-use Rattle.std.proofs.lemmas.Bool.{cases_lt, le-ltb, lt-ltb, true≢false}
+use Rattle.std.proofs.lemmas.Bool.{cases_lt, le-ltb, lt-ltb}
 use Rattle.std.proofs.lemmas.List.{append-nil, drop-append-le, drop-take, drop_all, length-take}
 use Rattle.std.proofs.Math.Seq.{take-append-add}
 use Rattle.station_core.specs.declared.ports.OutPort.{OutPort}
 use Rattle.station_core.specs.declared.ports.OutPort.TheVariants as outs
-use Rattle.mode_set.specs.Kept.{is_flat, is_qpsk}
+use Rattle.mode_set.specs.Kept.{is_flat}
 use Rattle.mode_set.specs.declared.modes.Hierarchy.{Hierarchy}
 use Rattle.mode_set.specs.declared.modes.Hierarchy.TheVariants.{Flat, Alpha1, Alpha2, Alpha4}
 use Rattle.mode_set.specs.declared.modes.Mode.{Mode}
@@ -33,17 +33,16 @@ use Rattle.receive_run.specs.Working.{FinalGives, LiveGives, final_at, live_at, 
 use Rattle.receive_run.proofs.Begun.{ReceptionLaws, after, is_within, length_whole, whole_of}
 use Rattle.receive_run.proofs.Parts.{symbols_are}
 use Rattle.tps_word.specs.Tps.{IsValid}
-use Rattle.tps_word.specs.Vote.{bits_from}
 use Rattle.tps_word.specs.declared.word.TpsWord.{TpsWord}
 use Rattle.tune_in.specs.Announced.{IsAnnounced}
 use Rattle.tune_in.specs.OfBytes.{FoundStaysInBytes, HasNoPlace, IsFoundIn, rest}
-use Rattle.tune_in.specs.Places.{Announces, IsPlace, OneFound, begin}
+use Rattle.tune_in.specs.Places.{Announces, OneFound}
 use Rattle.tune_in.specs.declared.frame.Found.{Found}
 use Rattle.tune_in.proofs.Votes.{bits_agree}
 use Rattle.tune_in.specs.LeastPlace.{HoldsNone, HoldsPlace, held, place_of}
 use Rattle.tune_run.specs.Tuned.{ComesTo, GivesFinal, GivesLive, IsNothing, Tuned, at_place, fits, refusal_at, tune_refusal}
 use Rattle.tune_run.proofs.LeastPlaces.{searches}
-use Rattle.tune_run.proofs.Bytes.{rest_within, same_length, same_symbols, start, symbols_grow, symbols_limited}
+use Rattle.tune_run.proofs.Bytes.{rest_within, start, symbols_grow}
 
 pub record Laws : Type 0 where
   pub receptions : ReceptionLaws

@@ -1,11 +1,10 @@
 -- `tune` is a command on cells: what it comes to is what its work gives.
-use Rattle.std.proofs.Common.{◌≡◌, inl, inr, true, false, ℕ, ◌*◌, ◌≤◌, ◌<◌, min, Bool, List, [], ◌++◌, ◌⊎◌, length, take, drop, Option, Some, None, refl, ◌∙◌, sym, ap, subst, arith, append_assoc, if◌then◌else◌}
+use Rattle.std.proofs.Common.{◌≡◌, inl, inr, true, false, ℕ, ◌*◌, ◌≤◌, ◌<◌, Bool, List, [], ◌++◌, take, drop, Option, Some, None, refl, ◌∙◌, sym, ap, subst, arith, append_assoc, if◌then◌else◌}
 use Rattle.std.proofs.lemmas.List.{append-nil, drop_all, length-take, take-append-drop}
 use Rattle.std.specs.Prelude.{is_some, option_and_then}
 use Rattle.std.specs.Option.{option_or}
 use Rattle.station_core.specs.Meaning.{Meaning}
 use Rattle.station_core.specs.declared.ports.InPort.TheVariants as ins
-use Rattle.station_core.specs.declared.ports.OutPort.{OutPort}
 use Rattle.station_core.specs.declared.ports.OutPort.TheVariants as outs
 use Rattle.mode_set.specs.declared.settings.Settings.{Settings as TheSettings}
 use Rattle.frame_build.specs.CellFile.{header}
@@ -27,7 +26,6 @@ use Rattle.receive_run.specs.ReceiveCommand.{header_by, most_cells}
 use Rattle.receive_run.proofs.Commands.{behind, symbols_none}
 use Rattle.receive_run.proofs.Parts.{some_bytes}
 use Rattle.tune_in.specs.OfBytes.{HasNoPlace}
-use Rattle.tune_in.specs.LeastPlace.{HoldsNone}
 use Rattle.tune_run.specs.Tuned.{ComesTo, GivesFinal, GivesLive, fits, tune_refusal}
 use Rattle.tune_run.specs.TuneCommand.{IsSoFar, LinesSoFar, tune_command}
 use Rattle.tune_run.specs.Working.{RefusesTuning, TuningReasons, tuning_work}

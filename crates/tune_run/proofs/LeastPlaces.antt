@@ -1,6 +1,6 @@
 -- The search finds the least place.
-use Rattle.std.proofs.Common.{◌≡◌, ◌≢◌, ℕ, zero, suc, ◌+◌, ◌-◌, ◌<◌, ◌≤◌, Bool, true, false, not, List, [], ◌∷◌, Option, Some, None, inl, inr, ◌⊎◌, refl, ◌∙◌, sym, ap, subst, arith}
-use Rattle.std.specs.Prelude.{IsTrue, IsFalse, ◌&&◌, ◌||◌, ◌==◌, nat_le, if◌then◌else◌}
+use Rattle.std.proofs.Common.{◌≡◌, ℕ, zero, suc, ◌+◌, ◌-◌, ◌<◌, ◌≤◌, Bool, true, false, not, List, [], ◌∷◌, Option, Some, None, inl, inr, ◌⊎◌, refl, ◌∙◌, sym, ap, subst, arith}
+use Rattle.std.specs.Prelude.{◌&&◌, ◌||◌, ◌==◌, nat_le, if◌then◌else◌}
 use Rattle.std.specs.List.{AllByRecursion, range_with_len}
 use Rattle.std.specs.Option.{option_map, option_or}
 use Rattle.std.proofs.lemmas.Bool.{and_parts, cases_lt, eq-eqb, eqb-true, le-leb, leb-true, true≢false}
@@ -24,7 +24,7 @@ use Rattle.tps_word.specs.Vote.{bits_from}
 use Rattle.tps_word.specs.declared.word.TpsWord.{TpsWord}
 use Rattle.tps_word.proofs.Places.{length-info}
 use Rattle.reception.specs.Frames.{tps_cells}
-use Rattle.tune_in.specs.Places.{Announces, IsFound, IsPlace, OneFound}
+use Rattle.tune_in.specs.Places.{IsPlace, OneFound}
 use Rattle.tune_in.specs.declared.frame.Found.{Found}
 use Rattle.tune_in.specs.LeastPlace.{HoldsNone, HoldsPlace, Searches, first_answer, bools, shapes, hierarchies, rates, guards, is_half, fit_together, is_signalled, fields_of, held, place_of}
 

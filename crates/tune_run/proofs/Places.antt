@@ -1,16 +1,14 @@
 -- The line of a place is written; and what the work stands for, by whether it is behind a place.
-use Rattle.std.proofs.Common.{◌≡◌, ℕ, Bool, true, false, List, [], ◌++◌, take, Option, Some, None, Result, Ok, Err, refl, ◌∙◌, sym, ap, subst, if◌then◌else◌}
+use Rattle.std.proofs.Common.{◌≡◌, ℕ, Bool, true, List, [], ◌++◌, take, Option, Some, None, Result, Ok, Err, ◌∙◌, sym, ap, subst, if◌then◌else◌}
 use Rattle.std.proofs.lemmas.List.{append-nil}
 use Rattle.station_core.specs.Meaning.{Meaning}
-use Rattle.station_core.specs.declared.ports.OutPort.{OutPort}
 use Rattle.station_core.specs.declared.ports.OutPort.TheVariants as outs
 use Rattle.mode_set.specs.declared.settings.Settings.{Settings}
 use Rattle.symbol_runs.specs.declared.stop.Stop.{Stop}
-use Rattle.symbol_runs.specs.declared.stop.Stop.TheVariants.{WriteFault}
 use Rattle.symbol_runs.specs.Work.{Holds, HoldsFront, Written}
 use Rattle.symbol_runs.specs.Writing.{WritesAt}
 use Rattle.symbol_runs.proofs.Fronts.{none_of}
-use Rattle.tune_in.specs.OfBytes.{HasNoPlace, IsFoundIn}
+use Rattle.tune_in.specs.OfBytes.{HasNoPlace}
 use Rattle.tune_in.specs.declared.frame.Found.{Found}
 use Rattle.tune_run.specs.Tuned.{IsNothing, at_place, fits, place_line}
 use Rattle.tune_run.specs.Working.{Tunes, TuningStands}

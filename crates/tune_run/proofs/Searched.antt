@@ -1,20 +1,18 @@
 -- The search takes a symbol, or what there is of one.
-use Rattle.std.proofs.Common.{◌≡◌, ◌≢◌, ℕ, zero, suc, ◌+◌, ◌-◌, ◌*◌, ◌<◌, ◌≤◌, ◌^◌, min, Bool, true, false, List, [], ◌∷◌, ◌++◌, length, take, drop, map, Option, Some, None, refl, ◌∙◌, sym, ap, ap₂, subst, arith}
+use Rattle.std.proofs.Common.{◌≡◌, ℕ, zero, suc, ◌+◌, ◌<◌, ◌^◌, List, [], ◌∷◌, ◌++◌, length, map, Option, Some, None, refl, ◌∙◌, sym, ap, ap₂, subst, arith}
 use Rattle.std.specs.Prelude.{is_some, IfSome, IfNone}
 use Rattle.std.specs.List.{range_with_len}
-use Rattle.std.proofs.lemmas.List.{take_all}
 use Rattle.spec_words.specs.Words.{numbers}
 use Rattle.frame_build.specs.Symbol.{cells_from}
 use Rattle.mode_set.specs.StreamTable.{carriers}
 use Rattle.mode_set.specs.declared.settings.Settings.{Settings}
-use Rattle.qam_map.specs.declared.cell.Cell.{Cell}
-use Rattle.reception.specs.Cells.{bytes_of_symbol, symbol_length, symbols, symbol_cells, tail}
+use Rattle.reception.specs.Cells.{symbols, symbol_cells, tail}
 use Rattle.reception.specs.Laws.{CellsStay, EndedSymbol, EndsSymbol, IsWithin, OneSymbolMore, SameSymbols, TailIsUnfinished, unfinished}
 use Rattle.tps_word.specs.Tps.{IsValid}
-use Rattle.tune_in.specs.OfBytes.{FoundInBytes, HasNoPlace, NoneInBytes, SymbolIsAdded, symbols_of}
+use Rattle.tune_in.specs.OfBytes.{FoundInBytes, NoneInBytes, symbols_of}
 use Rattle.tune_in.specs.Tuning.{Answers, StandsFor, TunerState}
 use Rattle.tune_in.specs.declared.frame.Found.{Found}
-use Rattle.tune_run.specs.Searching.{IsAtPlace, IsSearching, Searched}
+use Rattle.tune_run.specs.Searching.{IsSearching, Searched}
 
 map_same : {X : Type 0} (f g : ℕ → X) (a n : ℕ) → ((i : ℕ) → i < n → f (a + i) ≡ g (a + i)) → map f (range_with_len a n) ≡ map g (range_with_len a n)
 map_same f g a zero h = refl

@@ -1,5 +1,5 @@
 -- The calls of the work: before a place, at it and behind it.
-use Rattle.std.proofs.Common.{◌≡◌, ℕ, ◌+◌, ◌*◌, ◌<◌, ◌≤◌, Bool, true, false, List, [], ◌++◌, ◌⊎◌, inl, inr, length, Option, Some, None, Result, Ok, Err, refl, ◌∙◌, sym, ap, subst, arith}
+use Rattle.std.proofs.Common.{◌≡◌, ℕ, ◌<◌, ◌≤◌, Bool, true, List, [], ◌++◌, ◌⊎◌, inl, inr, Option, Some, None, Result, Ok, Err, refl, ◌∙◌, sym, ap, subst, arith}
 use Rattle.std.specs.Prelude.{flat_map}
 use Rattle.std.proofs.lemmas.Bool.{cases_lt}
 use Rattle.std.proofs.lemmas.List.{append-nil}
@@ -7,31 +7,28 @@ use Rattle.station_core.specs.Meaning.{Meaning, sink_at}
 use Rattle.station_core.specs.declared.ports.OutPort.{OutPort}
 use Rattle.mode_set.specs.declared.settings.Settings.{Settings}
 use Rattle.rx_report.specs.Text.{event_line}
-use Rattle.reception.specs.Cells.{symbol_length, symbols, tail}
+use Rattle.reception.specs.Cells.{symbols}
 use Rattle.reception.specs.Frames.{tps_cells}
 use Rattle.reception.specs.Lines.{events}
 use Rattle.reception.specs.Streams.{Reception}
 use Rattle.reception.specs.Laws.{BitsOfCells, IsWithin, NoEvents, NothingLive, SameCosts, SameSymbols, TpsCellsStay, nothing}
-use Rattle.run_clauses.specs.declared.work.Refusal.{Refusal}
 use Rattle.run_clauses.specs.declared.work.Refusal.TheVariants as refusals
 use Rattle.run_clauses.specs.declared.work.CellsRefusal.TheVariants.{Header, NoPlace, AnnouncedForm}
 use Rattle.symbol_runs.specs.declared.stop.Stop.{Stop}
 use Rattle.symbol_runs.specs.declared.stop.Stop.TheVariants as stops
-use Rattle.symbol_runs.specs.Work.{Does, Gave, GaveFront, Holds, HoldsFront, Written}
+use Rattle.symbol_runs.specs.Work.{Does, Written}
 use Rattle.receive_run.specs.Working.{FinalGives, LiveGives, ReceiverStands, live_at, written_at}
 use Rattle.receive_run.proofs.Commands.{nothing_written}
 use Rattle.receive_run.proofs.Parts.{part_live}
-use Rattle.tps_word.specs.declared.word.TpsWord.{TpsWord}
 use Rattle.tune_in.specs.Announced.{IsAnnounced}
 use Rattle.tune_in.specs.OfBytes.{FoundStaysInBytes, HasNoPlace, IsFoundIn, rest}
-use Rattle.tune_in.specs.Places.{Announces, IsPlace, begin}
+use Rattle.tune_in.specs.Places.{Announces, begin}
 use Rattle.tune_in.specs.declared.frame.Found.{Found}
 use Rattle.tune_in.proofs.Votes.{bits_agree}
 use Rattle.tune_run.specs.Searching.{IsAtPlace}
-use Rattle.tune_run.specs.Tuned.{GivesFinal, GivesLive, IsNothing, Tuned, at_place, fits}
-use Rattle.tune_run.specs.Working.{BeginsBehind, HasSome, IsBehind, IsBehindPlace, RefusesTuning, Tunes, TuningStands}
-use Rattle.tune_run.proofs.Bytes.{more_rest, no_rest, no_rest_whole, rest_tail, same_length, same_symbols, same_tail}
-use Rattle.tune_run.proofs.Calls.{does_behind, does_nothing}
+use Rattle.tune_run.specs.Tuned.{GivesFinal, GivesLive, IsNothing, at_place, fits}
+use Rattle.tune_run.specs.Working.{BeginsBehind, HasSome, IsBehindPlace, RefusesTuning, Tunes}
+use Rattle.tune_run.proofs.Bytes.{more_rest, no_rest, no_rest_whole, rest_tail, same_length, same_tail}
 
 -- ---- bytes that end no symbol
 

@@ -1,5 +1,5 @@
 -- The promise of a whole run of `tune`.
-use Rattle.std.proofs.Common.{◌≡◌, ◌≢◌, inl, inr, true, ℕ, List, [], Option, None, Some, Ok, Err, refl, ◌∙◌, sym, ap, subst, arith}
+use Rattle.std.proofs.Common.{◌≡◌, ◌≢◌, inl, inr, true, ℕ, List, [], Option, Some, Ok, Err, refl, ◌∙◌, sym, ap, subst, arith}
 use Rattle.std.specs.Prelude.{is_some}
 use Rattle.station_core.specs.Meaning.{Meaning, IsFresh}
 use Rattle.mode_set.specs.declared.settings.Settings.{Settings as TheSettings}

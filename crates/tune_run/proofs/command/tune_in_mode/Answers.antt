@@ -1,10 +1,9 @@
-use Rattle.std.proofs.Common.{◌≡◌, ◌∙◌, List, ℕ, [], refl, ap, sym, subst, inl, arith}
+use Rattle.std.proofs.Common.{◌≡◌, ◌∙◌, List, [], refl, ap, sym, subst, inl, arith}
 use Rattle.mode_set.specs.StreamTable.{carriers}
 use Rattle.mode_set.specs.declared.modes.Mode.{Mode}
 use Rattle.mode_set.specs.declared.settings.Settings.{Settings}
 use Rattle.qam_map.specs.declared.cell.Cell.{Cell}
 use Rattle.receive_run.proofs.Commands.{symbols_none}
-use Rattle.tune_in.specs.OfBytes.{symbols_of}
 use Rattle.tune_in.specs.Tuning.{StandsFor}
 use Rattle.tune_run.proofs.Commands.{no_place}
 use Rattle.tune_run.proofs.Searched.{no_symbols}

@@ -1,7 +1,6 @@
-use Rattle.std.proofs.Common.{◌≡◌, ℕ, Bool, List, ◌++◌, length, inl, inr, refl, ◌∙◌, sym, ap, subst, arith}
+use Rattle.std.proofs.Common.{ℕ, Bool, List, ◌++◌, inl, inr, refl, ◌∙◌, sym, ap, subst, arith}
 use Rattle.station_core.specs.Meaning.{Meaning}
 use Rattle.mode_set.specs.declared.settings.Settings.{Settings}
-use Rattle.reception.specs.Cells.{symbol_length, symbols}
 use Rattle.reception.specs.Streams.{so_far}
 use Rattle.symbol_runs.specs.Work.{Does, Written}
 use Rattle.receive_run.specs.Working.{LiveGives, ReceiverStands}

@@ -1,15 +1,13 @@
-use Rattle.std.proofs.Common.{◌≡◌, ℕ, ◌+◌, ◌*◌, ◌<◌, List, [], ◌∷◌, ◌++◌, length, take, Option, refl, ◌∙◌, sym, ap, ap₂, subst, arith}
+use Rattle.std.proofs.Common.{◌≡◌, ℕ, List, [], ◌∷◌, ◌++◌, length, take, ◌∙◌, sym, ap, ap₂, subst, arith}
 use Rattle.std.specs.Prelude.{IfNone}
 use Rattle.std.proofs.lemmas.List.{length_push, take_all}
 use Rattle.frame_build.specs.Symbol.{cells_from}
 use Rattle.mode_set.specs.StreamTable.{carriers}
 use Rattle.mode_set.specs.declared.modes.Mode.{Mode}
-use Rattle.mode_set.specs.declared.settings.Settings.{Settings}
 use Rattle.qam_map.specs.declared.cell.Cell.{Cell}
 use Rattle.reception.specs.Cells.{symbols, symbol_cells}
 use Rattle.reception.specs.Laws.{EndsSymbol, IsWithin}
 use Rattle.tune_in.specs.OfBytes.{symbols_of}
-use Rattle.tune_in.specs.Places.{IsPlace}
 use Rattle.tune_in.specs.Tuning.{Answers, StandsFor}
 use Rattle.tune_run.proofs.Searched.{cells_are, not_whole, whole}
 use Rattle.tune_run.proofs.search.SearchPlaceSearch.take.Goals as goal

@@ -3,10 +3,8 @@ use Rattle.std.specs.Bool.{beq}
 use Rattle.std.proofs.lemmas.Bool.{true≢false}
 use Rattle.station_core.specs.Meaning.{Meaning}
 use Rattle.mode_set.specs.Kept.{is_flat}
-use Rattle.mode_set.specs.declared.modes.Hierarchy.{Hierarchy}
 use Rattle.mode_set.specs.declared.settings.Settings.{Settings}
 use Rattle.tune_in.specs.Announced.{IsAnnounced}
-use Rattle.tune_run.specs.Tuned.{fits, place_line}
 use Rattle.tune_run.proofs.Places.{line_tunes}
 use Rattle.tune_run.proofs.tuning_work.TuningWork.tune.Goals as goal
 

@@ -1,4 +1,4 @@
-use Rattle.std.proofs.Common.{List, [], inl, refl, sym}
+use Rattle.std.proofs.Common.{[], inl, refl, sym}
 use Rattle.std.proofs.lemmas.List.{append-nil}
 use Rattle.station_core.specs.Meaning.{Meaning, sink_at}
 use Rattle.mode_set.specs.declared.settings.Settings.{Settings}

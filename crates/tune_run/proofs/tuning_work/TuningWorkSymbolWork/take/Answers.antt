@@ -1,9 +1,7 @@
-use Rattle.std.proofs.Common.{◌≡◌, ℕ, ◌+◌, ◌*◌, ◌<◌, ◌≤◌, Bool, true, List, [], ◌++◌, length, Option, Some, None, inl, refl, ◌∙◌, sym, ap, subst, arith}
+use Rattle.std.proofs.Common.{ℕ, ◌*◌, Bool, List, ◌++◌, inl, refl, ◌∙◌, sym, ap, subst, arith}
 use Rattle.std.proofs.lemmas.List.{append-nil}
 use Rattle.station_core.specs.Meaning.{Meaning}
-use Rattle.station_core.specs.declared.ports.OutPort.{OutPort}
 use Rattle.mode_set.specs.declared.settings.Settings.{Settings}
-use Rattle.reception.specs.Cells.{symbol_length, symbols}
 use Rattle.reception.specs.Streams.{so_far}
 use Rattle.run_clauses.specs.declared.work.Refusal.{Refusal}
 use Rattle.symbol_runs.specs.Work.{AreOpen, Written, none_written}
@@ -11,7 +9,7 @@ use Rattle.receive_run.specs.Working.{LiveGives, ReceiverStands, writes_at}
 use Rattle.tune_in.specs.Announced.{IsAnnounced}
 use Rattle.tune_in.specs.OfBytes.{rest}
 use Rattle.tune_in.specs.declared.frame.Found.{Found}
-use Rattle.tune_run.specs.Searching.{IsAtPlace, Searched}
+use Rattle.tune_run.specs.Searching.{IsAtPlace}
 use Rattle.tune_run.specs.Tuned.{GivesLive, at_place}
 use Rattle.tune_run.specs.Working.{IsBehind, IsBehindPlace, RefusesTuning, TuningStands}
 use Rattle.tune_run.proofs.Calls.{does_behind, does_nothing}
