@@ -103,10 +103,10 @@ def of_refusal(form, words, status, text, before):
     if status == 7 and not text and not all(is_utf8(word) for word in words):
         say("the words could not be taken: they are not UTF-8")
         return
-    lines = {3: of_settings, 4: of_packet, 5: of_reading, 6: of_writing, 7: of_memory, 8: of_limit, 9: of_header}.get(status)
+    lines = {3: of_settings, 4: of_packet, 5: of_reading, 6: of_writing, 7: of_memory, 8: of_limit, 9: of_header, 10: of_no_frame, 11: of_form}.get(status)
     for line in lines(form, text) if lines else []:
         say(line)
-    if status in (4, 5, 6, 8, 9):
+    if status in (4, 5, 6, 8, 9, 10, 11):
         say(what_stands(form, status, before))
 
 
@@ -191,6 +191,8 @@ def of_writing(form, text):
 
 def of_memory(form, text):
     """Memory is wanting."""
+    if form.command == "tune":
+        return ["there is not enough memory for the work; an output that was made is empty"]
     return ["there is not enough memory for the work; no input was opened and no output was made"]
 
 
@@ -225,6 +227,23 @@ def of_header(form, text):
     return [f"{path} begins {found}, and no cell file of version 2 begins so (docs/FILES.md)"]
 
 
+def of_no_frame(form, text):
+    """No frame is found in the cells."""
+    path = form.of("cells")[0]
+    return [
+        f"no 68 symbols of {path} have a TPS word of the mode in {form.settings} with at most two wrong bits",
+        "its symbols are of the other mode, or too disturbed, or fewer than 68",
+    ]
+
+
+def of_form(form, text):
+    """The signal announces a hierarchy and LP is not named, or the reverse."""
+    path = form.of("cells")[0]
+    if len(form.outputs) == 1:
+        return [f"the signal in {path} has a hierarchy, and the words name one output: name a second one for LP"]
+    return [f"the signal in {path} has no hierarchy, and the words name two outputs: leave LP out"]
+
+
 def what_stands(form, status, before):
     """What the outputs hold after a refusal, and how large they are."""
     what = {
@@ -233,6 +252,10 @@ def what_stands(form, status, before):
         ("modulate", 8): "the header and the symbols before the limit",
         ("receive", 5): "what is decided by the symbols read",
         ("receive", 8): "what is decided by the symbols within the limit",
+        ("tune", 5): "what is decided by the symbols read from the super-frame behind the frame on",
+        ("tune", 8): "what is decided by the symbols within the limit from the super-frame behind the frame on",
+        ("tune", 10): "nothing was received",
+        ("tune", 11): "nothing was received",
         ("upgrade", 5): "the header and the symbols read",
         ("equalise", 5): "the header and the symbols read, corrected",
         ("equalise", 8): "the header and the symbols within the limit, corrected",

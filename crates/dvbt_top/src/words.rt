@@ -115,6 +115,22 @@ pub fn form_of<'a>(words: &'a [String]) -> Option<Form<'a>>
             lp: Some(lp),
         });
     }
+    if let Some((settings, cells, hp)) = three_after(words, "tune") {
+        return Some(Form::Tune {
+            settings,
+            cells,
+            hp,
+            lp: None,
+        });
+    }
+    if let Some((settings, cells, hp, lp)) = four_after(words, "tune") {
+        return Some(Form::Tune {
+            settings,
+            cells,
+            hp,
+            lp: Some(lp),
+        });
+    }
     if let Some((settings, old_cells, new_cells)) = three_after(words, "upgrade") {
         return Some(Form::Upgrade {
             settings,

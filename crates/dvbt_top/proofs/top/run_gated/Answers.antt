@@ -46,6 +46,13 @@ returns-in-Some-Receive g c =
     subst (λ (x : Option Order). Run (command_for x) c.args.limits.packets old new c.receive.result)
     (ap (λ (f : Form). Some (order f)) (sym c.in-Some-Receive.field-0-is) ∙ c.in-Some-Receive.ensures) c.receive.ensures
 
+pub returns-in-Some-Tune : goal.returns-in-Some-Tune
+returns-in-Some-Tune g c =
+    let old : Meaning = g.S.Station.meaning c.args.station.now in
+    let new : Meaning = g.S.Station.meaning c.tune.new.station in
+    subst (λ (x : Option Order). Run (command_for x) c.args.limits.packets old new c.tune.result)
+    (ap (λ (f : Form). Some (order f)) (sym c.in-Some-Tune.field-0-is) ∙ c.in-Some-Tune.ensures) c.tune.ensures
+
 pub returns-in-Some-Upgrade : goal.returns-in-Some-Upgrade
 returns-in-Some-Upgrade g c =
     let old : Meaning = g.S.Station.meaning c.args.station.now in

@@ -1,0 +1,10 @@
+pub mod LeastPlaces
+pub mod Bytes
+pub mod Searched
+pub mod Behinds
+pub mod Calls
+pub mod Places
+pub mod Tunings
+pub mod Coming
+pub mod Commands
+pub mod WholeRun

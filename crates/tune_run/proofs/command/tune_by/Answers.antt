@@ -1,0 +1,24 @@
+use Rattle.std.proofs.Common.{◌≡◌, ◌∙◌, ℕ, Bool, List, Option, Some, subst}
+use Rattle.std.specs.Prelude.{is_some}
+use Rattle.std.specs.Option.{option_copied}
+use Rattle.station_core.specs.Meaning.{Meaning}
+use Rattle.mode_set.specs.declared.settings.Settings.{Settings}
+use Rattle.frame_build.specs.CellFile.{header}
+use Rattle.run_steps.proofs.Fitting.{copied_some}
+use Rattle.run_clauses.specs.Ports.{stream_names}
+use Rattle.symbol_runs.specs.Outputs.{Names}
+use Rattle.symbol_runs.specs.Runs.{RunsCells}
+use Rattle.tune_run.specs.Working.{tuning_work}
+use Rattle.tune_run.proofs.command.tune_by.Goals as goal
+
+pub returns : goal.returns
+returns g c =
+    let old : Meaning = g.S.Station.meaning c.args.station.now in
+    let new : Meaning = g.S.Station.meaning c.run_cells.new.station in
+    let s : Settings = c.args.settings.now in
+    let cells : List ℕ = c.args.names.cells.now in
+    let lp : Option (List ℕ) = option_copied c.args.names.lp in
+    let names : Names = stream_names c.args.names.hp.now lp in
+    let two : c.is_some.result ≡ is_some lp = c.is_some.ensures ∙ copied_some c.args.names.lp in
+    subst (λ (b : Bool). RunsCells (tuning_work s b) s.max_symbols cells (Some (header s.mode)) names old new c.run_cells.result) two
+    (subst (λ (h : List ℕ). RunsCells (tuning_work s c.is_some.result) s.max_symbols cells (Some h) names old new c.run_cells.result) c.header.ensures c.run_cells.ensures.runs)

@@ -1,0 +1,5 @@
+pub mod Tuned
+pub mod TuneCommand
+pub mod Working
+pub mod Searching
+pub mod Runs

@@ -1,0 +1,7 @@
+//! The command `tune`: transmissions found from any symbol on, beside an independent program.
+//!
+//! The crate has tests alone.
+#![tactic(auto)]
+
+#[cfg(test)]
+mod tuned;
