@@ -34,9 +34,8 @@ abbrev pub LinesSoFar : Option Settings → Option (List ℕ) → List ℕ → L
 LinesSoFar None lp file left lines = lines ≡ []
 LinesSoFar (Some s) lp file left lines = PortSoFar s lp file left outs.Report lines
 
--- the laws, by the settings that are stated, if any are, and the file of cells
+-- its law, by the settings that are stated, if any are, and the file of cells: what decides the refusal is the least place of the definition
 pub record TuneLaws (stated : Option Settings) (file : List ℕ) : Type 0 where
-  -- What decides the refusal is the least place of the definition.
   pub searches : (s : Settings) → stated ≡ Some s → Searches s (cells_in file)
 
 -- tune SETTINGS CELLS HP, or tune SETTINGS CELLS HP LP

@@ -1,5 +1,4 @@
--- What is received of a file of cells that begins at any symbol, by settings: the packets of the streams, and the lines of the report.
--- `bytes` are those behind the header of the file, `two` says that a file of LP is written too.
+-- What is received of cells that begin at any symbol. `bytes` are those behind the header of the file, `two` says that a file of LP is written too.
 use Rattle.std.specs.Prelude.{◌≡◌, ◌⊎◌, ℕ, ◌<◌, ◌≤◌, Bool, true, false, not, List, [], ◌++◌, codes, decimal, Option, Some, None, if◌then◌else◌}
 use Rattle.std.specs.Bool.{beq}
 use Rattle.std.specs.Option.{option_or}
@@ -29,11 +28,8 @@ fits two found = beq two (not (is_flat found.word.hierarchy))
 
 -- what is written at the place: its line
 abbrev pub at_place : Found → Written
-at_place found outs.Cells = []
-at_place found outs.Hp = []
-at_place found outs.Lp = []
-at_place found outs.Bytes = []
 at_place found outs.Report = place_line found
+at_place found port = []
 
 -- The line of a place, and then what the bytes from the next super-frame on give by the settings that the place announces.
 pub record Tuned (Received : Settings → List ℕ → Written → Type 0) (s : Settings) (two : Bool) (bytes : List ℕ) (found : Found) (given : Written) : Type 0 where
@@ -50,8 +46,7 @@ IsNothing given = (port : OutPort) → given port ≡ []
 
 -- What first bytes give, as if more might follow: nothing where they hold no place.
 abbrev pub GivesLive : Settings → Bool → List ℕ → Written → Type 0
-GivesLive s two bytes given =
-    (HasNoPlace s bytes × IsNothing given) ⊎ ((found : Found) × IsFoundIn s bytes found × Tuned (λ a. LiveGives a two) s two bytes found given)
+GivesLive s two bytes given = (HasNoPlace s bytes × IsNothing given) ⊎ ((found : Found) × IsFoundIn s bytes found × Tuned (λ a. LiveGives a two) s two bytes found given)
 
 -- What all bytes give in the end: they hold a place.
 abbrev pub GivesFinal : Settings → Bool → List ℕ → Written → Type 0
