@@ -1,4 +1,6 @@
 // The command `tune`. The expected reports, lengths and sums are those of an independent program.
+ghost use Rattle.std.specs.Prelude.{◌≤◌};
+
 use run_tools::{BASE, Conditions, File, LAYERED, Ran, ample, checksum, run_files, text_bytes};
 use station_core::{Failing, InPort, OutPort};
 use std::alloc::{AllocError, Global};
