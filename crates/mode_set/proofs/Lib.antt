@@ -1,3 +1,4 @@
+mod Pushing
 mod Unknown
 mod Reasons
 mod Periods

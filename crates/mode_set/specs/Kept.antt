@@ -24,3 +24,8 @@ pub record IsKept (shape : Shape) (hierarchy : Hierarchy) (rate_lp : Option Rate
   pub some_worker : 1 ≤ workers
   pub few_workers : workers ≤ 16
   pub some_symbol : 1 ≤ max_symbols
+
+-- the first two of these, of the parameters of super-frames
+pub record IsKeptEntry (shape : Shape) (hierarchy : Hierarchy) (rate_lp : Option Rate) : Type 0 where
+  pub qpsk : IsTrue (is_qpsk shape) → IsTrue (is_flat hierarchy)
+  pub lp : is_some rate_lp ≡ not (is_flat hierarchy)

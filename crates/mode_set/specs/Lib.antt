@@ -7,3 +7,6 @@ pub mod Values
 pub mod Document
 pub mod Causes
 pub mod Laws
+pub mod Entries
+pub mod PlanList
+pub mod Filled

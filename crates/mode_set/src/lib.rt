@@ -5,10 +5,13 @@
 
 mod carriers;
 mod constellations;
+mod entries;
+mod entry;
 mod error;
 mod key;
 mod laws;
 mod modes;
+mod plan;
 mod read;
 mod settings;
 mod streams;
@@ -18,9 +21,11 @@ pub use carriers::{Carriers, Mode2k, Mode8k};
 pub use constellations::{
     Constellation, Qam16A1, Qam16A2, Qam16A4, Qam64A1, Qam64A2, Qam64A4, Qpsk,
 };
+pub use entry::Entry;
 pub use error::SettingsError;
 pub use key::Key;
 pub use laws::{super_frames_have_whole_words, symbols_have_whole_periods};
 pub use modes::{Guard, Hierarchy, Mode, Rate, Shape, Start, Stream};
+pub use plan::Plan;
 pub use settings::Settings;
 pub use streams::stream_width;

@@ -1,0 +1,75 @@
+-- A plan with one entry more.
+use Rattle.std.proofs.Common.{◌≡◌, ℕ, zero, suc, ◌+◌, ◌-◌, ◌<◌, ◌≤◌, nat_lt, Bool, true, false, ◌&&◌, IsTrue, List, [], ◌∷◌, ◌++◌, length, take, set, replicate, refl, sym, ap, ◌∙◌, subst, arith}
+use Rattle.std.specs.List.{list_all}
+use Rattle.std.proofs.lemmas.Bool.{false≢true}
+use Rattle.std.proofs.lemmas.List.{length-take-le, length-set}
+use Rattle.std.proofs.lemmas.List.Folds.{list_all-append}
+use Rattle.mode_set.specs.declared.entry.Entry.{Entry}
+use Rattle.mode_set.specs.PlanList.{filler, filled, IsFilled, is_rising}
+
+both : (b c : Bool) → IsTrue (b && c) → IsTrue b × IsTrue c
+both true c h = (refl, h)
+both false c h = absurd (false≢true h)
+
+and_also : (b c : Bool) → IsTrue b → IsTrue c → IsTrue (b && c)
+and_also true c h k = k
+and_also false c h k = h
+
+-- a count that is not 16 leaves room
+pub below : (n : ℕ) → n ≤ 16 → (n ≡ 16 → ⊥) → n < 16
+below n few other = omega (arith, few, other)
+
+-- behind so many, a filler is replaced
+set_behind : (l : List Entry) (k : ℕ) (e : Entry) → set (l ++ replicate (suc k) filler) (length l) e ≡ (l ++ e ∷ []) ++ replicate k filler
+set_behind [] k e = refl
+set_behind (x ∷ l) k e = ap (λ (xs : List Entry). x ∷ xs) (set_behind l k e)
+
+take_front : (l m : List Entry) → take (length l) (l ++ m) ≡ l
+take_front [] m = refl
+take_front (x ∷ l) m = ap (λ (xs : List Entry). x ∷ xs) (take_front l m)
+
+length_end : (l : List Entry) (e : Entry) → length (l ++ e ∷ []) ≡ length l + 1
+length_end [] e = refl
+length_end (x ∷ l) e = let r = length_end l e in omega (arith, r)
+
+-- a number above all that rise
+rising_end : (l : List Entry) (e : Entry) → IsTrue (is_rising l) → IsTrue (list_all (λ f. nat_lt f.after e.after) l) → IsTrue (is_rising (l ++ e ∷ []))
+rising_end [] e r a = refl
+rising_end (x ∷ l) e r a =
+    let up : IsTrue (list_all (λ f. nat_lt x.after f.after) l) × IsTrue (is_rising l) = both _ _ r in
+    let here : IsTrue (nat_lt x.after e.after) × IsTrue (list_all (λ f. nat_lt f.after e.after) l) = both _ _ a in
+    and_also _ _ (list_all-append (λ f. nat_lt x.after f.after) l (e ∷ []) ∙ and_also _ _ up.0 (and_also _ _ here.0 refl)) (rising_end l e up.1 here.1)
+
+module _ (count : ℕ) (entries : List Entry) (e : Entry) (h : IsFilled count entries) (less : count < 16) where
+  abbrev l : List Entry
+  l = take count entries
+
+  abbrev k : ℕ
+  k = 16 - (count + 1)
+
+  n : length l ≡ count
+  n = length-take-le count entries (let a = h.long in omega (arith, less, a))
+
+  room : 16 - length l ≡ suc k
+  room = omega (arith, n, less)
+
+  is : set entries count e ≡ (l ++ e ∷ []) ++ replicate k filler
+  is =
+      ap (λ (xs : List Entry). set xs count e) h.rest
+      ∙ ap (λ (z : ℕ). set (l ++ replicate z filler) count e) room
+      ∙ ap (λ (z : ℕ). set (l ++ replicate (suc k) filler) z e) (sym n)
+      ∙ set_behind l k e
+
+  longer : length (l ++ e ∷ []) ≡ count + 1
+  longer = length_end l e ∙ ap (λ (z : ℕ). z + 1) n
+
+  pub pushed_list : take (count + 1) (set entries count e) ≡ take count entries ++ e ∷ []
+  pushed_list = ap (take (count + 1)) is ∙ ap (λ (z : ℕ). take z ((l ++ e ∷ []) ++ replicate k filler)) (sym longer) ∙ take_front (l ++ e ∷ []) (replicate k filler)
+
+  pub pushed : IsTrue (list_all (λ f. nat_lt f.after e.after) (take count entries)) → IsFilled (count + 1) (set entries count e)
+  pushed above = record {
+    few = omega (arith, less);
+    long = length-set entries count e ∙ h.long;
+    rest = is ∙ ap (λ (z : ℕ). (l ++ e ∷ []) ++ replicate z filler) (let r : k ≡ 16 - length (l ++ e ∷ []) = omega (arith, longer) in r) ∙ ap filled (sym pushed_list);
+    rising = ap is_rising pushed_list ∙ rising_end l e h.rising above;
+  }

@@ -1,0 +1,30 @@
+-- Lists of entries, and how an array of 16 holds one.
+use Rattle.std.specs.Prelude.{◌≡◌, ℕ, ◌-◌, ◌≤◌, nat_lt, ◌&&◌, Bool, true, IsTrue, List, [], ◌∷◌, ◌++◌, length, take, replicate, None, refl}
+use Rattle.std.specs.List.{list_all}
+use Rattle.mode_set.specs.declared.modes.Shape.TheVariants.{Qpsk}
+use Rattle.mode_set.specs.declared.modes.Hierarchy.TheVariants.{Flat}
+use Rattle.mode_set.specs.declared.modes.Rate.TheVariants.{R1of2}
+use Rattle.mode_set.specs.declared.entry.Entry.{Entry}
+
+-- the numbers of super-frames rise strictly: each is below all behind it
+abbrev pub is_rising : List Entry → Bool
+is_rising [] = true
+is_rising (e ∷ es) = list_all (λ f. nat_lt e.after f.after) es && is_rising es
+
+-- whether an entry may come behind those of a list: there is room, and its number is above theirs
+abbrev pub may_follow : List Entry → Entry → Bool
+may_follow l e = nat_lt (length l) 16 && list_all (λ f. nat_lt f.after e.after) l
+
+-- what stands behind the last entry
+abbrev pub filler : Entry
+filler = record { after = 0; shape = Qpsk; hierarchy = Flat; rate_hp = R1of2; rate_lp = None; kept = record { qpsk = λ q. refl; lp = refl } }
+
+abbrev pub filled : List Entry → List Entry
+filled l = l ++ replicate (16 - length l) filler
+
+-- the array has so many entries, whose numbers rise, and then nothing else
+pub record IsFilled (count : ℕ) (entries : List Entry) : Type 0 where
+  pub few : count ≤ 16
+  pub long : length entries ≡ 16
+  pub rest : entries ≡ filled (take count entries)
+  pub rising : IsTrue (is_rising (take count entries))
