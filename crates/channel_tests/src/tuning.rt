@@ -4,7 +4,7 @@ ghost use Rattle.std.specs.Prelude.{◌≡◌, length};
 ghost use Rattle.mode_set.specs.declared.modes.Mode.TheVariants.{M2k};
 
 use frame_build::{SymbolIn, SymbolOut};
-use mode_set::{Carriers, Guard, Hierarchy, Mode, Mode2k, Mode8k, Rate, Settings, Shape, Start};
+use mode_set::{Carriers, Guard, Hierarchy, Mode, Mode2k, Mode8k, Plan, Rate, Settings, Shape, Start};
 use qam_map::Cell;
 use std::alloc::Global;
 use std::process::Abort;
@@ -231,6 +231,7 @@ fn announced_settings(rt: HostRuntime) {
         start: Start::Any,
         workers: 3,
         max_symbols: 1000,
+        plan: Plan::none(),
     };
     assert!(&rt; settings == expected);
     let word = TpsWord::signalled(&base(), 3);

@@ -3,7 +3,7 @@ ghost use Rattle.std.specs.Prelude.{◌≡◌};
 
 use crate::cells::{HEADER, SYMBOL, number_at, put_number};
 use load_gen::Load;
-use mode_set::{Guard, Hierarchy, Mode, Mode2k, Rate, Settings, Shape, Start};
+use mode_set::{Guard, Hierarchy, Mode, Mode2k, Plan, Rate, Settings, Shape, Start};
 use modulator::{Modulator, Want};
 use pilots::CarrierKind::Payload;
 use pilots::kind;
@@ -32,6 +32,7 @@ fn base() -> Settings
         start: Start::Zero,
         workers: 1,
         max_symbols: 1000000,
+        plan: Plan::none(),
     }
 }
 

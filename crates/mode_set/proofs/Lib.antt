@@ -1,3 +1,4 @@
+mod Keeping
 mod Pushing
 mod Unknown
 mod Reasons

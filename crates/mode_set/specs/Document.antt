@@ -7,6 +7,7 @@ use Rattle.toml.specs.Data.{Data, Members, no_members, member, get_member}
 use Rattle.toml.specs.Parse.{parse_document}
 use Rattle.mode_set.specs.Keys.{key_text, is_key}
 use Rattle.mode_set.specs.Kept.{is_flat, is_qpsk}
+use Rattle.mode_set.specs.Plans.{no_plan}
 use Rattle.mode_set.specs.Values.{mode_words, shape_words, hierarchy_words, rate_words, guard_words, start_words, a_word, a_number}
 use Rattle.mode_set.specs.declared.key.Key.{Key}
 use Rattle.mode_set.specs.declared.key.Key.TheVariants as key
@@ -131,7 +132,7 @@ refusal bytes = of_document (document bytes)
     of_document None = Some NotToml
     of_document (Some ms) = first_of (reasons ms)
 
--- the settings are what the document says
+-- the settings are what the document says; no key states a plan yet
 pub record States (ms : Members) (s : Settings) : Type 0 where
   pub mode : mode_in ms ≡ Ok s.mode
   pub shape : shape_in ms ≡ Ok s.shape
@@ -143,6 +144,7 @@ pub record States (ms : Members) (s : Settings) : Type 0 where
   pub start : start_in ms ≡ Ok s.start
   pub workers : workers_in ms ≡ Ok s.workers
   pub max_symbols : max_symbols_in ms ≡ Ok s.max_symbols
+  pub plan : s.plan ≡ no_plan
 
 -- the settings are those of a document
 abbrev pub IsStatedBy : Settings → List ℕ → Type 0

@@ -9,4 +9,4 @@ pub mod Causes
 pub mod Laws
 pub mod Entries
 pub mod PlanList
-pub mod Filled
+pub mod Plans

@@ -6,14 +6,14 @@ use Rattle.mode_set.specs.declared.modes.Hierarchy.TheVariants.{Flat}
 use Rattle.mode_set.specs.declared.modes.Rate.TheVariants.{R1of2}
 use Rattle.mode_set.specs.declared.entry.Entry.{Entry}
 
--- the numbers of super-frames rise strictly: each is below all behind it
+-- the numbers of super-frames are above 0 and rise strictly: each is below all behind it
 abbrev pub is_rising : List Entry → Bool
 is_rising [] = true
-is_rising (e ∷ es) = list_all (λ f. nat_lt e.after f.after) es && is_rising es
+is_rising (e ∷ es) = nat_lt 0 e.after && list_all (λ f. nat_lt e.after f.after) es && is_rising es
 
--- whether an entry may come behind those of a list: there is room, and its number is above theirs
+-- whether an entry may come behind those of a list: there is room, and its number is above 0 and above theirs
 abbrev pub may_follow : List Entry → Entry → Bool
-may_follow l e = nat_lt (length l) 16 && list_all (λ f. nat_lt f.after e.after) l
+may_follow l e = nat_lt (length l) 16 && nat_lt 0 e.after && list_all (λ f. nat_lt f.after e.after) l
 
 -- what stands behind the last entry
 abbrev pub filler : Entry

@@ -1,22 +1,38 @@
 // The parameters of each super-frame of a transmission.
 ghost use Rattle.std.specs.Prelude.{◌≡◌};
-ghost use Rattle.mode_set.specs.Entries.{entry, with_entry};
+ghost use Rattle.mode_set.specs.Entries.{entry, has_lp, top, with_entry};
 
 use crate::{Entry, Settings};
 
+// The settings' own parameters.
+fn own(settings: &Settings) -> Entry
+    ensures { result ≡ top settings.now }
+{
+    Entry {
+        after: 0,
+        shape: settings.shape,
+        hierarchy: settings.hierarchy,
+        rate_hp: settings.rate_hp,
+        rate_lp: settings.rate_lp,
+    }
+}
+
 impl Settings {
-    /// The parameters of a super-frame.
+    /// The parameters of a super-frame: those of the plan's last entry whose number is at most the
+    /// super-frame's, or the settings' own, with number 0, where there is none.
     pub fn entry(&self, super_frame: u32) -> Entry
-        ensures { result ≡ entry self.now super_frame }
+        ensures is { result ≡ entry self.now super_frame }
+        ensures first { super_frame ≡ 0 → result ≡ top self.now }
     {
-        let _ = super_frame;
-        Entry {
-            after: 0,
-            shape: self.shape,
-            hierarchy: self.hierarchy,
-            rate_hp: self.rate_hp,
-            rate_lp: self.rate_lp,
-        }
+        self.plan.until(super_frame).unwrap_or(own(self))
+    }
+
+    /// Whether some super-frame may have the LP stream: it is among the settings' own parameters, or
+    /// among those of an entry.
+    pub fn has_lp(&self) -> bool
+        ensures { result ≡ has_lp self.now }
+    {
+        self.rate_lp.is_some() || self.plan.has_lp()
     }
 
     /// The settings with the parameters of an entry; everything else stays.
@@ -34,6 +50,7 @@ impl Settings {
             start: self.start,
             workers: self.workers,
             max_symbols: self.max_symbols,
+            plan: self.plan,
         }
     }
 }

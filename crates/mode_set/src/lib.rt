@@ -12,6 +12,7 @@ mod key;
 mod laws;
 mod modes;
 mod plan;
+mod plans;
 mod read;
 mod settings;
 mod streams;

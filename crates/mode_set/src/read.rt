@@ -16,7 +16,7 @@ ghost use Rattle.mode_set.specs.Keys.{is_key};
 
 use crate::key::is_known;
 use crate::words::Word;
-use crate::{Guard, Hierarchy, Key, Mode, Rate, Settings, SettingsError, Shape, Start};
+use crate::{Guard, Hierarchy, Key, Mode, Plan, Rate, Settings, SettingsError, Shape, Start};
 use std::alloc::Global;
 use toml::{Table, Value};
 
@@ -168,6 +168,7 @@ fn settings_of(table: &Table) -> Result<Settings, SettingsError>
         start,
         workers,
         max_symbols,
+        plan: Plan::none(),
     })
 }
 

@@ -1,7 +1,7 @@
 // The settings of a transmission.
 ghost use Rattle.mode_set.specs.Kept.{IsKept};
 
-use crate::{Guard, Hierarchy, Mode, Rate, Shape, Start};
+use crate::{Guard, Hierarchy, Mode, Plan, Rate, Shape, Start};
 
 /// The settings of a transmission and of its reception.
 ///
@@ -29,5 +29,7 @@ pub struct Settings {
     pub workers: u8,
     /// The most OFDM symbols that are sent or received.
     pub max_symbols: u32,
+    /// How the constellation, the hierarchy and the rates change at super-frames.
+    pub plan: Plan,
     ghost kept: { IsKept shape hierarchy rate_lp workers max_symbols },
 }

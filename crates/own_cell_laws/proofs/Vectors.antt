@@ -2,6 +2,7 @@
 use Rattle.std.proofs.Common.{◌≡◌, ℕ, ◌-◌, [], refl, arith}
 use Rattle.std.specs.Prelude.{Some, None, replicate}
 use Rattle.mode_set.specs.Kept.{IsKept}
+use Rattle.mode_set.specs.Plans.{no_plan}
 use Rattle.mode_set.specs.declared.modes.Mode.TheVariants.{M2k, M8k}
 use Rattle.mode_set.specs.declared.modes.Shape.TheVariants.{Qpsk, Qam16, Qam64}
 use Rattle.mode_set.specs.declared.modes.Hierarchy.TheVariants.{Flat, Alpha2, Alpha4}
@@ -33,16 +34,16 @@ kept_two_16 : IsKept Qam16 Alpha4 (Some R3of4) 1 1000000
 kept_two_16 = record { qpsk = λ q. q; lp = refl; some_worker = omega arith; few_workers = omega arith; some_symbol = omega arith }
 
 abbrev base : Settings
-base = record { mode = M2k; shape = Qpsk; hierarchy = Flat; rate_hp = R1of2; rate_lp = None; guard = G1of32; cell_id = None; start = Zero; workers = 1; max_symbols = 1000000; kept = kept_qpsk }
+base = record { mode = M2k; shape = Qpsk; hierarchy = Flat; rate_hp = R1of2; rate_lp = None; guard = G1of32; cell_id = None; start = Zero; workers = 1; max_symbols = 1000000; plan = no_plan; kept = kept_qpsk }
 
 abbrev fast : Settings
-fast = record { mode = M8k; shape = Qam64; hierarchy = Flat; rate_hp = R2of3; rate_lp = None; guard = G1of32; cell_id = None; start = Zero; workers = 1; max_symbols = 1000000; kept = kept_64 }
+fast = record { mode = M8k; shape = Qam64; hierarchy = Flat; rate_hp = R2of3; rate_lp = None; guard = G1of32; cell_id = None; start = Zero; workers = 1; max_symbols = 1000000; plan = no_plan; kept = kept_64 }
 
 abbrev two_64 : Settings
-two_64 = record { mode = M8k; shape = Qam64; hierarchy = Alpha2; rate_hp = R2of3; rate_lp = Some R3of4; guard = G1of32; cell_id = None; start = Zero; workers = 1; max_symbols = 1000000; kept = kept_two_64 }
+two_64 = record { mode = M8k; shape = Qam64; hierarchy = Alpha2; rate_hp = R2of3; rate_lp = Some R3of4; guard = G1of32; cell_id = None; start = Zero; workers = 1; max_symbols = 1000000; plan = no_plan; kept = kept_two_64 }
 
 abbrev two_16 : Settings
-two_16 = record { mode = M2k; shape = Qam16; hierarchy = Alpha4; rate_hp = R1of2; rate_lp = Some R3of4; guard = G1of32; cell_id = None; start = Zero; workers = 1; max_symbols = 1000000; kept = kept_two_16 }
+two_16 = record { mode = M2k; shape = Qam16; hierarchy = Alpha4; rate_hp = R1of2; rate_lp = Some R3of4; guard = G1of32; cell_id = None; start = Zero; workers = 1; max_symbols = 1000000; plan = no_plan; kept = kept_two_16 }
 
 -- a super-frame without packets: 241 null packets
 nothing_sent : words_of base (counted 0 0) Hp ≡ 241

@@ -1,7 +1,7 @@
 // The symbols of null packets.
 ghost use Rattle.std.specs.Prelude.{◌≡◌};
 
-use mode_set::{Carriers, Guard, Hierarchy, Mode, Mode2k, Rate, Settings, Shape, Start};
+use mode_set::{Carriers, Guard, Hierarchy, Mode, Mode2k, Plan, Rate, Settings, Shape, Start};
 use modulator::{Modulator, Want};
 use std::alloc::{AllocError, Global};
 use std::process::Abort;
@@ -28,6 +28,7 @@ pub(crate) fn settings(start: Start) -> Settings
         start,
         workers: 1,
         max_symbols: 1000000,
+        plan: Plan::none(),
     }
 }
 

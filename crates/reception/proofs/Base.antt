@@ -2,6 +2,7 @@
 use Rattle.std.proofs.Common.{refl, arith}
 use Rattle.std.specs.Prelude.{Some, None}
 use Rattle.mode_set.specs.Kept.{IsKept}
+use Rattle.mode_set.specs.Plans.{no_plan}
 use Rattle.mode_set.specs.declared.modes.Mode.TheVariants.{M2k}
 use Rattle.mode_set.specs.declared.modes.Shape.TheVariants.{Qpsk, Qam16}
 use Rattle.mode_set.specs.declared.modes.Hierarchy.TheVariants.{Flat, Alpha2}
@@ -19,12 +20,12 @@ kept_16 r = record { qpsk = λ q. q; lp = refl; some_worker = omega arith; few_w
 
 -- QPSK at 1/2 in the 2K mode
 abbrev pub base : Settings
-base = record { mode = M2k; shape = Qpsk; hierarchy = Flat; rate_hp = R1of2; rate_lp = None; guard = G1of32; cell_id = None; start = Zero; workers = 1; max_symbols = 1000000; kept = kept_flat }
+base = record { mode = M2k; shape = Qpsk; hierarchy = Flat; rate_hp = R1of2; rate_lp = None; guard = G1of32; cell_id = None; start = Zero; workers = 1; max_symbols = 1000000; plan = no_plan; kept = kept_flat }
 
 -- the same, received from its midst
 abbrev pub midst : Settings
-midst = record { mode = M2k; shape = Qpsk; hierarchy = Flat; rate_hp = R1of2; rate_lp = None; guard = G1of32; cell_id = None; start = Any; workers = 1; max_symbols = 1000000; kept = kept_flat }
+midst = record { mode = M2k; shape = Qpsk; hierarchy = Flat; rate_hp = R1of2; rate_lp = None; guard = G1of32; cell_id = None; start = Any; workers = 1; max_symbols = 1000000; plan = no_plan; kept = kept_flat }
 
 -- 16-QAM with α = 2 in the 2K mode, HP at 1/2
 abbrev pub layered : Rate → Settings
-layered lp = record { mode = M2k; shape = Qam16; hierarchy = Alpha2; rate_hp = R1of2; rate_lp = Some lp; guard = G1of32; cell_id = None; start = Zero; workers = 1; max_symbols = 1000000; kept = kept_16 lp }
+layered lp = record { mode = M2k; shape = Qam16; hierarchy = Alpha2; rate_hp = R1of2; rate_lp = Some lp; guard = G1of32; cell_id = None; start = Zero; workers = 1; max_symbols = 1000000; plan = no_plan; kept = kept_16 lp }

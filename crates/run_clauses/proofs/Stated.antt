@@ -1,10 +1,11 @@
 -- The settings that a file states are one.
-use Rattle.std.proofs.Common.{◌≡◌, ℕ, ◌≤◌, Bool, true, false, not, ◌||◌, List, Option, Some, None, refl, ap, sym}
+use Rattle.std.proofs.Common.{◌≡◌, ℕ, ◌≤◌, Bool, true, false, not, ◌||◌, List, Option, Some, None, refl, sym}
 use Rattle.std.specs.Prelude.{is_some, IsSomeAnd, option_and_then}
 use Rattle.std.specs.Bool.{beq}
 use Rattle.std.proofs.lemmas.Bool.{and_from, le-leb, true≢false}
 use Rattle.mode_set.specs.Kept.{IsKept, is_flat, is_qpsk}
 use Rattle.mode_set.specs.Document.{document, mode_in, shape_in, hierarchy_in, rate_hp_in, rate_lp_in, guard_in, cell_id_in, start_in, workers_in, max_symbols_in, States, IsStatedBy}
+use Rattle.mode_set.specs.Plans.{no_plan}
 use Rattle.mode_set.specs.declared.modes.Shape.{Shape}
 use Rattle.mode_set.specs.declared.modes.Hierarchy.{Hierarchy}
 use Rattle.mode_set.specs.declared.modes.Rate.{Rate}
@@ -47,12 +48,11 @@ fits shape hierarchy rate_lp workers most k =
     (and_from _ _ (le-leb 1 workers k.some_worker)
     (and_from _ _ (le-leb workers 16 k.few_workers) (le-leb 1 most k.some_symbol))))
 
-made : (s : Settings) (b : Bool) (kept : b ≡ true → IsKept s.shape s.hierarchy s.rate_lp s.workers s.max_symbols) → b ≡ true
+made : (s : Settings) → s.plan ≡ no_plan → (b : Bool) (kept : b ≡ true → IsKept s.shape s.hierarchy s.rate_lp s.workers s.max_symbols) → b ≡ true
     → settings_if s.mode s.shape s.hierarchy s.rate_hp s.rate_lp s.guard s.cell_id s.start s.workers s.max_symbols b kept ≡ Some s
-made s true kept e =
-    ap (λ (k : IsKept s.shape s.hierarchy s.rate_lp s.workers s.max_symbols). Some (record s { kept = k }))
-    (kept_prop s.shape s.hierarchy s.rate_lp s.workers s.max_symbols (kept refl) s.kept)
-made s false kept e = absurd (true≢false (sym e))
+made s unplanned true kept e =
+    λ i. Some (record s { plan = sym unplanned i; kept = kept_prop s.shape s.hierarchy s.rate_lp s.workers s.max_symbols (kept refl) s.kept i })
+made s unplanned false kept e = absurd (true≢false (sym e))
 
 pub stated : (s : Settings) (bytes : List ℕ) → IsStatedBy s bytes → settings_of bytes ≡ Some s
 unfolding settings_of
@@ -62,6 +62,6 @@ stated s bytes =
       | None ↦ λ h. absurd h
       | Some ms ↦ λ h.
           rw h.mode (rw h.shape (rw h.hierarchy (rw h.rate_hp (rw h.rate_lp (rw h.guard (rw h.cell_id (rw h.start (rw h.workers (rw h.max_symbols
-          (made s (fit s.shape s.hierarchy s.rate_lp s.workers s.max_symbols) (kept_if s.shape s.hierarchy s.rate_lp s.workers s.max_symbols)
+          (made s h.plan (fit s.shape s.hierarchy s.rate_lp s.workers s.max_symbols) (kept_if s.shape s.hierarchy s.rate_lp s.workers s.max_symbols)
           (fits s.shape s.hierarchy s.rate_lp s.workers s.max_symbols s.kept)))))))))))
     ]

@@ -1,8 +1,9 @@
--- The settings that a file states.
+-- The settings that the bytes of a file state, if they state any (`settings_of`).
 use Rattle.std.specs.Prelude.{◌≡◌, ℕ, Bool, true, false, not, ◌&&◌, ◌||◌, nat_le, List, Option, Some, None, is_some, option_and_then, Result, Ok, refl}
 use Rattle.std.specs.Bool.{beq}
 use Rattle.mode_set.specs.Kept.{IsKept, is_flat, is_qpsk}
 use Rattle.mode_set.specs.Document.{document, mode_in, shape_in, hierarchy_in, rate_hp_in, rate_lp_in, guard_in, cell_id_in, start_in, workers_in, max_symbols_in}
+use Rattle.mode_set.specs.Plans.{no_plan}
 use Rattle.run_clauses.specs.Fit.{fit}
 use Rattle.run_clauses.specs.FitKept.{kept_if}
 use Rattle.mode_set.specs.declared.error.SettingsError.{SettingsError}
@@ -14,7 +15,7 @@ use Rattle.mode_set.specs.declared.modes.Guard.{Guard}
 use Rattle.mode_set.specs.declared.modes.Start.{Start}
 use Rattle.mode_set.specs.declared.settings.Settings.{Settings}
 
--- settings of these choices and numbers, if they fit one another
+-- settings of these choices and numbers and without a plan, if they fit one another
 abbrev pub settings_if : Mode → (shape : Shape) (hierarchy : Hierarchy) → Rate → (rate_lp : Option Rate) → Guard → Option ℕ → Start → (workers most : ℕ)
     → (fits : Bool) → (fits ≡ true → IsKept shape hierarchy rate_lp workers most) → Option Settings
 settings_if mode shape hierarchy rate_hp rate_lp guard cell_id start workers most true kept = Some (record {
@@ -28,6 +29,7 @@ settings_if mode shape hierarchy rate_hp rate_lp guard cell_id start workers mos
   start = start;
   workers = workers;
   max_symbols = most;
+  plan = no_plan;
   kept = kept refl;
 })
 settings_if mode shape hierarchy rate_hp rate_lp guard cell_id start workers most false kept = None
@@ -39,7 +41,6 @@ settings_from (Ok mode) (Ok shape) (Ok hierarchy) (Ok rate_hp) (Ok rate_lp) (Ok 
     settings_if mode shape hierarchy rate_hp rate_lp guard cell_id start workers most (fit shape hierarchy rate_lp workers most) (kept_if shape hierarchy rate_lp workers most)
 settings_from mode shape hierarchy rate_hp rate_lp guard cell_id start workers most = None
 
--- the settings that the bytes of a file state, if they state any
 unfoldable pub settings_of : List ℕ → Option Settings
 settings_of bytes =
     option_and_then (λ ms. settings_from (mode_in ms) (shape_in ms) (hierarchy_in ms) (rate_hp_in ms) (rate_lp_in ms) (guard_in ms) (cell_id_in ms) (start_in ms) (workers_in ms) (max_symbols_in ms)) (document bytes)

@@ -188,6 +188,12 @@ workers2 = 1\n\
 @\n\
 [extra]\n\
 mode = 1\n\
+== Unknown(3)\n\
+@\n\
+[[plan]]\n\
+after = 1\n\
+constellation = \"qpsk\"\n\
+rate_hp = \"1/2\"\n\
 == Unknown(0)\n\
 beta = 1\n\
 alpha = 2\n\

@@ -1,4 +1,4 @@
-//! The settings: each trait at each of its types, the tables by their values, and documents with their answers.
+//! The settings: each trait at each of its types, the tables by their values, plans, and documents with their answers.
 //!
 //! The crate has tests alone.
 #![tactic(auto)]
@@ -7,5 +7,7 @@
 mod documents;
 #[cfg(test)]
 mod examples;
+#[cfg(test)]
+mod plans;
 #[cfg(test)]
 mod tests;

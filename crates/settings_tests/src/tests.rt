@@ -115,10 +115,10 @@ fn documents_have_their_answers(rt: HostRuntime) {
     for case in DOCUMENTS.split("== ").skip(1) {
         let (want, rest) = case.split_once("\n").expect(&rt, "an answer");
         let text = document(rt.alloc(), rest).expect(&rt, "memory");
-        let got = shown(rt.alloc(), &Settings::read(rt.alloc(), text.as_bytes())).expect(
-            &rt, "memory",
-        );
+        let answer = Settings::read(rt.alloc(), text.as_bytes());
+        let got = shown(rt.alloc(), &answer).expect(&rt, "memory");
         assert_eq!(rt; got.as_str(), want, "at {text}");
+        assert!(rt; answer.is_err() || answer.is_ok_and(|settings| settings.plan.len() == 0));
     }
 }
 

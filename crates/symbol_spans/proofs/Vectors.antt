@@ -3,6 +3,7 @@ use Rattle.std.proofs.Common.{◌≡◌, [], ◌∷◌, map, refl, arith}
 use Rattle.std.specs.Prelude.{Some, None}
 use Rattle.spec_words.specs.Words.{numbers}
 use Rattle.mode_set.specs.Kept.{IsKept}
+use Rattle.mode_set.specs.Plans.{no_plan}
 use Rattle.mode_set.specs.declared.modes.Mode.TheVariants.{M2k}
 use Rattle.mode_set.specs.declared.modes.Shape.TheVariants.{Qpsk, Qam16}
 use Rattle.mode_set.specs.declared.modes.Hierarchy.TheVariants.{Flat, Alpha4}
@@ -21,11 +22,11 @@ kept_layered = record { qpsk = λ q. q; lp = refl; some_worker = omega arith; fe
 
 -- 2K, QPSK, 1/2
 abbrev base : Settings
-base = record { mode = M2k; shape = Qpsk; hierarchy = Flat; rate_hp = R1of2; rate_lp = None; guard = G1of32; cell_id = None; start = Zero; workers = 1; max_symbols = 1000000; kept = kept_base }
+base = record { mode = M2k; shape = Qpsk; hierarchy = Flat; rate_hp = R1of2; rate_lp = None; guard = G1of32; cell_id = None; start = Zero; workers = 1; max_symbols = 1000000; plan = no_plan; kept = kept_base }
 
 -- 2K, 16-QAM, α = 4, 1/2 and 3/4
 abbrev layered : Settings
-layered = record { mode = M2k; shape = Qam16; hierarchy = Alpha4; rate_hp = R1of2; rate_lp = Some R3of4; guard = G1of32; cell_id = None; start = Zero; workers = 1; max_symbols = 1000; kept = kept_layered }
+layered = record { mode = M2k; shape = Qam16; hierarchy = Alpha4; rate_hp = R1of2; rate_lp = Some R3of4; guard = G1of32; cell_id = None; start = Zero; workers = 1; max_symbols = 1000; plan = no_plan; kept = kept_layered }
 
 -- a symbol of QPSK at 1/2 has 1512 steps, and a super-frame 252 words
 steps : map (steps_before base Hp) (0 ∷ 1 ∷ 2 ∷ 272 ∷ []) ≡ 0 ∷ 1512 ∷ 3024 ∷ 411264 ∷ []

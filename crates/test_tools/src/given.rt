@@ -2,7 +2,7 @@
 ghost use Rattle.std.specs.Prelude.{◌≡◌, false};
 ghost use Rattle.mode_set.specs.Kept.{is_flat, is_qpsk};
 
-use mode_set::{Guard, Hierarchy, Mode, Rate, Settings, Shape, Start};
+use mode_set::{Guard, Hierarchy, Mode, Plan, Rate, Settings, Shape, Start};
 
 /// One stream, with a guard of 1/32, no cell identifier and one worker.
 pub fn flat(mode: Mode, shape: Shape, rate: Rate) -> Settings
@@ -20,6 +20,7 @@ pub fn flat(mode: Mode, shape: Shape, rate: Rate) -> Settings
         start: Start::Zero,
         workers: 1,
         max_symbols: 1000000,
+        plan: Plan::none(),
     }
 }
 
@@ -47,5 +48,6 @@ pub fn hierarchical(
         start: Start::Zero,
         workers: 1,
         max_symbols: 1000000,
+        plan: Plan::none(),
     }
 }

@@ -2,6 +2,7 @@
 use Rattle.std.proofs.Common.{refl, arith}
 use Rattle.std.specs.Prelude.{Some, None}
 use Rattle.mode_set.specs.Kept.{IsKept}
+use Rattle.mode_set.specs.Plans.{no_plan}
 use Rattle.mode_set.specs.declared.modes.Mode.{Mode}
 use Rattle.mode_set.specs.declared.modes.Shape.{Shape}
 use Rattle.mode_set.specs.declared.modes.Shape.TheVariants.{Qam16, Qam64}
@@ -25,15 +26,15 @@ kept_64 r = record { qpsk = λ q. q; lp = refl; some_worker = omega arith; few_w
 
 -- settings without a hierarchy
 abbrev pub flat : Mode → Shape → Rate → Settings
-flat mode shape rate = record { mode = mode; shape = shape; hierarchy = Flat; rate_hp = rate; rate_lp = None; guard = G1of32; cell_id = None; start = Zero; workers = 1; max_symbols = 1000000; kept = kept_flat shape }
+flat mode shape rate = record { mode = mode; shape = shape; hierarchy = Flat; rate_hp = rate; rate_lp = None; guard = G1of32; cell_id = None; start = Zero; workers = 1; max_symbols = 1000000; plan = no_plan; kept = kept_flat shape }
 
 -- the same with a limit of 271 symbols
 abbrev pub limited : Mode → Shape → Rate → Settings
-limited mode shape rate = record { mode = mode; shape = shape; hierarchy = Flat; rate_hp = rate; rate_lp = None; guard = G1of32; cell_id = None; start = Zero; workers = 1; max_symbols = 271; kept = kept_271 shape }
+limited mode shape rate = record { mode = mode; shape = shape; hierarchy = Flat; rate_hp = rate; rate_lp = None; guard = G1of32; cell_id = None; start = Zero; workers = 1; max_symbols = 271; plan = no_plan; kept = kept_271 shape }
 
 -- settings with α = 2
 abbrev pub two_16 : Mode → Rate → Rate → Settings
-two_16 mode hp lp = record { mode = mode; shape = Qam16; hierarchy = Alpha2; rate_hp = hp; rate_lp = Some lp; guard = G1of32; cell_id = None; start = Zero; workers = 1; max_symbols = 1000000; kept = kept_16 lp }
+two_16 mode hp lp = record { mode = mode; shape = Qam16; hierarchy = Alpha2; rate_hp = hp; rate_lp = Some lp; guard = G1of32; cell_id = None; start = Zero; workers = 1; max_symbols = 1000000; plan = no_plan; kept = kept_16 lp }
 
 abbrev pub two_64 : Mode → Rate → Rate → Settings
-two_64 mode hp lp = record { mode = mode; shape = Qam64; hierarchy = Alpha2; rate_hp = hp; rate_lp = Some lp; guard = G1of32; cell_id = None; start = Zero; workers = 1; max_symbols = 1000000; kept = kept_64 lp }
+two_64 mode hp lp = record { mode = mode; shape = Qam64; hierarchy = Alpha2; rate_hp = hp; rate_lp = Some lp; guard = G1of32; cell_id = None; start = Zero; workers = 1; max_symbols = 1000000; plan = no_plan; kept = kept_64 lp }

@@ -22,6 +22,7 @@ from_zero s t d = record {
   cell_id = d.cell_id;
   start = refl;
   max_symbols = d.max_symbols;
+  plan = d.plan;
 }
 
 print_alike : Laws → (s t : Settings) (number : ℕ) → DifferInWorkers s t → (lines : List ℕ) → TrialPrints s number lines → TrialPrints t number lines

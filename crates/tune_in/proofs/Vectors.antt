@@ -10,6 +10,7 @@ use Rattle.tps_word.specs.Tps.{tps_word, tps_info, sync_word, length_bits, shape
 use Rattle.tps_word.specs.Vote.{vote, bits_from}
 use Rattle.frame_build.specs.Symbol.{tps_sign, real, frame_of}
 use Rattle.mode_set.specs.Kept.{IsKept}
+use Rattle.mode_set.specs.Plans.{no_plan}
 use Rattle.mode_set.specs.declared.modes.Mode.TheVariants.{M2k}
 use Rattle.mode_set.specs.declared.modes.Shape.TheVariants.{Qpsk}
 use Rattle.mode_set.specs.declared.modes.Hierarchy.TheVariants.{Flat}
@@ -24,7 +25,7 @@ kept_flat = record { qpsk = λ _. refl; lp = refl; some_worker = omega arith; fe
 
 -- QPSK at 1/2 in the 2K mode
 abbrev base : Settings
-base = record { mode = M2k; shape = Qpsk; hierarchy = Flat; rate_hp = R1of2; rate_lp = None; guard = G1of32; cell_id = None; start = Zero; workers = 1; max_symbols = 1000000; kept = kept_flat }
+base = record { mode = M2k; shape = Qpsk; hierarchy = Flat; rate_hp = R1of2; rate_lp = None; guard = G1of32; cell_id = None; start = Zero; workers = 1; max_symbols = 1000000; plan = no_plan; kept = kept_flat }
 
 -- two TPS cells of symbol m + 10 of a transmission; those of the symbols a to b are negated
 abbrev late_cells : ℕ → ℕ → ℕ → List Cell

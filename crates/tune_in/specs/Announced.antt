@@ -1,6 +1,7 @@
 -- The settings of the reception that a found frame announces (EN 300 744, 4.6.2: a frame signals the parameters of the next super-frame).
 use Rattle.std.specs.Prelude.{◌≡◌, if◌then◌else◌, Some, None}
 use Rattle.mode_set.specs.Kept.{is_flat}
+use Rattle.mode_set.specs.Plans.{no_plan}
 use Rattle.mode_set.specs.declared.modes.Start.TheVariants.{Any}
 use Rattle.mode_set.specs.declared.settings.Settings.{Settings}
 use Rattle.tps_word.specs.declared.word.TpsWord.{TpsWord}
@@ -17,3 +18,4 @@ pub record IsAnnounced (word : TpsWord) (given announced : Settings) : Type 0 wh
   pub start_is : announced.start ≡ Any
   pub workers_are : announced.workers ≡ given.workers
   pub most_are : announced.max_symbols ≡ given.max_symbols
+  pub plan_is : announced.plan ≡ no_plan

@@ -2,12 +2,12 @@
 ghost use Rattle.tps_word.specs.Tps.{IsValid};
 ghost use Rattle.tune_in.specs.Announced.{IsAnnounced};
 
-use mode_set::{Settings, Start};
+use mode_set::{Plan, Settings, Start};
 use tps_word::TpsWord;
 
 /// The settings of the reception that the word announces: its constellation, hierarchy, rates and guard
 /// interval, with the mode, the workers and the limit of the given settings. It begins with any
-/// register, and has no cell identifier. The word's fields can be sent, as those of each word that a
+/// register, and has no cell identifier and no plan. The word's fields can be sent, as those of each word that a
 /// `Tuner` finds.
 pub fn announced(word: &TpsWord, settings: &Settings) -> Settings
     requires valid { IsValid word.now }
@@ -29,5 +29,6 @@ pub fn announced(word: &TpsWord, settings: &Settings) -> Settings
         start: Start::Any,
         workers: settings.workers,
         max_symbols: settings.max_symbols,
+        plan: Plan::none(),
     }
 }

@@ -7,6 +7,7 @@ use Rattle.std.proofs.lemmas.List.{append-nil, drop-append-le, drop-take, drop_a
 use Rattle.std.proofs.Math.Seq.{take-append-add}
 use Rattle.station_core.specs.declared.ports.OutPort.{OutPort}
 use Rattle.station_core.specs.declared.ports.OutPort.TheVariants as outs
+use Rattle.mode_set.specs.Plans.{no_plan}
 use Rattle.mode_set.specs.Kept.{is_flat}
 use Rattle.mode_set.specs.declared.modes.Hierarchy.{Hierarchy}
 use Rattle.mode_set.specs.declared.modes.Hierarchy.TheVariants.{Flat, Alpha1, Alpha2, Alpha4}
@@ -64,9 +65,10 @@ announced_by w s v = (
     start = Any;
     workers = s.workers;
     max_symbols = s.max_symbols;
+    plan = no_plan;
     kept = record { qpsk = v.qpsk; lp = has_low w.hierarchy; some_worker = s.kept.some_worker; few_workers = s.kept.few_workers; some_symbol = s.kept.some_symbol };
   },
-  record { mode_is = refl; shape_is = refl; hierarchy_is = refl; rate_hp_is = refl; rate_lp_is = refl; guard_is = refl; no_cell = refl; start_is = refl; workers_are = refl; most_are = refl },
+  record { mode_is = refl; shape_is = refl; hierarchy_is = refl; rate_hp_is = refl; rate_lp_is = refl; guard_is = refl; no_cell = refl; start_is = refl; workers_are = refl; most_are = refl; plan_is = refl },
 )
   where
     low : Option Rate

@@ -6,6 +6,7 @@ use Rattle.spec_words.specs.Words.{numbers}
 use Rattle.code_paths.specs.declared.costs.CostPair.{CostPair}
 use Rattle.code_paths.specs.Streams.{Reports}
 use Rattle.mode_set.specs.Kept.{IsKept}
+use Rattle.mode_set.specs.declared.plan.Plan.{Plan}
 use Rattle.mode_set.specs.declared.modes.Mode.{Mode}
 use Rattle.mode_set.specs.declared.modes.Shape.{Shape}
 use Rattle.mode_set.specs.declared.modes.Hierarchy.{Hierarchy}
@@ -30,23 +31,24 @@ abbrev pub with_workers : (s : Settings) (w : ℕ) → IsKept s.shape s.hierarch
 with_workers s w k = record s { workers = w; kept = k }
 
 -- a fact of the settings of these fields, whatever keeps them
-abbrev Of : (Settings → Type 0) → ℕ → Mode → Shape → Hierarchy → Rate → Option Rate → Guard → Option ℕ → Start → ℕ → Type 0
-Of Fact w mode shape hierarchy rate_hp rate_lp guard cell_id start most =
-    (k : IsKept shape hierarchy rate_lp w most) → Fact (record { mode = mode; shape = shape; hierarchy = hierarchy; rate_hp = rate_hp; rate_lp = rate_lp; guard = guard; cell_id = cell_id; start = start; workers = w; max_symbols = most; kept = k })
+abbrev Of : (Settings → Type 0) → ℕ → Mode → Shape → Hierarchy → Rate → Option Rate → Guard → Option ℕ → Start → ℕ → Plan → Type 0
+Of Fact w mode shape hierarchy rate_hp rate_lp guard cell_id start most plan =
+    (k : IsKept shape hierarchy rate_lp w most) → Fact (record { mode = mode; shape = shape; hierarchy = hierarchy; rate_hp = rate_hp; rate_lp = rate_lp; guard = guard; cell_id = cell_id; start = start; workers = w; max_symbols = most; plan = plan; kept = k })
 
 -- what is so with another number of workers is so of settings that differ in it alone
 pub over : (Fact : Settings → Type 0) (s t : Settings) → DifferInWorkers s t → ((k : IsKept s.shape s.hierarchy s.rate_lp t.workers s.max_symbols) → Fact (with_workers s t.workers k)) → Fact t
 over Fact s t d base =
-    let a = subst (λ (x : Mode). Of Fact t.workers x s.shape s.hierarchy s.rate_hp s.rate_lp s.guard s.cell_id s.start s.max_symbols) (sym d.mode) base in
-    let b = subst (λ (x : Shape). Of Fact t.workers t.mode x s.hierarchy s.rate_hp s.rate_lp s.guard s.cell_id s.start s.max_symbols) (sym d.shape) a in
-    let c = subst (λ (x : Hierarchy). Of Fact t.workers t.mode t.shape x s.rate_hp s.rate_lp s.guard s.cell_id s.start s.max_symbols) (sym d.hierarchy) b in
-    let e = subst (λ (x : Rate). Of Fact t.workers t.mode t.shape t.hierarchy x s.rate_lp s.guard s.cell_id s.start s.max_symbols) (sym d.rate_hp) c in
-    let f = subst (λ (x : Option Rate). Of Fact t.workers t.mode t.shape t.hierarchy t.rate_hp x s.guard s.cell_id s.start s.max_symbols) (sym d.rate_lp) e in
-    let g = subst (λ (x : Guard). Of Fact t.workers t.mode t.shape t.hierarchy t.rate_hp t.rate_lp x s.cell_id s.start s.max_symbols) (sym d.guard) f in
-    let h = subst (λ (x : Option ℕ). Of Fact t.workers t.mode t.shape t.hierarchy t.rate_hp t.rate_lp t.guard x s.start s.max_symbols) (sym d.cell_id) g in
-    let j = subst (λ (x : Start). Of Fact t.workers t.mode t.shape t.hierarchy t.rate_hp t.rate_lp t.guard t.cell_id x s.max_symbols) (sym d.start) h in
-    let l = subst (λ (x : ℕ). Of Fact t.workers t.mode t.shape t.hierarchy t.rate_hp t.rate_lp t.guard t.cell_id t.start x) (sym d.max_symbols) j in
-    l t.kept
+    let a = subst (λ (x : Mode). Of Fact t.workers x s.shape s.hierarchy s.rate_hp s.rate_lp s.guard s.cell_id s.start s.max_symbols s.plan) (sym d.mode) base in
+    let b = subst (λ (x : Shape). Of Fact t.workers t.mode x s.hierarchy s.rate_hp s.rate_lp s.guard s.cell_id s.start s.max_symbols s.plan) (sym d.shape) a in
+    let c = subst (λ (x : Hierarchy). Of Fact t.workers t.mode t.shape x s.rate_hp s.rate_lp s.guard s.cell_id s.start s.max_symbols s.plan) (sym d.hierarchy) b in
+    let e = subst (λ (x : Rate). Of Fact t.workers t.mode t.shape t.hierarchy x s.rate_lp s.guard s.cell_id s.start s.max_symbols s.plan) (sym d.rate_hp) c in
+    let f = subst (λ (x : Option Rate). Of Fact t.workers t.mode t.shape t.hierarchy t.rate_hp x s.guard s.cell_id s.start s.max_symbols s.plan) (sym d.rate_lp) e in
+    let g = subst (λ (x : Guard). Of Fact t.workers t.mode t.shape t.hierarchy t.rate_hp t.rate_lp x s.cell_id s.start s.max_symbols s.plan) (sym d.guard) f in
+    let h = subst (λ (x : Option ℕ). Of Fact t.workers t.mode t.shape t.hierarchy t.rate_hp t.rate_lp t.guard x s.start s.max_symbols s.plan) (sym d.cell_id) g in
+    let j = subst (λ (x : Start). Of Fact t.workers t.mode t.shape t.hierarchy t.rate_hp t.rate_lp t.guard t.cell_id x s.max_symbols s.plan) (sym d.start) h in
+    let l = subst (λ (x : ℕ). Of Fact t.workers t.mode t.shape t.hierarchy t.rate_hp t.rate_lp t.guard t.cell_id t.start x s.plan) (sym d.max_symbols) j in
+    let m = subst (λ (x : Plan). Of Fact t.workers t.mode t.shape t.hierarchy t.rate_hp t.rate_lp t.guard t.cell_id t.start t.max_symbols x) (sym d.plan) l in
+    m t.kept
 
 module _ (s : Settings) (w : ℕ) (k : IsKept s.shape s.hierarchy s.rate_lp w s.max_symbols) where
   -- its costs are the same, and that they are small has no two proofs

@@ -15,6 +15,7 @@ pub record DifferInWorkers (s t : Settings) : Type 0 where
   pub cell_id : t.cell_id ≡ s.cell_id
   pub start : t.start ≡ s.start
   pub max_symbols : t.max_symbols ≡ s.max_symbols
+  pub plan : t.plan ≡ s.plan
 
 -- then the live output of bytes by the ones is theirs by the others ..
 abbrev pub SameLive : Type 0
