@@ -1,15 +1,14 @@
 // The parameters of each super-frame of a transmission.
 ghost use Rattle.std.specs.Prelude.{◌≡◌};
-ghost use Rattle.mode_set.specs.Entries.{entry, with_entry};
+ghost use Rattle.mode_set.specs.Entries.{entry, top, with_entry};
 
 use crate::{Entry, Settings};
 
 impl Settings {
-    /// The parameters of a super-frame.
-    pub fn entry(&self, super_frame: u32) -> Entry
-        ensures { result ≡ entry self.now super_frame }
+    /// The settings' own parameters, those of the first super-frames.
+    pub fn top(&self) -> Entry
+        ensures { result ≡ top self.now }
     {
-        let _ = super_frame;
         Entry {
             after: 0,
             shape: self.shape,
@@ -17,6 +16,14 @@ impl Settings {
             rate_hp: self.rate_hp,
             rate_lp: self.rate_lp,
         }
+    }
+
+    /// The parameters of a super-frame.
+    pub fn entry(&self, super_frame: u32) -> Entry
+        ensures { result ≡ entry self.now super_frame }
+    {
+        let _ = super_frame;
+        self.top()
     }
 
     /// The settings with the parameters of an entry; everything else stays.

@@ -149,6 +149,7 @@ impl<M: Carriers> Modulator<M> {
         symbols_repeat(&self.settings, self.made);
         symbols_follow_labels(&self.settings, self.made);
         next_labels(
+            &self.settings,
             self.made % 2 == 1,
             &mut self.inner,
             &mut self.hp.waiting,
