@@ -105,10 +105,10 @@ fn next_labels<M: Carriers>(
     sources: &mut (Source, Source),
     waiting: &mut (WaitBuf, WaitBuf),
 ) -> Result<Vec<u8>, AllocError>
-    requires { tx.old.settings ≡ settings.now }
-    ensures { tx.new.settings ≡ settings.now }
+    requires { tx.old.settings.mode ≡ settings.now.mode }
+    ensures { tx.new.settings.mode ≡ settings.now.mode }
 {
-    let (hp, lp) = needs(rt, tx);
+    let (hp, lp) = needs(rt, settings, tx);
     fill(rt, &mut sources.0, hp, &mut waiting.0);
     fill(rt, &mut sources.1, lp, &mut waiting.1);
     labels_of(rt, alloc, settings, tx, odd, waiting)

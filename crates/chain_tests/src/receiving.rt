@@ -78,15 +78,23 @@ fn pairs_of<M: Carriers>(
     stream: Stream,
 ) -> Result<Vec<CostPair>, AllocError>
     requires mode { settings.now.mode ≡ M.MODE }
-    requires rx { rx.old ≡ settings.now }
+    requires rx { rx.old.mode ≡ settings.now.mode }
     requires whole { length symbol.now ≡ 5 * M.K }
-    ensures { rx.new ≡ settings.now }
+    ensures { rx.new.mode ≡ settings.now.mode }
 {
-    let steps = rx.steps(stream) as usize;
+    let entry = settings.top();
+    let steps = rx.steps(&entry, stream) as usize;
     let mut pairs = Vec::with_capacity(alloc, steps)?;
     let exists = settings.has_stream(stream);
     assert!(rt; l < 68 && exists);
-    rx.pairs(symbol.cells(), symbol.weights(), l, stream, &mut pairs);
+    rx.pairs(
+        &entry,
+        symbol.cells(),
+        symbol.weights(),
+        l,
+        stream,
+        &mut pairs,
+    );
     assert!(rt; pairs.len() == steps);
     Ok(pairs)
 }
@@ -103,9 +111,9 @@ fn stream_fits<M: Carriers>(
     coded: &mut Coded,
 ) -> Result<(), AllocError>
     requires mode { settings.now.mode ≡ M.MODE }
-    requires rx { rx.old ≡ settings.now }
+    requires rx { rx.old.mode ≡ settings.now.mode }
     requires whole { length symbol.now ≡ 5 * M.K }
-    ensures { rx.new ≡ settings.now }
+    ensures { rx.new.mode ≡ settings.now.mode }
 {
     if settings.has_stream(stream) {
         let pairs = pairs_of(rt, alloc, settings, rx, symbol, l, stream)?;
@@ -339,9 +347,9 @@ fn with_stream<M: Carriers>(
     sum: u32,
 ) -> Result<u32, AllocError>
     requires mode { settings.now.mode ≡ M.MODE }
-    requires rx { rx.old ≡ settings.now }
+    requires rx { rx.old.mode ≡ settings.now.mode }
     requires whole { length symbol.now ≡ 5 * M.K }
-    ensures { rx.new ≡ settings.now }
+    ensures { rx.new.mode ≡ settings.now.mode }
 {
     if !settings.has_stream(stream) {
         return Ok(sum);
@@ -355,10 +363,12 @@ fn drawn_costs<M: Carriers>(
     rt: &impl Abort,
     alloc: Global,
     settings: &Settings,
+    rx: &mut InnerRx<M>,
 ) -> Result<u32, AllocError>
-    requires { settings.now.mode ≡ M.MODE }
+    requires mode { settings.now.mode ≡ M.MODE }
+    requires rx { rx.old.mode ≡ settings.now.mode }
+    ensures { rx.new.mode ≡ settings.now.mode }
 {
-    let mut rx = InnerRx::<M>::new(alloc, settings)?;
     let mut symbol = SymbolIn::<M>::new(alloc)?;
     let mut bytes = vec![in alloc; 0u8; 5 * M::K as usize]?;
     let mut state = 7;
@@ -366,20 +376,52 @@ fn drawn_costs<M: Carriers>(
     for l in 0..4u8 {
         drawn_symbol(&mut state, &mut bytes);
         taken_in_pieces(rt, &mut symbol, &bytes, 7);
-        sum = with_stream(rt, alloc, settings, &mut rx, &symbol, l, Stream::Hp, sum)?;
-        sum = with_stream(rt, alloc, settings, &mut rx, &symbol, l, Stream::Lp, sum)?;
+        sum = with_stream(rt, alloc, settings, rx, &symbol, l, Stream::Hp, sum)?;
+        sum = with_stream(rt, alloc, settings, rx, &symbol, l, Stream::Lp, sum)?;
         symbol.next();
     }
     Ok(sum)
 }
 
+// The costs by a receiving side that is made for these settings.
+fn own_costs<M: Carriers>(
+    rt: &impl Abort,
+    alloc: Global,
+    settings: &Settings,
+) -> Result<u32, AllocError>
+    requires { settings.now.mode ≡ M.MODE }
+{
+    let mut rx = InnerRx::<M>::new(alloc, settings)?;
+    drawn_costs(rt, alloc, settings, &mut rx)
+}
+
 fn check_costs(rt: &impl Abort, alloc: Global, document: &[u8], sum: u32) {
     let settings = Settings::read(alloc, document).expect(rt, "the settings");
     let found = match settings.mode {
-        Mode::M2k => drawn_costs::<Mode2k>(rt, alloc, &settings),
-        Mode::M8k => drawn_costs::<Mode8k>(rt, alloc, &settings),
+        Mode::M2k => own_costs::<Mode2k>(rt, alloc, &settings),
+        Mode::M8k => own_costs::<Mode8k>(rt, alloc, &settings),
     };
     assert!(rt; found.expect(rt, "memory") == sum);
+}
+
+// The same costs by one receiving side whose parameters change from symbol to symbol.
+#[test]
+fn costs_of_changing_parameters(rt: HostRuntime) -> Result<(), Fail> {
+    let alloc = rt.alloc();
+    let one = flat(Mode::M2k, Shape::Qpsk, Rate::R1of2);
+    let two = hierarchical(
+        Mode::M2k,
+        Shape::Qam64,
+        Hierarchy::Alpha4,
+        Rate::R2of3,
+        Rate::R3of4,
+    );
+    let mut rx = InnerRx::<Mode2k>::new(alloc, &one)?;
+    for _ in 0..2 {
+        assert!(&rt; drawn_costs(&rt, alloc, &two, &mut rx)? == 1262352538);
+        assert!(&rt; drawn_costs(&rt, alloc, &one, &mut rx)? == 2726650226);
+    }
+    Ok(())
 }
 
 // Drawn cells with drawn weights cost what they cost another receiver.

@@ -1,5 +1,6 @@
 -- The labels have the settings' own parameters. Whatever the streams, there are paths that begin with the registers and the waiting bits.
 use Rattle.std.proofs.Common.{◌≡◌, ◌≤◌, ap, length, drop, take, subst, sym}
+use Rattle.mode_set.specs.Entries.{with_entry}
 use Rattle.mode_set.specs.StreamTable.{need}
 use Rattle.mode_set.specs.declared.modes.Stream.TheVariants.{Hp, Lp}
 use Rattle.mode_set.specs.declared.settings.Settings.{Settings}
@@ -32,7 +33,7 @@ returns-clause-labels g c =
     subst (λ (z : Settings). (paths : Paths) → IsBefore c.args.inner.now paths → take (need z Hp) c.args.hp.now ≡ input_bits z paths Hp → take (need z Lp) c.args.lp.now ≡ input_bits z paths Lp
     → Agree z (bits_of c.labels.new.to.items) (label_bit z c.args.odd (coded_bits z paths)))
     (own_parameters c.args.inner.now.settings c.args.settings.now c.top.result c.requires.settings c.top.ensures)
-    (λ paths at hp lp. labels_agree _ c.args.odd (coded_bits _ paths) _ c.labels.new.to.items (c.labels.ensures.labels paths at hp lp) c.clear.ensures.items)
+    (λ paths at hp lp. labels_agree (with_entry c.args.inner.now.settings c.top.result) c.args.odd (coded_bits (with_entry c.args.inner.now.settings c.top.result) paths) _ c.labels.new.to.items (c.labels.ensures.labels paths at hp lp) c.clear.ensures.items)
 
 pub returns-clause-hp_register : goal.returns-clause-hp_register
 returns-clause-hp_register g c =
