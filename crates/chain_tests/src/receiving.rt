@@ -126,17 +126,15 @@ fn stream_fits<M: Carriers>(
 fn send<M: Carriers>(
     rt: &impl Abort,
     alloc: Global,
-    shape: Shape,
+    settings: &Settings,
     labels: &[u8],
     out: &mut SymbolOut<M>,
     symbol: &mut SymbolIn<M>,
 ) -> Result<(), AllocError>
-    requires shape { out.old.settings.shape ≡ shape }
-    ensures shape { out.new.settings.shape ≡ shape }
-    ensures whole { IfOk result (λ _. length symbol.new ≡ 5 * M.K) }
+    ensures { IfOk result (λ _. length symbol.new ≡ 5 * M.K) }
 {
     let mut bytes = Vec::with_capacity(alloc, 110000)?;
-    write(rt, labels, out, shape, &mut bytes);
+    write(rt, labels, out, settings, &mut bytes);
     let ready = !symbol.whole();
     assert!(rt; ready);
     let taken = symbol.take(&bytes);
@@ -171,7 +169,7 @@ fn four_symbols<M: Carriers>(
             &mut states,
             &mut waiting,
         )?;
-        send(rt, alloc, settings.shape, &labels, &mut out, &mut symbol)?;
+        send(rt, alloc, settings, &labels, &mut out, &mut symbol)?;
         stream_fits(
             rt,
             alloc,
@@ -264,7 +262,7 @@ fn null_symbol(rt: &impl Abort, alloc: Global) -> Result<Vec<u8>, AllocError> {
         &mut waiting,
     )?;
     let mut bytes = Vec::with_capacity(alloc, 110000)?;
-    write(rt, &labels, &mut out, settings.shape, &mut bytes);
+    write(rt, &labels, &mut out, &settings, &mut bytes);
     Ok(bytes)
 }
 
