@@ -102,11 +102,12 @@ fn main(rt: HostRuntime) -> anyhow::Result<()> {
         max_symbols: 1000000,
     };
     let labels = labels();
+    let entry = settings.top();
     let mut out = SymbolOut::<Mode8k>::new(&settings);
     let mut sum = 0u64;
     for _ in 0..4000u32 {
         let mut bytes = Vec::with_capacity(alloc, 34085)?;
-        out.write(&labels, &mut bytes);
+        out.write(&entry, &entry, &labels, &mut bytes);
         sum = sum.wrapping_add(bytes.len() as u64);
     }
     println!(&rt; "{sum}")?;

@@ -20,17 +20,39 @@ fn labels() -> [u8; 1512]
 fn first_cells(rt: HostRuntime) {
     let alloc = rt.alloc();
     let settings = flat(Mode::M2k, Shape::Qpsk, Rate::R1of2);
+    let one = settings.top();
     let labels = labels();
     let mut bytes = Vec::with_capacity(alloc, 34100).expect(&rt, "memory");
     let mut out = SymbolOut::<Mode2k>::new(&settings);
-    out.write(&labels, &mut bytes);
-    out.write(&labels, &mut bytes);
-    out.write(&labels, &mut bytes);
-    out.write(&labels, &mut bytes);
+    out.write(&one, &one, &labels, &mut bytes);
+    out.write(&one, &one, &labels, &mut bytes);
+    out.write(&one, &one, &labels, &mut bytes);
+    out.write(&one, &one, &labels, &mut bytes);
     assert!(&rt; &bytes[..10] == [0xAA, 0xAB, 0, 0, 15, 0xD2, 0xBF, 0x2D, 0x41, 15u8].as_slice());
     assert!(&rt; &bytes[60..65] == [0x55, 0x55, 0, 0, 15u8].as_slice());
     assert!(&rt; &bytes[170..175] == [0x40, 0, 0, 0, 15u8].as_slice());
     assert!(&rt; &bytes[25745..25750] == [0xC0, 0, 0, 0, 15u8].as_slice());
+}
+
+// The label 1 on carrier 1 by one builder, where the constellation changes and changes back: the level is
+// that of the symbol's own parameters, whatever the next super-frame has.
+#[test]
+fn cells_of_changing_parameters(rt: HostRuntime) {
+    let alloc = rt.alloc();
+    let settings = flat(Mode::M2k, Shape::Qpsk, Rate::R1of2);
+    let one = settings.top();
+    let two = flat(Mode::M2k, Shape::Qam16, Rate::R1of2).top();
+    let labels = labels();
+    let mut bytes = Vec::with_capacity(alloc, 34100).expect(&rt, "memory");
+    let mut out = SymbolOut::<Mode2k>::new(&settings);
+    out.write(&one, &two, &labels, &mut bytes);
+    out.write(&two, &one, &labels, &mut bytes);
+    out.write(&two, &two, &labels, &mut bytes);
+    out.write(&one, &one, &labels, &mut bytes);
+    assert!(&rt; &bytes[5..10] == [0xD2, 0xBF, 0x2D, 0x41, 15u8].as_slice());
+    assert!(&rt; &bytes[8530..8535] == [0xC3, 0x49, 0x3C, 0xB7, 15u8].as_slice());
+    assert!(&rt; &bytes[17055..17060] == [0xC3, 0x49, 0x3C, 0xB7, 15u8].as_slice());
+    assert!(&rt; &bytes[25580..25585] == [0xD2, 0xBF, 0x2D, 0x41, 15u8].as_slice());
 }
 
 // The bytes of a symbol of another modulator, of which carrier k has the weight byte k mod 256, and five of

@@ -105,10 +105,10 @@ fn next_labels<M: Carriers>(
     sources: &mut (Source, Source),
     waiting: &mut (WaitBuf, WaitBuf),
 ) -> Result<Vec<u8>, AllocError>
-    requires { tx.old.settings ≡ settings.now }
-    ensures { tx.new.settings ≡ settings.now }
+    requires { tx.old.settings.mode ≡ settings.now.mode }
+    ensures { tx.new.settings.mode ≡ settings.now.mode }
 {
-    let (hp, lp) = needs(rt, tx);
+    let (hp, lp) = needs(rt, settings, tx);
     fill(rt, &mut sources.0, hp, &mut waiting.0);
     fill(rt, &mut sources.1, lp, &mut waiting.1);
     labels_of(rt, alloc, settings, tx, odd, waiting)
@@ -118,20 +118,19 @@ pub(crate) fn write<M: Carriers>(
     rt: &impl Abort,
     labels: &[u8],
     out: &mut SymbolOut<M>,
-    shape: Shape,
+    settings: &Settings,
     to: &mut Vec<u8>,
 )
-    requires shape { out.old.settings.shape ≡ shape }
-    requires room { 110000 ≤ vec_capacity to.old }
-    ensures shape { out.new.settings.shape ≡ shape }
-    ensures room { 110000 ≤ vec_capacity to.new }
+    requires { 110000 ≤ vec_capacity to.old }
+    ensures { 110000 ≤ vec_capacity to.new }
 {
+    let entry = settings.top();
     assert!(rt; labels.len() == M::NMAX as usize);
-    let bound = bound_of(shape);
+    let bound = bound_of(settings.shape);
     let small = are_below(labels, bound);
     assert!(rt; small);
     assert!(rt; to.len() <= 75000);
-    out.write(labels, to);
+    out.write(&entry, &entry, labels, to);
 }
 
 fn first_symbols<M: Carriers>(
@@ -155,7 +154,7 @@ fn first_symbols<M: Carriers>(
         &mut sources,
         &mut waiting,
     )?;
-    write(rt, &labels, &mut out, settings.shape, &mut bytes);
+    write(rt, &labels, &mut out, settings, &mut bytes);
     let labels = next_labels(
         rt,
         alloc,
@@ -165,7 +164,7 @@ fn first_symbols<M: Carriers>(
         &mut sources,
         &mut waiting,
     )?;
-    write(rt, &labels, &mut out, settings.shape, &mut bytes);
+    write(rt, &labels, &mut out, settings, &mut bytes);
     let labels = next_labels(
         rt,
         alloc,
@@ -175,7 +174,7 @@ fn first_symbols<M: Carriers>(
         &mut sources,
         &mut waiting,
     )?;
-    write(rt, &labels, &mut out, settings.shape, &mut bytes);
+    write(rt, &labels, &mut out, settings, &mut bytes);
     Ok(sum_of(&bytes))
 }
 

@@ -11,17 +11,23 @@ use std::process::Abort;
 use test_tools::fill;
 
 /// How many bits of each stream the next symbol takes.
-pub(crate) fn needs<M: Carriers>(rt: &impl Abort, tx: &InnerTx<M>) -> (usize, usize)
+pub(crate) fn needs<M: Carriers>(
+    rt: &impl Abort,
+    settings: &Settings,
+    tx: &InnerTx<M>,
+) -> (usize, usize)
     ensures hp { result.0 ≤ 36000 }
     ensures lp { result.1 ≤ 36000 }
 {
-    let hp = tx.need(Stream::Hp) as usize;
-    let lp = tx.need(Stream::Lp) as usize;
+    let entry = settings.top();
+    let hp = tx.need(&entry, Stream::Hp) as usize;
+    let lp = tx.need(&entry, Stream::Lp) as usize;
     assert!(rt; hp <= 36000 && lp <= 36000);
     (hp, lp)
 }
 
-/// The labels of the next symbol, whose bits wait.
+/// The labels of the next symbol, whose bits wait. It has the parameters of these settings, whatever the
+/// coder began with.
 pub(crate) fn labels_of<M: Carriers>(
     rt: &impl Abort,
     alloc: Global,
@@ -30,14 +36,15 @@ pub(crate) fn labels_of<M: Carriers>(
     odd: bool,
     waiting: &mut (WaitBuf, WaitBuf),
 ) -> Result<Vec<u8>, AllocError>
-    requires { tx.old.settings ≡ settings.now }
-    ensures { tx.new.settings ≡ settings.now }
+    requires { tx.old.settings.mode ≡ settings.now.mode }
+    ensures { tx.new.settings.mode ≡ settings.now.mode }
 {
-    let hp = tx.need(Stream::Hp) as usize;
-    let lp = tx.need(Stream::Lp) as usize;
+    let entry = settings.top();
+    let hp = tx.need(&entry, Stream::Hp) as usize;
+    let lp = tx.need(&entry, Stream::Lp) as usize;
     let mut labels = Vec::with_capacity(alloc, settings.mode.payload() as usize)?;
     assert!(rt; waiting.0.waiting() >= hp && waiting.1.waiting() >= lp);
-    tx.labels(odd, &mut waiting.0, &mut waiting.1, &mut labels);
+    tx.labels(&entry, odd, &mut waiting.0, &mut waiting.1, &mut labels);
     Ok(labels)
 }
 
@@ -51,10 +58,10 @@ pub(crate) fn drawn_labels<M: Carriers>(
     states: &mut (u32, u32),
     waiting: &mut (WaitBuf, WaitBuf),
 ) -> Result<Vec<u8>, AllocError>
-    requires { tx.old.settings ≡ settings.now }
-    ensures { tx.new.settings ≡ settings.now }
+    requires { tx.old.settings.mode ≡ settings.now.mode }
+    ensures { tx.new.settings.mode ≡ settings.now.mode }
 {
-    let (hp, lp) = needs(rt, tx);
+    let (hp, lp) = needs(rt, settings, tx);
     fill(&mut states.0, hp, &mut waiting.0);
     fill(&mut states.1, lp, &mut waiting.1);
     labels_of(rt, alloc, settings, tx, odd, waiting)

@@ -78,15 +78,23 @@ fn pairs_of<M: Carriers>(
     stream: Stream,
 ) -> Result<Vec<CostPair>, AllocError>
     requires mode { settings.now.mode ≡ M.MODE }
-    requires rx { rx.old ≡ settings.now }
+    requires rx { rx.old.mode ≡ settings.now.mode }
     requires whole { length symbol.now ≡ 5 * M.K }
-    ensures { rx.new ≡ settings.now }
+    ensures { rx.new.mode ≡ settings.now.mode }
 {
-    let steps = rx.steps(stream) as usize;
+    let entry = settings.top();
+    let steps = rx.steps(&entry, stream) as usize;
     let mut pairs = Vec::with_capacity(alloc, steps)?;
     let exists = settings.has_stream(stream);
     assert!(rt; l < 68 && exists);
-    rx.pairs(symbol.cells(), symbol.weights(), l, stream, &mut pairs);
+    rx.pairs(
+        &entry,
+        symbol.cells(),
+        symbol.weights(),
+        l,
+        stream,
+        &mut pairs,
+    );
     assert!(rt; pairs.len() == steps);
     Ok(pairs)
 }
@@ -103,9 +111,9 @@ fn stream_fits<M: Carriers>(
     coded: &mut Coded,
 ) -> Result<(), AllocError>
     requires mode { settings.now.mode ≡ M.MODE }
-    requires rx { rx.old ≡ settings.now }
+    requires rx { rx.old.mode ≡ settings.now.mode }
     requires whole { length symbol.now ≡ 5 * M.K }
-    ensures { rx.new ≡ settings.now }
+    ensures { rx.new.mode ≡ settings.now.mode }
 {
     if settings.has_stream(stream) {
         let pairs = pairs_of(rt, alloc, settings, rx, symbol, l, stream)?;
@@ -118,17 +126,15 @@ fn stream_fits<M: Carriers>(
 fn send<M: Carriers>(
     rt: &impl Abort,
     alloc: Global,
-    shape: Shape,
+    settings: &Settings,
     labels: &[u8],
     out: &mut SymbolOut<M>,
     symbol: &mut SymbolIn<M>,
 ) -> Result<(), AllocError>
-    requires shape { out.old.settings.shape ≡ shape }
-    ensures shape { out.new.settings.shape ≡ shape }
-    ensures whole { IfOk result (λ _. length symbol.new ≡ 5 * M.K) }
+    ensures { IfOk result (λ _. length symbol.new ≡ 5 * M.K) }
 {
     let mut bytes = Vec::with_capacity(alloc, 110000)?;
-    write(rt, labels, out, shape, &mut bytes);
+    write(rt, labels, out, settings, &mut bytes);
     let ready = !symbol.whole();
     assert!(rt; ready);
     let taken = symbol.take(&bytes);
@@ -163,7 +169,7 @@ fn four_symbols<M: Carriers>(
             &mut states,
             &mut waiting,
         )?;
-        send(rt, alloc, settings.shape, &labels, &mut out, &mut symbol)?;
+        send(rt, alloc, settings, &labels, &mut out, &mut symbol)?;
         stream_fits(
             rt,
             alloc,
@@ -256,7 +262,7 @@ fn null_symbol(rt: &impl Abort, alloc: Global) -> Result<Vec<u8>, AllocError> {
         &mut waiting,
     )?;
     let mut bytes = Vec::with_capacity(alloc, 110000)?;
-    write(rt, &labels, &mut out, settings.shape, &mut bytes);
+    write(rt, &labels, &mut out, &settings, &mut bytes);
     Ok(bytes)
 }
 
@@ -339,9 +345,9 @@ fn with_stream<M: Carriers>(
     sum: u32,
 ) -> Result<u32, AllocError>
     requires mode { settings.now.mode ≡ M.MODE }
-    requires rx { rx.old ≡ settings.now }
+    requires rx { rx.old.mode ≡ settings.now.mode }
     requires whole { length symbol.now ≡ 5 * M.K }
-    ensures { rx.new ≡ settings.now }
+    ensures { rx.new.mode ≡ settings.now.mode }
 {
     if !settings.has_stream(stream) {
         return Ok(sum);
@@ -355,10 +361,12 @@ fn drawn_costs<M: Carriers>(
     rt: &impl Abort,
     alloc: Global,
     settings: &Settings,
+    rx: &mut InnerRx<M>,
 ) -> Result<u32, AllocError>
-    requires { settings.now.mode ≡ M.MODE }
+    requires mode { settings.now.mode ≡ M.MODE }
+    requires rx { rx.old.mode ≡ settings.now.mode }
+    ensures { rx.new.mode ≡ settings.now.mode }
 {
-    let mut rx = InnerRx::<M>::new(alloc, settings)?;
     let mut symbol = SymbolIn::<M>::new(alloc)?;
     let mut bytes = vec![in alloc; 0u8; 5 * M::K as usize]?;
     let mut state = 7;
@@ -366,20 +374,52 @@ fn drawn_costs<M: Carriers>(
     for l in 0..4u8 {
         drawn_symbol(&mut state, &mut bytes);
         taken_in_pieces(rt, &mut symbol, &bytes, 7);
-        sum = with_stream(rt, alloc, settings, &mut rx, &symbol, l, Stream::Hp, sum)?;
-        sum = with_stream(rt, alloc, settings, &mut rx, &symbol, l, Stream::Lp, sum)?;
+        sum = with_stream(rt, alloc, settings, rx, &symbol, l, Stream::Hp, sum)?;
+        sum = with_stream(rt, alloc, settings, rx, &symbol, l, Stream::Lp, sum)?;
         symbol.next();
     }
     Ok(sum)
 }
 
+// The costs by a receiving side that is made for these settings.
+fn own_costs<M: Carriers>(
+    rt: &impl Abort,
+    alloc: Global,
+    settings: &Settings,
+) -> Result<u32, AllocError>
+    requires { settings.now.mode ≡ M.MODE }
+{
+    let mut rx = InnerRx::<M>::new(alloc, settings)?;
+    drawn_costs(rt, alloc, settings, &mut rx)
+}
+
 fn check_costs(rt: &impl Abort, alloc: Global, document: &[u8], sum: u32) {
     let settings = Settings::read(alloc, document).expect(rt, "the settings");
     let found = match settings.mode {
-        Mode::M2k => drawn_costs::<Mode2k>(rt, alloc, &settings),
-        Mode::M8k => drawn_costs::<Mode8k>(rt, alloc, &settings),
+        Mode::M2k => own_costs::<Mode2k>(rt, alloc, &settings),
+        Mode::M8k => own_costs::<Mode8k>(rt, alloc, &settings),
     };
     assert!(rt; found.expect(rt, "memory") == sum);
+}
+
+// The same costs by one receiving side whose parameters change from symbol to symbol.
+#[test]
+fn costs_of_changing_parameters(rt: HostRuntime) -> Result<(), Fail> {
+    let alloc = rt.alloc();
+    let one = flat(Mode::M2k, Shape::Qpsk, Rate::R1of2);
+    let two = hierarchical(
+        Mode::M2k,
+        Shape::Qam64,
+        Hierarchy::Alpha4,
+        Rate::R2of3,
+        Rate::R3of4,
+    );
+    let mut rx = InnerRx::<Mode2k>::new(alloc, &one)?;
+    for _ in 0..2 {
+        assert!(&rt; drawn_costs(&rt, alloc, &two, &mut rx)? == 1262352538);
+        assert!(&rt; drawn_costs(&rt, alloc, &one, &mut rx)? == 2726650226);
+    }
+    Ok(())
 }
 
 // Drawn cells with drawn weights cost what they cost another receiver.

@@ -3,7 +3,7 @@ ghost use Rattle.std.specs.Prelude.{◌≡◌, ◌≤◌, length};
 ghost use Rattle.mode_set.specs.StreamTable.{carriers, need};
 ghost use Rattle.mode_set.specs.declared.modes.Stream.TheVariants.{Hp};
 
-use crate::labels::{drawn_labels, whole_weights};
+use crate::labels::{drawn_labels, labels_of, whole_weights};
 use bit_pack::WaitBuf;
 use conv_code::{CostPair, Encoder};
 use inner_chain::{InnerRx, InnerTx};
@@ -34,8 +34,8 @@ fn symbol<M: Carriers>(
     waiting: &mut (WaitBuf, WaitBuf),
     sum: u32,
 ) -> Result<Vec<u8>, AllocError>
-    requires { tx.old.settings ≡ settings.now }
-    ensures { tx.new.settings ≡ settings.now }
+    requires { tx.old.settings.mode ≡ settings.now.mode }
+    ensures { tx.new.settings.mode ≡ settings.now.mode }
 {
     let labels = drawn_labels(rt, alloc, settings, tx, odd, states, waiting)?;
     assert!(rt; labels.len() == settings.mode.payload() as usize && sum_of(&labels) == sum);
@@ -94,22 +94,84 @@ fn pairs_fit(rt: &impl Abort, pairs: &[CostPair], mut state: u32, unsent: usize)
 fn none_left<M: Carriers>(
     rt: &impl Abort,
     alloc: Global,
+    settings: &Settings,
     rx: &mut InnerRx<M>,
     cells: &[Cell],
     steps: usize,
 ) -> Result<(), AllocError>
+    requires mode { rx.old.mode ≡ settings.now.mode }
     requires cells { length cells.now ≡ carriers rx.old.mode }
-    requires steps { steps ≡ need rx.old Hp }
+    requires steps { steps ≡ need settings.now Hp }
     requires few { steps ≤ 31752 }
     ensures { rx.new ≡ rx.old }
 {
+    let entry = settings.top();
     let weights = vec![in alloc; 0u8; cells.len()]?;
     let mut pairs = Vec::with_capacity(alloc, steps)?;
-    rx.pairs(cells, &weights, 0, Stream::Hp, &mut pairs);
+    rx.pairs(&entry, cells, &weights, 0, Stream::Hp, &mut pairs);
     assert!(rt; pairs.len() == steps);
     for pair in pairs {
         assert!(rt; pair.x0 == 0 && pair.x1 == 0 && pair.y0 == 0 && pair.y1 == 0);
     }
+    Ok(())
+}
+
+// Two symbols of these settings by a coder whose registers are all zeros, and back.
+fn coded_and_back<M: Carriers>(
+    rt: &impl Abort,
+    alloc: Global,
+    settings: &Settings,
+    tx: &mut InnerTx<M>,
+    rx: &mut InnerRx<M>,
+    sums: (u32, u32),
+) -> Result<(), AllocError>
+    requires tx { tx.old.settings.mode ≡ settings.now.mode }
+    requires rx { rx.old.mode ≡ settings.now.mode }
+    ensures tx { tx.new.settings.mode ≡ settings.now.mode }
+    ensures rx { rx.new.mode ≡ settings.now.mode }
+{
+    let entry = settings.top();
+    let mut waiting = (WaitBuf::new(), WaitBuf::new());
+    let mut states = (1, 2);
+    let labels = symbol(
+        rt,
+        alloc,
+        settings,
+        tx,
+        false,
+        &mut states,
+        &mut waiting,
+        sums.0,
+    )?;
+    let mut cells = vec![in alloc; Cell::default(); settings.mode.carriers() as usize]?;
+    place_cells(rt, settings, 0, &labels, &mut cells);
+    let weights = whole_weights(alloc, rx, cells.len())?;
+    let mut pairs = Vec::with_capacity(alloc, settings.need(Stream::Hp) as usize)?;
+    rx.pairs(&entry, &cells, &weights, 0, Stream::Hp, &mut pairs);
+    let coded = settings.coded(Stream::Hp) as usize;
+    let steps = settings.need(Stream::Hp) as usize;
+    assert!(rt; coded <= 2 * steps && steps == rx.steps(&entry, Stream::Hp) as usize);
+    pairs_fit(rt, &pairs, 1, 2 * steps - coded);
+    none_left(rt, alloc, settings, rx, &cells, steps)?;
+    if settings.has_stream(Stream::Lp) {
+        let weights = whole_weights(alloc, rx, cells.len())?;
+        let mut pairs = Vec::with_capacity(alloc, settings.need(Stream::Lp) as usize)?;
+        rx.pairs(&entry, &cells, &weights, 0, Stream::Lp, &mut pairs);
+        let coded = settings.coded(Stream::Lp) as usize;
+        let steps = settings.need(Stream::Lp) as usize;
+        assert!(rt; coded <= 2 * steps);
+        pairs_fit(rt, &pairs, 2, 2 * steps - coded);
+    }
+    symbol(
+        rt,
+        alloc,
+        settings,
+        tx,
+        true,
+        &mut states,
+        &mut waiting,
+        sums.1,
+    )?;
     Ok(())
 }
 
@@ -123,47 +185,51 @@ fn check<M: Carriers>(
 {
     let mut tx = InnerTx::<M>::new(alloc, settings)?;
     let mut rx = InnerRx::<M>::new(alloc, settings)?;
+    coded_and_back(rt, alloc, settings, &mut tx, &mut rx, sums)
+}
+
+// A symbol of zeros, behind which the registers are all zeros.
+fn zeros_sent<M: Carriers>(
+    rt: &impl Abort,
+    alloc: Global,
+    settings: &Settings,
+    tx: &mut InnerTx<M>,
+) -> Result<(), AllocError>
+    requires { tx.old.settings.mode ≡ settings.now.mode }
+    ensures { tx.new.settings.mode ≡ settings.now.mode }
+{
     let mut waiting = (WaitBuf::new(), WaitBuf::new());
-    let mut states = (1, 2);
-    let labels = symbol(
-        rt,
-        alloc,
-        settings,
-        &mut tx,
-        false,
-        &mut states,
-        &mut waiting,
-        sums.0,
-    )?;
-    let mut cells = vec![in alloc; Cell::default(); settings.mode.carriers() as usize]?;
-    place_cells(rt, settings, 0, &labels, &mut cells);
-    let weights = whole_weights(alloc, &rx, cells.len())?;
-    let mut pairs = Vec::with_capacity(alloc, settings.need(Stream::Hp) as usize)?;
-    rx.pairs(&cells, &weights, 0, Stream::Hp, &mut pairs);
-    let coded = settings.coded(Stream::Hp) as usize;
-    let steps = settings.need(Stream::Hp) as usize;
-    assert!(rt; coded <= 2 * steps && steps == rx.steps(Stream::Hp) as usize);
-    pairs_fit(rt, &pairs, 1, 2 * steps - coded);
-    none_left(rt, alloc, &mut rx, &cells, steps)?;
-    if settings.has_stream(Stream::Lp) {
-        let weights = whole_weights(alloc, &rx, cells.len())?;
-        let mut pairs = Vec::with_capacity(alloc, settings.need(Stream::Lp) as usize)?;
-        rx.pairs(&cells, &weights, 0, Stream::Lp, &mut pairs);
-        let coded = settings.coded(Stream::Lp) as usize;
-        let steps = settings.need(Stream::Lp) as usize;
-        assert!(rt; coded <= 2 * steps);
-        pairs_fit(rt, &pairs, 2, 2 * steps - coded);
+    for _ in 0..4000u32 {
+        if waiting.0.waiting() < 31000 && waiting.1.waiting() < 31000 {
+            waiting.0.push_byte(0);
+            waiting.1.push_byte(0);
+        }
     }
-    symbol(
-        rt,
-        alloc,
-        settings,
-        &mut tx,
-        true,
-        &mut states,
-        &mut waiting,
-        sums.1,
-    )?;
+    labels_of(rt, alloc, settings, tx, true, &mut waiting)?;
+    Ok(())
+}
+
+// The sums of two of the settings below, by one coder and one receiving side whose parameters change
+// and change back.
+#[test]
+fn symbols_of_changing_parameters(rt: HostRuntime) -> Result<(), Fail> {
+    let alloc = rt.alloc();
+    let one = flat(Mode::M2k, Shape::Qpsk, Rate::R1of2);
+    let two = hierarchical(
+        Mode::M2k,
+        Shape::Qam16,
+        Hierarchy::Alpha4,
+        Rate::R5of6,
+        Rate::R3of4,
+    );
+    let mut tx = InnerTx::<Mode2k>::new(alloc, &one)?;
+    let mut rx = InnerRx::<Mode2k>::new(alloc, &one)?;
+    for _ in 0..2 {
+        coded_and_back(&rt, alloc, &one, &mut tx, &mut rx, (8042, 60240))?;
+        zeros_sent(&rt, alloc, &two, &mut tx)?;
+        coded_and_back(&rt, alloc, &two, &mut tx, &mut rx, (51219, 20928))?;
+        zeros_sent(&rt, alloc, &two, &mut tx)?;
+    }
     Ok(())
 }
 

@@ -4,7 +4,9 @@ ghost use Rattle.std.specs.Prelude.{◌≡◌, length};
 ghost use Rattle.mode_set.specs.declared.modes.Mode.TheVariants.{M2k};
 
 use frame_build::{SymbolIn, SymbolOut};
-use mode_set::{Carriers, Guard, Hierarchy, Mode, Mode2k, Mode8k, Plan, Rate, Settings, Shape, Start};
+use mode_set::{
+    Carriers, Entry, Guard, Hierarchy, Mode, Mode2k, Mode8k, Plan, Rate, Settings, Shape, Start,
+};
 use qam_map::Cell;
 use std::alloc::Global;
 use std::process::Abort;
@@ -50,18 +52,21 @@ fn turned_if(turned: bool, cell: Cell) -> Cell {
     }
 }
 
-// The cells of the next symbol, with the label 1 on each payload carrier.
+// The cells of the next symbol, with the label 1 on each payload carrier. The next super-frame has the
+// parameters of `next`.
 fn next_symbol<M: Carriers>(
     rt: &impl Abort,
     alloc: Global,
     out: &mut SymbolOut<M>,
+    now: &Entry,
+    next: &Entry,
     turned: bool,
 ) -> Vec<Cell>
     ensures { length result.items ≡ M.K }
 {
     let labels = vec![in alloc; 1u8; M::NMAX as usize].expect(rt, "memory");
     let mut bytes = Vec::with_capacity(alloc, 5 * M::K as usize).expect(rt, "memory");
-    out.write(&labels, &mut bytes);
+    out.write(now, next, &labels, &mut bytes);
     let mut input = SymbolIn::<M>::new(alloc).expect(rt, "memory");
     input.take(&bytes);
     let whole = input.whole();
@@ -80,6 +85,7 @@ fn tuned<M: Carriers>(
     rt: &impl Abort,
     alloc: Global,
     settings: &Settings,
+    next: &Entry,
     left_out: u16,
     count: u16,
     turns: &[u16],
@@ -90,7 +96,14 @@ fn tuned<M: Carriers>(
     let mut tuner = Tuner::<M>::new(alloc).expect(rt, "memory");
     let mut turned = false;
     for number in 0..1000u16 {
-        let cells = next_symbol(rt, alloc, &mut out, turned ^ turns.contains(&number));
+        let cells = next_symbol(
+            rt,
+            alloc,
+            &mut out,
+            &settings.top(),
+            next,
+            turned ^ turns.contains(&number),
+        );
         turned ^= turns.contains(&number);
         if number >= left_out && number - left_out < count {
             let fits = !tuner.found() && tuner.symbols() < 1000;
@@ -139,7 +152,15 @@ fn is_found(found: Option<Found>, place: u64, settings: &Settings, frame: u8) ->
 #[test]
 fn tuned_to_the_second_frame(rt: HostRuntime) {
     let settings = base();
-    let (symbols, found) = tuned::<Mode2k>(&rt, rt.alloc(), &settings, 10, 534, &[]);
+    let (symbols, found) = tuned::<Mode2k>(
+        &rt,
+        rt.alloc(),
+        &settings,
+        &settings.top(),
+        10,
+        534,
+        &[],
+    );
     assert!(&rt; symbols == 126);
     assert!(&rt; is_found(found, 58, &settings, 2));
 }
@@ -148,10 +169,10 @@ fn tuned_to_the_second_frame(rt: HostRuntime) {
 #[test]
 fn one_frame(rt: HostRuntime) {
     let settings = base();
-    let (symbols, found) = tuned::<Mode2k>(&rt, rt.alloc(), &settings, 0, 67, &[]);
+    let (symbols, found) = tuned::<Mode2k>(&rt, rt.alloc(), &settings, &settings.top(), 0, 67, &[]);
     assert!(&rt; symbols == 67);
     assert!(&rt; found.is_none());
-    let (symbols, found) = tuned::<Mode2k>(&rt, rt.alloc(), &settings, 0, 68, &[]);
+    let (symbols, found) = tuned::<Mode2k>(&rt, rt.alloc(), &settings, &settings.top(), 0, 68, &[]);
     assert!(&rt; symbols == 68);
     assert!(&rt; is_found(found, 0, &settings, 1));
     let place = found.expect(&rt, "a place");
@@ -164,19 +185,61 @@ fn one_frame(rt: HostRuntime) {
 #[test]
 fn wrong_votes(rt: HostRuntime) {
     let settings = base();
-    let (_, found) = tuned::<Mode2k>(&rt, rt.alloc(), &settings, 0, 136, &[16]);
+    let (_, found) = tuned::<Mode2k>(&rt, rt.alloc(), &settings, &settings.top(), 0, 136, &[16]);
     assert!(&rt; is_found(found, 0, &settings, 1));
-    let (_, found) = tuned::<Mode2k>(&rt, rt.alloc(), &settings, 0, 136, &[1, 67]);
+    let (_, found) = tuned::<Mode2k>(
+        &rt,
+        rt.alloc(),
+        &settings,
+        &settings.top(),
+        0,
+        136,
+        &[1, 67],
+    );
     assert!(&rt; is_found(found, 0, &settings, 1));
-    let (_, found) = tuned::<Mode2k>(&rt, rt.alloc(), &settings, 0, 136, &[3, 40, 60]);
+    let (_, found) = tuned::<Mode2k>(
+        &rt,
+        rt.alloc(),
+        &settings,
+        &settings.top(),
+        0,
+        136,
+        &[3, 40, 60],
+    );
     assert!(&rt; is_found(found, 68, &settings, 2));
+}
+
+// The super-frame before one of hierarchical 16-QAM announces it: the word has the constellation, the
+// hierarchy and the rates of the next super-frame, while the symbols still have their own.
+#[test]
+fn next_parameters_are_announced(rt: HostRuntime) {
+    let settings = base();
+    let next = hierarchical(
+        Mode::M2k,
+        Shape::Qam16,
+        Hierarchy::Alpha4,
+        Rate::R1of2,
+        Rate::R3of4,
+    );
+    let (_, found) = tuned::<Mode2k>(&rt, rt.alloc(), &settings, &next.top(), 0, 68, &[]);
+    let word = found.expect(&rt, "a place").word;
+    assert!(&rt; word.shape == Shape::Qam16 && word.hierarchy == Hierarchy::Alpha4);
+    assert!(&rt; word.rate_hp == Rate::R1of2 && word.rate_lp == Rate::R3of4);
 }
 
 // The last frame of a super-frame of a hierarchical transmission in the 8K mode.
 #[test]
 fn eight_thousand_carriers(rt: HostRuntime) {
     let settings = layered(Mode::M8k);
-    let (symbols, found) = tuned::<Mode8k>(&rt, rt.alloc(), &settings, 204, 100, &[]);
+    let (symbols, found) = tuned::<Mode8k>(
+        &rt,
+        rt.alloc(),
+        &settings,
+        &settings.top(),
+        204,
+        100,
+        &[],
+    );
     assert!(&rt; symbols == 68);
     assert!(&rt; is_found(found, 0, &settings, 4));
 }

@@ -1,4 +1,4 @@
--- The cell of a carrier, by its kind; and the state of a builder.
+-- The cell of a carrier, by its kind.
 use Rattle.std.proofs.Common.{◌≡◌, ℕ, zero, suc, ◌+◌, ◌-◌, ◌*◌, ◌%◌, ◌^◌, ◌<◌, ◌≤◌, ◌≢◌, ◌⊎◌, inl, inr, ◌||◌, not, if◌then◌else◌, length, set, append_assoc, List, [], ◌∷◌, ◌++◌, refl, sym, ap, ◌∙◌, arith, Bool, true, false, get_or, ℤ, subst}
 use Rattle.std.specs.Prelude.{flat_map, count_by}
 use Rattle.std.proofs.lemmas.List.Concat.{flat_map-append}
@@ -24,7 +24,8 @@ use Rattle.qam_map.specs.declared.cell.Cell.{Cell}
 use Rattle.qam_map.specs.Points.{map_cell, value_of, real_bits, imaginary_bits}
 use Rattle.tps_word.specs.Tps.{tps_word, signalled}
 use Rattle.frame_build.specs.Symbol.{real, tps_sign, frame_of, cell_of_kind, cell_at, sent_bytes, symbol_bytes, bits_of, Agree}
-use Rattle.frame_build.specs.State.{NextSymbol, is_turned, IsLabelTable, AreSources, labels_before, labels_of, source_of, IsReady}
+use Rattle.frame_build.specs.Announcing.{settings_for, announcing_cell, announcing_bytes}
+use Rattle.frame_build.specs.State.{is_turned, IsLabelTable, AreSources, AreAllSources, bytes_sent, labels_before, labels_of, source_of}
 use Rattle.frame_build.specs.declared.source.Source.{Source}
 use Rattle.frame_build.specs.declared.source.Source.TheVariants.{Label, Pilot, OppositePilot, Signalling, OppositeSignalling}
 
@@ -48,19 +49,6 @@ unfolding tps_sign is_turned
 sign_is word k zero = unturned (reference k)
 sign_is word k (suc l) = ap (λ (b : Bool). xor b (bit word l)) (sign_is word k l) ∙ turn (is_turned word l) (reference k) (bit word l)
 
--- the number of a symbol in its super-frame
-abbrev pub number : ℕ → ℕ → ℕ
-number frame l = 68 * (frame - 1) + l
-
--- the cell by its kind, where the builder is ready for the symbol
-pub by_kind : (m : Mode) (s : Settings) (frame l : ℕ) (word : List Bool) (turned : Bool) (cells : List (List ℕ)) (lists : List (List Source)) (v : NextSymbol) (labels : ℕ → ℕ → Bool) (k : ℕ) (kd : CarrierKind)
-    → IsReady m s frame l word turned cells lists → record { settings = s; number = number frame l } ≡ v → kd ≡ kind m l k → cell_of_kind s (number frame l) labels k kd ≡ cell_at v.settings v.number labels k
-unfolding cell_at
-by_kind m s frame l word turned cells lists v labels k kd ready seen is =
-    let in_frame : number frame l % 68 ≡ l = omega (arith, ready.symbol) in
-    let same : kd ≡ kind s.mode (number frame l % 68) k = is ∙ ap (λ (z : Mode). kind z l k) (sym ready.mode) ∙ ap (λ (z : ℕ). kind s.mode z k) (sym in_frame) in
-    ap (cell_of_kind s (number frame l) labels k) same ∙ ap (λ (z : NextSymbol). cell_of_kind z.settings z.number labels k (kind z.settings.mode (z.number % 68) k)) seen
-
 pub pilot : (s : Settings) (m : ℕ) (labels : ℕ → ℕ → Bool) (k : ℕ) → real 21845 (reference k) ≡ cell_of_kind s m labels k Continual
 unfolding cell_of_kind
 pilot s m labels k = refl
@@ -69,14 +57,11 @@ pub scattered : (s : Settings) (m : ℕ) (labels : ℕ → ℕ → Bool) (k : �
 unfolding cell_of_kind
 scattered s m labels k = refl
 
-pub signal : (m : Mode) (s : Settings) (frame l : ℕ) (word : List Bool) (turned : Bool) (cells : List (List ℕ)) (lists : List (List Source)) (labels : ℕ → ℕ → Bool) (k : ℕ) → IsReady m s frame l word turned cells lists → real 16384 (xor turned (reference k)) ≡ cell_of_kind s (number frame l) labels k Tps
+pub signal : (s : Settings) (m : ℕ) (turned : Bool) (labels : ℕ → ℕ → Bool) (k : ℕ) → turned ≡ is_turned (tps_word (signalled s (frame_of m))) (m % 68) → real 16384 (xor turned (reference k)) ≡ cell_of_kind s m labels k Tps
 unfolding cell_of_kind
-signal m s frame l word turned cells lists labels k ready =
-    let in_frame : number frame l % 68 ≡ l = omega (arith, ready.symbol) in
-    let of_frame : frame_of (number frame l) ≡ frame = omega (arith, ready.symbol, ready.first, ready.last) in
-    let signs : xor turned (reference k) ≡ tps_sign (tps_word (signalled s (frame_of (number frame l)))) k (number frame l % 68) =
-    ap (λ (b : Bool). xor b (reference k)) ready.turned_is ∙ sym (sign_is word k l) ∙ ap (λ (w : List Bool). tps_sign w k l) ready.word_is
-    ∙ ap (λ (f : ℕ). tps_sign (tps_word (signalled s f)) k l) (sym of_frame) ∙ ap (tps_sign (tps_word (signalled s (frame_of (number frame l)))) k) (sym in_frame) in
+signal s m turned labels k e =
+    let signs : xor turned (reference k) ≡ tps_sign (tps_word (signalled s (frame_of m))) k (m % 68) =
+    ap (λ (b : Bool). xor b (reference k)) e ∙ sym (sign_is (tps_word (signalled s (frame_of m))) k (m % 68)) in
     ap (real 16384) signs
 
 pub data_cell : (s : Settings) (m : ℕ) (labels : List ℕ) (k q : ℕ) → map_cell s.shape s.hierarchy (bits_of labels q) ≡ cell_of_kind s m (bits_of labels) k (Payload q)
@@ -144,14 +129,6 @@ labels_more m l k source e =
     ∙ one_label (is_continual m k) (is_scattered l k) (is_tps m k) (labels_before m l k) (reference k) ∙ ap (λ (z : Bool). if z then 1 else 0) (sym (payload_is m l k)) in
     ap (count_by (is_payload m l)) (numbers_end k) ∙ count_end (is_payload m l) (numbers k) k ∙ ap (λ (z : ℕ). count_by (is_payload m l) (numbers k) + z) (sym here)
 
--- the bytes of what a carrier sends
-abbrev pub bytes_sent : Source → Bool → List ℕ → List ℕ
-bytes_sent Label turned label = label
-bytes_sent Pilot turned label = sent_bytes (real 21845 false)
-bytes_sent OppositePilot turned label = sent_bytes (real 21845 true)
-bytes_sent Signalling turned label = sent_bytes (real 16384 turned)
-bytes_sent OppositeSignalling turned label = sent_bytes (real 16384 (not turned))
-
 pilot_bytes : (r turned : Bool) (label : List ℕ) → bytes_sent (if r then OppositePilot else Pilot) turned label ≡ sent_bytes (real 21845 r)
 pilot_bytes true turned label = refl
 pilot_bytes false turned label = refl
@@ -162,15 +139,15 @@ signal_bytes true false label = refl
 signal_bytes false true label = refl
 signal_bytes false false label = refl
 
-kind_sent : (m : Mode) (s : Settings) (frame l : ℕ) (word : List Bool) (turned : Bool) (cells : List (List ℕ)) (lists : List (List Source)) (labels : List ℕ) (k q : ℕ) (kd : CarrierKind) (label : List ℕ)
-    → IsReady m s frame l word turned cells lists → (kd ≡ Payload q → label ≡ sent_bytes (map_cell s.shape s.hierarchy (bits_of labels q))) → ((p : ℕ) → kd ≡ Payload p → p ≡ q)
-    → bytes_sent (source_of kd (reference k)) turned label ≡ sent_bytes (cell_of_kind s (number frame l) (bits_of labels) k kd)
-kind_sent m s frame l word turned cells lists labels k q Continual label ready is same = pilot_bytes (reference k) turned label ∙ ap sent_bytes (pilot s (number frame l) (bits_of labels) k)
-kind_sent m s frame l word turned cells lists labels k q Scattered label ready is same = pilot_bytes (reference k) turned label ∙ ap sent_bytes (scattered s (number frame l) (bits_of labels) k)
-kind_sent m s frame l word turned cells lists labels k q Tps label ready is same = signal_bytes (reference k) turned label ∙ ap sent_bytes (signal m s frame l word turned cells lists (bits_of labels) k ready)
-kind_sent m s frame l word turned cells lists labels k q (Payload p) label ready is same =
+kind_sent : (now next : Settings) (m : ℕ) (turned : Bool) (labels : List ℕ) (k q : ℕ) (kd : CarrierKind) (label : List ℕ) → turned ≡ is_turned (tps_word (signalled next (frame_of m))) (m % 68)
+    → (kd ≡ Payload q → label ≡ sent_bytes (map_cell now.shape now.hierarchy (bits_of labels q))) → ((p : ℕ) → kd ≡ Payload p → p ≡ q)
+    → bytes_sent (source_of kd (reference k)) turned label ≡ sent_bytes (cell_of_kind (settings_for now next kd) m (bits_of labels) k kd)
+kind_sent now next m turned labels k q Continual label e is same = pilot_bytes (reference k) turned label ∙ ap sent_bytes (pilot now m (bits_of labels) k)
+kind_sent now next m turned labels k q Scattered label e is same = pilot_bytes (reference k) turned label ∙ ap sent_bytes (scattered now m (bits_of labels) k)
+kind_sent now next m turned labels k q Tps label e is same = signal_bytes (reference k) turned label ∙ ap sent_bytes (signal next m turned (bits_of labels) k e)
+kind_sent now next m turned labels k q (Payload p) label e is same =
     let number_is : p ≡ q = same p refl in
-    is (ap Payload number_is) ∙ ap (λ (z : ℕ). sent_bytes (map_cell s.shape s.hierarchy (bits_of labels z))) (sym number_is) ∙ ap sent_bytes (data_cell s (number frame l) labels k p)
+    is (ap Payload number_is) ∙ ap (λ (z : ℕ). sent_bytes (map_cell now.shape now.hierarchy (bits_of labels z))) (sym number_is) ∙ ap sent_bytes (data_cell now m labels k p)
 
 number_in : CarrierKind → ℕ
 number_in Continual = 0
@@ -183,42 +160,29 @@ unfolding number_in
 payload_same p q e = ap number_in e
 
 -- a carrier's bytes are those of its cell
-pub carrier_sent : (m : Mode) (s : Settings) (frame l : ℕ) (word : List Bool) (turned : Bool) (cells : List (List ℕ)) (lists : List (List Source)) (v : NextSymbol) (labels : List ℕ) (k next : ℕ) (source : Source) (label : List ℕ)
-    → IsReady m s frame l word turned cells lists → record { settings = s; number = number frame l } ≡ v → source ≡ source_of (kind m (v.number % 68) k) (reference k) → next ≡ labels_before m (v.number % 68) k
-    → (source ≡ Label → label ≡ sent_bytes (map_cell s.shape s.hierarchy (bits_of labels next)))
-    → bytes_sent source turned label ≡ sent_bytes (cell_at v.settings v.number (bits_of labels) k)
-carrier_sent m s frame l word turned cells lists v labels k next source label ready seen e en is =
-    let in_frame : v.number % 68 ≡ l = ap (λ (z : NextSymbol). z.number % 68) (sym seen) ∙ (omega (arith, ready.symbol)) in
-    let here : source ≡ source_of (kind m l k) (reference k) = e ∙ ap (λ (z : ℕ). source_of (kind m z k) (reference k)) in_frame in
-    let before : next ≡ labels_before m l k = en ∙ ap (λ (z : ℕ). labels_before m z k) in_frame in
-    ap (λ (z : Source). bytes_sent z turned label) here
-    ∙ kind_sent m s frame l word turned cells lists labels k next (kind m l k) label ready (λ p. is (here ∙ ap (λ (z : CarrierKind). source_of z (reference k)) p))
-    (λ p ep. let label_source : source ≡ Label = here ∙ ap (λ (z : CarrierKind). source_of z (reference k)) ep in
-    payload_same p next (sym ep ∙ is_next_label m l k source here label_source ∙ ap Payload (sym before)))
-    ∙ ap sent_bytes (by_kind m s frame l word turned cells lists v (bits_of labels) k (kind m l k) ready seen refl)
-
-pub in_frame : (m : Mode) (s : Settings) (frame l : ℕ) (word : List Bool) (turned : Bool) (cells : List (List ℕ)) (lists : List (List Source)) (v : NextSymbol)
-    → IsReady m s frame l word turned cells lists → record { settings = s; number = number frame l } ≡ v → v.number % 68 ≡ l
-in_frame m s frame l word turned cells lists v ready seen = ap (λ (z : NextSymbol). z.number % 68) (sym seen) ∙ (omega (arith, ready.symbol))
+pub carrier_sent : (mo : Mode) (now next : Settings) (m l : ℕ) (turned : Bool) (labels : List ℕ) (k q : ℕ) (source : Source) (label : List ℕ) → now.mode ≡ mo → m % 68 ≡ l → turned ≡ is_turned (tps_word (signalled next (frame_of m))) (m % 68)
+    → source ≡ source_of (kind mo l k) (reference k) → q ≡ labels_before mo l k → label ≡ sent_bytes (map_cell now.shape now.hierarchy (bits_of labels q))
+    → bytes_sent source turned label ≡ sent_bytes (announcing_cell now next m (bits_of labels) k)
+unfolding announcing_cell
+carrier_sent mo now next m l turned labels k q source label em el et e eq is =
+    let same : kind mo l k ≡ kind now.mode (m % 68) k = ap (λ (z : Mode). kind z l k) (sym em) ∙ ap (λ (z : ℕ). kind now.mode z k) (sym el) in
+    ap (λ (z : Source). bytes_sent z turned label) e
+    ∙ kind_sent now next m turned labels k q (kind mo l k) label et (λ p. is)
+    (λ p ep. let label_source : source ≡ Label = e ∙ ap (λ (z : CarrierKind). source_of z (reference k)) ep in
+    payload_same p q (sym ep ∙ is_next_label mo l k source e label_source ∙ ap Payload (sym eq)))
+    ∙ ap (λ (z : CarrierKind). sent_bytes (cell_of_kind (settings_for now next z) m (bits_of labels) k z)) same
 
 -- a label that is sent is one of the symbol's
-pub label_below : (m n : Mode) (l number k next : ℕ) (source : Source) → AreNumbered n l → n ≡ m → number % 68 ≡ l → k < carriers m
-    → source ≡ source_of (kind m (number % 68) k) (reference k) → next ≡ labels_before m (number % 68) k → source ≡ Label → next < payload m
-label_below m n l number k next source numbered same place few e en is =
-    let here : kind m l k ≡ Payload next = ap (λ (z : ℕ). kind m z k) (sym place) ∙ is_next_label m (number % 68) k source e is ∙ ap Payload (sym en) in
+pub label_below : (m n : Mode) (l k next : ℕ) (source : Source) → AreNumbered n l → n ≡ m → k < carriers m → source ≡ source_of (kind m l k) (reference k) → next ≡ labels_before m l k → source ≡ Label → next < payload m
+label_below m n l k next source numbered same few e en is =
+    let here : kind m l k ≡ Payload next = is_next_label m l k source e is ∙ ap Payload (sym en) in
     let all : AreNumbered m l = subst (λ (z : Mode). AreNumbered z l) same numbered in
     ((all k next few).0 here).0
 
-pub never_label : (source : Source) → labels_of source ≡ 0 → source ≡ Label → ⊥
-never_label source none is = let one : labels_of source ≡ 1 = ap labels_of is in omega (arith, none, one)
-
 -- the carriers of a symbol send what those of the symbol at its place among four do
-pub source_at : (m : Mode) (s : Settings) (frame l : ℕ) (word : List Bool) (turned : Bool) (cells : List (List ℕ)) (lists : List (List Source)) (v : NextSymbol) (k : ℕ) (d : List Source) (e : Source)
-    → IsReady m s frame l word turned cells lists → record { settings = s; number = number frame l } ≡ v → k < carriers m → kind m l k ≡ kind m (l % 4) k
-    → get_or (get_or lists (l % 4) d) k e ≡ source_of (kind m (v.number % 68) k) (reference k)
-source_at m s frame l word turned cells lists v k d e ready seen few repeats =
-    let in_frame : l ≡ v.number % 68 = (omega (arith, ready.symbol)) ∙ ap (λ (z : NextSymbol). z.number % 68) seen in
-    ready.send (l % 4) d (omega arith) k e few ∙ ap (λ (z : CarrierKind). source_of z (reference k)) (sym repeats) ∙ ap (λ (z : ℕ). source_of (kind m z k) (reference k)) in_frame
+pub source_at : (m : Mode) (l : ℕ) (lists : List (List Source)) (k : ℕ) (d : List Source) (e : Source) → AreAllSources m lists → k < carriers m → kind m l k ≡ kind m (l % 4) k
+    → get_or (get_or lists (l % 4) d) k e ≡ source_of (kind m l k) (reference k)
+source_at m l lists k d e send few repeats = send (l % 4) d (omega arith) k e few ∙ ap (λ (z : CarrierKind). source_of z (reference k)) (sym repeats)
 
 pub sources_more : (m : Mode) (l : ℕ) (list : List Source) (n : ℕ) (source : Source) → AreSources m l list n → n < length list → source ≡ source_of (kind m l n) (reference n) → AreSources m l (set list n source) (n + 1)
 sources_more m l list n source a within is k d less = go (cases_lt k n)
@@ -228,67 +192,49 @@ sources_more m l list n source a within is k d less = go (cases_lt k n)
     go (inr ge) = let same : n ≡ k = omega (arith, less, ge) in
         subst (λ (z : ℕ). get_or (set list n source) z d ≡ source_of (kind m l z) (reference z)) same (get_or-set_same list n source d within ∙ is)
 
-pub labels_table_more : (s : Settings) (cells : List (List ℕ)) (n : ℕ) (bytes : List ℕ) → IsLabelTable s cells n → n < length cells → bytes ≡ sent_bytes (map_cell s.shape s.hierarchy (is_set n)) → IsLabelTable s (set cells n bytes) (n + 1)
-labels_table_more s cells n bytes t within is k d less = go (cases_lt k n)
+pub labels_table_more : (s : Shape) (h : Hierarchy) (cells : List (List ℕ)) (n : ℕ) (bytes : List ℕ) → IsLabelTable s h cells n → n < length cells → bytes ≡ sent_bytes (map_cell s h (is_set n)) → IsLabelTable s h (set cells n bytes) (n + 1)
+labels_table_more s h cells n bytes t within is k d less = go (cases_lt k n)
   where
-    go : (k < n) ⊎ (n ≤ k) → get_or (set cells n bytes) k d ≡ sent_bytes (map_cell s.shape s.hierarchy (is_set k))
+    go : (k < n) ⊎ (n ≤ k) → get_or (set cells n bytes) k d ≡ sent_bytes (map_cell s h (is_set k))
     go (inl lt) = let other : k ≢ n = omega (arith, lt) in get_or-set_other cells n k bytes d other ∙ t k d lt
     go (inr ge) = let same : n ≡ k = omega (arith, less, ge) in
-        subst (λ (z : ℕ). get_or (set cells n bytes) z d ≡ sent_bytes (map_cell s.shape s.hierarchy (is_set z))) same (get_or-set_same cells n bytes d within ∙ is)
+        subst (λ (z : ℕ). get_or (set cells n bytes) z d ≡ sent_bytes (map_cell s h (is_set z))) same (get_or-set_same cells n bytes d within ∙ is)
 
--- the next symbol of the frame
-pub within_frame : (m : Mode) (s : Settings) (frame l : ℕ) (word : List Bool) (turned : Bool) (cells : List (List ℕ)) (lists : List (List Source)) → IsReady m s frame l word turned cells lists → l < 67 → IsReady m s frame (l + 1) word (xor turned (get_or word l false)) cells lists
+-- one bit more of a TPS word
+pub turned_more : (word : List Bool) (l : ℕ) → xor (is_turned word l) (bit word l) ≡ is_turned word (l + 1)
 unfolding is_turned
-within_frame m s frame l word turned cells lists ready less =
-    let next : suc l ≡ l + 1 = omega arith in
-    record {
-      mode = ready.mode;
-      first = ready.first;
-      last = ready.last;
-      symbol = omega arith;
-      word_is = ready.word_is;
-      turned_is = ap (λ (b : Bool). xor b (get_or word l false)) ready.turned_is ∙ ap (is_turned word) next;
-      table = ready.table;
-      send = ready.send;
-    }
+turned_more word l = let next : suc l ≡ l + 1 = omega arith in ap (is_turned word) next
 
--- the first symbol of the next frame
-pub next_frame : (m : Mode) (s : Settings) (frame l : ℕ) (word new : List Bool) (turned : Bool) (cells : List (List ℕ)) (lists : List (List Source)) → IsReady m s frame l word turned cells lists → new ≡ tps_word (signalled s (frame % 4 + 1)) → IsReady m s (frame % 4 + 1) 0 new false cells lists
+pub not_turned : (word : List Bool) → false ≡ is_turned word 0
 unfolding is_turned
-next_frame m s frame l word new turned cells lists ready is =
-    record { mode = ready.mode; first = omega arith; last = omega arith; symbol = omega arith; word_is = is; turned_is = refl; table = ready.table; send = ready.send }
+not_turned word = refl
 
 -- the bytes of the first n carriers of a symbol
-unfoldable pub carrier_bytes : Settings → ℕ → (ℕ → ℕ → Bool) → ℕ → List ℕ
-carrier_bytes s m labels n = flat_map (λ k. sent_bytes (cell_at s m labels k)) (numbers n)
+unfoldable pub carrier_bytes : Settings → Settings → ℕ → (ℕ → ℕ → Bool) → ℕ → List ℕ
+carrier_bytes s t m labels n = flat_map (λ k. sent_bytes (announcing_cell s t m labels k)) (numbers n)
 
-pub no_carriers : (s : Settings) (m : ℕ) (labels : ℕ → ℕ → Bool) → carrier_bytes s m labels 0 ≡ []
+pub no_carriers : (s t : Settings) (m : ℕ) (labels : ℕ → ℕ → Bool) → carrier_bytes s t m labels 0 ≡ []
 unfolding carrier_bytes numbers
-no_carriers s m labels = refl
+no_carriers s t m labels = refl
 
-pub one_carrier : (s : Settings) (m : ℕ) (labels : ℕ → ℕ → Bool) (n : ℕ) → carrier_bytes s m labels (n + 1) ≡ carrier_bytes s m labels n ++ sent_bytes (cell_at s m labels n)
+pub one_carrier : (s t : Settings) (m : ℕ) (labels : ℕ → ℕ → Bool) (n : ℕ) → carrier_bytes s t m labels (n + 1) ≡ carrier_bytes s t m labels n ++ sent_bytes (announcing_cell s t m labels n)
 unfolding carrier_bytes
-one_carrier s m labels n =
-    ap (flat_map (λ k. sent_bytes (cell_at s m labels k))) (numbers_end n)
-    ∙ flat_map-append (λ k. sent_bytes (cell_at s m labels k)) (numbers n) (n ∷ [])
-    ∙ ap (λ (z : List ℕ). flat_map (λ k. sent_bytes (cell_at s m labels k)) (numbers n) ++ z) (append-nil (sent_bytes (cell_at s m labels n)))
+one_carrier s t m labels n =
+    ap (flat_map (λ k. sent_bytes (announcing_cell s t m labels k))) (numbers_end n)
+    ∙ flat_map-append (λ k. sent_bytes (announcing_cell s t m labels k)) (numbers n) (n ∷ [])
+    ∙ ap (λ (z : List ℕ). flat_map (λ k. sent_bytes (announcing_cell s t m labels k)) (numbers n) ++ z) (append-nil (sent_bytes (announcing_cell s t m labels n)))
 
-pub whole_symbol : (s : Settings) (m : ℕ) (labels : ℕ → ℕ → Bool) (n : ℕ) → n ≡ carriers s.mode → carrier_bytes s m labels n ≡ symbol_bytes s m labels
-unfolding carrier_bytes symbol_bytes
-whole_symbol s m labels n e = ap (λ (z : ℕ). flat_map (λ k. sent_bytes (cell_at s m labels k)) (numbers z)) e
+pub whole_symbol : (s t : Settings) (m : ℕ) (labels : ℕ → ℕ → Bool) (n : ℕ) → n ≡ carriers s.mode → carrier_bytes s t m labels n ≡ announcing_bytes s t m labels
+unfolding carrier_bytes announcing_bytes
+whole_symbol s t m labels n e = ap (λ (z : ℕ). flat_map (λ k. sent_bytes (announcing_cell s t m labels k)) (numbers z)) e
 
--- the first symbol of a super-frame
-pub at_start : (m : Mode) (s : Settings) (word : List Bool) (cells : List (List ℕ)) (a b c d : List Source) → s.mode ≡ m → word ≡ tps_word (signalled s 1) → IsLabelTable s cells (2 ^ label_bits s.shape)
-    → AreSources m 0 a (carriers m) → AreSources m 1 b (carriers m) → AreSources m 2 c (carriers m) → AreSources m 3 d (carriers m) → IsReady m s 1 0 word false cells (a ∷ b ∷ c ∷ d ∷ [])
-unfolding is_turned
-at_start m s word cells a b c d mode is table sa sb sc sd = record { mode = mode; first = omega arith; last = omega arith; symbol = omega arith; word_is = is; turned_is = refl; table = table; send = send }
-  where
-    send : (i : ℕ) (e : List Source) → i < 4 → AreSources m i (get_or (a ∷ b ∷ c ∷ d ∷ []) i e) (carriers m)
-    send zero e l = sa
-    send (suc zero) e l = sb
-    send (suc (suc zero)) e l = sc
-    send (suc (suc (suc zero))) e l = sd
-    send (suc (suc (suc (suc i)))) e l = absurd (omega (arith, l))
+-- the symbols 0 to 3
+pub all_sources : (m : Mode) (a b c d : List Source) → AreSources m 0 a (carriers m) → AreSources m 1 b (carriers m) → AreSources m 2 c (carriers m) → AreSources m 3 d (carriers m) → AreAllSources m (a ∷ b ∷ c ∷ d ∷ [])
+all_sources m a b c d sa sb sc sd zero e l = sa
+all_sources m a b c d sa sb sc sd (suc zero) e l = sb
+all_sources m a b c d sa sb sc sd (suc (suc zero)) e l = sc
+all_sources m a b c d sa sb sc sd (suc (suc (suc zero))) e l = sd
+all_sources m a b c d sa sb sc sd (suc (suc (suc (suc i)))) e l = absurd (omega (arith, l))
 
 pub few_carriers : (m : Mode) → carriers m ≤ 6817
 few_carriers M2k = omega arith
@@ -327,14 +273,6 @@ five_pushed old p ws xs ys zs new five ew ex ey ez en =
 
     f : ℕ
     f = get_or p 4 0
-
--- the bytes of a label
-pub label_sent : (m : Mode) (s : Settings) (frame l : ℕ) (word : List Bool) (turned : Bool) (cells : List (List ℕ)) (lists : List (List Source)) (v : NextSymbol) (labels : List ℕ) (k next : ℕ) (source : Source) (d : List ℕ)
-    → IsReady m s frame l word turned cells lists → record { settings = s; number = number frame l } ≡ v → source ≡ source_of (kind m (v.number % 68) k) (reference k) → next ≡ labels_before m (v.number % 68) k
-    → source ≡ Label → get_or labels next 0 < 2 ^ label_bits s.shape → get_or cells (get_or labels next 0) d ≡ sent_bytes (cell_at v.settings v.number (bits_of labels) k)
-label_sent m s frame l word turned cells lists v labels k next source d ready seen e en is small =
-    ap (λ (z : Source). bytes_sent z turned (get_or cells (get_or labels next 0) d)) (sym is)
-    ∙ carrier_sent m s frame l word turned cells lists v labels k next source (get_or cells (get_or labels next 0) d) ready seen e en (λ same. ready.table (get_or labels next 0) d small)
 
 -- symbols repeat after a super-frame, where their labels do
 same_kinds : (s : Settings) (m n : ℕ) (labels : ℕ → ℕ → Bool) (k : ℕ) (kd : CarrierKind) → m % 68 ≡ n % 68 → frame_of m ≡ frame_of n → cell_of_kind s m labels k kd ≡ cell_of_kind s n labels k kd
@@ -404,3 +342,19 @@ unfolding symbol_bytes numbers cell_at
 follows s m numbered labels more same =
     same_below (λ k. sent_bytes (cell_at s m labels k)) (λ k. sent_bytes (cell_at s m more k)) 0 (carriers s.mode)
     (λ i l. ap sent_bytes (follows_kind s m labels more (0 + i) (kind s.mode (m % 68) (0 + i)) (λ q e. ((numbered (0 + i) q (omega (arith, l))).0 e).0) same))
+
+-- a symbol that announces its own settings
+own_kinds : (s : Settings) (kd : CarrierKind) → settings_for s s kd ≡ s
+own_kinds s Continual = refl
+own_kinds s Scattered = refl
+own_kinds s Tps = refl
+own_kinds s (Payload q) = refl
+
+own_cell : (s : Settings) (m : ℕ) (labels : ℕ → ℕ → Bool) (k : ℕ) → announcing_cell s s m labels k ≡ cell_at s m labels k
+unfolding announcing_cell cell_at
+own_cell s m labels k = let kd : CarrierKind = kind s.mode (m % 68) k in ap (λ (z : Settings). cell_of_kind z m labels k kd) (own_kinds s kd)
+
+pub own_symbol : (s : Settings) (m : ℕ) (labels : ℕ → ℕ → Bool) → announcing_bytes s s m labels ≡ symbol_bytes s m labels
+unfolding announcing_bytes symbol_bytes
+own_symbol s m labels =
+    same_flat_map (λ k. sent_bytes (announcing_cell s s m labels k)) (λ k. sent_bytes (cell_at s m labels k)) (λ k. ap sent_bytes (own_cell s m labels k)) (numbers (carriers s.mode))

@@ -1,4 +1,5 @@
 pub mod CellFile
 pub mod Symbol
+pub mod Announcing
 pub mod ReadBack
 pub mod State

@@ -1,9 +1,11 @@
 -- What a builder of symbols keeps.
-use Rattle.std.specs.Prelude.{◌≡◌, ℕ, zero, suc, ◌≤◌, ◌<◌, ◌^◌, Bool, false, if◌then◌else◌, List, get_or, length, count_by, ◌*◌}
+use Rattle.std.specs.Prelude.{◌≡◌, ℕ, zero, suc, ◌≤◌, ◌<◌, Bool, false, if◌then◌else◌, List, get_or, length, count_by, not, true, ◌*◌}
 use Rattle.spec_words.specs.Bits.{bit, xor, is_set}
 use Rattle.spec_words.specs.Words.{numbers}
-use Rattle.mode_set.specs.StreamTable.{carriers, label_bits}
+use Rattle.mode_set.specs.StreamTable.{carriers}
 use Rattle.mode_set.specs.declared.modes.Mode.{Mode}
+use Rattle.mode_set.specs.declared.modes.Shape.{Shape}
+use Rattle.mode_set.specs.declared.modes.Hierarchy.{Hierarchy}
 use Rattle.mode_set.specs.declared.settings.Settings.{Settings}
 use Rattle.pilots.specs.declared.carrier_kind.CarrierKind.{CarrierKind}
 use Rattle.pilots.specs.declared.carrier_kind.CarrierKind.TheVariants.{Continual, Scattered, Tps, Payload}
@@ -11,8 +13,7 @@ use Rattle.pilots.specs.Carriers.{kind, is_payload}
 use Rattle.pilots.specs.Reference.{reference}
 use Rattle.qam_map.specs.declared.cell.Cell.{Cell}
 use Rattle.qam_map.specs.Points.{map_cell}
-use Rattle.tps_word.specs.Tps.{tps_word, signalled}
-use Rattle.frame_build.specs.Symbol.{sent_bytes, cells_from, weights_from}
+use Rattle.frame_build.specs.Symbol.{real, sent_bytes, cells_from, weights_from}
 use Rattle.frame_build.specs.declared.source.Source.{Source}
 use Rattle.frame_build.specs.declared.source.Source.TheVariants.{Label, Pilot, OppositePilot, Signalling, OppositeSignalling}
 
@@ -27,8 +28,8 @@ is_turned word zero = false
 is_turned word (suc l) = xor (is_turned word l) (bit word l)
 
 -- the bytes of the cells of all labels
-abbrev pub IsLabelTable : Settings → List (List ℕ) → ℕ → Type 0
-IsLabelTable s cells n = (label : ℕ) (d : List ℕ) → label < n → get_or cells label d ≡ sent_bytes (map_cell s.shape s.hierarchy (is_set label))
+abbrev pub IsLabelTable : Shape → Hierarchy → List (List ℕ) → ℕ → Type 0
+IsLabelTable s h cells n = (label : ℕ) (d : List ℕ) → label < n → get_or cells label d ≡ sent_bytes (map_cell s h (is_set label))
 
 -- what a carrier sends, by its kind and by its bit of the reference sequence
 abbrev pub source_of : CarrierKind → Bool → Source
@@ -53,16 +54,22 @@ labels_before m l k = count_by (is_payload m l) (numbers k)
 abbrev pub AreSources : Mode → ℕ → List Source → ℕ → Type 0
 AreSources m l list n = (k : ℕ) (d : Source) → k < n → get_or list k d ≡ source_of (kind m l k) (reference k)
 
--- the next symbol, its frame's TPS word, the table of the labels, and those of the carriers
-pub record IsReady (m : Mode) (s : Settings) (frame l : ℕ) (word : List Bool) (turned : Bool) (cells : List (List ℕ)) (lists : List (List Source)) : Type 0 where
+abbrev pub AreAllSources : Mode → List (List Source) → Type 0
+AreAllSources m lists = (i : ℕ) (d : List Source) → i < 4 → AreSources m i (get_or lists i d) (carriers m)
+
+-- the bytes of what a carrier sends, where the TPS cells are turned or not, and a label has these
+abbrev pub bytes_sent : Source → Bool → List ℕ → List ℕ
+bytes_sent Label turned label = label
+bytes_sent Pilot turned label = sent_bytes (real 21845 false)
+bytes_sent OppositePilot turned label = sent_bytes (real 21845 true)
+bytes_sent Signalling turned label = sent_bytes (real 16384 turned)
+bytes_sent OppositeSignalling turned label = sent_bytes (real 16384 (not turned))
+
+-- the next symbol of a super-frame, and what the carriers of the symbols 0 to 3 send
+pub record IsReady (m : Mode) (s : Settings) (number : ℕ) (lists : List (List Source)) : Type 0 where
   pub mode : s.mode ≡ m
-  pub first : 1 ≤ frame
-  pub last : frame ≤ 4
-  pub symbol : l < 68
-  pub word_is : word ≡ tps_word (signalled s frame)
-  pub turned_is : turned ≡ is_turned word l
-  pub table : IsLabelTable s cells (2 ^ label_bits s.shape)
-  pub send : (i : ℕ) (d : List Source) → i < 4 → AreSources m i (get_or lists i d) (carriers m)
+  pub within : number < 272
+  pub send : AreAllSources m lists
 
 -- a symbol of k carriers of which some bytes were taken; a whole one has its cells and their weights
 pub record IsTaking (k filled : ℕ) (bytes : List ℕ) (cells : List Cell) (weights : List ℕ) : Type 0 where

@@ -1,5 +1,6 @@
 // Facts about symbols, each as what an empty function ensures.
 ghost use Rattle.std.specs.Prelude.{◌≡◌, ℕ, ◌%◌, Bool};
+ghost use Rattle.frame_build.specs.Announcing.{announcing_bytes};
 ghost use Rattle.frame_build.specs.ReadBack.{CellsAreReadBack, FiveBytesACell, WeightsAreReadBack};
 ghost use Rattle.frame_build.specs.Symbol.{Agree, symbol_bytes};
 
@@ -18,6 +19,11 @@ pub fn symbols_follow_labels(settings: &Settings, m: u64)
 {
     payload_carriers_are_numbered(settings.mode, (m % 68) as u8);
 }
+
+/// A symbol that announces its own settings is that of a transmission whose parameters do not change.
+pub fn symbols_announce_themselves(settings: &Settings, m: u64)
+    ensures { (labels : ℕ → ℕ → Bool) → announcing_bytes settings.now settings.now m labels ≡ symbol_bytes settings.now m labels }
+{}
 
 /// The cells of a list that fit 16 bits on both axes, and weights of 15 at most, are read back from the
 /// five bytes of each.

@@ -8,6 +8,7 @@
 
 mod cell_file;
 mod five_bytes;
+mod label_cells;
 mod laws;
 mod source;
 mod symbol_in;
@@ -15,6 +16,8 @@ mod symbol_out;
 
 pub use cell_file::header;
 pub use five_bytes::{cell_bytes, push_five};
-pub use laws::{cells_are_read_back, symbols_follow_labels, symbols_repeat};
+pub use laws::{
+    cells_are_read_back, symbols_announce_themselves, symbols_follow_labels, symbols_repeat,
+};
 pub use symbol_in::SymbolIn;
 pub use symbol_out::SymbolOut;

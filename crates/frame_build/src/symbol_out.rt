@@ -1,89 +1,103 @@
 // From labels to the bytes of a symbol.
-ghost use Rattle.std.specs.Prelude.{◌≡◌, ℕ, ◌+◌, ◌-◌, ◌*◌, ◌/◌, ◌%◌, ◌^◌, ◌<◌, ◌≤◌, ◌++◌, ◌⊎◌, pos, get_or, length, vec_len, vec_capacity};
-ghost use Rattle.mode_set.specs.StreamTable.{carriers, payload, label_bits};
-ghost use Rattle.mode_set.specs.declared.settings.Settings.{Settings as TheSettings};
+ghost use Rattle.std.specs.Prelude.{◌≡◌, ℕ, ◌+◌, ◌*◌, ◌%◌, ◌^◌, ◌<◌, ◌≤◌, ◌++◌, get_or, length, vec_len, vec_capacity};
+ghost use Rattle.mode_set.specs.Entries.{with_entry};
+ghost use Rattle.mode_set.specs.StreamTable.{label_bits};
 ghost use Rattle.pilots.specs.Carriers.{kind};
 ghost use Rattle.pilots.specs.Reference.{reference};
-ghost use Rattle.frame_build.specs.Symbol.{bits_of, cell_at, real, sent_bytes, symbol_bytes};
-ghost use Rattle.frame_build.specs.State.{IsLabelTable, labels_before, source_of};
+ghost use Rattle.tps_word.specs.Tps.{signalled, tps_word};
+ghost use Rattle.frame_build.specs.Symbol.{bits_of, frame_of};
+ghost use Rattle.frame_build.specs.Announcing.{announcing_bytes};
+ghost use Rattle.frame_build.specs.State.{AreAllSources, is_turned, source_of};
 
-use crate::five_bytes::{cell_bytes, push_five};
+use crate::five_bytes::push_five;
+use crate::label_cells::LabelCells;
 use crate::source::{Source, sources};
-use mode_set::{Carriers, Settings, Shape};
+use mode_set::{Carriers, Entry, Settings};
 use pilots::{kinds_repeat, payload_carriers_are_numbered};
-use qam_map::{Cell, map};
 use std::marker::{Model, PhantomData};
 use tps_word::TpsWord;
 
-fn on_real_axis(value: i16, opposite: bool) -> Cell
-    requires { value ≡ pos 21845 ⊎ value ≡ pos 16384 }
-    ensures { (n : ℕ) → value ≡ pos n → result ≡ real n opposite }
+// What carrier `k` of symbol `l` sends, which is what it sends in the symbol at its place among four.
+fn source<M: Carriers>(sources: &[[Source; 6817]; 4], l: u8, k: u32) -> Source
+    requires symbol { l < 68 }
+    requires carrier { k < M.K }
+    requires send { AreAllSources M.MODE sources.now }
+    ensures { result ≡ source_of (kind M.MODE l k) (reference k) }
 {
-    Cell {
-        re: if opposite { -value } else { value },
-        im: 0,
-    }
+    kinds_repeat(M::MODE, l);
+    sources[(l % 4) as usize][k as usize]
 }
 
-// What is sent counts whole.
-#[tactic(auto, unfolding(crate::specs::Symbol::sent_bytes))]
-fn bytes_of(cell: Cell) -> [u8; 5]
-    ensures { result ≡ sent_bytes cell }
+// Whether the bits before symbol `number` in the TPS word of its frame turn the sign of the TPS cells.
+fn turned_at(settings: &Settings, number: u16) -> bool
+    requires { number < 272 }
+    ensures { result ≡ is_turned (tps_word (signalled settings.now (frame_of number))) (number % 68) }
 {
-    cell_bytes(cell, 15)
+    let word = TpsWord::signalled(settings, (number / 68) as u8 + 1).write();
+    let mut turned = false;
+    for l in 0..(number % 68) as usize {
+        turned ^= word[l];
+    }
+    turned
 }
 
-fn label_count(shape: Shape) -> u8
-    ensures count { result ≡ 2 ^ label_bits shape }
-    ensures few { result ≤ 64 }
+// Appends symbol `number` of a super-frame: its payload carriers carry the labels, and its TPS cells
+// announce the settings of the next super-frame.
+fn push_symbol<M: Carriers>(
+    settings: &Settings,
+    next: &Settings,
+    number: u16,
+    label_cells: &LabelCells,
+    sources: &[[Source; 6817]; 4],
+    labels: &[u8],
+    to: &mut Vec<u8>,
+)
+    requires mode { settings.now.mode ≡ M.MODE }
+    requires number { number < 272 }
+    requires shape { label_cells.now.shape ≡ settings.now.shape }
+    requires hierarchy { label_cells.now.hierarchy ≡ settings.now.hierarchy }
+    requires send { AreAllSources M.MODE sources.now }
+    requires count { length labels.now ≡ M.NMAX }
+    requires small { (q : ℕ) → q < M.NMAX → get_or labels.now q 0 < 2 ^ label_bits settings.now.shape }
+    requires spare { vec_len to.old + 5 * M.K ≤ vec_capacity to.old }
+    ensures bytes { to.new.items ≡ to.old.items ++ announcing_bytes settings.now next.now number (bits_of labels.now) }
+    ensures len { vec_len to.new ≡ vec_len to.old + 5 * M.K }
+    ensures capacity { vec_capacity to.new ≡ vec_capacity to.old }
 {
-    match shape {
-        Shape::Qpsk => 4,
-        Shape::Qam16 => 16,
-        Shape::Qam64 => 64,
+    let l = (number % 68) as u8;
+    payload_carriers_are_numbered(M::MODE, l);
+    let turned = turned_at(next, number);
+    let mut sent = 0;
+    for k in 0..M::K {
+        let source = source::<M>(sources, l, k);
+        push_five(label_cells.bytes(source, turned, labels, sent), to);
+        sent = source.after(sent);
     }
-}
-
-// The bytes of the cells of all labels of a constellation, by label.
-fn label_cells(settings: &Settings) -> [[u8; 5]; 64]
-    ensures { IsLabelTable settings.now result (2 ^ label_bits settings.now.shape) }
-{
-    let mut cells = [[0; 5]; 64];
-    for label in 0..label_count(settings.shape) {
-        cells[label as usize] = bytes_of(map(settings.shape, settings.hierarchy, label));
-    }
-    cells
 }
 
 /// Builds the symbols of a transmission one after another: labels on the payload carriers, pilots and
 /// TPS cells on the others (EN 300 744, 4.4 to 4.6).
 ///
 /// It is seen as its settings and the number of the next symbol in its super-frame of 272 symbols,
-/// which has four frames of 68.
+/// which has four frames of 68. Each call is told the parameters of its symbol.
 #[derive(Drop)]
 pub struct SymbolOut<M: Carriers> {
     settings: Settings,
-    // The frame, 1 to 4, and the symbol in it.
-    frame: u8,
-    symbol: u8,
-    word: [bool; 67],
-    // Whether the TPS bits so far turn the sign of the TPS cells.
-    turned: bool,
-    // The bytes of the cells of the labels, and what the carriers of the symbols 0 to 3 send, which the others repeat.
-    cells: [[u8; 5]; 64],
+    number: u16,
+    label_cells: LabelCells,
+    // What the carriers of the symbols 0 to 3 send, which the others repeat.
     sources: [[Source; 6817]; 4],
     of: PhantomData<M>,
 }
 
 impl<M: Carriers> Model for SymbolOut<M> {
-    ghost use Rattle.std.specs.Prelude.{◌+◌, ◌-◌, ◌*◌};
     ghost use Rattle.frame_build.specs.State.{IsReady, NextSymbol};
 
     ghost Value = { NextSymbol };
 
-    ghost view = { λ o. record { settings = o.settings; number = 68 * (o.frame - 1) + o.symbol } };
+    ghost view = { λ o. record { settings = o.settings; number = o.number } };
 
-    ghost invariant = { λ o. IsReady M.MODE o.settings o.frame o.symbol o.word o.turned o.cells o.sources };
+    ghost invariant = { λ o. IsReady M.MODE o.settings o.number o.sources };
 }
 
 impl<M: Carriers> SymbolOut<M> {
@@ -95,11 +109,8 @@ impl<M: Carriers> SymbolOut<M> {
     {
         SymbolOut {
             settings: *settings,
-            frame: 1,
-            symbol: 0,
-            word: TpsWord::signalled(settings, 1).write(),
-            turned: false,
-            cells: label_cells(settings),
+            number: 0,
+            label_cells: LabelCells::new(settings.shape, settings.hierarchy),
             sources: [
                 sources::<M>(0),
                 sources::<M>(1),
@@ -110,67 +121,32 @@ impl<M: Carriers> SymbolOut<M> {
         }
     }
 
-    // What carrier `k` of the next symbol sends.
-    fn source(&self, k: u32) -> Source
-        requires { k < M.K }
-        ensures { result ≡ source_of (kind M.MODE (self.now.number % 68) k) (reference k) }
-    {
-        kinds_repeat(M::MODE, self.symbol);
-        self.sources[(self.symbol % 4) as usize][k as usize]
-    }
-
-    // The bytes of a carrier that sends this, behind those that sent the first `next` labels.
-    fn bytes(&self, source: Source, labels: &[u8], next: usize) -> [u8; 5]
-        requires next { source ≡ Source.Label → next < length labels.now }
-        requires small { source ≡ Source.Label → get_or labels.now next 0 < 2 ^ label_bits self.now.settings.shape }
-        ensures { (k : ℕ) → source ≡ source_of (kind M.MODE (self.now.number % 68) k) (reference k) → next ≡ labels_before M.MODE (self.now.number % 68) k
-            → result ≡ sent_bytes (cell_at self.now.settings self.now.number (bits_of labels.now) k) }
-    {
-        match source {
-            Source::Label => self.cells[labels[next] as usize],
-            Source::Pilot => bytes_of(on_real_axis(21845, false)),
-            Source::OppositePilot => bytes_of(on_real_axis(21845, true)),
-            Source::Signalling => bytes_of(on_real_axis(16384, self.turned)),
-            Source::OppositeSignalling => bytes_of(on_real_axis(16384, !self.turned)),
-        }
-    }
-
-    // Goes on to the following symbol.
-    fn advance(&mut self)
-        ensures mode { self.old.settings.mode ≡ M.MODE }
-        ensures settings { self.new.settings ≡ self.old.settings }
-        ensures number { self.new.number ≡ (self.old.number + 1) % 272 }
-    {
-        if self.symbol < 67 {
-            self.turned ^= self.word[self.symbol as usize];
-            self.symbol += 1;
-            return;
-        }
-        self.frame = self.frame % 4 + 1;
-        self.symbol = 0;
-        self.turned = false;
-        self.word = TpsWord::signalled(&self.settings, self.frame).write();
-    }
-
     /// Appends the next symbol, whose payload carriers carry the labels in rising order: bit e of a
-    /// label is y_e of EN 300 744, 4.3.5. The spare of `to` has room for the five bytes of each carrier.
-    pub fn write(&mut self, labels: &[u8], to: &mut Vec<u8>)
+    /// label is y_e of EN 300 744, 4.3.5. `now` has the parameters of the symbol, and its TPS cells
+    /// announce those of `next`, the next super-frame's. The spare of `to` has room for the five bytes of
+    /// each carrier.
+    pub fn write(&mut self, now: &Entry, next: &Entry, labels: &[u8], to: &mut Vec<u8>)
         requires count { length labels.now ≡ M.NMAX }
-        requires small { (q : ℕ) → q < M.NMAX → get_or labels.now q 0 < 2 ^ label_bits self.old.settings.shape }
+        requires small { (q : ℕ) → q < M.NMAX → get_or labels.now q 0 < 2 ^ label_bits now.now.shape }
         requires spare { vec_len to.old + 5 * M.K ≤ vec_capacity to.old }
-        ensures bytes { to.new.items ≡ to.old.items ++ symbol_bytes self.old.settings self.old.number (bits_of labels.now) }
+        ensures bytes { to.new.items ≡ to.old.items ++ announcing_bytes (with_entry self.old.settings now.now) (with_entry self.old.settings next.now) self.old.number (bits_of labels.now) }
         ensures len { vec_len to.new ≡ vec_len to.old + 5 * M.K }
         ensures capacity { vec_capacity to.new ≡ vec_capacity to.old }
         ensures settings { self.new.settings ≡ self.old.settings }
         ensures number { self.new.number ≡ (self.old.number + 1) % 272 }
     {
-        payload_carriers_are_numbered(M::MODE, self.symbol);
-        let mut next = 0;
-        for k in 0..M::K {
-            let source = self.source(k);
-            push_five(self.bytes(source, labels, next), to);
-            next = source.after(next);
-        }
-        self.advance();
+        self.label_cells.turn_to(now.shape, now.hierarchy);
+        let present = self.settings.with_entry(now);
+        let coming = self.settings.with_entry(next);
+        push_symbol::<M>(
+            &present,
+            &coming,
+            self.number,
+            &self.label_cells,
+            &self.sources,
+            labels,
+            to,
+        );
+        self.number = (self.number + 1) % 272;
     }
 }

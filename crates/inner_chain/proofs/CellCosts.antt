@@ -17,7 +17,8 @@ use Rattle.soft_metric.specs.Squares.{IsSmallPair}
 use Rattle.soft_metric.specs.Weights.{full_weight, weighted}
 use Rattle.qam_map.specs.Cells.{cell_of}
 use Rattle.inner_chain.specs.CostPairs.{weight_of, costs_on, weighted_costs_on}
-use Rattle.inner_chain.specs.CostTables.{pair_at, ArePayloadCells, ArePayloadWeights, AreWeights, ArePlanes, PutsCosts, AreCosts, AreCarriers, IsRoom}
+use Rattle.inner_chain.specs.CostTables.{pair_at, ArePayloadCells, ArePayloadWeights, AreWeights, ArePlanes, PutsCosts, AreCosts, AreCarriers, IsRoom, most_places}
+use Rattle.inner_chain.proofs.Entering.{six}
 
 -- ---- the carriers of a symbol
 row : (m : Mode) (a q : ℕ) → q < payload m → ((a * payload m + q) / payload m ≡ a) × ((a * payload m + q) % payload m ≡ q)
@@ -100,10 +101,10 @@ in_room m v e q count l b = let r : (e + 1) * payload m ≤ v * payload m = mul-
 
 pub record HasMore (s : Settings) (cells : List Cell) (weights : List ℕ) (n : ℕ) (new : List (ℕ × ℕ)) : Type 0 where
   pub planes : ArePlanes s cells weights n new
-  pub room : IsRoom s new
+  pub room : IsRoom s.mode new
 
 pub costs_more : (s : Settings) (cells : List Cell) (weights : List ℕ) (e q count : ℕ) (old new : List (ℕ × ℕ)) → e < label_bits s.shape → q + count ≤ payload s.mode
-    → ArePlanes s cells weights (e * payload s.mode + q) old → IsRoom s old → PutsCosts s e q count cells weights old new → HasMore s cells weights (e * payload s.mode + (q + count)) new
+    → ArePlanes s cells weights (e * payload s.mode + q) old → IsRoom s.mode old → PutsCosts s e q count cells weights old new → HasMore s cells weights (e * payload s.mode + (q + count)) new
 costs_more s cells weights e q count old new within fits a r w = record { planes = record { at = at }; room = record { long = w.long ∙ r.long; last = last; small = small } }
   where
     n : ℕ
@@ -122,11 +123,11 @@ costs_more s cells weights e q count old new within fits a r w = record { planes
             ∙ ap (λ z. weighted (costs_at_place s.shape s.hierarchy (slice_index_or cells z d) e) (slice_index weights z)) (sym r.1)
             ∙ ap (λ z. weighted (costs_at_place s.shape s.hierarchy (slice_index_or cells p d) z) (slice_index weights p)) (sym r.0)
 
-    top : e * payload s.mode + q + count ≤ payload s.mode * label_bits s.shape
-    top = in_room s.mode (label_bits s.shape) e q count within fits
+    top : e * payload s.mode + q + count ≤ most_places s.mode
+    top = omega (arith, in_room s.mode (label_bits s.shape) e q count within fits, six (payload s.mode) s.shape)
 
-    last : pair_at new (payload s.mode * label_bits s.shape) ≡ (0, 0)
-    last = w.above (payload s.mode * label_bits s.shape) top ∙ r.last
+    last : pair_at new (most_places s.mode) ≡ (0, 0)
+    last = w.above (most_places s.mode) top ∙ r.last
 
     small : (k : ℕ) → k < length new → IsSmallPair (pair_at new k)
     small k m = go (cases_lt k (e * payload s.mode + q)) (cases_lt k (e * payload s.mode + q + count))

@@ -22,7 +22,7 @@ use Rattle.puncture.specs.SentBits.{sent_bit}
 use Rattle.bit_interleave.specs.Place.{place_in_label, word_of_bit, stands_at, stream_at, IsSent, EachBitIsFound}
 use Rattle.symbol_interleave.specs.Carried.{carried}
 use Rattle.inner_chain.specs.Labels.{parity_at, number_at}
-use Rattle.inner_chain.specs.Tables.{first_step, IsEntry, AppendsEntries}
+use Rattle.inner_chain.specs.Tables.{first_step, IsEntry, AppendsEntries, most_steps}
 
 -- ---- whole periods
 whole_of : (m : Mode) (w : ℕ) (r : Rate) → payload m * w * steps_in_period r / sent_in_period r * sent_in_period r ≡ payload m * w * steps_in_period r
@@ -72,6 +72,20 @@ widths Qam64 Flat = omega arith
 widths Qam64 Alpha1 = omega arith
 widths Qam64 Alpha2 = omega arith
 widths Qam64 Alpha4 = omega arith
+
+shares : (m : Mode) (a b n k : ℕ) → a + b ≤ 6 → 8 * n ≤ 7 * (payload m * a) → 8 * k ≤ 7 * (payload m * b) → n + k ≤ most_steps m
+shares M2k a b n k l p q = omega (arith, l, p, q)
+shares M8k a b n k l p q = omega (arith, l, p, q)
+
+-- no symbol has more steps than one with six bits on each payload carrier at rate 7/8
+pub few_steps : (s : Settings) → need s Hp + need s Lp ≤ most_steps s.mode
+few_steps s =
+    shares s.mode (width s.shape s.hierarchy Hp) (width s.shape s.hierarchy Lp) (need s Hp) (need s Lp) (widths s.shape s.hierarchy)
+    (share (rate s Hp) (coded s Hp) (need s Hp) (whole s Hp)) (share (rate s Lp) (coded s Lp) (need s Lp) (whole s Lp))
+
+pub few_steps_of : (s : Settings) (σ : Stream) → need s σ ≤ most_steps s.mode
+few_steps_of s Hp = omega (arith, few_steps s)
+few_steps_of s Lp = omega (arith, few_steps s)
 
 codeds : (m : Mode) (a b : ℕ) → a + b ≤ 6 → payload m * a + payload m * b ≤ 36288
 codeds M2k a b l = omega arith
@@ -209,3 +223,16 @@ words_more s odd n w old new b a ew = record { long = long; at = at }
             let here : slice_index new (q * v + e) ≡ slice_index a.more e = ap (λ (zs : List ℕ). slice_index zs (q * v + e)) a.is ∙ get_or-append_right old a.more (n * v) (q * v + e) 0 b.long past ∙ ap (slice_index a.more) place in
             let word : IsEntry s e (carried s.mode odd n) (slice_index a.more e) = subst (λ (z : ℕ). IsEntry s e z (slice_index a.more e)) ew (a.at e m) in
             subst (λ (z : ℕ). IsEntry s e (carried s.mode odd q) z) (sym here) (subst (λ (z : ℕ). IsEntry s e (carried s.mode odd z) (slice_index a.more e)) same word)
+
+-- six bits of a label at most
+pub six : (n : ℕ) (c : Shape) → n * label_bits c ≤ 6 * n
+six n Qpsk = omega arith
+six n Qam16 = omega arith
+six n Qam64 = omega arith
+
+-- there is room for the entries of a word more
+pub word_fits : (s : Settings) (q len room first end : ℕ) → len ≡ q * label_bits s.shape → room ≡ first → 6 * payload s.mode ≤ first → q < end → end ≡ payload s.mode → len + label_bits s.shape ≤ room
+word_fits s q len room first end long same spare less whole =
+    let row : (q + 1) * label_bits s.shape ≤ payload s.mode * label_bits s.shape = mul-le-mul_right (label_bits s.shape) (omega (arith, less, whole)) in
+    let all : payload s.mode * label_bits s.shape ≤ 6 * payload s.mode = six (payload s.mode) s.shape in
+    omega (arith, long, same, spare, row, all)

@@ -1,3 +1,4 @@
+mod SameParameters
 mod SentBits
 mod Gathering
 mod Encoding

@@ -1,5 +1,5 @@
 -- A symbol's parities and labels, along the paths of both streams.
-use Rattle.std.proofs.Common.{◌≡◌, ℕ, zero, suc, ◌+◌, ◌-◌, ◌*◌, ◌/◌, ◌%◌, ◌^◌, ◌<◌, ◌≤◌, Bool, List, ◌∷◌, length, take, map, refl, sym, ap, ◌∙◌, subst, arith}
+use Rattle.std.proofs.Common.{◌≡◌, ℕ, zero, suc, ◌+◌, ◌-◌, ◌*◌, ◌/◌, ◌%◌, ◌^◌, ◌<◌, ◌≤◌, Bool, List, [], ◌∷◌, ◌++◌, length, take, map, refl, sym, ap, ◌∙◌, subst, arith}
 use Rattle.std.specs.Prelude.{slice_index}
 use Rattle.std.specs.List.{range_with_len}
 use Rattle.spec_words.specs.Bits.{is_set}
@@ -13,8 +13,8 @@ use Rattle.puncture.specs.SentBits.{bits_from}
 use Rattle.bit_interleave.specs.Place.{stream_at}
 use Rattle.symbol_interleave.specs.Carried.{carried}
 use Rattle.inner_chain.specs.Labels.{Paths, from_step, behind, input_bits, coded_bits, parity_at, number_at, label_bit, AppendsLabels}
-use Rattle.inner_chain.specs.Tables.{first_step, read_bit, AreParities, AreAllParities, AreWithin, IsEntry, AreEntries, AppendsGathered}
-use Rattle.inner_chain.proofs.Entering.{in_all_steps}
+use Rattle.inner_chain.specs.Tables.{first_step, read_bit, AreParities, AreAllParities, AreWithin, IsEntry, AreEntries, AppendsGathered, most_steps}
+use Rattle.inner_chain.proofs.Entering.{few_steps, in_all_steps}
 
 range_from : (path : ℕ → Bool) (n t u k : ℕ) → n + t ≡ u → map (from_step path n) (range_with_len t k) ≡ map path (range_with_len u k)
 range_from path n t u zero e = refl
@@ -55,7 +55,7 @@ row_and_rest Qam64 n k l = (omega (arith, l), omega arith, omega arith)
 stream_below : (s : Settings) (σ : Stream) (n : ℕ) → first_step s σ ≤ n → n < first_step s σ + need s σ → n < need s Hp + need s Lp
 stream_below s σ n l m = omega (arith, l, m, in_all_steps s σ (n - first_step s σ) (omega (arith, l, m)))
 
-pub entries_within : (s : Settings) (odd : Bool) (entries : List ℕ) (len : ℕ) → AreEntries s odd entries → len ≡ 2 * (need s Hp + need s Lp) → AreWithin entries len
+pub entries_within : (s : Settings) (odd : Bool) (entries : List ℕ) (len : ℕ) → AreEntries s odd entries → 2 * most_steps s.mode ≤ len → AreWithin entries len
 entries_within s odd entries len a e = record { at = at }
   where
     at : (k : ℕ) → k < length entries → slice_index entries k < len
@@ -63,7 +63,7 @@ entries_within s odd entries len a e = record { at = at }
         let r = row_and_rest s.shape (payload s.mode) k (omega (arith, l, a.long)) in
         let here : IsEntry s (k % label_bits s.shape) (carried s.mode odd (k / label_bits s.shape)) (slice_index entries k) =
         subst (λ (z : ℕ). IsEntry s (k % label_bits s.shape) (carried s.mode odd (k / label_bits s.shape)) (slice_index entries z)) r.2 (a.at (k / label_bits s.shape) (k % label_bits s.shape) r.0 r.1) in
-        omega (arith, e, stream_below s (stream_at s.hierarchy (k % label_bits s.shape)) (slice_index entries k / 2) here.from here.to)
+        omega (arith, e, few_steps s, stream_below s (stream_at s.hierarchy (k % label_bits s.shape)) (slice_index entries k / 2) here.from here.to)
 
 label_is : (s : Settings) (odd : Bool) (bits : Stream → ℕ → Bool) (q e : ℕ) → label_bit s odd bits q e ≡ bits (stream_at s.hierarchy e) (number_at s e (carried s.mode odd q))
 unfolding label_bit
@@ -104,3 +104,11 @@ labels_are s odd paths entries ps old new number count a en ec all g =
             ∙ ap (read_bit ps) (sym place)
             ∙ all.at σ t (n % 2) (omega (arith, entry.from, entry.to)) (omega arith)
             ∙ sym (entry.reads (paths σ))
+
+-- a list that was written over as a whole
+take_front : {A : Type 0} (xs ys : List A) → take (length xs) (xs ++ ys) ≡ xs
+take_front [] ys = refl
+take_front (x ∷ xs) ys = ap (λ zs. x ∷ zs) (take_front xs ys)
+
+pub written_over : {A : Type 0} (n : ℕ) (xs ys : List A) → n ≡ length xs → take n (xs ++ ys) ≡ xs
+written_over n xs ys e = ap (λ (z : ℕ). take z (xs ++ ys)) e ∙ take_front xs ys

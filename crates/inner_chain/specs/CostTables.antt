@@ -7,6 +7,8 @@ use Rattle.mode_set.specs.declared.modes.Hierarchy.{Hierarchy}
 use Rattle.mode_set.specs.declared.modes.Stream.{Stream}
 use Rattle.mode_set.specs.declared.modes.Stream.TheVariants.{Hp, Lp}
 use Rattle.mode_set.specs.declared.settings.Settings.{Settings}
+use Rattle.mode_set.specs.declared.entry.Entry.{Entry}
+use Rattle.mode_set.specs.Entries.{with_entry}
 use Rattle.code_paths.specs.declared.costs.CostPair.{CostPair}
 use Rattle.puncture.specs.SentBits.{X, Y}
 use Rattle.puncture.specs.Steps.{number_of}
@@ -19,14 +21,19 @@ use Rattle.soft_metric.specs.Squares.{IsSmallPair}
 use Rattle.soft_metric.specs.Weights.{full_weight, weighted}
 use Rattle.qam_map.specs.Cells.{cell_of}
 use Rattle.inner_chain.specs.CostPairs.{weight_of, weighted_costs_on}
+use Rattle.inner_chain.specs.Tables.{most_steps}
 
--- the number of the costs of a coded bit among those of all places of all labels, the last number for an unsent bit
+-- the places of the labels of a symbol, where each has six bits
+abbrev pub most_places : Mode → ℕ
+most_places m = 6 * payload m
+
+-- the number of the costs of a coded bit among those of all places of all labels, the number behind the most for an unsent bit
 abbrev pub entry_at : Settings → Bool → Stream → Option ℕ → ℕ
-entry_at s odd σ None = payload s.mode * label_bits s.shape
+entry_at s odd σ None = most_places s.mode
 entry_at s odd σ (Some d) = place_in_label s.shape s.hierarchy σ d * payload s.mode + place_of_word s.mode odd (word_of_bit s.shape s.hierarchy σ d)
 
 abbrev pub IsSmallEntry : Settings → ℕ → Type 0
-IsSmallEntry s n = n ≤ payload s.mode * label_bits s.shape
+IsSmallEntry s n = n ≤ most_places s.mode
 
 -- the place of a coded bit is one of the symbol's
 abbrev pub IsPlaced : Settings → Bool → Stream → Option ℕ → Type 0
@@ -71,10 +78,10 @@ pair_at costs n = slice_index_or costs n (0, 0)
 pub record AreCosts (s : Settings) (cells : List Cell) (weights : List ℕ) (l : ℕ) (costs : List (ℕ × ℕ)) : Type 0 where
   pub at : (q e : ℕ) → q < payload s.mode → e < label_bits s.shape → pair_at costs (e * payload s.mode + q) ≡ weighted_costs_on s cells weights l q e
 
--- the room for them: its last pair is nothing, and no cost is above 4095
-pub record IsRoom (s : Settings) (costs : List (ℕ × ℕ)) : Type 0 where
-  pub long : length costs ≡ payload s.mode * label_bits s.shape + 1
-  pub last : pair_at costs (payload s.mode * label_bits s.shape) ≡ (0, 0)
+-- the room for those of any labels: its last pair is nothing, and no cost is above 4095
+pub record IsRoom (m : Mode) (costs : List (ℕ × ℕ)) : Type 0 where
+  pub long : length costs ≡ most_places m + 1
+  pub last : pair_at costs (most_places m) ≡ (0, 0)
   pub small : (k : ℕ) → k < length costs → IsSmallPair (pair_at costs k)
 
 -- the weights of all carriers, none above 15
@@ -118,15 +125,24 @@ pub record AppendsRead (costs : List (ℕ × ℕ)) (entries : List ℕ) (n : ℕ
   pub y : (t : ℕ) (d : CostPair) → t < n → ((slice_index_or pairs t d).y0, (slice_index_or pairs t d).y1) ≡ pair_at costs (slice_index entries (2 * t + 1))
   pub is : new ≡ old ++ pairs
 
--- what the receiving side of a mode keeps
-pub record IsRx (m : Mode) (s : Settings) (metric : Shape × Hierarchy) (carrier_table hp_even hp_odd lp_even lp_odd : List ℕ) (costs : List (ℕ × ℕ)) (payload_cells : List Cell) (payload_weights : List ℕ) : Type 0 where
-  pub mode : s.mode ≡ m
+-- a table of the entries of all steps of a stream in a symbol, in room for the most steps
+pub record IsCostTable (s : Settings) (odd : Bool) (σ : Stream) (entries : List ℕ) (room : ℕ) : Type 0 where
+  pub are : AreCostEntries s odd σ (need s σ) entries
+  pub spare : 2 * most_steps s.mode ≤ room
+
+-- the tables of both streams, in the symbols of even and of odd number
+pub record AreCostTables (s : Settings) (metric : Shape × Hierarchy) (hp_even hp_odd lp_even lp_odd : List ℕ) (room1 room2 room3 room4 : ℕ) : Type 0 where
   pub metric_is : metric ≡ (s.shape, s.hierarchy)
+  pub hp_in_even : IsCostTable s false Hp hp_even room1
+  pub hp_in_odd : IsCostTable s true Hp hp_odd room2
+  pub lp_in_even : IsCostTable s false Lp lp_even room3
+  pub lp_in_odd : IsCostTable s true Lp lp_odd room4
+
+-- what the receiving side of a mode keeps: its tables are those of the last symbol's parameters
+pub record IsRx (m : Mode) (s : Settings) (latest : Entry) (metric : Shape × Hierarchy) (carrier_table hp_even hp_odd lp_even lp_odd : List ℕ) (room1 room2 room3 room4 : ℕ) (costs : List (ℕ × ℕ)) (payload_cells : List Cell) (payload_weights : List ℕ) : Type 0 where
+  pub mode : s.mode ≡ m
   pub are_carriers : AreCarriers s.mode (4 * payload s.mode) carrier_table
-  pub hp_in_even : AreCostEntries s false Hp (need s Hp) hp_even
-  pub hp_in_odd : AreCostEntries s true Hp (need s Hp) hp_odd
-  pub lp_in_even : AreCostEntries s false Lp (need s Lp) lp_even
-  pub lp_in_odd : AreCostEntries s true Lp (need s Lp) lp_odd
-  pub room : IsRoom s costs
+  pub tables : AreCostTables (with_entry s latest) metric hp_even hp_odd lp_even lp_odd room1 room2 room3 room4
+  pub room : IsRoom s.mode costs
   pub cells_long : length payload_cells ≡ payload s.mode
   pub weight_room : IsWeightRoom s.mode payload_weights

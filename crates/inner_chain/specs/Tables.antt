@@ -6,6 +6,8 @@ use Rattle.mode_set.specs.declared.modes.Mode.{Mode}
 use Rattle.mode_set.specs.declared.modes.Stream.{Stream}
 use Rattle.mode_set.specs.declared.modes.Stream.TheVariants.{Hp, Lp}
 use Rattle.mode_set.specs.declared.settings.Settings.{Settings}
+use Rattle.mode_set.specs.declared.entry.Entry.{Entry}
+use Rattle.mode_set.specs.Entries.{with_entry}
 use Rattle.puncture.specs.SentBits.{sent_bit, bits_from}
 use Rattle.bit_interleave.specs.Place.{stream_at}
 use Rattle.symbol_interleave.specs.Carried.{carried}
@@ -75,15 +77,24 @@ pub record AppendsEntries (s : Settings) (w count : ℕ) (old new : List ℕ) : 
   pub long : length more ≡ count
   pub at : (e : ℕ) → e < count → IsEntry s e w (slice_index more e)
 
--- what an inner coder of a mode keeps
-pub record IsTx (m : Mode) (s : Settings) (hp lp : List Bool) (even odd : List ℕ) (rows : List (List Bool)) (parities : List Bool) : Type 0 where
+-- the most steps of a symbol: six bits on each payload carrier, at rate 7/8
+abbrev pub most_steps : Mode → ℕ
+most_steps m = 21 * payload m / 4
+
+-- a table of the entries of all labels of a symbol, in room for those of any parameters
+pub record IsLabelTable (s : Settings) (odd : Bool) (entries : List ℕ) (room : ℕ) : Type 0 where
+  pub are : AreEntries s odd entries
+  pub spare : 6 * payload s.mode ≤ room
+
+-- what an inner coder of a mode keeps: its tables are those of the last symbol's parameters, and the room for parities is that of the most steps
+pub record IsTx (m : Mode) (s : Settings) (latest : Entry) (hp lp : List Bool) (even odd : List ℕ) (even_room odd_room : ℕ) (rows : List (List Bool)) (parities : List Bool) : Type 0 where
   pub mode : s.mode ≡ m
   pub hp_long : length hp ≡ 6
   pub lp_long : length lp ≡ 6
-  pub are_even : AreEntries s false even
-  pub are_odd : AreEntries s true odd
+  pub even_table : IsLabelTable (with_entry s latest) false even even_room
+  pub odd_table : IsLabelTable (with_entry s latest) true odd odd_room
   pub are_rows : AreRows rows 256
-  pub room : length parities ≡ 2 * (need s Hp + need s Lp)
+  pub room : 2 * most_steps s.mode ≤ length parities
 
 -- X and Y of the steps of a symbol of both paths, HP's first
 pub record AreAllParities (s : Settings) (paths : Paths) (xs : List Bool) : Type 0 where

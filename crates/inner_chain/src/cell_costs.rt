@@ -1,5 +1,5 @@
 // The costs of all places of the labels of a symbol.
-ghost use Rattle.std.specs.Prelude.{◌≡◌, ◌+◌, ◌*◌, ◌%◌, ◌<◌, ◌≤◌, ℕ, length, slice_index, slice_index_or};
+ghost use Rattle.std.specs.Prelude.{◌≡◌, ◌+◌, ◌*◌, ◌%◌, ◌<◌, ◌≤◌, ℕ, IfOk, length, slice_index, slice_index_or};
 ghost use Rattle.mode_set.specs.StreamTable.{carriers, label_bits, payload};
 ghost use Rattle.qam_map.specs.declared.cell.Cell.{Cell as AnyCell};
 ghost use Rattle.inner_chain.specs.CostTables.{AreCarriers, AreCosts, ArePayloadCells, ArePayloadWeights, ArePlanes, AreWeights, IsRoom, IsWeightRoom, PutsCosts, pair_at};
@@ -8,6 +8,7 @@ use mode_set::{Mode, Settings};
 use pilots::kinds_repeat;
 use qam_map::Cell;
 use soft_metric::{AxisMetric, costs, weighted};
+use std::alloc::{AllocError, Global};
 
 // The cells on the payload places of symbol `l`, and their weights.
 fn gather_cells(
@@ -82,7 +83,7 @@ fn write_sixteen(
     requires cells { length cells.now ≡ payload settings.now.mode }
     requires weights { IsWeightRoom settings.now.mode weights.now }
     requires within { q + 16 ≤ payload settings.now.mode }
-    requires room { IsRoom settings.now costs.old }
+    requires room { IsRoom settings.now.mode costs.old }
     ensures { PutsCosts settings.now place q 16 cells.now weights.now costs.old costs.new }
 {
     let block = sixteen_of(cells, q);
@@ -108,7 +109,7 @@ fn write_one(
     requires cells { length cells.now ≡ payload settings.now.mode }
     requires weights { IsWeightRoom settings.now.mode weights.now }
     requires within { q < payload settings.now.mode }
-    requires room { IsRoom settings.now to.old }
+    requires room { IsRoom settings.now.mode to.old }
     ensures { PutsCosts settings.now place q 1 cells.now weights.now to.old to.new }
 {
     let first = place as usize * settings.mode.payload() as usize + q;
@@ -130,9 +131,9 @@ fn write_plane(
     requires cells { length cells.now ≡ payload settings.now.mode }
     requires weights { IsWeightRoom settings.now.mode weights.now }
     requires planes { ArePlanes settings.now cells.now weights.now (place * payload settings.now.mode) costs.old }
-    requires room { IsRoom settings.now costs.old }
+    requires room { IsRoom settings.now.mode costs.old }
     ensures planes { ArePlanes settings.now cells.now weights.now ((place + 1) * payload settings.now.mode) costs.new }
-    ensures room { IsRoom settings.now costs.new }
+    ensures room { IsRoom settings.now.mode costs.new }
 {
     let payload = settings.mode.payload() as usize;
     let mut q = 0;
@@ -144,6 +145,20 @@ fn write_plane(
         write_one(settings, cells, weights, place, q, costs);
         q += 1;
     }
+}
+
+// The room for the costs of all places of any labels, and behind them for nothing.
+pub(crate) fn room_for_costs(alloc: Global, mode: Mode) -> Result<Vec<(u16, u16)>, AllocError>
+    ensures { IfOk result (λ room. IsRoom mode room.items) }
+{
+    vec![in alloc; (0u16, 0u16); 6 * mode.payload() as usize + 1]
+}
+
+// The room for the weights of the payload places.
+pub(crate) fn room_for_weights(alloc: Global, mode: Mode) -> Result<Vec<u8>, AllocError>
+    ensures { IfOk result (λ room. IsWeightRoom mode room.items) }
+{
+    vec![in alloc; 0u8; mode.payload() as usize]
 }
 
 // Writes the weighted costs of all places of the labels of symbol `l`, for which its payload cells
@@ -165,9 +180,9 @@ pub(crate) fn write_costs(
     requires weights { AreWeights settings.now.mode weights.now }
     requires payload_cells { length payload_cells.old ≡ payload settings.now.mode }
     requires payload_weights { IsWeightRoom settings.now.mode payload_weights.old }
-    requires room { IsRoom settings.now costs.old }
+    requires room { IsRoom settings.now.mode costs.old }
     ensures costs { AreCosts settings.now cells.now weights.now l costs.new }
-    ensures room { IsRoom settings.now costs.new }
+    ensures room { IsRoom settings.now.mode costs.new }
     ensures payload_cells { length payload_cells.new ≡ payload settings.now.mode }
     ensures payload_weights { IsWeightRoom settings.now.mode payload_weights.new }
 {

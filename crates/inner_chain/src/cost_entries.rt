@@ -1,8 +1,9 @@
 // Which costs of a symbol's cells are those of each step.
-ghost use Rattle.std.specs.Prelude.{◌≡◌, ◌+◌, ◌*◌, ◌<◌, ◌≤◌, ◌++◌, ◌∷◌, [], ℕ, IfOk, Some, None, if◌then◌else◌};
-ghost use Rattle.mode_set.specs.StreamTable.{coded, label_bits, need, payload};
+ghost use Rattle.std.specs.Prelude.{◌≡◌, ◌+◌, ◌*◌, ◌<◌, ◌≤◌, ◌++◌, ◌∷◌, [], ℕ, IfOk, Some, None, if◌then◌else◌, vec_capacity, vec_len};
+ghost use Rattle.mode_set.specs.StreamTable.{coded, payload};
 ghost use Rattle.puncture.specs.Steps.{has_x, has_y};
-ghost use Rattle.inner_chain.specs.CostTables.{AppendsTwo, AreCarriers, AreCostEntries, IsPlaced, IsSmallEntry, entry_at, count_of, second};
+ghost use Rattle.inner_chain.specs.CostTables.{AppendsTwo, AreCarriers, IsCostTable, IsPlaced, IsSmallEntry, count_of, entry_at, most_places, second};
+ghost use Rattle.inner_chain.specs.Tables.{most_steps};
 
 use bit_interleave::place;
 use mode_set::{Carriers, Mode, Settings, Stream};
@@ -11,12 +12,11 @@ use puncture::{Sent, sent, steps_are_numbered};
 use std::alloc::{AllocError, Global};
 use symbol_interleave::Permutation;
 
-// The entry of an unsent bit: that behind the costs of all places.
+// The entry of an unsent bit: that behind the costs of the most places.
 fn no_entry(settings: &Settings) -> u16
-    ensures is { result ≡ payload settings.now.mode * label_bits settings.now.shape }
-    ensures small { IsSmallEntry settings.now result }
+    ensures { result ≡ most_places settings.now.mode }
 {
-    (settings.mode.payload() * settings.shape.label_bits() as u32) as u16
+    (6 * settings.mode.payload()) as u16
 }
 
 // The entry of a coded bit: its place in the label times the payload places, and its payload place.
@@ -48,45 +48,49 @@ fn push_step<M: Carriers>(
     sent: Sent,
     bit: u32,
     to: &mut Vec<u16>,
-) -> Result<u32, AllocError>
+) -> u32
     requires mode { settings.now.mode ≡ M.MODE }
+    requires spare { vec_len to.old + 2 ≤ vec_capacity to.old }
     requires within { bit + count_of (has_x sent) + count_of (has_y sent) ≤ coded settings.now stream }
-    ensures next { IfOk result (λ next. next ≡ bit + count_of (has_x sent) + count_of (has_y sent)) }
-    ensures entries { IfOk result (λ _. AppendsTwo settings.now odd stream (if has_x sent then Some bit else None) (if has_y sent then Some (second (has_x sent) bit) else None) to.old.items to.new.items) }
+    ensures next { result ≡ bit + count_of (has_x sent) + count_of (has_y sent) }
+    ensures entries { AppendsTwo settings.now odd stream (if has_x sent then Some bit else None) (if has_y sent then Some (second (has_x sent) bit) else None) to.old.items to.new.items }
+    ensures capacity { vec_capacity to.new ≡ vec_capacity to.old }
 {
     match sent {
         Sent::Both => {
-            to.push(bit_entry(settings, permutation, odd, stream, bit))?;
-            to.push(bit_entry(settings, permutation, odd, stream, bit + 1))?;
-            Ok(bit + 2)
+            to.push_reserved(bit_entry(settings, permutation, odd, stream, bit));
+            to.push_reserved(bit_entry(settings, permutation, odd, stream, bit + 1));
+            bit + 2
         }
         Sent::OnlyX => {
-            to.push(bit_entry(settings, permutation, odd, stream, bit))?;
-            to.push(no_entry(settings))?;
-            Ok(bit + 1)
+            to.push_reserved(bit_entry(settings, permutation, odd, stream, bit));
+            to.push_reserved(no_entry(settings));
+            bit + 1
         }
         Sent::OnlyY => {
-            to.push(no_entry(settings))?;
-            to.push(bit_entry(settings, permutation, odd, stream, bit))?;
-            Ok(bit + 1)
+            to.push_reserved(no_entry(settings));
+            to.push_reserved(bit_entry(settings, permutation, odd, stream, bit));
+            bit + 1
         }
     }
 }
 
-// The entries of all steps of a stream in the symbols of even or of odd number.
-pub(crate) fn cost_entries<M: Carriers>(
-    alloc: Global,
+// Puts the entries of all steps of a stream in the symbols of even or of odd number in the place of what
+// stood in the table.
+pub(crate) fn write_cost_entries<M: Carriers>(
     settings: &Settings,
     permutation: &Permutation<M>,
     odd: bool,
     stream: Stream,
-) -> Result<Vec<u16>, AllocError>
-    requires { settings.now.mode ≡ M.MODE }
-    ensures { IfOk result (λ list. AreCostEntries settings.now odd stream (need settings.now stream) list.items) }
+    table: &mut Vec<u16>,
+)
+    requires mode { settings.now.mode ≡ M.MODE }
+    requires spare { 2 * most_steps settings.now.mode ≤ vec_capacity table.old }
+    ensures { IsCostTable settings.now odd stream table.new.items (vec_capacity table.new) }
 {
     steps_are_numbered();
     let rate = settings.rate(stream);
-    let mut list = Vec::with_capacity(alloc, 2 * settings.need(stream) as usize)?;
+    table.clear();
     let mut bit = 0;
     for step in 0..settings.need(stream) {
         bit = push_step(
@@ -96,10 +100,25 @@ pub(crate) fn cost_entries<M: Carriers>(
             stream,
             sent(rate, step as u64),
             bit,
-            &mut list,
-        )?;
+            table,
+        );
     }
-    Ok(list)
+}
+
+// The table of a stream for these parameters, in room for those of any.
+pub(crate) fn cost_table<M: Carriers>(
+    alloc: Global,
+    settings: &Settings,
+    permutation: &Permutation<M>,
+    odd: bool,
+    stream: Stream,
+) -> Result<Vec<u16>, AllocError>
+    requires { settings.now.mode ≡ M.MODE }
+    ensures { IfOk result (λ table. IsCostTable settings.now odd stream table.items (vec_capacity table)) }
+{
+    let mut table = Vec::with_capacity(alloc, 2 * (21 * settings.mode.payload() as usize / 4))?;
+    write_cost_entries(settings, permutation, odd, stream, &mut table);
+    Ok(table)
 }
 
 // The payload carriers of the symbols 0 to 3, one symbol after another.

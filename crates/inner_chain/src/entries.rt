@@ -1,7 +1,7 @@
 // The entries of the tables from which labels are gathered.
-ghost use Rattle.std.specs.Prelude.{◌≡◌, ◌+◌, ◌*◌, ◌<◌, ◌≤◌, ℕ, IfOk};
+ghost use Rattle.std.specs.Prelude.{◌≡◌, ◌+◌, ◌*◌, ◌<◌, ◌≤◌, ℕ, IfOk, vec_capacity, vec_len};
 ghost use Rattle.mode_set.specs.StreamTable.{label_bits, need, payload};
-ghost use Rattle.inner_chain.specs.Tables.{AppendsEntries, AreEntries, IsEntry, first_step};
+ghost use Rattle.inner_chain.specs.Tables.{AppendsEntries, IsEntry, IsLabelTable, first_step};
 
 use crate::sent_parity::parity_of;
 use bit_interleave::bit_at;
@@ -34,32 +34,46 @@ fn entry(settings: &Settings, e: u8, word: u32) -> u16
     (2 * step + parity.is_y as u32) as u16
 }
 
-fn push_word(settings: &Settings, word: u32, to: &mut Vec<u16>) -> Result<(), AllocError>
-    requires { word < payload settings.now.mode }
-    ensures { IfOk result (λ _. AppendsEntries settings.now word (label_bits settings.now.shape) to.old.items to.new.items) }
+fn push_word(settings: &Settings, word: u32, to: &mut Vec<u16>)
+    requires word { word < payload settings.now.mode }
+    requires spare { vec_len to.old + label_bits settings.now.shape ≤ vec_capacity to.old }
+    ensures entries { AppendsEntries settings.now word (label_bits settings.now.shape) to.old.items to.new.items }
+    ensures capacity { vec_capacity to.new ≡ vec_capacity to.old }
 {
     for e in 0..settings.shape.label_bits() {
-        to.push(entry(settings, e, word))?;
+        to.push_reserved(entry(settings, e, word));
     }
-    Ok(())
 }
 
-// The entries of the labels of all symbols of even or of odd number.
-pub(crate) fn entries<M: Carriers>(
+// Puts the entries of the labels of all symbols of even or of odd number in the place of what stood in
+// the table.
+pub(crate) fn write_entries<M: Carriers>(
+    settings: &Settings,
+    odd: bool,
+    permutation: &Permutation<M>,
+    table: &mut Vec<u16>,
+)
+    requires mode { settings.now.mode ≡ M.MODE }
+    requires spare { 6 * payload settings.now.mode ≤ vec_capacity table.old }
+    ensures { IsLabelTable settings.now odd table.new.items (vec_capacity table.new) }
+{
+    table.clear();
+    for q in 0..settings.mode.payload() {
+        push_word(settings, permutation.source(odd, q), table);
+    }
+}
+
+// The table for these parameters, in room for those of any.
+pub(crate) fn label_table<M: Carriers>(
     alloc: Global,
     settings: &Settings,
     odd: bool,
     permutation: &Permutation<M>,
 ) -> Result<Vec<u16>, AllocError>
     requires { settings.now.mode ≡ M.MODE }
-    ensures { IfOk result (λ list. AreEntries settings.now odd list.items) }
+    ensures { IfOk result (λ table. IsLabelTable settings.now odd table.items (vec_capacity table)) }
 {
-    let mut list = Vec::with_capacity(
-        alloc,
-        settings.mode.payload() as usize * settings.shape.label_bits() as usize,
-    )?;
-    for q in 0..settings.mode.payload() {
-        push_word(settings, permutation.source(odd, q), &mut list)?;
-    }
-    Ok(list)
+    let mut table = Vec::with_capacity(alloc, 6 * settings.mode.payload() as usize)?;
+    write_entries(settings, odd, permutation, &mut table);
+    Ok(table)
 }

@@ -2,11 +2,14 @@
 //! streams, and the costs of a stream's coded bits from the cells (EN 300 744, 4.3.3 to 4.3.5).
 #![tactic(auto)]
 
+mod alike;
 mod cell_costs;
 mod cost_entries;
 mod cost_pairs;
+mod cost_tables;
 mod entries;
 mod gather;
+mod label_tables;
 pub mod laws;
 mod parities;
 mod rx;

@@ -1,28 +1,30 @@
 // From the cells of a symbol to the cost pairs of a stream.
 ghost use Rattle.std.specs.Prelude.{◌≡◌, ◌+◌, ◌*◌, ◌<◌, ◌≤◌, IfOk, IsTrue, false, length, true, vec_capacity, vec_len};
+ghost use Rattle.mode_set.specs.Entries.{with_entry};
 ghost use Rattle.mode_set.specs.StreamTable.{carriers, has_stream, need, payload};
+ghost use Rattle.symbol_interleave.specs.Carried.{is_odd};
 ghost use Rattle.inner_chain.specs.CostPairs.{AppendsPairs};
 ghost use Rattle.inner_chain.specs.CostTables.{AreCarriers, AreCostEntries, AreWeights, IsRoom, IsWeightRoom};
 
-use crate::cell_costs::write_costs;
-use crate::cost_entries::{carriers_of, cost_entries};
+use crate::cell_costs::{room_for_costs, room_for_weights, write_costs};
+use crate::cost_entries::{carriers_of, cost_table};
 use crate::cost_pairs::push_pairs;
+use crate::cost_tables::{entries_of, turn_cost_tables};
 use conv_code::CostPair;
-use mode_set::{Carriers, Settings, Stream};
+use mode_set::{Carriers, Entry, Settings, Stream};
 use qam_map::Cell;
 use soft_metric::AxisMetric;
 use std::alloc::{AllocError, Global};
-use std::marker::{Model, PhantomData};
+use std::marker::Model;
 use symbol_interleave::Permutation;
 
-// Appends the cost pairs of a stream, out of the entries of its steps in the symbols of even and of
-// odd number.
+// Appends the cost pairs of a stream, out of the entries of its steps in the symbols of this one's
+// parity.
 fn push_symbol_pairs(
     settings: &Settings,
     metric: &AxisMetric,
     carrier_table: &[u16],
-    even: &[u16],
-    odd: &[u16],
+    entries: &[u16],
     costs: &mut [(u16, u16)],
     payload_cells: &mut [Cell],
     payload_weights: &mut [u8],
@@ -34,16 +36,15 @@ fn push_symbol_pairs(
 )
     requires metric { metric.now ≡ (settings.now.shape, settings.now.hierarchy) }
     requires carriers { AreCarriers settings.now.mode (4 * payload settings.now.mode) carrier_table.now }
-    requires even { AreCostEntries settings.now false stream (need settings.now stream) even.now }
-    requires odd { AreCostEntries settings.now true stream (need settings.now stream) odd.now }
+    requires entries { AreCostEntries settings.now (is_odd l) stream (need settings.now stream) entries.now }
     requires cells { length cells.now ≡ carriers settings.now.mode }
     requires weights { AreWeights settings.now.mode weights.now }
-    requires room { IsRoom settings.now costs.old }
+    requires room { IsRoom settings.now.mode costs.old }
     requires payload_cells { length payload_cells.old ≡ payload settings.now.mode }
     requires payload_weights { IsWeightRoom settings.now.mode payload_weights.old }
     requires spare { vec_len to.old + need settings.now stream ≤ vec_capacity to.old }
     ensures pairs { AppendsPairs settings.now cells.now weights.now l stream to.old.items to.new.items }
-    ensures room { IsRoom settings.now costs.new }
+    ensures room { IsRoom settings.now.mode costs.new }
     ensures payload_cells { length payload_cells.new ≡ payload settings.now.mode }
     ensures payload_weights { IsWeightRoom settings.now.mode payload_weights.new }
     ensures capacity { vec_capacity to.new ≡ vec_capacity to.old }
@@ -59,21 +60,20 @@ fn push_symbol_pairs(
         payload_weights,
         costs,
     );
-    let steps = settings.need(stream) as usize;
-    if l % 2 == 1 {
-        push_pairs(costs, odd, steps, to);
-    } else {
-        push_pairs(costs, even, steps, to);
-    }
+    push_pairs(costs, entries, settings.need(stream) as usize, to);
 }
 
 /// The receiving side of the inner coding: from the cells of a symbol to the costs of the coded bits
-/// of each step of a stream. It is seen as its settings.
+/// of each step of a stream. It is seen as its settings, and each call is told the parameters of its
+/// symbol.
 #[derive(Drop)]
 pub struct InnerRx<M: Carriers> {
     settings: Settings,
-    metric: AxisMetric,
+    permutation: Permutation<M>,
     carrier_table: Vec<u16>,
+    // The parameters of the last symbol, and the tables for them.
+    latest: Entry,
+    metric: AxisMetric,
     hp_even: Vec<u16>,
     hp_odd: Vec<u16>,
     lp_even: Vec<u16>,
@@ -81,10 +81,10 @@ pub struct InnerRx<M: Carriers> {
     costs: Vec<(u16, u16)>,
     payload_cells: Vec<Cell>,
     payload_weights: Vec<u8>,
-    of: PhantomData<M>,
 }
 
 impl<M: Carriers> Model for InnerRx<M> {
+    ghost use Rattle.std.specs.Prelude.{vec_capacity};
     ghost use Rattle.mode_set.specs.declared.settings.Settings.{Settings as AnySettings};
     ghost use Rattle.inner_chain.specs.CostTables.{IsRx};
 
@@ -92,31 +92,35 @@ impl<M: Carriers> Model for InnerRx<M> {
 
     ghost view = { λ r. r.settings };
 
-    ghost invariant = { λ r. IsRx M.MODE r.settings r.metric r.carrier_table.items r.hp_even.items r.hp_odd.items r.lp_even.items r.lp_odd.items r.costs.items r.payload_cells.items r.payload_weights.items };
+    ghost invariant = { λ r. IsRx M.MODE r.settings r.latest r.metric r.carrier_table.items r.hp_even.items r.hp_odd.items r.lp_even.items r.lp_odd.items (vec_capacity r.hp_even) (vec_capacity r.hp_odd) (vec_capacity r.lp_even) (vec_capacity r.lp_odd) r.costs.items r.payload_cells.items r.payload_weights.items };
 }
 
 impl<M: Carriers> InnerRx<M> {
-    /// The receiving side for these settings. It takes all its memory, for its tables among others.
+    /// The receiving side for these settings. It takes all its memory, enough for any parameters of the
+    /// mode.
     pub fn new(alloc: Global, settings: &Settings) -> Result<Self, AllocError>
         requires { settings.now.mode ≡ M.MODE }
         ensures { IfOk result (λ rx. rx ≡ settings.now) }
     {
         let permutation = Permutation::<M>::new(alloc)?;
         let carrier_table = carriers_of(alloc, settings.mode)?;
-        let hp_even = cost_entries(alloc, settings, &permutation, false, Stream::Hp)?;
-        let hp_odd = cost_entries(alloc, settings, &permutation, true, Stream::Hp)?;
-        let lp_even = cost_entries(alloc, settings, &permutation, false, Stream::Lp)?;
-        let lp_odd = cost_entries(alloc, settings, &permutation, true, Stream::Lp)?;
-        let places = settings.mode.payload() as usize * settings.shape.label_bits() as usize;
-        let costs = vec![in alloc; (0u16, 0u16); places + 1]?;
+        let latest = settings.entry(0);
+        let first = settings.with_entry(&latest);
+        let hp_even = cost_table(alloc, &first, &permutation, false, Stream::Hp)?;
+        let hp_odd = cost_table(alloc, &first, &permutation, true, Stream::Hp)?;
+        let lp_even = cost_table(alloc, &first, &permutation, false, Stream::Lp)?;
+        let lp_odd = cost_table(alloc, &first, &permutation, true, Stream::Lp)?;
+        let costs = room_for_costs(alloc, settings.mode)?;
         let payload_cells = vec![in alloc; Cell { re: 0, im: 0 }; settings
             .mode
             .payload() as usize]?;
-        let payload_weights = vec![in alloc; 0u8; settings.mode.payload() as usize]?;
+        let payload_weights = room_for_weights(alloc, settings.mode)?;
         Ok(InnerRx {
             settings: *settings,
-            metric: AxisMetric::new(settings.shape, settings.hierarchy),
+            permutation,
             carrier_table,
+            latest,
+            metric: AxisMetric::new(first.shape, first.hierarchy),
             hp_even,
             hp_odd,
             lp_even,
@@ -124,24 +128,24 @@ impl<M: Carriers> InnerRx<M> {
             costs,
             payload_cells,
             payload_weights,
-            of: PhantomData,
         })
     }
 
-    /// The steps of a stream in one symbol, 0 for a stream that does not exist.
-    pub fn steps(&self, stream: Stream) -> u32
-        ensures { result ≡ need self.now stream }
+    /// The steps of a stream in a symbol of these parameters, 0 for a stream that does not exist there.
+    pub fn steps(&self, entry: &Entry, stream: Stream) -> u32
+        ensures { result ≡ need (with_entry self.now entry.now) stream }
     {
-        self.settings.need(stream)
+        self.settings.with_entry(entry).need(stream)
     }
 
     /// Appends the cost pairs of a stream in symbol `l` of a frame, one for each step in order: of
     /// each sent bit the costs of its cell at its place by the cell's weight, and nothing for a bit
-    /// that is not sent.
+    /// that is not sent. `entry` has the parameters of the symbol.
     ///
     /// `cells` are those of all carriers of the symbol, and `weights` theirs, each at most 15.
     pub fn pairs(
         &mut self,
+        entry: &Entry,
         cells: &[Cell],
         weights: &[u8],
         l: u8,
@@ -151,43 +155,46 @@ impl<M: Carriers> InnerRx<M> {
         requires cells { length cells.now ≡ carriers self.old.mode }
         requires weights { AreWeights self.old.mode weights.now }
         requires symbol { l < 68 }
-        requires exists { IsTrue (has_stream self.old.hierarchy stream) }
-        requires spare { vec_len to.old + need self.old stream ≤ vec_capacity to.old }
-        ensures pairs { AppendsPairs self.old cells.now weights.now l stream to.old.items to.new.items }
+        requires exists { IsTrue (has_stream entry.now.hierarchy stream) }
+        requires spare { vec_len to.old + need (with_entry self.old entry.now) stream ≤ vec_capacity to.old }
+        ensures pairs { AppendsPairs (with_entry self.old entry.now) cells.now weights.now l stream to.old.items to.new.items }
         ensures settings { self.new ≡ self.old }
         ensures capacity { vec_capacity to.new ≡ vec_capacity to.old }
     {
-        match stream {
-            Stream::Hp => push_symbol_pairs(
-                &self.settings,
-                &self.metric,
-                &self.carrier_table,
-                &self.hp_even,
-                &self.hp_odd,
-                &mut self.costs,
-                &mut self.payload_cells,
-                &mut self.payload_weights,
-                cells,
-                weights,
-                l,
-                stream,
-                to,
-            ),
-            Stream::Lp => push_symbol_pairs(
-                &self.settings,
-                &self.metric,
-                &self.carrier_table,
-                &self.lp_even,
-                &self.lp_odd,
-                &mut self.costs,
-                &mut self.payload_cells,
-                &mut self.payload_weights,
-                cells,
-                weights,
-                l,
-                stream,
-                to,
-            ),
-        }
+        turn_cost_tables(
+            &self.settings,
+            entry,
+            &self.permutation,
+            &mut self.latest,
+            &mut self.metric,
+            &mut self.hp_even,
+            &mut self.hp_odd,
+            &mut self.lp_even,
+            &mut self.lp_odd,
+        );
+        let settings = self.settings.with_entry(entry);
+        let entries = entries_of(
+            &settings,
+            stream,
+            l % 2 == 1,
+            &self.hp_even,
+            &self.hp_odd,
+            &self.lp_even,
+            &self.lp_odd,
+        );
+        push_symbol_pairs(
+            &settings,
+            &self.metric,
+            &self.carrier_table,
+            entries,
+            &mut self.costs,
+            &mut self.payload_cells,
+            &mut self.payload_weights,
+            cells,
+            weights,
+            l,
+            stream,
+            to,
+        );
     }
 }

@@ -2,8 +2,9 @@
 ghost use Rattle.std.specs.Prelude.{◌≡◌, ◌+◌, ◌*◌, ◌≤◌, ℕ, take, drop, length, vec_capacity, vec_len};
 ghost use Rattle.mode_set.specs.StreamTable.{need, payload};
 ghost use Rattle.mode_set.specs.declared.modes.Stream.TheVariants.{Hp, Lp};
+ghost use Rattle.mode_set.specs.declared.settings.Settings.{Settings as AnySettings};
 ghost use Rattle.inner_chain.specs.Labels.{AppendsLabels, IsBefore, Paths, behind, coded_bits, input_bits};
-ghost use Rattle.inner_chain.specs.Tables.{AreAllParities, AreEntries, AreRows};
+ghost use Rattle.inner_chain.specs.Tables.{AreAllParities, AreEntries, AreRows, most_steps};
 
 use crate::gather::push_labels;
 use crate::parities::encode;
@@ -25,17 +26,17 @@ pub(crate) fn code(
     requires rows { AreRows rows.now 256 }
     requires hp { need settings.now Hp ≤ length hp.old }
     requires lp { need settings.now Lp ≤ length lp.old }
-    requires room { length parities.old ≡ 2 * (need settings.now Hp + need settings.now Lp) }
+    requires room { 2 * most_steps settings.now.mode ≤ length parities.old }
     ensures hp { hp.new ≡ drop (need settings.now Hp) hp.old }
     ensures lp { lp.new ≡ drop (need settings.now Lp) lp.old }
     ensures hp_size { length hp_encoder.old ≡ 6 → length hp_encoder.new ≡ 6 }
     ensures lp_size { length lp_encoder.old ≡ 6 → length lp_encoder.new ≡ 6 }
-    ensures parities { (paths : Paths) → IsBefore (record { settings = settings.now; hp = hp_encoder.old; lp = lp_encoder.old }) paths
+    ensures parities { (s : AnySettings) (paths : Paths) → IsBefore (record { settings = s; hp = hp_encoder.old; lp = lp_encoder.old }) paths
         → take (need settings.now Hp) hp.old ≡ input_bits settings.now paths Hp → take (need settings.now Lp) lp.old ≡ input_bits settings.now paths Lp
         → AreAllParities settings.now paths parities.new }
-    ensures next { (paths : Paths) → IsBefore (record { settings = settings.now; hp = hp_encoder.old; lp = lp_encoder.old }) paths
+    ensures next { (s : AnySettings) (paths : Paths) → IsBefore (record { settings = s; hp = hp_encoder.old; lp = lp_encoder.old }) paths
         → take (need settings.now Hp) hp.old ≡ input_bits settings.now paths Hp → take (need settings.now Lp) lp.old ≡ input_bits settings.now paths Lp
-        → IsBefore (record { settings = settings.now; hp = hp_encoder.new; lp = lp_encoder.new }) (behind settings.now paths) }
+        → IsBefore (record { settings = s; hp = hp_encoder.new; lp = lp_encoder.new }) (behind settings.now paths) }
 {
     let hp_steps = settings.need(Stream::Hp) as usize;
     let lp_steps = settings.need(Stream::Lp) as usize;
@@ -52,7 +53,7 @@ pub(crate) fn push_symbol(
     to: &mut Vec<u8>,
 )
     requires entries { AreEntries settings.now odd entries.now }
-    requires room { length parities.now ≡ 2 * (need settings.now Hp + need settings.now Lp) }
+    requires room { 2 * most_steps settings.now.mode ≤ length parities.now }
     requires spare { vec_len to.old + payload settings.now.mode ≤ vec_capacity to.old }
     ensures labels { (paths : Paths) → AreAllParities settings.now paths parities.now
         → AppendsLabels settings.now odd (coded_bits settings.now paths) to.old.items to.new.items }

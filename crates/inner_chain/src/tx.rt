@@ -1,39 +1,44 @@
 // From the waiting bits of the streams to the labels of a symbol.
-ghost use Rattle.std.specs.Prelude.{◌≡◌, ◌+◌, ◌≤◌, ℕ, IfOk, IsTrue, take, drop, length, vec_capacity, vec_len};
+ghost use Rattle.std.specs.Prelude.{◌≡◌, ◌+◌, ◌≤◌, ℕ, IfOk, take, drop, length, vec_capacity, vec_len};
+ghost use Rattle.mode_set.specs.Entries.{with_entry};
 ghost use Rattle.mode_set.specs.StreamTable.{need, payload};
-ghost use Rattle.mode_set.specs.declared.modes.Stream.{Stream as AnyStream};
 ghost use Rattle.mode_set.specs.declared.modes.Stream.TheVariants.{Hp, Lp};
 ghost use Rattle.conv_code.specs.Coded.{zeros};
 ghost use Rattle.inner_chain.specs.Labels.{AppendsLabels, IsBefore, Paths, behind, coded_bits, input_bits};
 
-use crate::entries::entries;
+use crate::entries::label_table;
+use crate::label_tables::{table_of, turn_label_tables};
 use crate::parities::rows;
 use crate::symbol::{code, push_symbol};
 use bit_pack::WaitBuf;
 use conv_code::Encoder;
-use mode_set::{Carriers, Settings, Stream};
+use mode_set::{Carriers, Entry, Settings, Stream};
 use std::alloc::{AllocError, Global};
-use std::marker::{Model, PhantomData};
+use std::marker::Model;
 use symbol_interleave::Permutation;
 
 /// The inner coder of a transmission: from the waiting bits of its streams to the labels of its
 /// symbols (EN 300 744, 4.3.3, 4.3.4 and 4.3.5).
 ///
 /// It is seen as its settings and the registers of the encoders. It stands for the bits that it has
-/// taken of each stream: each register has the last six of them.
+/// taken of each stream: each register has the last six of them. Each call is told the parameters of
+/// its symbol.
 #[derive(Drop)]
 pub struct InnerTx<M: Carriers> {
     settings: Settings,
     hp: Encoder,
     lp: Encoder,
+    permutation: Permutation<M>,
+    // The parameters of the last symbol, and the tables for them.
+    latest: Entry,
     even: Vec<u16>,
     odd: Vec<u16>,
     rows: Vec<[bool; 8]>,
     parities: Vec<bool>,
-    of: PhantomData<M>,
 }
 
 impl<M: Carriers> Model for InnerTx<M> {
+    ghost use Rattle.std.specs.Prelude.{vec_capacity};
     ghost use Rattle.inner_chain.specs.Labels.{TxState};
     ghost use Rattle.inner_chain.specs.Tables.{IsTx};
 
@@ -41,11 +46,12 @@ impl<M: Carriers> Model for InnerTx<M> {
 
     ghost view = { λ t. record { settings = t.settings; hp = t.hp; lp = t.lp } };
 
-    ghost invariant = { λ t. IsTx M.MODE t.settings t.hp t.lp t.even.items t.odd.items t.rows.items t.parities.items };
+    ghost invariant = { λ t. IsTx M.MODE t.settings t.latest t.hp t.lp t.even.items t.odd.items (vec_capacity t.even) (vec_capacity t.odd) t.rows.items t.parities.items };
 }
 
 impl<M: Carriers> InnerTx<M> {
-    /// The inner coder before the first symbol. It takes all its memory, for its tables among others.
+    /// The inner coder before the first symbol. It takes all its memory, enough for any parameters of the
+    /// mode.
     pub fn new(alloc: Global, settings: &Settings) -> Result<Self, AllocError>
         requires { settings.now.mode ≡ M.MODE }
         ensures settings { IfOk result (λ tx. tx.settings ≡ settings.now) }
@@ -53,57 +59,76 @@ impl<M: Carriers> InnerTx<M> {
         ensures lp { IfOk result (λ tx. tx.lp ≡ zeros) }
     {
         let permutation = Permutation::<M>::new(alloc)?;
-        let even = entries(alloc, settings, false, &permutation)?;
-        let odd = entries(alloc, settings, true, &permutation)?;
-        let steps = settings.need(Stream::Hp) + settings.need(Stream::Lp);
+        let latest = settings.entry(0);
+        let first = settings.with_entry(&latest);
+        let even = label_table(alloc, &first, false, &permutation)?;
+        let odd = label_table(alloc, &first, true, &permutation)?;
         let rows = rows(alloc)?;
-        let parities = vec![in alloc; false; 2 * steps as usize]?;
+        let parities = vec![in alloc; false; 2 * (21 * settings.mode.payload() as usize / 4)]?;
         Ok(InnerTx {
             settings: *settings,
             hp: Encoder::start(),
             lp: Encoder::start(),
+            permutation,
+            latest,
             even,
             odd,
             rows,
             parities,
-            of: PhantomData,
         })
     }
 
-    /// The bits of a stream that one symbol takes, 0 for a stream that does not exist.
-    pub fn need(&self, stream: Stream) -> u32
-        ensures { result ≡ need self.now.settings stream }
+    /// The bits of a stream that a symbol of these parameters takes, 0 for a stream that does not exist
+    /// there.
+    pub fn need(&self, entry: &Entry, stream: Stream) -> u32
+        ensures { result ≡ need (with_entry self.now.settings entry.now) stream }
     {
-        self.settings.need(stream)
+        self.settings.with_entry(entry).need(stream)
     }
 
     /// Takes the bits of the next symbol of each stream, and appends the symbol's labels in carrier
-    /// order. `odd` says whether the number of the symbol is odd.
+    /// order. `entry` has its parameters, and `odd` says whether its number is odd.
     ///
     /// Bit e of a label is y_e of EN 300 744, 4.3.5.
-    pub fn labels(&mut self, odd: bool, hp: &mut WaitBuf, lp: &mut WaitBuf, to: &mut Vec<u8>)
-        requires hp { need self.old.settings Hp ≤ length hp.old }
-        requires lp { need self.old.settings Lp ≤ length lp.old }
+    pub fn labels(
+        &mut self,
+        entry: &Entry,
+        odd: bool,
+        hp: &mut WaitBuf,
+        lp: &mut WaitBuf,
+        to: &mut Vec<u8>,
+    )
+        requires hp { need (with_entry self.old.settings entry.now) Hp ≤ length hp.old }
+        requires lp { need (with_entry self.old.settings entry.now) Lp ≤ length lp.old }
         requires spare { vec_len to.old + payload self.old.settings.mode ≤ vec_capacity to.old }
 
         ensures settings { self.new.settings ≡ self.old.settings }
-        ensures hp { hp.new ≡ drop (need self.old.settings Hp) hp.old }
-        ensures lp { lp.new ≡ drop (need self.old.settings Lp) lp.old }
+        ensures hp { hp.new ≡ drop (need (with_entry self.old.settings entry.now) Hp) hp.old }
+        ensures lp { lp.new ≡ drop (need (with_entry self.old.settings entry.now) Lp) lp.old }
         ensures capacity { vec_capacity to.new ≡ vec_capacity to.old }
 
         // Before any paths whose input bits wait, the labels are those of their first coded bits, and
         // afterwards it is before what follows of them.
         ensures labels { (paths : Paths) → IsBefore self.old paths
-            → take (need self.old.settings Hp) hp.old ≡ input_bits self.old.settings paths Hp
-            → take (need self.old.settings Lp) lp.old ≡ input_bits self.old.settings paths Lp
-            → AppendsLabels self.old.settings odd (coded_bits self.old.settings paths) to.old.items to.new.items }
+            → take (need (with_entry self.old.settings entry.now) Hp) hp.old ≡ input_bits (with_entry self.old.settings entry.now) paths Hp
+            → take (need (with_entry self.old.settings entry.now) Lp) lp.old ≡ input_bits (with_entry self.old.settings entry.now) paths Lp
+            → AppendsLabels (with_entry self.old.settings entry.now) odd (coded_bits (with_entry self.old.settings entry.now) paths) to.old.items to.new.items }
         ensures next { (paths : Paths) → IsBefore self.old paths
-            → take (need self.old.settings Hp) hp.old ≡ input_bits self.old.settings paths Hp
-            → take (need self.old.settings Lp) lp.old ≡ input_bits self.old.settings paths Lp
-            → IsBefore self.new (behind self.old.settings paths) }
+            → take (need (with_entry self.old.settings entry.now) Hp) hp.old ≡ input_bits (with_entry self.old.settings entry.now) paths Hp
+            → take (need (with_entry self.old.settings entry.now) Lp) lp.old ≡ input_bits (with_entry self.old.settings entry.now) paths Lp
+            → IsBefore self.new (behind (with_entry self.old.settings entry.now) paths) }
     {
-        code(
+        turn_label_tables(
             &self.settings,
+            entry,
+            &self.permutation,
+            &mut self.latest,
+            &mut self.even,
+            &mut self.odd,
+        );
+        let settings = self.settings.with_entry(entry);
+        code(
+            &settings,
             &self.rows,
             hp,
             &mut self.hp,
@@ -111,10 +136,7 @@ impl<M: Carriers> InnerTx<M> {
             &mut self.lp,
             &mut self.parities,
         );
-        if odd {
-            push_symbol(&self.settings, true, &self.odd, &self.parities, to);
-        } else {
-            push_symbol(&self.settings, false, &self.even, &self.parities, to);
-        }
+        let entries = table_of(&settings, odd, &self.even, &self.odd);
+        push_symbol(&settings, odd, entries, &self.parities, to);
     }
 }

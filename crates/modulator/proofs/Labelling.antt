@@ -6,6 +6,8 @@ use Rattle.mode_set.specs.StreamTable.{need, payload, label_bits}
 use Rattle.mode_set.specs.declared.modes.Stream.{Stream}
 use Rattle.mode_set.specs.declared.modes.Stream.TheVariants.{Hp, Lp}
 use Rattle.mode_set.specs.declared.settings.Settings.{Settings}
+use Rattle.mode_set.specs.declared.entry.Entry.{Entry}
+use Rattle.mode_set.specs.Entries.{top, with_entry}
 use Rattle.puncture.specs.SentBits.{bits_from}
 use Rattle.inner_chain.specs.Labels.{Paths, TxState, IsBefore, AppendsLabels, label_bit}
 use Rattle.frame_build.specs.Symbol.{Agree, bits_of}
@@ -50,3 +52,7 @@ labels_small s odd bits old new a e q l = subst (λ (z : List ℕ). get_or z q 0
 
 pub labels_agree : (s : Settings) (odd : Bool) (bits : Stream → ℕ → Bool) (old new : List ℕ) → AppendsLabels s odd bits old new → old ≡ [] → Agree s (bits_of new) (label_bit s odd bits)
 labels_agree s odd bits old new a e q k l m = ap (λ (z : List ℕ). is_set (get_or z q 0) k) (only_labels s odd bits old new a e) ∙ a.are.bit q k l m
+
+-- the settings with their own parameters are themselves
+pub own_parameters : (s t : Settings) (e : Entry) → t ≡ s → e ≡ top t → with_entry s e ≡ s
+own_parameters s t e same is = ap (with_entry s) (is ∙ ap top same)

@@ -19,6 +19,7 @@ use Rattle.outer_chain.specs.SendingLaws.{SameBeginning}
 use Rattle.symbol_spans.specs.Spans.{settings_at, steps_before}
 use Rattle.symbol_spans.specs.Laws.{NoSteps, SettingsStay}
 use Rattle.inner_chain.specs.Labels.{Paths, TxState, IsBefore, from_step, behind, input_bits, coded_bits, label_bit}
+use Rattle.frame_build.specs.Announcing.{announcing_bytes}
 use Rattle.frame_build.specs.Symbol.{Agree, symbol_bytes, bits_of}
 use Rattle.frame_build.specs.State.{NextSymbol}
 use Rattle.transmission.specs.Transmission.{Inputs, by_stream, paths_of, paths_at, tx_label, tx_symbol}
@@ -349,6 +350,12 @@ symbol_is s z y made number inputs labels ey es en repeats follows agree =
     ap (λ (x : Settings). symbol_bytes x number (bits_of labels)) es ∙ ap (λ (n : ℕ). symbol_bytes s n (bits_of labels)) en ∙ sym (repeats (bits_of labels))
     ∙ follows (bits_of labels) (label_bit s (is_odd made) (coded_bits s (paths_at s inputs made))) agree
     ∙ ap (λ (x : Settings). symbol_bytes x made (label_bit x (is_odd made) (coded_bits x (paths_at s inputs made)))) (sym ey)
+
+-- a symbol that announces the settings that it has
+pub own_symbol : (s z w : Settings) (m n : ℕ) (labels : ℕ → ℕ → Bool) → w ≡ z → z ≡ s → n ≡ m → ((l : ℕ → ℕ → Bool) → announcing_bytes s s m l ≡ symbol_bytes s m l) → announcing_bytes w w n labels ≡ symbol_bytes z n labels
+own_symbol s z w m n labels ew ez en law =
+    ap (λ (x : Settings). announcing_bytes x x n labels) (ew ∙ ez) ∙ ap (λ (k : ℕ). announcing_bytes s s k labels) en ∙ law labels
+    ∙ ap (λ (k : ℕ). symbol_bytes s k labels) (sym en) ∙ ap (λ (x : Settings). symbol_bytes x n labels) (sym ez)
 
 -- a symbol of the transmission has the settings of its super-frame
 tx_symbol_is : (s : Settings) (inputs : Inputs) (m : ℕ) → tx_symbol s inputs m ≡ symbol_bytes (settings_at s m) m (label_bit (settings_at s m) (is_odd m) (coded_bits (settings_at s m) (paths_at s inputs m)))

@@ -13,7 +13,7 @@ use crate::next_labels::next_labels;
 use crate::stream::StreamTx;
 use crate::want::Want;
 use bit_pack::WaitBuf;
-use frame_build::{SymbolOut, symbols_follow_labels, symbols_repeat};
+use frame_build::{SymbolOut, symbols_announce_themselves, symbols_follow_labels, symbols_repeat};
 use inner_chain::InnerTx;
 use mode_set::{Carriers, Settings, Stream};
 use std::alloc::{AllocError, Global};
@@ -146,16 +146,19 @@ impl<M: Carriers> Modulator<M> {
         ensures capacity { vec_capacity to.new ≡ vec_capacity to.old }
     {
         symbols_take_alike();
+        symbols_announce_themselves(&self.settings, self.made % 272);
         symbols_repeat(&self.settings, self.made);
         symbols_follow_labels(&self.settings, self.made);
         next_labels(
+            &self.settings,
             self.made % 2 == 1,
             &mut self.inner,
             &mut self.hp.waiting,
             &mut self.lp.waiting,
             &mut self.labels,
         );
-        self.out.write(&self.labels, to);
+        let entry = self.settings.top();
+        self.out.write(&entry, &entry, &self.labels, to);
         self.made += 1;
     }
 

@@ -7,17 +7,19 @@ ghost use Rattle.frame_build.specs.Symbol.{Agree, bits_of};
 
 use bit_pack::WaitBuf;
 use inner_chain::InnerTx;
-use mode_set::Carriers;
+use mode_set::{Carriers, Settings};
 
 /// Takes the bits of the next symbol of each stream, and puts the symbol's labels in the place of those
 /// that stand in `labels`.
 pub(crate) fn next_labels<M: Carriers>(
+    settings: &Settings,
     odd: bool,
     inner: &mut InnerTx<M>,
     hp: &mut WaitBuf,
     lp: &mut WaitBuf,
     labels: &mut Vec<u8>,
 )
+    requires settings { settings.now ≡ inner.old.settings }
     requires hp { need inner.old.settings Hp ≤ length hp.old }
     requires lp { need inner.old.settings Lp ≤ length lp.old }
     requires hp_register { length inner.old.hp ≡ 6 }
@@ -43,5 +45,5 @@ pub(crate) fn next_labels<M: Carriers>(
         → IsBefore inner.new (behind inner.old.settings paths) }
 {
     labels.clear();
-    inner.labels(odd, hp, lp, labels);
+    inner.labels(&settings.top(), odd, hp, lp, labels);
 }

@@ -9,6 +9,8 @@ use Rattle.mode_set.specs.Rows.{IsModeRow}
 use Rattle.mode_set.specs.declared.modes.Mode.{Mode}
 use Rattle.mode_set.specs.declared.modes.Mode.TheVariants.{M2k, M8k}
 use Rattle.mode_set.specs.declared.modes.Stream.{Stream}
+use Rattle.mode_set.specs.declared.entry.Entry.{Entry}
+use Rattle.mode_set.specs.Entries.{top, with_entry}
 use Rattle.mode_set.specs.declared.settings.Settings.{Settings}
 use Rattle.pilots.specs.Carriers.{tps_carriers}
 use Rattle.qam_map.specs.declared.cell.Cell.{Cell}
@@ -87,3 +89,7 @@ no_pairs f n e = sym (ap (λ k. map f (numbers k)) e)
 pub rest_is_short : (whole : Bool) (input : List ℕ) (k : ℕ) → 0 < 5 * k → (whole ≡ false → length input < 5 * k) → length (cond whole [] input) < 5 * k
 rest_is_short true input k some l = omega (arith, some)
 rest_is_short false input k some l = l refl
+
+-- the settings with their own parameters are themselves
+pub own_parameters : (s t : Settings) (e : Entry) → t ≡ s → e ≡ top s → with_entry t e ≡ s
+own_parameters s t e same is = ap (with_entry t) is ∙ ap (λ (z : Settings). with_entry z (top s)) same

@@ -34,6 +34,6 @@ pub(crate) fn put_pairs<M: Carriers>(
     to.clear();
     if settings.need(stream) > 0 {
         pairs_are_listed();
-        inner.pairs(cells, weights, l, stream, to);
+        inner.pairs(&settings.top(), cells, weights, l, stream, to);
     }
 }

@@ -3,7 +3,7 @@ use Rattle.inner_chain.proofs.Symbols.{code_parities, input_is, register_next}
 use Rattle.inner_chain.proofs.symbol.code.Goals as goal
 
 pub returns-clause-parities : goal.returns-clause-parities
-returns-clause-parities c = λ paths at hp lp.
+returns-clause-parities c = λ base paths at hp lp.
     let s = c.args.settings.now in
     code_parities s paths c.need-hp_steps.result c.need-lp_steps.result c.encode.new.to c.encode-2.new.to c.need-hp_steps.ensures.need c.need-lp_steps.ensures.need
     (c.encode.ensures.parities (paths Hp) (at Hp) (input_is s paths Hp _ _ c.need-hp_steps.ensures.need hp))
@@ -11,7 +11,7 @@ returns-clause-parities c = λ paths at hp lp.
     c.encode-2.ensures.before
 
 pub returns-clause-next : goal.returns-clause-next
-returns-clause-next c = λ paths at hp lp.
+returns-clause-next c = λ base paths at hp lp.
     let s = c.args.settings.now in
     elim [
       | Hp ↦ register_next s paths Hp c.need-hp_steps.result _ c.need-hp_steps.ensures.need
