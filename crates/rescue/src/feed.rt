@@ -1,19 +1,35 @@
 // The receiver that rescues words.
-ghost use Rattle.std.specs.Prelude.{◌≡◌, ◌+◌, ◌-◌, ◌*◌, ◌<◌, ◌≤◌, ◌^◌, [], ℕ, List, true, false, min, length, IfOk};
+ghost use Rattle.std.specs.Prelude.{◌≡◌, ◌+◌, ◌-◌, ◌*◌, ◌<◌, ◌≤◌, ◌^◌, ◌↔◌, [], ℕ, List, true, false, min, length, IfOk, IfSome, IsNone, if◌then◌else◌, None, Some, slice_get};
+ghost use Rattle.mode_set.specs.Kept.{is_flat};
 ghost use Rattle.reception.specs.Cells.{symbols};
 ghost use Rattle.reception.specs.Streams.{so_far, at_end, Moment};
 ghost use Rattle.rescue_reception.specs.Streams.{Rescue as Rescued, nothing};
 ghost use Rattle.rescue_reception.specs.Feeds.{Feeds, Finishes};
+ghost use Rattle.rescue_reception.specs.Lines.{counts_of};
+ghost use Rattle.rescue_report.specs.Text.{closing_lines};
 ghost use Rattle.rescue.specs.Standing.{StandsFor};
 
 use crate::RescueOut;
 use crate::stream::StreamRx;
 use mode_set::{Carriers, Settings, Stream};
+use report_line::Line;
+use rescue_report::{Counts, StreamCounts};
 use std::alloc::{AllocError, Global};
 use std::marker::Model;
 use std::thread::Threads;
 use stream_decoders::{SymbolCosts, take_symbol};
 use word_workers::OpenGate;
+
+// The counts of LP, where there is a hierarchy.
+fn where_layered(settings: &Settings, counts: StreamCounts) -> Option<StreamCounts>
+    ensures { result ≡ (if is_flat settings.now.hierarchy then None else Some counts) }
+{
+    if settings.hierarchy.is_flat() {
+        None
+    } else {
+        Some(counts)
+    }
+}
 
 /// Receives the cells of a transmission, as bytes that are cut anywhere, and gives the packets of its streams as far as they are
 /// decided: of each word that has no nearest codeword the eight least sure bytes are erased.
@@ -136,5 +152,28 @@ impl<M: Carriers> Rescue<M> {
         ensures symbols { (moment : Moment) (bytes : List ℕ) (r : Rescued) → StandsFor moment self.now bytes r → result ≡ symbols self.now.settings bytes }
     {
         self.cells.symbols()
+    }
+    /// The counts so far, or at the end.
+    pub fn counts(&self) -> Counts
+        ensures { (moment : Moment) (bytes : List ℕ) (r : Rescued) → StandsFor moment self.now bytes r → result ≡ counts_of self.now.settings bytes r }
+    {
+        reception::laws::symbols();
+        Counts {
+            symbols: self.cells.symbols(),
+            tail: self.cells.waiting(),
+            hp: self.hp.counts(),
+            lp: where_layered(self.cells.settings(), self.lp.counts()),
+        }
+    }
+
+    /// The closing lines of the report in order, by their numbers from 0: `None` exactly past the last.
+    ///
+    /// The receiver has ended.
+    pub fn line(&self, number: u8) -> Option<Line>
+        requires ended { self.now.ended ≡ true }
+        ensures line { (bytes : List ℕ) (r : Rescued) → StandsFor at_end self.now bytes r → IfSome result (λ l. slice_get (closing_lines (counts_of self.now.settings bytes r)) number ≡ Some l.bytes) }
+        ensures past { (bytes : List ℕ) (r : Rescued) → StandsFor at_end self.now bytes r → IsNone result ↔ (length (closing_lines (counts_of self.now.settings bytes r)) ≤ number) }
+    {
+        self.counts().line(number)
     }
 }

@@ -18,6 +18,7 @@ use bit_margin::Margins;
 use conv_code::CostPair;
 use inner_decoder::StartState;
 use mode_set::Start;
+use rescue_report::StreamCounts;
 use rescue_words::RescueWords;
 use std::alloc::{AllocError, Global};
 use stream_decoders::{StreamBranch, begin, end};
@@ -113,5 +114,14 @@ impl StreamRx {
         end_margins(&mut self.margins, &mut self.block, &mut self.byte_margins);
         pass_bytes(&mut self.branch, &mut self.bytes);
         give_words(&mut self.bytes, &mut self.byte_margins, &mut self.words, to);
+    }
+    /// The counts of the stream.
+    pub(crate) fn counts(&self) -> StreamCounts
+        ensures { result ≡ record { words = self.now.words.counts; unmerged = self.now.unmerged } }
+    {
+        StreamCounts {
+            words: self.words.counts(),
+            unmerged: self.unmerged,
+        }
     }
 }
