@@ -1,0 +1,6 @@
+mod Marks
+mod Received
+mod SomeMargins
+mod SomePlaces
+mod SomeWords
+mod Whole
