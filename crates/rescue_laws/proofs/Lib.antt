@@ -1,6 +1,5 @@
 mod Marks
 mod Received
 mod SomeMargins
-mod SomePlaces
 mod SomeWords
 mod Whole

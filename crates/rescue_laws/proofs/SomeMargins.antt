@@ -86,18 +86,21 @@ module _ (a : Option (List Bool)) (c : List CostPair) (t : ℕ) (b : Bool) where
   better : (m : ℕ) → Decided (Bits (6 + length c) (Better m))
   better m = find_bits (6 + length c) (Better m) (λ q l. both (starts a q) (both (same_bit (bit q (6 + t)) b) (less (total c q) m)))
 
-  least_from : (fuel : ℕ) (p : PathWith a c t b) → total c p.path ≤ fuel → (m : ℕ) × LeastWith a c t b m
-  least_from fuel p l = go fuel l (better (total c p.path)) (λ f k q e. least_from f q e)
-    where
-      none : (Bits (6 + length c) (Better (total c p.path)) → ⊥) → (q : List Bool) → IsPath a c q → bit q (6 + t) ≡ b → (total c q < total c p.path) ⊎ (total c p.path ≤ total c q) → total c p.path ≤ total c q
-      none n q i e (inr k) = k
-      none n q i e (inl k) = absurd (n (record { bits = q; long = i.long; holds = (i.start, e, k) }))
+  none : (p : PathWith a c t b) → (Bits (6 + length c) (Better (total c p.path)) → ⊥) → (q : List Bool) → IsPath a c q → bit q (6 + t) ≡ b → (total c q < total c p.path) ⊎ (total c p.path ≤ total c q) → total c p.path ≤ total c q
+  none p n q i e (inr k) = k
+  none p n q i e (inl k) = absurd (n (record { bits = q; long = i.long; holds = (i.start, e, k) }))
 
-      go : (fuel : ℕ) → total c p.path ≤ fuel → Decided (Bits (6 + length c) (Better (total c p.path))) → ((f : ℕ) → f < fuel → (q : PathWith a c t b) → total c q.path ≤ f → (m : ℕ) × LeastWith a c t b m) → (m : ℕ) × LeastWith a c t b m
-      go fuel l (inr n) again = (total c p.path, record { path = p.path; is_path = p.is_path; has = p.has; is = refl; least = λ q i e. none n q i e (cases_lt (total c q) (total c p.path)) })
-      go zero l (inl f) again = absurd (omega (arith, l, f.holds.2))
-      go (suc f) l (inl q) again =
-          again f (omega arith) (record { path = q.bits; is_path = record { long = q.long; start = q.holds.0 }; has = q.holds.1 }) (omega (arith, l, q.holds.2))
+  is_least : (p : PathWith a c t b) → (Bits (6 + length c) (Better (total c p.path)) → ⊥) → (m : ℕ) × LeastWith a c t b m
+  is_least p n = (total c p.path, record { path = p.path; is_path = p.is_path; has = p.has; is = refl; least = λ q i e. none p n q i e (cases_lt (total c q) (total c p.path)) })
+
+  -- from a path that costs at most so much
+  least_from : (most : ℕ) (p : PathWith a c t b) → total c p.path ≤ most → (m : ℕ) × LeastWith a c t b m
+  least_from zero p l = is_least p (λ f. absurd (omega (arith, l, f.holds.2)))
+  least_from (suc most) p l = go (better (total c p.path)) (λ q e. least_from most q e)
+    where
+      go : Decided (Bits (6 + length c) (Better (total c p.path))) → ((q : PathWith a c t b) → total c q.path ≤ most → (m : ℕ) × LeastWith a c t b m) → (m : ℕ) × LeastWith a c t b m
+      go (inr n) again = is_least p n
+      go (inl f) again = again (record { path = f.bits; is_path = record { long = f.long; start = f.holds.0 }; has = f.holds.1 }) (omega (arith, l, f.holds.2))
 
   some_least_with : IsStart a → t < length c → (m : ℕ) × LeastWith a c t b m
   some_least_with s l = let p = some_with a c t b s l in least_from (total c p.path) p (omega arith)

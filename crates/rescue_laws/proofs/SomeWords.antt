@@ -10,14 +10,14 @@ use Rattle.outer_chain.specs.Words.{word_at, IsNear, packets_to}
 use Rattle.path_laws.proofs.Deciding.{Decided}
 use Rattle.reception_laws.proofs.Searching.{Bytes, find_bytes, at_most}
 use Rattle.reception_laws.proofs.NearWords.{near_of}
+use Rattle.bit_margin.specs.Laws.{SomeAreLeast}
 use Rattle.bit_margin.specs.Places.{AreLeast}
 use Rattle.rescue_words.specs.ByteMargins.{margins_at}
 use Rattle.rescue_words.specs.Recovery.{Recovery, IsRecovery, IsSaved}
 use Rattle.rescue_words.specs.Recovery.Recovery.{Nearest, Rescued, Lost}
 use Rattle.rescue_words.specs.Rescued.{RescueTally, Rescues, codewords, tally_to, known_words}
-use Rattle.rescue_laws.proofs.SomePlaces.{some_places}
 
-module _ (has : MessageHasCodeword) (one : CodewordIsOne) where
+module _ (has : MessageHasCodeword) (one : CodewordIsOne) (places : SomeAreLeast) where
   -- a message whose codeword is near outside the erased places
   abbrev Found : List ℕ → List ℕ → Type 0
   Found word erased = Bytes 188 (λ m. distance_outside erased word (codeword m) ≤ 4)
@@ -57,7 +57,7 @@ module _ (has : MessageHasCodeword) (one : CodewordIsOne) where
       go : (near : Option (List ℕ)) → IsNear word near → (r : Recovery) × IsRecovery word margins r
       go (Some c) h = (Nearest c, h)
       go None h =
-          let p = some_places margins in
+          let p = places margins 204 (omega arith) in
           outside word margins h p.0 p.1 (find_bytes 188 (λ m. distance_outside p.0 word (codeword m) ≤ 4) (λ m l a. at_most (distance_outside p.0 word (codeword m)) 4))
 
   recovery_at : List ℕ → List ℕ → ℕ → Recovery

@@ -6,6 +6,7 @@ use Rattle.rs204.specs.Laws.{MessageHasCodeword, CodewordIsOne}
 use Rattle.outer_chain.specs.Bits.{bytes_of}
 use Rattle.mode_set.specs.declared.modes.Stream.{Stream}
 use Rattle.mode_set.specs.declared.settings.Settings.{Settings}
+use Rattle.bit_margin.specs.Laws.{SomeAreLeast}
 use Rattle.path_laws.specs.Laws.{IsStart, SomeAreGiven, SomeAreEnded, SomeAreReported}
 use Rattle.rescue_words.specs.ByteMargins.{byte_margins}
 use Rattle.reception.specs.Costs.{costs}
@@ -16,7 +17,7 @@ use Rattle.rescue_laws.proofs.SomeMargins.{some_known}
 use Rattle.rescue_laws.proofs.SomeWords.{some_rescue}
 use Rattle.rescue_laws.proofs.Received.{is_start}
 
-module _ (given : SomeAreGiven) (ended : SomeAreEnded) (reported : SomeAreReported) (has : MessageHasCodeword) (one : CodewordIsOne) where
+module _ (given : SomeAreGiven) (ended : SomeAreEnded) (reported : SomeAreReported) (has : MessageHasCodeword) (one : CodewordIsOne) (places : SomeAreLeast) where
   some_decoded : (moment : Moment) (a : Option (List Bool)) (c : List CostPair) → IsStart a → (g : List Bool) × IsDecoded moment a c g
   some_decoded so_far a c s = given memory a c s
   some_decoded at_end a c s = ended memory a c s
@@ -26,7 +27,7 @@ module _ (given : SomeAreGiven) (ended : SomeAreEnded) (reported : SomeAreReport
       let start = is_start s.start in
       let g = λ (σ : Stream). some_decoded moment (start_of s.start) (costs s bytes σ) start in
       let k = λ (σ : Stream). some_known moment (start_of s.start) (costs s bytes σ) start in
-      let w = λ (σ : Stream). some_rescue has one (bytes_of (g σ).0) (byte_margins (k σ).0) in
+      let w = λ (σ : Stream). some_rescue has one places (bytes_of (g σ).0) (byte_margins (k σ).0) in
       let t = λ (σ : Stream). reported memory (start_of s.start) (costs s bytes σ) start in (
         record { packets = λ σ. (w σ).0; reports = λ σ. (t σ).0; tally = λ σ. (w σ).1 },
         record { bits = λ σ. (g σ).0; decoded = λ σ. (g σ).1; margins = λ σ. (k σ).0; known = λ σ. (k σ).1; rescues = λ σ. (w σ).2; reports = λ σ. (t σ).1 },

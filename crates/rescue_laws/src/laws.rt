@@ -37,6 +37,7 @@ pub fn existence()
 {
     path_laws::laws::existence();
     rs204::laws::codewords();
+    bit_margin::laws::some_least();
 }
 
 /// The rescue output so far of first bytes begins both outputs of more, and bytes within a symbol leave it.

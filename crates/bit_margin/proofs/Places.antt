@@ -3,7 +3,8 @@ use Rattle.std.proofs.Common.{◌≡◌, ℕ, zero, suc, ◌+◌, ◌-◌, ◌<�
 use Rattle.std.proofs.lemmas.Bool.{cases_lt, cases_eq}
 use Rattle.std.proofs.lemmas.List.{get_or-take, get_or-drop, get_or_append_left, get_or-append_right, get_or-append-add}
 use Rattle.bit_margin.specs.Places.{ComesFirst, AreLeast}
-use Rattle.bit_margin.proofs.Best.{least_start, least_kept, least_taken}
+use Rattle.bit_margin.specs.Laws.{SomeAreLeast}
+use Rattle.bit_margin.proofs.Best.{comes_le, comes_from, least_start, least_kept, least_taken}
 
 -- of the first k places the one that comes last
 record Last (m ps : List ℕ) (k : ℕ) : Type 0 where
@@ -14,17 +15,6 @@ record Last (m ps : List ℕ) (k : ℕ) : Type 0 where
 abbrev AreRising : List ℕ → Type 0
 AreRising ps = (i j : ℕ) → i < j → j < 8 → slice_index ps i < slice_index ps j
 
-not_after : (m : List ℕ) (p q : ℕ) → ComesFirst m p q → slice_index m p ≤ slice_index m q
-not_after m p q (inl h) = omega (arith, h)
-not_after m p q (inr h) = omega (arith, h.0)
-
-comes_first : (m : List ℕ) (p q : ℕ) → slice_index m p ≤ slice_index m q → p < q → ComesFirst m p q
-comes_first m p q h l = go (cases_lt (slice_index m p) (slice_index m q))
-  where
-    go : (slice_index m p < slice_index m q) ⊎ (slice_index m q ≤ slice_index m p) → ComesFirst m p q
-    go (inl k) = inl k
-    go (inr k) = inr (omega (arith, h, k), l)
-
 last_more : (m ps : List ℕ) → AreRising ps → (k : ℕ) → k < 8 → Last m ps k → Last m ps (suc k)
 last_more m ps rising k l h = go (cases_lt (slice_index m (slice_index ps k)) (slice_index m (slice_index ps h.at)))
   where
@@ -33,8 +23,8 @@ last_more m ps rising k l h = go (cases_lt (slice_index m (slice_index ps k)) (s
     kept less i j out (inr b) = let e : k ≡ i = omega (arith, j, b) in subst (λ z. ComesFirst m (slice_index ps z) (slice_index ps h.at)) e (inl less)
 
     before : slice_index m (slice_index ps h.at) ≤ slice_index m (slice_index ps k) → (i : ℕ) → i < k → (i ≡ h.at) ⊎ (i ≡ h.at → ⊥) → ComesFirst m (slice_index ps i) (slice_index ps k)
-    before more i j (inl e) = subst (λ z. ComesFirst m (slice_index ps z) (slice_index ps k)) (sym e) (comes_first m (slice_index ps h.at) (slice_index ps k) more (rising h.at k h.within l))
-    before more i j (inr e) = comes_first m (slice_index ps i) (slice_index ps k) (omega (arith, more, not_after m (slice_index ps i) (slice_index ps h.at) (h.last i j e))) (rising i k j l)
+    before more i j (inl e) = subst (λ z. ComesFirst m (slice_index ps z) (slice_index ps k)) (sym e) (comes_from m (slice_index ps h.at) (slice_index ps k) more (rising h.at k h.within l))
+    before more i j (inr e) = comes_from m (slice_index ps i) (slice_index ps k) (omega (arith, more, comes_le m (slice_index ps i) (slice_index ps h.at) (h.last i j e))) (rising i k j l)
 
     go : (slice_index m (slice_index ps k) < slice_index m (slice_index ps h.at)) ⊎ (slice_index m (slice_index ps h.at) ≤ slice_index m (slice_index ps k)) → Last m ps (suc k)
     go (inl less) = record { at = h.at; within = omega (arith, h.within); last = λ i j out. kept less i j out (cases_lt i k) }
@@ -94,5 +84,7 @@ places_of m (suc d) =
     let e : d + 8 + 1 ≡ suc d + 8 = omega arith in
     (r.0, subst (λ n. AreLeast m n r.0) e r.1)
 
-pub some_places : (m : List ℕ) → (ps : List ℕ) × AreLeast m 204 ps
-some_places m = places_of m 196
+pub some_are_least : SomeAreLeast
+some_are_least m n l = let r = places_of m (n - 8) in
+    let e : n - 8 + 8 ≡ n = omega (arith, l) in
+    (r.0, subst (λ k. AreLeast m k r.0) e r.1)
