@@ -236,7 +236,13 @@ fn two_of_sixteen_words_of_lp(rt: HostRuntime) -> Result<(), Fail> {
 fn null_super_frame(rt: HostRuntime) -> Result<(), Fail> {
     let alloc = rt.alloc();
     let bytes = null_symbols(&rt, alloc, 272)?;
-    let (hp, lp, reports, counts) = rescued(&rt, alloc, &settings(Start::Zero), &bytes, Cut::Size(997))?;
+    let (hp, lp, reports, counts) = rescued(
+        &rt,
+        alloc,
+        &settings(Start::Zero),
+        &bytes,
+        Cut::Size(997),
+    )?;
     assert!(rt; (hp.0, lp.0, reports) == (241 * 188, 0, 0));
     is_line(&rt, &counts, 0, "symbols 272 tail 0\n");
     is_line(

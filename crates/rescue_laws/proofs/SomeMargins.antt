@@ -88,19 +88,19 @@ module _ (a : Option (List Bool)) (c : List CostPair) (t : ℕ) (b : Bool) where
 
   none : (p : PathWith a c t b) → (Bits (6 + length c) (Better (total c p.path)) → ⊥) → (q : List Bool) → IsPath a c q → bit q (6 + t) ≡ b → (total c q < total c p.path) ⊎ (total c p.path ≤ total c q) → total c p.path ≤ total c q
   none p n q i e (inr k) = k
-  none p n q i e (inl k) = absurd (n (record { bits = q; long = i.long; holds = (i.start, e, k) }))
+  none p n q i e (inl k) = absurd (n (record { bits = q; long = i.long; holds = (i.start, (e, k)) }))
 
   is_least : (p : PathWith a c t b) → (Bits (6 + length c) (Better (total c p.path)) → ⊥) → (m : ℕ) × LeastWith a c t b m
   is_least p n = (total c p.path, record { path = p.path; is_path = p.is_path; has = p.has; is = refl; least = λ q i e. none p n q i e (cases_lt (total c q) (total c p.path)) })
 
   -- from a path that costs at most so much
   least_from : (most : ℕ) (p : PathWith a c t b) → total c p.path ≤ most → (m : ℕ) × LeastWith a c t b m
-  least_from zero p l = is_least p (λ f. absurd (omega (arith, l, f.holds.2)))
+  least_from zero p l = is_least p (λ f. absurd (omega (arith, l, f.holds.1.1)))
   least_from (suc most) p l = go (better (total c p.path)) (λ q e. least_from most q e)
     where
       go : Decided (Bits (6 + length c) (Better (total c p.path))) → ((q : PathWith a c t b) → total c q.path ≤ most → (m : ℕ) × LeastWith a c t b m) → (m : ℕ) × LeastWith a c t b m
       go (inr n) again = is_least p n
-      go (inl f) again = again (record { path = f.bits; is_path = record { long = f.long; start = f.holds.0 }; has = f.holds.1 }) (omega (arith, l, f.holds.2))
+      go (inl f) again = again (record { path = f.bits; is_path = record { long = f.long; start = f.holds.0 }; has = f.holds.1.0 }) (omega (arith, l, f.holds.1.1))
 
   some_least_with : IsStart a → t < length c → (m : ℕ) × LeastWith a c t b m
   some_least_with s l = let p = some_with a c t b s l in least_from (total c p.path) p (omega arith)
