@@ -1,6 +1,5 @@
 // The receiver that rescues words.
-ghost use Rattle.std.specs.Prelude.{◌≡◌, ◌+◌, ◌-◌, ◌*◌, ◌<◌, ◌≤◌, ◌^◌, ◌↔◌, [], ℕ, List, true, false, min, length, IfOk, IfSome, IsNone, if◌then◌else◌, None, Some, slice_get};
-ghost use Rattle.mode_set.specs.Kept.{is_flat};
+ghost use Rattle.std.specs.Prelude.{◌≡◌, ◌+◌, ◌-◌, ◌*◌, ◌<◌, ◌≤◌, ◌^◌, ◌↔◌, [], ℕ, List, true, false, min, length, IfOk, IfSome, IsNone, Some, slice_get};
 ghost use Rattle.reception.specs.Cells.{symbols};
 ghost use Rattle.reception.specs.Streams.{so_far, at_end, Moment};
 ghost use Rattle.rescue_reception.specs.Streams.{Rescue as Rescued, nothing};
@@ -13,23 +12,12 @@ use crate::RescueOut;
 use crate::stream::StreamRx;
 use mode_set::{Carriers, Settings, Stream};
 use report_line::Line;
-use rescue_report::{Counts, StreamCounts};
+use rescue_report::Counts;
 use std::alloc::{AllocError, Global};
 use std::marker::Model;
 use std::thread::Threads;
 use stream_decoders::{SymbolCosts, take_symbol};
 use word_workers::OpenGate;
-
-// The counts of LP, where there is a hierarchy.
-fn where_layered(settings: &Settings, counts: StreamCounts) -> Option<StreamCounts>
-    ensures { result ≡ (if is_flat settings.now.hierarchy then None else Some counts) }
-{
-    if settings.hierarchy.is_flat() {
-        None
-    } else {
-        Some(counts)
-    }
-}
 
 /// Receives the cells of a transmission, as bytes that are cut anywhere, and gives the packets of its streams as far as they are
 /// decided: of each word that has no nearest codeword the eight least sure bytes are erased.
@@ -162,7 +150,7 @@ impl<M: Carriers> Rescue<M> {
             symbols: self.cells.symbols(),
             tail: self.cells.waiting(),
             hp: self.hp.counts(),
-            lp: where_layered(self.cells.settings(), self.lp.counts()),
+            lp: self.cells.where_layered(self.lp.counts()),
         }
     }
 
