@@ -6,6 +6,7 @@ mod Stand
 mod Loops
 mod Lanes
 mod Best
+mod Places
 mod Once
 mod Trying
 mod Vectors

@@ -1,6 +1,5 @@
 // The receiver.
-ghost use Rattle.std.specs.Prelude.{◌≡◌, ◌+◌, ◌-◌, ◌*◌, ◌<◌, ◌≤◌, ◌^◌, ◌++◌, [], ℕ, List, IsTrue, true, false, min, take, length, IfOk, if◌then◌else◌, None, Some};
-ghost use Rattle.mode_set.specs.Kept.{is_flat};
+ghost use Rattle.std.specs.Prelude.{◌≡◌, ◌+◌, ◌-◌, ◌*◌, ◌<◌, ◌≤◌, ◌^◌, ◌++◌, [], ℕ, List, IsTrue, true, false, min, take, length, IfOk};
 ghost use Rattle.mode_set.specs.StreamTable.{has_stream};
 ghost use Rattle.mode_set.specs.declared.modes.Stream.TheVariants.{Hp, Lp};
 ghost use Rattle.reception.specs.Streams.{so_far, at_end, start_of, Moment, Reception};
@@ -18,24 +17,13 @@ use crate::stream::StreamRx;
 use acs_lanes::LaneAcs;
 use inner_decoder::Branch;
 use mode_set::{Carriers, Settings, Stream};
-use rx_report::{Counts, StreamCounts};
+use rx_report::Counts;
 use std::alloc::{AllocError, Global};
 use std::marker::Model;
 use std::thread::Threads;
 use stream_decoders::{SymbolCosts, take_symbol};
 use survivor_ring::RingSurvivors;
 use word_workers::{Gate, OpenGate};
-
-// The counts of LP, where there is a hierarchy.
-fn where_layered(settings: &Settings, counts: StreamCounts) -> Option<StreamCounts>
-    ensures { result ≡ (if is_flat settings.now.hierarchy then None else Some counts) }
-{
-    if settings.hierarchy.is_flat() {
-        None
-    } else {
-        Some(counts)
-    }
-}
 
 /// Receives the cells of a transmission, as bytes that are cut anywhere, and gives the packets of its
 /// streams as far as they are decided.
@@ -195,7 +183,7 @@ impl<M: Carriers> Receiver<M> {
             tps_read: self.frames.read,
             tps_bad: self.frames.bad,
             hp: self.hp.counts,
-            lp: where_layered(self.cells.settings(), self.lp.counts),
+            lp: self.cells.where_layered(self.lp.counts),
         }
     }
 

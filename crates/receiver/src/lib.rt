@@ -9,9 +9,8 @@
 
 mod feed;
 mod frames;
-mod out;
 mod stream;
 mod words;
 
 pub use feed::Receiver;
-pub use out::RxOut;
+pub use stream_decoders::ReceiverOut as RxOut;

@@ -1,14 +1,18 @@
 // The receiver that rescues words.
-ghost use Rattle.std.specs.Prelude.{◌≡◌, ◌+◌, ◌-◌, ◌*◌, ◌<◌, ◌≤◌, ◌^◌, [], ℕ, List, true, false, min, length, IfOk};
+ghost use Rattle.std.specs.Prelude.{◌≡◌, ◌+◌, ◌-◌, ◌*◌, ◌<◌, ◌≤◌, ◌^◌, ◌↔◌, [], ℕ, List, true, false, min, length, IfOk, IfSome, IsNone, Some, slice_get};
 ghost use Rattle.reception.specs.Cells.{symbols};
 ghost use Rattle.reception.specs.Streams.{so_far, at_end, Moment};
 ghost use Rattle.rescue_reception.specs.Streams.{Rescue as Rescued, nothing};
 ghost use Rattle.rescue_reception.specs.Feeds.{Feeds, Finishes};
+ghost use Rattle.rescue_reception.specs.Lines.{counts_of};
+ghost use Rattle.rescue_report.specs.Text.{closing_lines};
 ghost use Rattle.rescue.specs.Standing.{StandsFor};
 
 use crate::RescueOut;
 use crate::stream::StreamRx;
 use mode_set::{Carriers, Settings, Stream};
+use report_line::Line;
+use rescue_report::Counts;
 use std::alloc::{AllocError, Global};
 use std::marker::Model;
 use std::thread::Threads;
@@ -136,5 +140,28 @@ impl<M: Carriers> Rescue<M> {
         ensures symbols { (moment : Moment) (bytes : List ℕ) (r : Rescued) → StandsFor moment self.now bytes r → result ≡ symbols self.now.settings bytes }
     {
         self.cells.symbols()
+    }
+    /// The counts so far, or at the end.
+    pub fn counts(&self) -> Counts
+        ensures { (moment : Moment) (bytes : List ℕ) (r : Rescued) → StandsFor moment self.now bytes r → result ≡ counts_of self.now.settings bytes r }
+    {
+        reception::laws::symbols();
+        Counts {
+            symbols: self.cells.symbols(),
+            tail: self.cells.waiting(),
+            hp: self.hp.counts(),
+            lp: self.cells.where_layered(self.lp.counts()),
+        }
+    }
+
+    /// The closing lines of the report in order, by their numbers from 0: `None` exactly past the last.
+    ///
+    /// The receiver has ended.
+    pub fn line(&self, number: u8) -> Option<Line>
+        requires ended { self.now.ended ≡ true }
+        ensures line { (bytes : List ℕ) (r : Rescued) → StandsFor at_end self.now bytes r → IfSome result (λ l. slice_get (closing_lines (counts_of self.now.settings bytes r)) number ≡ Some l.bytes) }
+        ensures past { (bytes : List ℕ) (r : Rescued) → StandsFor at_end self.now bytes r → IsNone result ↔ (length (closing_lines (counts_of self.now.settings bytes r)) ≤ number) }
+    {
+        self.counts().line(number)
     }
 }

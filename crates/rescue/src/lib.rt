@@ -7,9 +7,8 @@
 
 mod blocks;
 mod feed;
-mod out;
 mod queues;
 mod stream;
 
 pub use feed::Rescue;
-pub use out::RescueOut;
+pub use stream_decoders::ReceiverOut as RescueOut;

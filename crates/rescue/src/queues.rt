@@ -42,18 +42,7 @@ pub(crate) fn pass_bytes(branch: &mut StreamBranch, to: &mut Vec<u8>)
 }
 
 /// Takes the first items of a queue out of it.
-fn drop_bytes(queue: &mut Vec<u8>, count: usize)
-    requires within { count ≤ vec_len queue.old }
-    ensures rest { queue.new.items ≡ drop count queue.old.items }
-    ensures capacity { vec_capacity queue.new ≡ vec_capacity queue.old }
-{
-    let left = queue.len() - count;
-    queue.rotate_left(count);
-    queue.truncate(left);
-}
-
-/// Takes the first items of a queue out of it.
-fn drop_margins(queue: &mut Vec<u32>, count: usize)
+fn drop_first<T: Drop>(queue: &mut Vec<T>, count: usize)
     requires within { count ≤ vec_len queue.old }
     ensures rest { queue.new.items ≡ drop count queue.old.items }
     ensures capacity { vec_capacity queue.new ≡ vec_capacity queue.old }
@@ -102,6 +91,6 @@ pub(crate) fn give_words(
 {
     let count = bytes.len().min(margins.len());
     finish_words(words, &bytes[..count], &margins[..count], to);
-    drop_bytes(bytes, count);
-    drop_margins(margins, count);
+    drop_first(bytes, count);
+    drop_first(margins, count);
 }

@@ -4,7 +4,6 @@ ghost use Rattle.std.specs.declared.option.Option.{Option};
 ghost use Rattle.code_paths.specs.declared.costs.CostPair.{CostPair as Pair};
 ghost use Rattle.inner_decoder.specs.Events.{ats};
 ghost use Rattle.inner_decoder.specs.Running.{BranchState};
-ghost use Rattle.inner_decoder.specs.Starts as inner;
 ghost use Rattle.stream_decoders.specs.Branches.{HasTaken};
 ghost use Rattle.reception.specs.Streams.{so_far, at_end, start_of};
 ghost use Rattle.rescue_words.specs.Rescued.{RescueTally};
@@ -16,21 +15,11 @@ use crate::blocks::{end_margins, push_pairs};
 use crate::queues::{give_words, pass_bytes};
 use bit_margin::Margins;
 use conv_code::CostPair;
-use inner_decoder::StartState;
 use mode_set::Start;
+use rescue_report::StreamCounts;
 use rescue_words::RescueWords;
 use std::alloc::{AllocError, Global};
-use stream_decoders::{StreamBranch, begin, end};
-
-/// The start of the margins.
-fn start_state(start: Start) -> StartState
-    ensures start { inner.start_of result ≡ start_of start }
-{
-    match start {
-        Start::Zero => StartState::Zero,
-        Start::Any => StartState::Any,
-    }
-}
+use stream_decoders::{StreamBranch, begin, end, start_state};
 
 /// Room for the bytes of a symbol, and for those that waited.
 const BYTES: usize = 4608;
@@ -113,5 +102,14 @@ impl StreamRx {
         end_margins(&mut self.margins, &mut self.block, &mut self.byte_margins);
         pass_bytes(&mut self.branch, &mut self.bytes);
         give_words(&mut self.bytes, &mut self.byte_margins, &mut self.words, to);
+    }
+    /// The counts of the stream.
+    pub(crate) fn counts(&self) -> StreamCounts
+        ensures { result ≡ record { words = self.now.words.counts; unmerged = self.now.unmerged } }
+    {
+        StreamCounts {
+            words: self.words.counts(),
+            unmerged: self.unmerged,
+        }
     }
 }

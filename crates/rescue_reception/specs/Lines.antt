@@ -1,31 +1,24 @@
--- The counts of what is rescued.
-use Rattle.std.specs.Prelude.{ℕ, if◌then◌else◌, List, Option, None, Some, length}
+-- The counts of what is rescued, and the lines of its report.
+use Rattle.std.specs.Prelude.{ℕ, if◌then◌else◌, List, None, Some, flat_map, length}
+use Rattle.std.specs.List.{concat}
 use Rattle.mode_set.specs.Kept.{is_flat}
 use Rattle.mode_set.specs.declared.modes.Stream.{Stream}
 use Rattle.mode_set.specs.declared.modes.Stream.TheVariants.{Hp, Lp}
 use Rattle.mode_set.specs.declared.settings.Settings.{Settings}
-use Rattle.rescue_words.specs.Rescued.{RescueTally}
 use Rattle.rescue_words.specs.Running as words
-use Rattle.rescue_words.specs.declared.counts.RescueCounts.{RescueCounts}
+use Rattle.rescue_report.specs.Text as text
+use Rattle.rescue_report.specs.declared.counts.Counts.{Counts}
+use Rattle.rescue_report.specs.declared.counts.StreamCounts.{StreamCounts}
+use Rattle.rx_report.specs.Text.{event_line}
 use Rattle.reception.specs.Cells.{symbols, tail}
+use Rattle.reception.specs.Lines.{events}
 use Rattle.rescue_reception.specs.Streams.{Rescue}
 
 -- of one stream: the counts of its words, and how many unmerged reports there were
-pub record StreamCounts : Type 0 where
-  pub words : RescueCounts
-  pub unmerged : ℕ
-
 abbrev pub counts_of_stream : Rescue → Stream → StreamCounts
 counts_of_stream r σ = record { words = words.counts_of (r.tally σ); unmerged = length (r.reports σ) }
 
--- the whole symbols, the bytes after them, and the counts of each stream that exists
-pub record Counts : Type 0 where
-  pub symbols : ℕ
-  pub tail : ℕ
-  pub hp : StreamCounts
-  pub lp : Option StreamCounts
-
--- the counts of what these bytes gave
+-- the counts of what these bytes gave: of LP where there is a hierarchy
 abbrev pub counts_of : Settings → List ℕ → Rescue → Counts
 counts_of s bytes r = record {
   symbols = symbols s bytes;
@@ -33,3 +26,11 @@ counts_of s bytes r = record {
   hp = counts_of_stream r Hp;
   lp = if is_flat s.hierarchy then None else Some (counts_of_stream r Lp);
 }
+
+-- the lines of all unmerged reports
+abbrev pub event_lines : Settings → List ℕ → Rescue → List ℕ
+event_lines s bytes r = flat_map event_line (events s (symbols s bytes) r.reports)
+
+-- the lines at the end
+abbrev pub closing_lines : Settings → List ℕ → Rescue → List ℕ
+closing_lines s bytes r = concat (text.closing_lines (counts_of s bytes r))

@@ -1,5 +1,6 @@
 // From bytes that were cut anywhere to the cost pairs of symbols.
-ghost use Rattle.std.specs.Prelude.{◌≡◌, ◌+◌, ◌-◌, ◌*◌, ◌<◌, ◌≤◌, ◌^◌, [], ℕ, List, true, false, cond, min, length, IfOk};
+ghost use Rattle.std.specs.Prelude.{◌≡◌, ◌+◌, ◌-◌, ◌*◌, ◌<◌, ◌≤◌, ◌^◌, [], ℕ, List, true, false, cond, min, length, IfOk, if◌then◌else◌, None, Some};
+ghost use Rattle.mode_set.specs.Kept.{is_flat};
 ghost use Rattle.mode_set.specs.StreamTable.{carriers, need};
 ghost use Rattle.stream_decoders.specs.Seen.{pairs_of};
 ghost use Rattle.stream_decoders.specs.Fed.{HasHad, Fed};
@@ -175,5 +176,15 @@ impl<M: Carriers> SymbolCosts<M> {
         ensures number { result ≡ length self.now.rest }
     {
         if self.whole { 0 } else { self.input.waiting() }
+    }
+    /// What belongs to LP, where there is a hierarchy.
+    pub fn where_layered<T: Copy>(&self, of_lp: T) -> Option<T>
+        ensures { result ≡ (if is_flat self.now.settings.hierarchy then None else Some of_lp) }
+    {
+        if self.settings.hierarchy.is_flat() {
+            None
+        } else {
+            Some(of_lp)
+        }
     }
 }

@@ -2,12 +2,14 @@
 //!
 //! [`SymbolCosts`] takes the bytes and gives, of each whole symbol, its cells and the cost pairs of each stream. Those are
 //! handed to the decoders of the streams ([`take_symbol`]), which give all bits on which their survivors agree, and at the end
-//! the rest ([`end`]). What becomes of the bits is the matter of the receivers above.
+//! the rest ([`end`]). [`ReceiverOut`] has what the last call of a receiver gave. What becomes of the bits is the matter of the receivers above.
 #![tactic(auto)]
 
 mod branches;
 mod cells;
+mod out;
 mod pairs;
 
-pub use branches::{StreamBranch, begin, end, take_symbol};
+pub use branches::{StreamBranch, begin, end, start_state, take_symbol};
 pub use cells::SymbolCosts;
+pub use out::ReceiverOut;

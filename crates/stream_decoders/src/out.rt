@@ -1,4 +1,4 @@
-// What a call of the receiver gives.
+// What a call of a receiver gives.
 ghost use Rattle.std.specs.Prelude.{◌≡◌, [], IfOk};
 
 use rx_report::Event;
@@ -18,13 +18,16 @@ const EVENTS: usize = 32;
 ///
 /// It has room for 24 packets of each stream and for 32 reports, which one symbol never exceeds.
 #[derive(Drop)]
-pub struct RxOut {
-    pub(crate) hp: Vec<u8>,
-    pub(crate) lp: Vec<u8>,
-    pub(crate) events: Vec<Event>,
+pub struct ReceiverOut {
+    /// The bytes of the packets of HP.
+    pub hp: Vec<u8>,
+    /// The bytes of the packets of LP.
+    pub lp: Vec<u8>,
+    /// The reports.
+    pub events: Vec<Event>,
 }
 
-impl Model for RxOut {
+impl Model for ReceiverOut {
     ghost use Rattle.std.specs.Prelude.{◌≤◌, vec_capacity};
     ghost use Rattle.reception.specs.Feeds.{Output};
 
@@ -35,12 +38,12 @@ impl Model for RxOut {
     ghost invariant = { λ o. (4512 ≤ vec_capacity o.hp) × (4512 ≤ vec_capacity o.lp) × (32 ≤ vec_capacity o.events) };
 }
 
-impl RxOut {
+impl ReceiverOut {
     /// It has nothing yet. The only error is want of memory.
-    pub fn new(alloc: Global) -> Result<RxOut, AllocError>
+    pub fn new(alloc: Global) -> Result<ReceiverOut, AllocError>
         ensures { IfOk result (λ out. out ≡ record { hp = []; lp = []; events = [] }) }
     {
-        Ok(RxOut {
+        Ok(ReceiverOut {
             hp: Vec::with_capacity(alloc, PACKET * PACKETS)?,
             lp: Vec::with_capacity(alloc, PACKET * PACKETS)?,
             events: Vec::with_capacity(alloc, EVENTS)?,
@@ -69,7 +72,7 @@ impl RxOut {
     }
 
     /// Takes out what it has.
-    pub(crate) fn clear(&mut self)
+    pub fn clear(&mut self)
         ensures { self.new ≡ record { hp = []; lp = []; events = [] } }
     {
         self.hp.clear();

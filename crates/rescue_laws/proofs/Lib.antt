@@ -1,0 +1,5 @@
+mod Marks
+mod Received
+mod SomeMargins
+mod SomeWords
+mod Whole
