@@ -11,31 +11,26 @@ ghost use Rattle.std.specs.Thread.{IsSync};
 ghost use Rattle.receive_run.specs.Feeder.{IsFed, IsFeeder};
 ghost use Rattle.symbol_runs.specs.Runs.{IsReady};
 ghost use Rattle.symbol_runs.specs.Outputs.{stream_names};
-ghost use Rattle.receive_run.specs.Runs.{RunsReception, RunsOrLacks};
+ghost use Rattle.receive_run.specs.Runs.{RunsReceiving};
+ghost use Rattle.receive_run.specs.Working.{reception_work};
 ghost use Rattle.receive_run.specs.ReceiveCommand.{receive_command};
 
 use crate::receivers::{ModeReceiver, ReceiverWithOutput};
 use crate::reception_work::ReceptionWork;
-use frame_build::header;
-use mode_set::{Carriers, Mode, Mode2k, Mode8k, Settings};
+use crate::running::{ReceivingCommand, ReceptionFiles, run_receiving};
+use mode_set::{Carriers, Settings};
 use receiver::{Receiver, RxOut};
 use run_clauses::{Limits, Refusal};
 use run_steps::{read_fitting, refuse};
 use station_core::Station;
 use std::alloc::Global;
 use std::thread::Threads;
-use symbol_runs::{StreamFiles, run_cells};
 use word_workers::Gate;
 
-// The names of the files of a reception.
-#[derive(Clone, Copy)]
-struct Names<'a> {
-    // The cells that are read.
-    cells: &'a str,
-    // The transport file of high priority, or the only one, which is made.
-    hp: &'a str,
-    // The transport file of low priority, if there is one, which is made.
-    lp: Option<&'a str>,
+// The command, with the runtime whose threads its receiver may use, and the gate that they enter.
+struct ReceiveRun<'r, R, G> {
+    rt: &'r R,
+    gate: &'r G,
 }
 
 // Runs the reception by a receiver that has had no byte and is fed so. `symbol` has the size of a symbol.
@@ -52,15 +47,15 @@ fn receive_by<
     out: RxOut,
     settings: &Settings,
     symbol: &mut [u8],
-    names: Names<'a>,
+    files: ReceptionFiles<'a>,
     station: &mut S,
 ) -> u8
     requires feeder { IsFeeder T.state F.Fn feeder.now }
     requires start { StandsFor so_far (T.state receiver) [] nothing }
     requires settings { (T.state receiver).settings ≡ settings.now }
-    requires size { length symbol.old ≡ symbol_length (T.state receiver).settings }
-    requires ready { IsReady (stream_names names.hp.now (option_copied names.lp)) (S.meaning station.old) }
-    ensures { RunsReception (T.state receiver).settings names.entry.cells.now names.entry.hp.now (option_copied names.entry.lp) (S.meaning station.old) (S.meaning station.new) result }
+    requires size { length symbol.old ≡ symbol_length settings.now }
+    requires ready { IsReady (stream_names files.hp.now (option_copied files.lp)) (S.meaning station.old) }
+    ensures { RunsReceiving reception_work settings.now files.entry.cells.now files.entry.hp.now (option_copied files.entry.lp) (S.meaning station.old) (S.meaning station.new) result }
 {
     let receiver = ReceiverWithOutput {
         rt,
@@ -68,76 +63,39 @@ fn receive_by<
         receiver,
         out,
     };
-    let two = names.lp.is_some();
+    let two = files.lp.is_some();
     let mut work = ReceptionWork { receiver, two };
-    let files = StreamFiles {
-        hp: names.hp,
-        lp: names.lp,
-    };
-    run_cells(
-        settings.max_symbols,
-        names.cells,
-        Some(header(settings.mode)),
-        &files,
-        &mut work,
-        symbol,
-        station,
-    )
+    files.run_work(settings, &mut work, symbol, station)
 }
 
-// Takes the memory of a mode's receiver and of one symbol, and runs the reception through this gate.
-fn receive_in<'a, M: Carriers, R: Threads + Sync, G: Gate, S: Station<'a>>(
-    rt: &R,
-    gate: &G,
-    alloc: Global,
-    settings: &Settings,
-    names: Names<'a>,
-    station: &mut S,
-) -> u8
-    requires mode { settings.now.mode ≡ M.MODE }
-    requires ready { IsReady (stream_names names.hp.now (option_copied names.lp)) (S.meaning station.old) }
-    ensures { RunsOrLacks settings.now names.entry.cells.now names.entry.hp.now (option_copied names.entry.lp) (S.meaning station.old) (S.meaning station.new) result }
-{
-    let Ok(receiver) = Receiver::<M>::new(alloc, settings) else {
-        return refuse(&Refusal::Memory, station);
-    };
-    let Ok(out) = RxOut::new(alloc) else {
-        return refuse(&Refusal::Memory, station);
-    };
-    let Ok(mut symbol) = vec![in alloc; 0u8; 5 * M::K as usize] else {
-        return refuse(&Refusal::Memory, station);
-    };
-    let feeder = |receiver: &mut Receiver<M>, piece: &[u8], out: &mut RxOut| -> usize
-        requires { IsSync R.row × (receiver.now.ended ≡ false) × (receiver.now.taken < 2 ^ 32) }
-        ensures { IsFed receiver.entry.now piece.entry.now receiver.exit.now out.exit.now result }
-    { receiver.feed_gated(rt, gate, piece, out) };
-    receive_by(
-        rt,
-        &feeder,
-        receiver,
-        out,
-        settings,
-        &mut symbol,
-        names,
-        station,
-    )
-}
+impl<'r, R: Threads + Sync, G: Gate> ReceivingCommand for ReceiveRun<'r, R, G> {
+    ghost use Rattle.std.specs.Thread.{IsSync};
+    ghost use Rattle.receive_run.specs.Working.{reception_work};
 
-// The same in the mode that is set.
-fn receive_accepted<'a, R: Threads + Sync, G: Gate, S: Station<'a>>(
-    rt: &R,
-    gate: &G,
-    alloc: Global,
-    settings: &Settings,
-    names: Names<'a>,
-    station: &mut S,
-) -> u8
-    requires ready { IsReady (stream_names names.hp.now (option_copied names.lp)) (S.meaning station.old) }
-    ensures { RunsOrLacks settings.now names.entry.cells.now names.entry.hp.now (option_copied names.entry.lp) (S.meaning station.old) (S.meaning station.new) result }
-{
-    match settings.mode {
-        Mode::M2k => receive_in::<Mode2k, R, G, S>(rt, gate, alloc, settings, names, station),
-        Mode::M8k => receive_in::<Mode8k, R, G, S>(rt, gate, alloc, settings, names, station),
+    ghost work = { reception_work };
+
+    ghost able = { IsSync R.row × IsSync G.row };
+
+    fn run<'a, M: Carriers, S: Station<'a>>(
+        &self,
+        alloc: Global,
+        settings: &Settings,
+        files: ReceptionFiles<'a>,
+        symbol: &mut [u8],
+        station: &mut S,
+    ) -> u8 {
+        let Ok(receiver) = Receiver::<M>::new(alloc, settings) else {
+            return refuse(&Refusal::Memory, station);
+        };
+        let Ok(out) = RxOut::new(alloc) else {
+            return refuse(&Refusal::Memory, station);
+        };
+        let (rt, gate) = (self.rt, self.gate);
+        let feeder = |receiver: &mut Receiver<M>, piece: &[u8], out: &mut RxOut| -> usize
+            requires { IsSync R.row × IsSync G.row × (receiver.now.ended ≡ false) × (receiver.now.taken < 2 ^ 32) }
+            ensures { IsFed receiver.entry.now piece.entry.now receiver.exit.now out.exit.now result }
+        { receiver.feed_gated(rt, gate, piece, out) };
+        receive_by(rt, &feeder, receiver, out, settings, symbol, files, station)
     }
 }
 
@@ -172,8 +130,9 @@ pub fn receive<'a, R: Threads + Sync, G: Gate, S: Station<'a>>(
     own_cell_laws::laws::own_cells();
     match read_fitting(alloc, settings, lp, station) {
         Ok(accepted) => {
-            let names = Names { cells, hp, lp };
-            receive_accepted(rt, gate, alloc, &accepted, names, station)
+            let files = ReceptionFiles { cells, hp, lp };
+            let command = ReceiveRun { rt, gate };
+            run_receiving(&command, alloc, &accepted, files, station)
         }
         Err(refusal) => refuse(&refusal, station),
     }
