@@ -11,14 +11,14 @@ ghost use Rattle.std.specs.Thread.{IsSync};
 ghost use Rattle.receive_run.specs.Feeder.{IsFed, IsFeeder};
 ghost use Rattle.symbol_runs.specs.Runs.{IsReady};
 ghost use Rattle.symbol_runs.specs.Outputs.{stream_names};
-ghost use Rattle.receive_run.specs.Runs.{RunsReceiving};
+ghost use Rattle.receive_run.specs.Runs.{RunsOrLacks, RunsReceiving};
 ghost use Rattle.receive_run.specs.Working.{reception_work};
 ghost use Rattle.receive_run.specs.ReceiveCommand.{receive_command};
 
 use crate::receivers::{ModeReceiver, ReceiverWithOutput};
 use crate::reception_work::ReceptionWork;
-use crate::running::{ReceivingCommand, ReceptionFiles, run_receiving};
-use mode_set::{Carriers, Settings};
+use crate::running::ReceptionFiles;
+use mode_set::{Carriers, Mode, Mode2k, Mode8k, Settings};
 use receiver::{Receiver, RxOut};
 use run_clauses::{Limits, Refusal};
 use run_steps::{read_fitting, refuse};
@@ -26,12 +26,6 @@ use station_core::Station;
 use std::alloc::Global;
 use std::thread::Threads;
 use word_workers::Gate;
-
-// The command, with the runtime whose threads its receiver may use, and the gate that they enter.
-struct ReceiveRun<'r, R, G> {
-    rt: &'r R,
-    gate: &'r G,
-}
 
 // Runs the reception by a receiver that has had no byte and is fed so. `symbol` has the size of a symbol.
 fn receive_by<
@@ -68,34 +62,59 @@ fn receive_by<
     files.run_work(settings, &mut work, symbol, station)
 }
 
-impl<'r, R: Threads + Sync, G: Gate> ReceivingCommand for ReceiveRun<'r, R, G> {
-    ghost use Rattle.std.specs.Thread.{IsSync};
-    ghost use Rattle.receive_run.specs.Working.{reception_work};
+// Takes the memory of a mode's receiver and of one symbol, and runs the reception through this gate.
+fn receive_in<'a, M: Carriers, R: Threads + Sync, G: Gate, S: Station<'a>>(
+    rt: &R,
+    gate: &G,
+    alloc: Global,
+    settings: &Settings,
+    files: ReceptionFiles<'a>,
+    station: &mut S,
+) -> u8
+    requires mode { settings.now.mode ≡ M.MODE }
+    requires ready { IsReady (stream_names files.hp.now (option_copied files.lp)) (S.meaning station.old) }
+    ensures { RunsOrLacks reception_work settings.now files.entry.cells.now files.entry.hp.now (option_copied files.entry.lp) (S.meaning station.old) (S.meaning station.new) result }
+{
+    let Ok(receiver) = Receiver::<M>::new(alloc, settings) else {
+        return refuse(&Refusal::Memory, station);
+    };
+    let Ok(out) = RxOut::new(alloc) else {
+        return refuse(&Refusal::Memory, station);
+    };
+    let Ok(mut symbol) = vec![in alloc; 0u8; 5 * M::K as usize] else {
+        return refuse(&Refusal::Memory, station);
+    };
+    let feeder = |receiver: &mut Receiver<M>, piece: &[u8], out: &mut RxOut| -> usize
+        requires { IsSync R.row × (receiver.now.ended ≡ false) × (receiver.now.taken < 2 ^ 32) }
+        ensures { IsFed receiver.entry.now piece.entry.now receiver.exit.now out.exit.now result }
+    { receiver.feed_gated(rt, gate, piece, out) };
+    receive_by(
+        rt,
+        &feeder,
+        receiver,
+        out,
+        settings,
+        &mut symbol,
+        files,
+        station,
+    )
+}
 
-    ghost work = { reception_work };
-
-    ghost able = { IsSync R.row × IsSync G.row };
-
-    fn run<'a, M: Carriers, S: Station<'a>>(
-        &self,
-        alloc: Global,
-        settings: &Settings,
-        files: ReceptionFiles<'a>,
-        symbol: &mut [u8],
-        station: &mut S,
-    ) -> u8 {
-        let Ok(receiver) = Receiver::<M>::new(alloc, settings) else {
-            return refuse(&Refusal::Memory, station);
-        };
-        let Ok(out) = RxOut::new(alloc) else {
-            return refuse(&Refusal::Memory, station);
-        };
-        let (rt, gate) = (self.rt, self.gate);
-        let feeder = |receiver: &mut Receiver<M>, piece: &[u8], out: &mut RxOut| -> usize
-            requires { IsSync R.row × IsSync G.row × (receiver.now.ended ≡ false) × (receiver.now.taken < 2 ^ 32) }
-            ensures { IsFed receiver.entry.now piece.entry.now receiver.exit.now out.exit.now result }
-        { receiver.feed_gated(rt, gate, piece, out) };
-        receive_by(rt, &feeder, receiver, out, settings, symbol, files, station)
+// The same in the mode that is set.
+fn receive_accepted<'a, R: Threads + Sync, G: Gate, S: Station<'a>>(
+    rt: &R,
+    gate: &G,
+    alloc: Global,
+    settings: &Settings,
+    files: ReceptionFiles<'a>,
+    station: &mut S,
+) -> u8
+    requires ready { IsReady (stream_names files.hp.now (option_copied files.lp)) (S.meaning station.old) }
+    ensures { RunsOrLacks reception_work settings.now files.entry.cells.now files.entry.hp.now (option_copied files.entry.lp) (S.meaning station.old) (S.meaning station.new) result }
+{
+    match settings.mode {
+        Mode::M2k => receive_in::<Mode2k, R, G, S>(rt, gate, alloc, settings, files, station),
+        Mode::M8k => receive_in::<Mode8k, R, G, S>(rt, gate, alloc, settings, files, station),
     }
 }
 
@@ -131,8 +150,7 @@ pub fn receive<'a, R: Threads + Sync, G: Gate, S: Station<'a>>(
     match read_fitting(alloc, settings, lp, station) {
         Ok(accepted) => {
             let files = ReceptionFiles { cells, hp, lp };
-            let command = ReceiveRun { rt, gate };
-            run_receiving(&command, alloc, &accepted, files, station)
+            receive_accepted(rt, gate, alloc, &accepted, files, station)
         }
         Err(refusal) => refuse(&refusal, station),
     }

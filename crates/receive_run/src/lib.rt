@@ -17,4 +17,4 @@ pub use cell_receiver::CellReceiver;
 pub use command::receive;
 pub use receivers::{ModeReceiver, ReceiverWithOutput};
 pub use reception_work::ReceptionWork;
-pub use running::{ReceivingCommand, ReceptionFiles, run_receiving};
+pub use running::ReceptionFiles;

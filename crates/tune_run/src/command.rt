@@ -9,7 +9,7 @@ ghost use Rattle.run_clauses.specs.Run.{Run};
 ghost use Rattle.receive_run.specs.Feeder.{IsFed};
 ghost use Rattle.symbol_runs.specs.Runs.{IsReady};
 ghost use Rattle.run_clauses.specs.Ports.{stream_names};
-ghost use Rattle.receive_run.specs.Runs.{RunsReceiving};
+ghost use Rattle.receive_run.specs.Runs.{RunsOrLacks, RunsReceiving};
 ghost use Rattle.tune_run.specs.Working.{tuning_work};
 ghost use Rattle.tune_run.specs.TuneCommand.{tune_command};
 
@@ -17,8 +17,8 @@ use crate::reception_at_place::{ModeMaker, ReceiverMaker};
 use crate::search::{PlaceSearch, Search};
 use crate::tuning_work::TuningWork;
 use frame_build::SymbolIn;
-use mode_set::{Carriers, Settings};
-use receive_run::{CellReceiver, ReceivingCommand, ReceptionFiles, run_receiving};
+use mode_set::{Carriers, Mode, Mode2k, Mode8k, Settings};
+use receive_run::{CellReceiver, ReceptionFiles};
 use receiver::{Receiver, RxOut};
 use run_clauses::{Limits, Refusal};
 use run_steps::{read_settings, refuse};
@@ -28,12 +28,6 @@ use std::marker::PhantomData;
 use std::thread::Threads;
 use tune_in::Tuner;
 use word_workers::Gate;
-
-// The command, with the runtime whose threads its receiver may use, and the gate that they enter.
-struct TuneRun<'r, R, G> {
-    rt: &'r R,
-    gate: &'r G,
-}
 
 // Runs the tuning by a search that has had no byte. `symbol` has the size of a symbol.
 fn tune_by<
@@ -69,44 +63,60 @@ fn tune_by<
     files.run_work(settings, &mut work, symbol, station)
 }
 
-impl<'r, R: Threads + Sync, G: Gate> ReceivingCommand for TuneRun<'r, R, G> {
-    ghost use Rattle.std.specs.Thread.{IsSync};
-    ghost use Rattle.tune_run.specs.Working.{tuning_work};
+// Takes the memory of a mode's search and of one symbol, and runs the tuning through this gate.
+fn tune_in_mode<'a, M: Carriers, R: Threads + Sync, G: Gate, S: Station<'a>>(
+    rt: &R,
+    gate: &G,
+    alloc: Global,
+    settings: &Settings,
+    files: ReceptionFiles<'a>,
+    station: &mut S,
+) -> u8
+    requires mode { settings.now.mode ≡ M.MODE }
+    requires ready { IsReady (stream_names files.hp.now (option_copied files.lp)) (S.meaning station.old) }
+    ensures { RunsOrLacks tuning_work settings.now files.entry.cells.now files.entry.hp.now (option_copied files.entry.lp) (S.meaning station.old) (S.meaning station.new) result }
+{
+    let Ok(tuner) = Tuner::<M>::new(alloc) else {
+        return refuse(&Refusal::Memory, station);
+    };
+    let Ok(room) = SymbolIn::<M>::new(alloc) else {
+        return refuse(&Refusal::Memory, station);
+    };
+    let Ok(mut symbol) = vec![in alloc; 0u8; 5 * M::K as usize] else {
+        return refuse(&Refusal::Memory, station);
+    };
+    let feeder = |receiver: &mut Receiver<M>, piece: &[u8], out: &mut RxOut| -> usize
+        requires { IsSync R.row × (receiver.now.ended ≡ false) × (receiver.now.taken < 2 ^ 32) }
+        ensures { IsFed receiver.entry.now piece.entry.now receiver.exit.now out.exit.now result }
+    { receiver.feed_gated(rt, gate, piece, out) };
+    let maker = ModeMaker::<R, _, Receiver<M>> {
+        rt,
+        feeder: &feeder,
+        alloc,
+        of: PhantomData,
+    };
+    let search = Search {
+        tuner,
+        symbol: room,
+    };
+    tune_by(search, maker, settings, &mut symbol, files, station)
+}
 
-    ghost work = { tuning_work };
-
-    ghost able = { IsSync R.row × IsSync G.row };
-
-    fn run<'a, M: Carriers, S: Station<'a>>(
-        &self,
-        alloc: Global,
-        settings: &Settings,
-        files: ReceptionFiles<'a>,
-        symbol: &mut [u8],
-        station: &mut S,
-    ) -> u8 {
-        let Ok(tuner) = Tuner::<M>::new(alloc) else {
-            return refuse(&Refusal::Memory, station);
-        };
-        let Ok(room) = SymbolIn::<M>::new(alloc) else {
-            return refuse(&Refusal::Memory, station);
-        };
-        let (rt, gate) = (self.rt, self.gate);
-        let feeder = |receiver: &mut Receiver<M>, piece: &[u8], out: &mut RxOut| -> usize
-            requires { IsSync R.row × IsSync G.row × (receiver.now.ended ≡ false) × (receiver.now.taken < 2 ^ 32) }
-            ensures { IsFed receiver.entry.now piece.entry.now receiver.exit.now out.exit.now result }
-        { receiver.feed_gated(rt, gate, piece, out) };
-        let maker = ModeMaker::<R, _, Receiver<M>> {
-            rt,
-            feeder: &feeder,
-            alloc,
-            of: PhantomData,
-        };
-        let search = Search {
-            tuner,
-            symbol: room,
-        };
-        tune_by(search, maker, settings, symbol, files, station)
+// The same in the mode that is set.
+fn tune_accepted<'a, R: Threads + Sync, G: Gate, S: Station<'a>>(
+    rt: &R,
+    gate: &G,
+    alloc: Global,
+    settings: &Settings,
+    files: ReceptionFiles<'a>,
+    station: &mut S,
+) -> u8
+    requires ready { IsReady (stream_names files.hp.now (option_copied files.lp)) (S.meaning station.old) }
+    ensures { RunsOrLacks tuning_work settings.now files.entry.cells.now files.entry.hp.now (option_copied files.entry.lp) (S.meaning station.old) (S.meaning station.new) result }
+{
+    match settings.mode {
+        Mode::M2k => tune_in_mode::<Mode2k, R, G, S>(rt, gate, alloc, settings, files, station),
+        Mode::M8k => tune_in_mode::<Mode8k, R, G, S>(rt, gate, alloc, settings, files, station),
     }
 }
 
@@ -142,8 +152,7 @@ pub fn tune<'a, R: Threads + Sync, G: Gate, S: Station<'a>>(
     match read_settings(alloc, settings, station) {
         Ok(accepted) => {
             let files = ReceptionFiles { cells, hp, lp };
-            let command = TuneRun { rt, gate };
-            run_receiving(&command, alloc, &accepted, files, station)
+            tune_accepted(rt, gate, alloc, &accepted, files, station)
         }
         Err(refusal) => refuse(&refusal, station),
     }

@@ -9,7 +9,7 @@ pub returns-in-Ok : goal.returns-in-Ok
 returns-in-Ok g c =
     let old : Meaning = g.S.Station.meaning c.args.station.now in
     let mid : Meaning = g.S.Station.meaning c.read_fitting.new.station in
-    let new : Meaning = g.S.Station.meaning c.run_receiving.new.station in
+    let new : Meaning = g.S.Station.meaning c.receive_accepted.new.station in
     let lp : Option (List ℕ) = option_copied c.args.lp in
     let laws : Laws = record {
       receptions = record {
@@ -29,7 +29,7 @@ returns-in-Ok g c =
       lines = c.workers.ensures.lines;
     } in
     run c.args.limits.now.packets c.args.settings.now c.args.cells.now c.args.hp.now lp old mid new laws c.requires.fresh c.in-Ok.ensures.asks
-    c.in-Ok.accepted c.in-Ok.ensures.accepts c.run_receiving.result c.run_receiving.ensures
+    c.in-Ok.accepted c.in-Ok.ensures.accepts c.receive_accepted.result c.receive_accepted.ensures
 
 pub returns-in-Err : goal.returns-in-Err
 returns-in-Err g c =
@@ -57,8 +57,8 @@ returns-in-Err g c =
     refused c.args.limits.now.packets c.args.settings.now c.args.cells.now c.args.hp.now lp old mid new laws c.requires.fresh c.in-Err.ensures.asks
     c.in-Err.refusal c.in-Err.ensures.accepts c.refuse.result c.refuse.ensures.status c.refuse.ensures.text
 
-pub run_receiving-requires : goal.run_receiving-requires
-run_receiving-requires g c =
+pub receive_accepted-requires : goal.receive_accepted-requires
+receive_accepted-requires g c =
     let old : Meaning = g.S.Station.meaning c.args.station.now in
     let mid : Meaning = g.S.Station.meaning c.read_fitting.new.station in
     let lp : Option (List ℕ) = option_copied c.args.lp in
@@ -80,9 +80,12 @@ run_receiving-requires g c =
       lines = c.workers.ensures.lines;
     } in
     λ k. (
-      (refl, tt),
+      record { shared = c.type_bounds.sync-R.shared },
       (
-        (record { shared = c.type_bounds.sync-R.shared }, record { shared = c.type_bounds.sync-G.shared }),
-        ready c.args.limits.now.packets c.args.settings.now c.args.cells.now c.args.hp.now lp old mid mid laws c.requires.fresh c.in-Ok.ensures.asks c.in-Ok.accepted c.in-Ok.ensures.accepts,
+        record { shared = c.type_bounds.sync-G.shared },
+        (
+          (refl, tt),
+          ready c.args.limits.now.packets c.args.settings.now c.args.cells.now c.args.hp.now lp old mid mid laws c.requires.fresh c.in-Ok.ensures.asks c.in-Ok.accepted c.in-Ok.ensures.accepts,
+        ),
       ),
     )

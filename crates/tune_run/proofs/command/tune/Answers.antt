@@ -5,8 +5,8 @@ use Rattle.tune_run.proofs.Coming.{Laws}
 use Rattle.tune_run.proofs.WholeRun.{ready, refused, run}
 use Rattle.tune_run.proofs.command.tune.Goals as goal
 
-pub run_receiving-requires : goal.run_receiving-requires
-run_receiving-requires g c =
+pub tune_accepted-requires : goal.tune_accepted-requires
+tune_accepted-requires g c =
     let old : Meaning = g.S.Station.meaning c.args.station.now in
     let mid : Meaning = g.S.Station.meaning c.read_settings.new.station in
     let lp : Option (List ℕ) = option_copied c.args.lp in
@@ -24,10 +24,13 @@ run_receiving-requires g c =
       tps = c.symbols.ensures.tps;
     } in
     λ k. (
-      (refl, tt),
+      record { shared = c.type_bounds.sync-R.shared },
       (
-        (record { shared = c.type_bounds.sync-R.shared }, record { shared = c.type_bounds.sync-G.shared }),
-        ready c.args.limits.now.packets c.args.settings.now c.args.cells.now c.args.hp.now lp old mid mid laws c.requires.fresh c.in-Ok.ensures.asks c.in-Ok.accepted c.in-Ok.ensures.reads,
+        record { shared = c.type_bounds.sync-G.shared },
+        (
+          (refl, tt),
+          ready c.args.limits.now.packets c.args.settings.now c.args.cells.now c.args.hp.now lp old mid mid laws c.requires.fresh c.in-Ok.ensures.asks c.in-Ok.accepted c.in-Ok.ensures.reads,
+        ),
       ),
     )
 
@@ -35,7 +38,7 @@ pub returns-in-Ok : goal.returns-in-Ok
 returns-in-Ok g c =
     let old : Meaning = g.S.Station.meaning c.args.station.now in
     let mid : Meaning = g.S.Station.meaning c.read_settings.new.station in
-    let new : Meaning = g.S.Station.meaning c.run_receiving.new.station in
+    let new : Meaning = g.S.Station.meaning c.tune_accepted.new.station in
     let lp : Option (List ℕ) = option_copied c.args.lp in
     let laws : Laws = record {
       receptions = record {
@@ -51,7 +54,7 @@ returns-in-Ok g c =
       tps = c.symbols.ensures.tps;
     } in
     run c.args.limits.now.packets c.args.settings.now c.args.cells.now c.args.hp.now lp old mid new laws c.requires.fresh c.in-Ok.ensures.asks
-    c.in-Ok.accepted c.in-Ok.ensures.reads c.run_receiving.result c.run_receiving.ensures
+    c.in-Ok.accepted c.in-Ok.ensures.reads c.tune_accepted.result c.tune_accepted.ensures
 
 pub returns-in-Err : goal.returns-in-Err
 returns-in-Err g c =

@@ -7,14 +7,15 @@ use Rattle.receive_run.proofs.Commands.{symbols_none}
 use Rattle.tune_in.specs.Tuning.{StandsFor}
 use Rattle.tune_run.proofs.Commands.{no_place}
 use Rattle.tune_run.proofs.Searched.{no_symbols}
-use Rattle.tune_run.proofs.command.TuneRunReceivingCommand.run.Goals as goal
+use Rattle.tune_run.proofs.command.tune_in_mode.Goals as goal
 
 pub tune_by-requires : goal.tune_by-requires
 tune_by-requires g c = λ k.
-    let s : Settings = c.args.settings.now in (
+    let s : Settings = c.args.settings.now in
+    let many : carriers s.mode ≡ g.M.Carriers.K = ap carriers c.requires.mode ∙ sym g.M.Carriers.k_of in (
       (refl, tt),
       (
-        record { shared = c.requires.able.0.shared },
+        record { shared = c.type_bounds.sync-R.shared },
         (
           record {
             stands = subst (λ (l : List (List Cell)). StandsFor s.mode c.in-Ok.tuner l) (sym (no_symbols s (symbols_none s))) (subst (λ (m : Mode). StandsFor m c.in-Ok.tuner []) (sym c.requires.mode) c.in-Ok.ensures.stands);
@@ -30,12 +31,12 @@ tune_by-requires g c = λ k.
               (
                 record {
                   may = λ x piece out going few. (
-                    (record { shared = c.requires.able.0.shared }, record { shared = c.requires.able.1.shared }, going, few),
-                    (record { shared = c.requires.able.0.shared }, record { shared = c.requires.able.1.shared }),
+                    (record { shared = c.type_bounds.sync-R.shared }, going, few),
+                    (record { shared = c.type_bounds.sync-R.shared }, record { shared = c.type_bounds.sync-G.shared }),
                   );
                   feeds = λ x y piece out made n h. h;
                 },
-                (c.requires.size, c.requires.ready),
+                (omega (arith, c.deref_mut.ensures.len, c.in-Ok-vec.ensures.len, c.K.ensures, many), c.requires.ready),
               ),
             ),
           ),
