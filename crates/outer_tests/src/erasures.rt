@@ -33,19 +33,21 @@ fn decoded(word: &mut [u8; 204], places: &[u8; 8]) -> Option<Erased> {
     }
 }
 
+// Is this the answer for the word, and is this what stands behind it?
+fn finds(received: &[u8; 204], places: &[u8; 8], answer: Erased, left: &[u8; 204]) -> bool {
+    let mut word = *received;
+    decoded(&mut word, places) == Some(answer) && word == *left
+}
+
 #[test]
 fn erased_and_wrong_bytes(rt: HostRuntime) -> Result<(), Fail> {
     laws::one_outside();
     let mut word = [0u8; 204];
-    for k in 0..8usize {
-        word[k] = 0xFF;
+    for k in 0..12usize {
+        word[k] = if k < 8 { 0xFF } else { 1 };
     }
-    for k in 8..12usize {
-        word[k] = 1;
-    }
-    let answer = decoded(&mut word, &[0, 1, 2, 3, 4, 5, 6, 7]);
-    assert_eq!(rt; answer, Some(Erased::Found(4)));
-    assert_eq!(rt; word.as_slice(), [0u8; 204].as_slice());
+    let places = [0, 1, 2, 3, 4, 5, 6, 7];
+    assert!(rt; finds(&word, &places, Erased::Found(4), &[0; 204]));
     Ok(())
 }
 
@@ -82,22 +84,18 @@ fn of_the_last(choice: u32) -> [u8; 8] {
 #[test]
 fn no_word_for_any_places(rt: HostRuntime) -> Result<(), Fail> {
     let received = product_of_twelve();
-    let mut word = received;
     let mut choices = 0u32;
     for choice in 0..8192u32 {
         if choice.count_ones() == 8 {
-            let answer = decoded(&mut word, &of_the_last(choice));
-            assert_eq!(rt; answer, Some(Erased::NoWord));
-            assert_eq!(rt; word.as_slice(), received.as_slice());
+            assert!(rt; finds(&received, &of_the_last(choice), Erased::NoWord, &received));
             choices = choices.wrapping_add(1);
         }
     }
     assert_eq!(rt; choices, 1287);
     let mut seed = 1u32;
     for case in 0..240u32 {
-        let answer = decoded(&mut word, &drawn_places(&mut seed, 1 + case % 24));
-        assert_eq!(rt; answer, Some(Erased::NoWord));
-        assert_eq!(rt; word.as_slice(), received.as_slice());
+        let places = drawn_places(&mut seed, 1 + case % 24);
+        assert!(rt; finds(&received, &places, Erased::NoWord, &received));
     }
     Ok(())
 }
@@ -192,49 +190,51 @@ fn sum_of(word: &[u8; 204]) -> u32 {
     sum
 }
 
-// Codewords of drawn messages with 0 to 5 errors outside drawn places and 0 to 8 in them.
+// Is no codeword found for this word but the one that others say?
+fn finds_as_others(received: &[u8; 204], places: &[u8; 8], others: &[Other], case: u32) -> bool {
+    if let Some((count, sum)) = other(others, case) {
+        let mut word = *received;
+        return decoded(&mut word, places) == Some(Erased::Found(count)) && sum_of(&word) == sum;
+    }
+    finds(received, places, Erased::NoWord, received)
+}
+
+// A codeword of a drawn message with 0 to 5 errors outside drawn places and 0 to 8 in them.
+fn drawn_is_found(seed: &mut u32, case: u32) -> bool {
+    let sent = drawn_codeword(seed);
+    let places = drawn_places(seed, 1 + case % 24);
+    let mut word = sent;
+    disturb(&mut word, &places, case / 6 % 9, case % 6, seed);
+    if case % 6 < 5 {
+        return finds(&word, &places, Erased::Found((case % 6) as u8), &sent);
+    }
+    finds_as_others(&word, &places, OF_FIVE_ERRORS.as_slice(), case)
+}
+
 #[test]
 fn drawn_codewords(rt: HostRuntime) -> Result<(), Fail> {
     let mut seed = 1u32;
     for case in 0..1080u32 {
-        let sent = drawn_codeword(&mut seed);
-        let erased = drawn_places(&mut seed, 1 + case % 24);
-        let mut word = sent;
-        disturb(&mut word, &erased, case / 6 % 9, case % 6, &mut seed);
-        let received = word;
-        let answer = decoded(&mut word, &erased);
-        if case % 6 < 5 {
-            assert_eq!(rt; answer, Some(Erased::Found((case % 6) as u8)));
-            assert_eq!(rt; word.as_slice(), sent.as_slice());
-        } else if let Some((count, sum)) = other(OF_FIVE_ERRORS.as_slice(), case) {
-            assert_eq!(rt; answer, Some(Erased::Found(count)));
-            assert_eq!(rt; sum_of(&word), sum);
-        } else {
-            assert_eq!(rt; answer, Some(Erased::NoWord));
-            assert_eq!(rt; word.as_slice(), received.as_slice());
-        }
+        assert!(rt; drawn_is_found(&mut seed, case), "word {case}");
     }
     Ok(())
+}
+
+// A word of drawn bytes.
+fn random_is_found(seed: &mut u32, case: u32) -> bool {
+    let places = drawn_places(seed, 1 + case % 24);
+    let mut word = [0u8; 204];
+    for byte in word.iter_mut() {
+        *byte = drawn_byte(seed);
+    }
+    finds_as_others(&word, &places, OF_RANDOM_BYTES.as_slice(), case)
 }
 
 #[test]
 fn random_bytes(rt: HostRuntime) -> Result<(), Fail> {
     let mut seed = 2u32;
     for case in 0..300u32 {
-        let erased = drawn_places(&mut seed, 1 + case % 24);
-        let mut word = [0u8; 204];
-        for byte in word.iter_mut() {
-            *byte = drawn_byte(&mut seed);
-        }
-        let received = word;
-        let answer = decoded(&mut word, &erased);
-        if let Some((count, sum)) = other(OF_RANDOM_BYTES.as_slice(), case) {
-            assert_eq!(rt; answer, Some(Erased::Found(count)));
-            assert_eq!(rt; sum_of(&word), sum);
-        } else {
-            assert_eq!(rt; answer, Some(Erased::NoWord));
-            assert_eq!(rt; word.as_slice(), received.as_slice());
-        }
+        assert!(rt; random_is_found(&mut seed, case), "word {case}");
     }
     Ok(())
 }
@@ -281,31 +281,42 @@ fn searched(word: &[u8; 204]) -> Option<[u8; 204]> {
     None
 }
 
-// Codewords with so many wrong bytes in the message, so many of the others behind it, and all of
-// EVERY_SECOND, against a plain search. It finds each codeword that is near these words.
+// A codeword with so many wrong bytes in the message, so many of the others behind it, and all of EVERY_SECOND.
+fn word_with(seed: &mut u32, in_message: u32, behind: usize) -> [u8; 204]
+    requires { behind ≤ 8 }
+{
+    let mut word = drawn_codeword(seed);
+    for _ in 0..in_message {
+        word[draw(seed, 188) as usize] ^= drawn_change(seed);
+    }
+    for k in 0..8usize {
+        word[188 + 2 * k] ^= drawn_change(seed);
+    }
+    for k in 0..behind {
+        word[189 + 2 * k] ^= drawn_change(seed);
+    }
+    word
+}
+
+// Is found what a plain search finds?
+fn finds_as_searched(word: &[u8; 204]) -> bool {
+    match searched(word) {
+        Some(near) => {
+            let count = differences(word, &near);
+            finds(word, &EVERY_SECOND, Erased::Found(count), &near)
+        }
+        None => finds(word, &EVERY_SECOND, Erased::NoWord, word),
+    }
+}
+
+// The search finds each codeword that is near these words.
 #[test]
 fn words_by_a_plain_search(rt: HostRuntime) -> Result<(), Fail> {
     let mut seed = 3u32;
-    for (in_message, behind) in [(0, 0), (0, 4), (1, 0), (1, 3), (1, 4), (0, 5), (0, 8)] {
-        let mut word = drawn_codeword(&mut seed);
-        for _ in 0..in_message {
-            word[draw(&mut seed, 188) as usize] ^= drawn_change(&mut seed);
-        }
-        for k in 0..8usize {
-            word[188 + 2 * k] ^= drawn_change(&mut seed);
-        }
-        for k in 0..behind {
-            word[189 + 2 * k] ^= drawn_change(&mut seed);
-        }
-        let received = word;
-        let answer = decoded(&mut word, &EVERY_SECOND);
-        if let Some(near) = searched(&received) {
-            assert_eq!(rt; answer, Some(Erased::Found(differences(&received, &near))));
-            assert_eq!(rt; word.as_slice(), near.as_slice());
-        } else {
-            assert_eq!(rt; answer, Some(Erased::NoWord));
-            assert_eq!(rt; word.as_slice(), received.as_slice());
-        }
+    for (in_message, behind) in [(0, 0), (0, 4), (1, 0), (1, 3), (1, 4), (0, 5), (0, 8usize)] {
+        assert!(rt; behind <= 8);
+        let word = word_with(&mut seed, in_message, behind);
+        assert!(rt; finds_as_searched(&word), "{in_message} and {behind}");
     }
     Ok(())
 }

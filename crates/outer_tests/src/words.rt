@@ -1,4 +1,5 @@
 // Words against values from outside, and the fast decoder against the plain one.
+ghost use Rattle.std.specs.Prelude.{◌≤◌};
 
 use gf256::Elem;
 use rs204::{Outcome, decode, encode, plain};
@@ -24,23 +25,26 @@ fn parity_of_a_single_one(rt: HostRuntime) -> Result<(), Fail> {
     Ok(())
 }
 
-#[test]
-fn outcomes_of_words(rt: HostRuntime) -> Result<(), Fail> {
-    let zeros = [0u8; 204];
-    let mut word = zeros;
-    assert_eq!(rt; decode(&mut word), Outcome::Clean);
-    assert_eq!(rt; word.as_slice(), zeros.as_slice());
-    for i in 0..8usize {
-        word[i] = 1;
-    }
-    assert_eq!(rt; decode(&mut word), Outcome::Corrected(8));
-    assert_eq!(rt; word.as_slice(), zeros.as_slice());
-    for i in 0..8usize {
-        word[20 * i + 7] ^= 91;
-    }
-    assert_eq!(rt; decode(&mut word), Outcome::Corrected(8));
-    assert_eq!(rt; word.as_slice(), zeros.as_slice());
+// Is this the outcome for the word, and is this what stands behind it?
+fn comes_out(received: &[u8; 204], outcome: Outcome, left: &[u8; 204]) -> bool {
+    let mut word = *received;
+    decode(&mut word) == outcome && word == *left
+}
 
+// Zeros, and eight bytes of this value at places that are so far apart.
+fn eight_errors(first: usize, apart: usize, value: u8) -> [u8; 204]
+    requires first { first ≤ 7 }
+    requires apart { apart ≤ 20 }
+{
+    let mut word = [0u8; 204];
+    for k in 0..8usize {
+        word[first + apart * k] = value;
+    }
+    word
+}
+
+// Zeros, and the coefficients of the product of x + λ^i for i below 8.
+fn product_of_eight() -> [u8; 204] {
     let mut product = [0u8; 9];
     product[0] = 1;
     for i in 0..8u8 {
@@ -48,14 +52,55 @@ fn outcomes_of_words(rt: HostRuntime) -> Result<(), Fail> {
             product[k + 1] ^= Elem(product[k]).times_power(i).0;
         }
     }
-    assert_eq!(rt; product.as_slice(), NEAR_NONE.as_slice());
+    let mut word = [0u8; 204];
     for k in 0..9usize {
-        word[195 + k] ^= product[k];
+        word[195 + k] = product[k];
     }
-    let received = word;
-    assert_eq!(rt; decode(&mut word), Outcome::Bad);
-    assert_eq!(rt; word.as_slice(), received.as_slice());
+    word
+}
+
+#[test]
+fn outcomes_of_words(rt: HostRuntime) -> Result<(), Fail> {
+    let zeros = [0u8; 204];
+    assert!(rt; comes_out(&zeros, Outcome::Clean, &zeros));
+    for (first, apart, value) in [(0usize, 1usize, 1u8), (7, 20, 91)] {
+        assert!(rt; first <= 7 && apart <= 20);
+        let word = eight_errors(first, apart, value);
+        assert!(rt; comes_out(&word, Outcome::Corrected(8), &zeros));
+    }
+    let product = product_of_eight();
+    assert_eq!(rt; &product[195..], NEAR_NONE.as_slice());
+    assert!(rt; comes_out(&product, Outcome::Bad, &product));
     Ok(())
+}
+
+// A codeword of a drawn message, and the same with so many drawn errors.
+fn drawn_words(seed: &mut u32, errors: usize) -> ([u8; 204], [u8; 204])
+    requires { errors ≤ 12 }
+{
+    let mut message = [0u8; 188];
+    for i in 0..188usize {
+        message[i] = next_byte(seed);
+    }
+    let sent = encode(&message);
+    let mut word = sent;
+    for k in 0..errors {
+        let number = next_number(seed);
+        word[16 * k + (number >> 28) as usize] ^= 1 + ((number >> 16) % 255) as u8;
+    }
+    (sent, word)
+}
+
+// Do both decoders say the same of a word, and up to eight errors what was sent?
+fn both_agree(sent: &[u8; 204], received: &[u8; 204], errors: usize) -> bool {
+    let mut slow = *received;
+    let outcome = plain::decode(&mut slow);
+    let is_right = match errors {
+        0 => outcome == Outcome::Clean,
+        1..=8 => outcome == Outcome::Corrected(errors as u8) && slow == *sent,
+        _ => true,
+    };
+    is_right && comes_out(received, outcome, &slow)
 }
 
 // Codewords of drawn messages with 0 to 12 drawn errors, by both decoders.
@@ -63,26 +108,8 @@ fn outcomes_of_words(rt: HostRuntime) -> Result<(), Fail> {
 fn drawn_errors_by_both_decoders(rt: HostRuntime) -> Result<(), Fail> {
     let mut seed = 1u32;
     for errors in 0..13usize {
-        let mut message = [0u8; 188];
-        for i in 0..188usize {
-            message[i] = next_byte(&mut seed);
-        }
-        let sent = encode(&message);
-        let mut word = sent;
-        for k in 0..errors {
-            let seed = next_number(&mut seed);
-            word[16 * k + (seed >> 28) as usize] ^= 1 + ((seed >> 16) % 255) as u8;
-        }
-        let mut slow = word;
-        let outcome = decode(&mut word);
-        assert_eq!(rt; outcome, plain::decode(&mut slow));
-        assert_eq!(rt; word.as_slice(), slow.as_slice());
-        if errors == 0 {
-            assert_eq!(rt; outcome, Outcome::Clean);
-        } else if errors <= 8 {
-            assert_eq!(rt; outcome, Outcome::Corrected(errors as u8));
-            assert_eq!(rt; word.as_slice(), sent.as_slice());
-        }
+        let (sent, word) = drawn_words(&mut seed, errors);
+        assert!(rt; both_agree(&sent, &word, errors), "{errors} errors");
     }
     Ok(())
 }
