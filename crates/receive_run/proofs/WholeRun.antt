@@ -28,7 +28,7 @@ use Rattle.symbol_runs.specs.Outputs.{stream_names}
 use Rattle.symbol_runs.specs.Runs.{IsReady}
 use Rattle.symbol_runs.proofs.Ending.{run_of}
 use Rattle.symbol_runs.proofs.Ending.{ready as cells_ready}
-use Rattle.receive_run.specs.Runs.{RunsReception, RunsOrLacks}
+use Rattle.receive_run.specs.Runs.{RunsReceiving, RunsOrLacks}
 use Rattle.receive_run.specs.Working.{reception_work}
 use Rattle.receive_run.proofs.Commands.{command_of, no_lines}
 use Rattle.receive_run.proofs.Laws.{Laws, own_laws}
@@ -80,13 +80,13 @@ module _ (limit : ℕ) (name cells hp : List ℕ) (lp : Option (List ℕ)) (star
         is_stated t = stated s (start.file name) (accepts.0.3 t).1.2
 
     -- the run has ended with its outcome, and then a text was written or not
-    finished : (old : Meaning) → old ≡ record start { settings = mid.settings } → (status : ℕ) → RunsReception s cells hp lp old new status → Run c limit start new status
+    finished : (old : Meaning) → old ≡ record start { settings = mid.settings } → (status : ℕ) → RunsReceiving reception_work s cells hp lp old new status → Run c limit start new status
     finished old same status runs =
         run_of c limit name cells (Some (header s.mode)) (stream_names hp lp) (reception_work s (is_some lp)) s.max_symbols start new mid.settings status fresh settings
         (command_of laws limit name cells hp lp s start (λ t. stated s (start.file name) (accepts.0.3 t).1.2))
-        (subst (λ (m : Meaning). RunsReception s cells hp lp m new status) same runs)
+        (subst (λ (m : Meaning). RunsReceiving reception_work s cells hp lp m new status) same runs)
 
-    pub run : (status : ℕ) → RunsOrLacks s cells hp lp mid new status → Run c limit start new status
+    pub run : (status : ℕ) → RunsOrLacks reception_work s cells hp lp mid new status → Run c limit start new status
     run status runs = elim runs [
       | inl r ↦ finished mid same_mid status r
       | inr lacks ↦ refused Memory accepts.0.0 status lacks.0 lacks.1

@@ -1,5 +1,5 @@
--- A run of a reception behind its settings.
-use Rattle.std.specs.Prelude.{◌≡◌, ◌⊎◌, ℕ, List, Option, Some, is_some}
+-- A run of a command that receives cells, behind its settings: by its work of settings and of whether there are two streams.
+use Rattle.std.specs.Prelude.{◌≡◌, ◌⊎◌, ℕ, Bool, List, Option, Some, is_some}
 use Rattle.station_core.specs.Meaning.{Meaning}
 use Rattle.mode_set.specs.declared.settings.Settings.{Settings}
 use Rattle.frame_build.specs.CellFile.{header}
@@ -8,12 +8,12 @@ use Rattle.run_clauses.specs.Text.{refusal_text}
 use Rattle.run_steps.specs.Report.{WritesText}
 use Rattle.symbol_runs.specs.Outputs.{stream_names}
 use Rattle.symbol_runs.specs.Runs.{RunsCells}
-use Rattle.receive_run.specs.Working.{reception_work}
+use Rattle.symbol_runs.specs.Work.{Work}
 
--- the cells were received, and the packets of the streams written
-abbrev pub RunsReception : Settings → List ℕ → List ℕ → Option (List ℕ) → Meaning → Meaning → ℕ → Type 0
-RunsReception s cells hp lp old new status = RunsCells (reception_work s (is_some lp)) s.max_symbols cells (Some (header s.mode)) (stream_names hp lp) old new status
+-- the work was done on the cells, and the packets of the streams written
+abbrev pub RunsReceiving : (Settings → Bool → Work) → Settings → List ℕ → List ℕ → Option (List ℕ) → Meaning → Meaning → ℕ → Type 0
+RunsReceiving work s cells hp lp old new status = RunsCells (work s (is_some lp)) s.max_symbols cells (Some (header s.mode)) (stream_names hp lp) old new status
 
--- or memory was wanting before a port was asked
-abbrev pub RunsOrLacks : Settings → List ℕ → List ℕ → Option (List ℕ) → Meaning → Meaning → ℕ → Type 0
-RunsOrLacks s cells hp lp old new status = RunsReception s cells hp lp old new status ⊎ ((status ≡ 7) × WritesText (refusal_text Memory) old new)
+-- or memory was wanting before another port was asked
+abbrev pub RunsOrLacks : (Settings → Bool → Work) → Settings → List ℕ → List ℕ → Option (List ℕ) → Meaning → Meaning → ℕ → Type 0
+RunsOrLacks work s cells hp lp old new status = RunsReceiving work s cells hp lp old new status ⊎ ((status ≡ 7) × WritesText (refusal_text Memory) old new)

@@ -11,12 +11,13 @@ ghost use Rattle.std.specs.Thread.{IsSync};
 ghost use Rattle.receive_run.specs.Feeder.{IsFed, IsFeeder};
 ghost use Rattle.symbol_runs.specs.Runs.{IsReady};
 ghost use Rattle.symbol_runs.specs.Outputs.{stream_names};
-ghost use Rattle.receive_run.specs.Runs.{RunsReception, RunsOrLacks};
+ghost use Rattle.receive_run.specs.Runs.{RunsOrLacks, RunsReceiving};
+ghost use Rattle.receive_run.specs.Working.{reception_work};
 ghost use Rattle.receive_run.specs.ReceiveCommand.{receive_command};
 
 use crate::receivers::{ModeReceiver, ReceiverWithOutput};
 use crate::reception_work::ReceptionWork;
-use frame_build::header;
+use crate::running::ReceptionFiles;
 use mode_set::{Carriers, Mode, Mode2k, Mode8k, Settings};
 use receiver::{Receiver, RxOut};
 use run_clauses::{Limits, Refusal};
@@ -24,19 +25,7 @@ use run_steps::{read_fitting, refuse};
 use station_core::Station;
 use std::alloc::Global;
 use std::thread::Threads;
-use symbol_runs::{StreamFiles, run_cells};
 use word_workers::Gate;
-
-// The names of the files of a reception.
-#[derive(Clone, Copy)]
-struct Names<'a> {
-    // The cells that are read.
-    cells: &'a str,
-    // The transport file of high priority, or the only one, which is made.
-    hp: &'a str,
-    // The transport file of low priority, if there is one, which is made.
-    lp: Option<&'a str>,
-}
 
 // Runs the reception by a receiver that has had no byte and is fed so. `symbol` has the size of a symbol.
 fn receive_by<
@@ -52,15 +41,15 @@ fn receive_by<
     out: RxOut,
     settings: &Settings,
     symbol: &mut [u8],
-    names: Names<'a>,
+    files: ReceptionFiles<'a>,
     station: &mut S,
 ) -> u8
     requires feeder { IsFeeder T.state F.Fn feeder.now }
     requires start { StandsFor so_far (T.state receiver) [] nothing }
     requires settings { (T.state receiver).settings ≡ settings.now }
-    requires size { length symbol.old ≡ symbol_length (T.state receiver).settings }
-    requires ready { IsReady (stream_names names.hp.now (option_copied names.lp)) (S.meaning station.old) }
-    ensures { RunsReception (T.state receiver).settings names.entry.cells.now names.entry.hp.now (option_copied names.entry.lp) (S.meaning station.old) (S.meaning station.new) result }
+    requires size { length symbol.old ≡ symbol_length settings.now }
+    requires ready { IsReady (stream_names files.hp.now (option_copied files.lp)) (S.meaning station.old) }
+    ensures { RunsReceiving reception_work settings.now files.entry.cells.now files.entry.hp.now (option_copied files.entry.lp) (S.meaning station.old) (S.meaning station.new) result }
 {
     let receiver = ReceiverWithOutput {
         rt,
@@ -68,21 +57,9 @@ fn receive_by<
         receiver,
         out,
     };
-    let two = names.lp.is_some();
+    let two = files.lp.is_some();
     let mut work = ReceptionWork { receiver, two };
-    let files = StreamFiles {
-        hp: names.hp,
-        lp: names.lp,
-    };
-    run_cells(
-        settings.max_symbols,
-        names.cells,
-        Some(header(settings.mode)),
-        &files,
-        &mut work,
-        symbol,
-        station,
-    )
+    files.run_work(settings, &mut work, symbol, station)
 }
 
 // Takes the memory of a mode's receiver and of one symbol, and runs the reception through this gate.
@@ -91,12 +68,12 @@ fn receive_in<'a, M: Carriers, R: Threads + Sync, G: Gate, S: Station<'a>>(
     gate: &G,
     alloc: Global,
     settings: &Settings,
-    names: Names<'a>,
+    files: ReceptionFiles<'a>,
     station: &mut S,
 ) -> u8
     requires mode { settings.now.mode ≡ M.MODE }
-    requires ready { IsReady (stream_names names.hp.now (option_copied names.lp)) (S.meaning station.old) }
-    ensures { RunsOrLacks settings.now names.entry.cells.now names.entry.hp.now (option_copied names.entry.lp) (S.meaning station.old) (S.meaning station.new) result }
+    requires ready { IsReady (stream_names files.hp.now (option_copied files.lp)) (S.meaning station.old) }
+    ensures { RunsOrLacks reception_work settings.now files.entry.cells.now files.entry.hp.now (option_copied files.entry.lp) (S.meaning station.old) (S.meaning station.new) result }
 {
     let Ok(receiver) = Receiver::<M>::new(alloc, settings) else {
         return refuse(&Refusal::Memory, station);
@@ -118,7 +95,7 @@ fn receive_in<'a, M: Carriers, R: Threads + Sync, G: Gate, S: Station<'a>>(
         out,
         settings,
         &mut symbol,
-        names,
+        files,
         station,
     )
 }
@@ -129,15 +106,15 @@ fn receive_accepted<'a, R: Threads + Sync, G: Gate, S: Station<'a>>(
     gate: &G,
     alloc: Global,
     settings: &Settings,
-    names: Names<'a>,
+    files: ReceptionFiles<'a>,
     station: &mut S,
 ) -> u8
-    requires ready { IsReady (stream_names names.hp.now (option_copied names.lp)) (S.meaning station.old) }
-    ensures { RunsOrLacks settings.now names.entry.cells.now names.entry.hp.now (option_copied names.entry.lp) (S.meaning station.old) (S.meaning station.new) result }
+    requires ready { IsReady (stream_names files.hp.now (option_copied files.lp)) (S.meaning station.old) }
+    ensures { RunsOrLacks reception_work settings.now files.entry.cells.now files.entry.hp.now (option_copied files.entry.lp) (S.meaning station.old) (S.meaning station.new) result }
 {
     match settings.mode {
-        Mode::M2k => receive_in::<Mode2k, R, G, S>(rt, gate, alloc, settings, names, station),
-        Mode::M8k => receive_in::<Mode8k, R, G, S>(rt, gate, alloc, settings, names, station),
+        Mode::M2k => receive_in::<Mode2k, R, G, S>(rt, gate, alloc, settings, files, station),
+        Mode::M8k => receive_in::<Mode8k, R, G, S>(rt, gate, alloc, settings, files, station),
     }
 }
 
@@ -172,8 +149,8 @@ pub fn receive<'a, R: Threads + Sync, G: Gate, S: Station<'a>>(
     own_cell_laws::laws::own_cells();
     match read_fitting(alloc, settings, lp, station) {
         Ok(accepted) => {
-            let names = Names { cells, hp, lp };
-            receive_accepted(rt, gate, alloc, &accepted, names, station)
+            let files = ReceptionFiles { cells, hp, lp };
+            receive_accepted(rt, gate, alloc, &accepted, files, station)
         }
         Err(refusal) => refuse(&refusal, station),
     }

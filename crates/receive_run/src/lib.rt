@@ -10,9 +10,11 @@ mod cell_receiver;
 mod command;
 mod receivers;
 mod reception_work;
+mod running;
 mod writing;
 
 pub use cell_receiver::CellReceiver;
 pub use command::receive;
 pub use receivers::{ModeReceiver, ReceiverWithOutput};
 pub use reception_work::ReceptionWork;
+pub use running::ReceptionFiles;

@@ -24,7 +24,7 @@ use Rattle.symbol_runs.specs.Runs.{IsReady}
 use Rattle.symbol_runs.proofs.Ending.{run_of}
 use Rattle.symbol_runs.proofs.Ending.{ready as cells_ready}
 use Rattle.receive_run.specs.Received.{cells_in}
-use Rattle.tune_run.specs.Runs.{RunsOrLacks, RunsTuning}
+use Rattle.receive_run.specs.Runs.{RunsOrLacks, RunsReceiving}
 use Rattle.tune_run.specs.TuneCommand.{TuneLaws, tune_command}
 use Rattle.tune_run.specs.Working.{tuning_work}
 use Rattle.tune_run.proofs.LeastPlaces.{searches}
@@ -78,13 +78,13 @@ module _ (limit : ℕ) (name cells hp : List ℕ) (lp : Option (List ℕ)) (star
     }
 
     -- the run has ended with its outcome, and then a text was written or not
-    finished : (old : Meaning) → old ≡ record start { settings = mid.settings } → (status : ℕ) → RunsTuning s cells hp lp old new status → Run c limit start new status
+    finished : (old : Meaning) → old ≡ record start { settings = mid.settings } → (status : ℕ) → RunsReceiving tuning_work s cells hp lp old new status → Run c limit start new status
     finished old same status runs =
         run_of c limit name cells (Some (header s.mode)) (stream_names hp lp) (tuning_work s (is_some lp)) s.max_symbols start new mid.settings status fresh settings
         (command_of laws limit name cells hp lp s start (λ t. stated s (start.file name) (reads.3 t).1.2))
-        (subst (λ (m : Meaning). RunsTuning s cells hp lp m new status) same runs)
+        (subst (λ (m : Meaning). RunsReceiving tuning_work s cells hp lp m new status) same runs)
 
-    pub run : (status : ℕ) → RunsOrLacks s cells hp lp mid new status → Run c limit start new status
+    pub run : (status : ℕ) → RunsOrLacks tuning_work s cells hp lp mid new status → Run c limit start new status
     run status runs = elim runs [
       | inl r ↦ finished mid same_mid status r
       | inr lacks ↦ refused Memory reads.0 status lacks.0 lacks.1

@@ -2,4 +2,3 @@ pub mod Tuned
 pub mod TuneCommand
 pub mod Working
 pub mod Searching
-pub mod Runs

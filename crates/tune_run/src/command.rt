@@ -9,15 +9,16 @@ ghost use Rattle.run_clauses.specs.Run.{Run};
 ghost use Rattle.receive_run.specs.Feeder.{IsFed};
 ghost use Rattle.symbol_runs.specs.Runs.{IsReady};
 ghost use Rattle.run_clauses.specs.Ports.{stream_names};
-ghost use Rattle.tune_run.specs.Runs.{RunsTuning, RunsOrLacks};
+ghost use Rattle.receive_run.specs.Runs.{RunsOrLacks, RunsReceiving};
+ghost use Rattle.tune_run.specs.Working.{tuning_work};
 ghost use Rattle.tune_run.specs.TuneCommand.{tune_command};
 
 use crate::reception_at_place::{ModeMaker, ReceiverMaker};
 use crate::search::{PlaceSearch, Search};
 use crate::tuning_work::TuningWork;
-use frame_build::{SymbolIn, header};
+use frame_build::SymbolIn;
 use mode_set::{Carriers, Mode, Mode2k, Mode8k, Settings};
-use receive_run::CellReceiver;
+use receive_run::{CellReceiver, ReceptionFiles};
 use receiver::{Receiver, RxOut};
 use run_clauses::{Limits, Refusal};
 use run_steps::{read_settings, refuse};
@@ -25,20 +26,8 @@ use station_core::Station;
 use std::alloc::Global;
 use std::marker::PhantomData;
 use std::thread::Threads;
-use symbol_runs::{StreamFiles, run_cells};
 use tune_in::Tuner;
 use word_workers::Gate;
-
-// The names of the files of a tuning.
-#[derive(Clone, Copy)]
-struct Names<'a> {
-    // The cells that are read.
-    cells: &'a str,
-    // The transport file of high priority, or the only one, which is made.
-    hp: &'a str,
-    // The transport file of low priority, if there is one, which is made.
-    lp: Option<&'a str>,
-}
 
 // Runs the tuning by a search that has had no byte. `symbol` has the size of a symbol.
 fn tune_by<
@@ -52,7 +41,7 @@ fn tune_by<
     maker: P,
     settings: &Settings,
     symbol: &mut [u8],
-    names: Names<'a>,
+    files: ReceptionFiles<'a>,
     station: &mut S,
 ) -> u8
     requires threads { X.has_threads }
@@ -61,29 +50,17 @@ fn tune_by<
     requires one_mode { P.mode ≡ T.mode }
     requires able { P.able maker }
     requires size { length symbol.old ≡ symbol_length settings.now }
-    requires ready { IsReady (stream_names names.hp.now (option_copied names.lp)) (S.meaning station.old) }
-    ensures { RunsTuning settings.now names.entry.cells.now names.entry.hp.now (option_copied names.entry.lp) (S.meaning station.old) (S.meaning station.new) result }
+    requires ready { IsReady (stream_names files.hp.now (option_copied files.lp)) (S.meaning station.old) }
+    ensures { RunsReceiving tuning_work settings.now files.entry.cells.now files.entry.hp.now (option_copied files.entry.lp) (S.meaning station.old) (S.meaning station.new) result }
 {
     let mut work = TuningWork {
         settings: *settings,
-        two: names.lp.is_some(),
+        two: files.lp.is_some(),
         search,
         maker,
         behind: None::<crate::reception_at_place::Behind<X>>,
     };
-    let files = StreamFiles {
-        hp: names.hp,
-        lp: names.lp,
-    };
-    run_cells(
-        settings.max_symbols,
-        names.cells,
-        Some(header(settings.mode)),
-        &files,
-        &mut work,
-        symbol,
-        station,
-    )
+    files.run_work(settings, &mut work, symbol, station)
 }
 
 // Takes the memory of a mode's search and of one symbol, and runs the tuning through this gate.
@@ -92,12 +69,12 @@ fn tune_in_mode<'a, M: Carriers, R: Threads + Sync, G: Gate, S: Station<'a>>(
     gate: &G,
     alloc: Global,
     settings: &Settings,
-    names: Names<'a>,
+    files: ReceptionFiles<'a>,
     station: &mut S,
 ) -> u8
     requires mode { settings.now.mode ≡ M.MODE }
-    requires ready { IsReady (stream_names names.hp.now (option_copied names.lp)) (S.meaning station.old) }
-    ensures { RunsOrLacks settings.now names.entry.cells.now names.entry.hp.now (option_copied names.entry.lp) (S.meaning station.old) (S.meaning station.new) result }
+    requires ready { IsReady (stream_names files.hp.now (option_copied files.lp)) (S.meaning station.old) }
+    ensures { RunsOrLacks tuning_work settings.now files.entry.cells.now files.entry.hp.now (option_copied files.entry.lp) (S.meaning station.old) (S.meaning station.new) result }
 {
     let Ok(tuner) = Tuner::<M>::new(alloc) else {
         return refuse(&Refusal::Memory, station);
@@ -118,17 +95,11 @@ fn tune_in_mode<'a, M: Carriers, R: Threads + Sync, G: Gate, S: Station<'a>>(
         alloc,
         of: PhantomData,
     };
-    tune_by(
-        Search {
-            tuner,
-            symbol: room,
-        },
-        maker,
-        settings,
-        &mut symbol,
-        names,
-        station,
-    )
+    let search = Search {
+        tuner,
+        symbol: room,
+    };
+    tune_by(search, maker, settings, &mut symbol, files, station)
 }
 
 // The same in the mode that is set.
@@ -137,15 +108,15 @@ fn tune_accepted<'a, R: Threads + Sync, G: Gate, S: Station<'a>>(
     gate: &G,
     alloc: Global,
     settings: &Settings,
-    names: Names<'a>,
+    files: ReceptionFiles<'a>,
     station: &mut S,
 ) -> u8
-    requires ready { IsReady (stream_names names.hp.now (option_copied names.lp)) (S.meaning station.old) }
-    ensures { RunsOrLacks settings.now names.entry.cells.now names.entry.hp.now (option_copied names.entry.lp) (S.meaning station.old) (S.meaning station.new) result }
+    requires ready { IsReady (stream_names files.hp.now (option_copied files.lp)) (S.meaning station.old) }
+    ensures { RunsOrLacks tuning_work settings.now files.entry.cells.now files.entry.hp.now (option_copied files.entry.lp) (S.meaning station.old) (S.meaning station.new) result }
 {
     match settings.mode {
-        Mode::M2k => tune_in_mode::<Mode2k, R, G, S>(rt, gate, alloc, settings, names, station),
-        Mode::M8k => tune_in_mode::<Mode8k, R, G, S>(rt, gate, alloc, settings, names, station),
+        Mode::M2k => tune_in_mode::<Mode2k, R, G, S>(rt, gate, alloc, settings, files, station),
+        Mode::M8k => tune_in_mode::<Mode8k, R, G, S>(rt, gate, alloc, settings, files, station),
     }
 }
 
@@ -180,8 +151,8 @@ pub fn tune<'a, R: Threads + Sync, G: Gate, S: Station<'a>>(
     tune_in::more_bytes();
     match read_settings(alloc, settings, station) {
         Ok(accepted) => {
-            let names = Names { cells, hp, lp };
-            tune_accepted(rt, gate, alloc, &accepted, names, station)
+            let files = ReceptionFiles { cells, hp, lp };
+            tune_accepted(rt, gate, alloc, &accepted, files, station)
         }
         Err(refusal) => refuse(&refusal, station),
     }

@@ -1,4 +1,4 @@
-use Rattle.std.proofs.Common.{◌≡◌, ◌∙◌, ℕ, Bool, List, Option, Some, subst}
+use Rattle.std.proofs.Common.{◌≡◌, ◌∙◌, ℕ, Bool, List, Option, Some, refl, subst}
 use Rattle.std.specs.Prelude.{is_some}
 use Rattle.std.specs.Option.{option_copied}
 use Rattle.station_core.specs.Meaning.{Meaning}
@@ -14,11 +14,10 @@ use Rattle.tune_run.proofs.command.tune_by.Goals as goal
 pub returns : goal.returns
 returns g c =
     let old : Meaning = g.S.Station.meaning c.args.station.now in
-    let new : Meaning = g.S.Station.meaning c.run_cells.new.station in
+    let new : Meaning = g.S.Station.meaning c.run_work.new.station in
     let s : Settings = c.args.settings.now in
-    let cells : List ℕ = c.args.names.cells.now in
-    let lp : Option (List ℕ) = option_copied c.args.names.lp in
-    let names : Names = stream_names c.args.names.hp.now lp in
-    let two : c.is_some.result ≡ is_some lp = c.is_some.ensures ∙ copied_some c.args.names.lp in
-    subst (λ (b : Bool). RunsCells (tuning_work s b) s.max_symbols cells (Some (header s.mode)) names old new c.run_cells.result) two
-    (subst (λ (h : List ℕ). RunsCells (tuning_work s c.is_some.result) s.max_symbols cells (Some h) names old new c.run_cells.result) c.header.ensures c.run_cells.ensures.runs)
+    let cells : List ℕ = c.args.files.cells.now in
+    let lp : Option (List ℕ) = option_copied c.args.files.lp in
+    let names : Names = stream_names c.args.files.hp.now lp in
+    let two : c.is_some.result ≡ is_some lp = c.is_some.ensures ∙ copied_some c.args.files.lp in
+    subst (λ (b : Bool). RunsCells (tuning_work s b) s.max_symbols cells (Some (header s.mode)) names old new c.run_work.result) two c.run_work.ensures
