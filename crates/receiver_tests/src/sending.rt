@@ -1,6 +1,7 @@
-// The symbols of null packets.
+// The symbols of null packets, and of packets that are drawn.
 ghost use Rattle.std.specs.Prelude.{◌≡◌};
 
+use load_gen::Load;
 use mode_set::{Carriers, Guard, Hierarchy, Mode, Mode2k, Plan, Rate, Settings, Shape, Start};
 use modulator::{Modulator, Want};
 use std::alloc::{AllocError, Global};
@@ -63,6 +64,38 @@ pub(crate) fn null_symbols(
     for _ in 0..count {
         put_null(&mut tx);
         put_null(&mut tx);
+        let symbol = symbol_of(rt, alloc, &mut tx)?;
+        bytes.extend_from_slice(&symbol)?;
+    }
+    Ok(bytes)
+}
+
+// Puts the next packet of the stream that wants one.
+fn put_drawn<M: Carriers>(hp: &mut Load, lp: &mut Load, tx: &mut Modulator<M>) {
+    match tx.wants() {
+        Want::Hp => tx.put(&hp.packet()),
+        Want::Lp => tx.put(&lp.packet()),
+        Want::Symbol => {}
+    }
+}
+
+/// The bytes of the first symbols that carry packets drawn from 5 and, in LP, from 6. A symbol wants fewer than 24 packets.
+pub(crate) fn drawn_symbols(
+    rt: &impl Abort,
+    alloc: Global,
+    settings: &Settings,
+    count: u16,
+) -> Result<Vec<u8>, AllocError>
+    requires { settings.now.mode ≡ Mode.M2k }
+{
+    let mut tx = Modulator::<Mode2k>::new(alloc, settings)?;
+    let mut hp = Load::start(5);
+    let mut lp = Load::start(6);
+    let mut bytes = Vec::new(alloc);
+    for _ in 0..count {
+        for _ in 0..24u8 {
+            put_drawn(&mut hp, &mut lp, &mut tx);
+        }
         let symbol = symbol_of(rt, alloc, &mut tx)?;
         bytes.extend_from_slice(&symbol)?;
     }
