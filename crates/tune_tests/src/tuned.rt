@@ -7,6 +7,7 @@ use std::alloc::{AllocError, Global};
 use std::process::Abort;
 use std::test::Fail;
 use std::thread::Threads;
+use test_tools::next_number;
 
 /// The bytes of a symbol of the 2K mode, and of a cell file of a super-frame.
 const SYMBOL: usize = 8_525;
@@ -242,6 +243,54 @@ fn each_hierarchy(rt: HostRuntime) -> Result<(), Fail> {
             "found from symbol {}",
             case.1
         );
+    }
+    Ok(())
+}
+
+/// 16-QAM at 2/3, and the front of its report where 24 symbols follow the place.
+const SIXTEEN: &str =
+    "mode = \"2k\"\nconstellation = \"16qam\"\nrate_hp = \"2/3\"\nguard = \"1/32\"\n";
+
+const CORRECTED: &str =
+    "tune at 49 frame 4\nsymbols 24 tail 0\ntps read 0 bad 0\nhp words 48 clean 12 corrected 36 bad 0 unphased 0 unmerged 0\n";
+
+const MOSTLY_BAD: &str =
+    "tune at 49 frame 4\nsymbols 24 tail 0\ntps read 0 bad 0\nhp words 48 clean 0 corrected 5 bad 43 unphased 0 unmerged 0\n";
+
+// A part of a cell moved by a drawn number of at most this size, and kept within 16 bits.
+fn moved(part: [u8; 2], most: u32, state: &mut u32) -> [u8; 2] {
+    let drawn = (next_number(state) >> 16) % (2 * most.min(32_767) + 1);
+    let number = i32::from(i16::from_be_bytes(part)) + drawn as i32 - most.min(32_767) as i32;
+    (number.clamp(-32_768, 32_767) as i16).to_be_bytes()
+}
+
+// A file with noise on all cells, those of the pilots and of the signalling too.
+fn noisy(alloc: Global, file: &[u8], most: u32) -> Result<Vec<u8>, AllocError> {
+    let mut bytes = Vec::from_slice(alloc, &file[..8.min(file.len())])?;
+    let mut state = 1;
+    for cell in file[bytes.len()..].chunks_exact(5) {
+        bytes.extend_from_slice(moved([cell[0], cell[1]], most, &mut state).as_slice())?;
+        bytes.extend_from_slice(moved([cell[2], cell[3]], most, &mut state).as_slice())?;
+        bytes.push(cell[4])?;
+    }
+    Ok(bytes)
+}
+
+// Noise that the outer code corrects, noise that it mostly does not, and noise in which nothing is readable.
+#[test]
+fn noise_on_all_cells(rt: HostRuntime) -> Result<(), Fail> {
+    let alloc = rt.alloc();
+    let cells = modulated(&rt, alloc, SIXTEEN, false)?;
+    let file = heard(alloc, &cells, 155, FOLLOWING)?;
+    let cases = [
+        (7_000, (0, CORRECTED, (9_024, 2_591_075_248), NONE)),
+        (7_500, (0, MOSTLY_BAD, (9_024, 2_945_153_715), NONE)),
+        (28_000, (10, "tune none\n", NONE, NONE)),
+    ];
+    for (most, found) in cases {
+        let heard = noisy(alloc, &file, most)?;
+        let ran = tuned(&rt, alloc, (BASE, ""), heard, false, ample(SUPER_FRAME))?;
+        assert!(rt; stands(&ran, found), "noise of {most}");
     }
     Ok(())
 }
