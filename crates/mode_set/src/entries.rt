@@ -4,18 +4,25 @@ ghost use Rattle.mode_set.specs.Entries.{entry, has_lp, top, with_entry};
 
 use crate::{Entry, Settings};
 
+// The settings' own parameters.
+fn own(settings: &Settings) -> Entry
+    ensures { result ≡ top settings.now }
+{
+    Entry {
+        after: 0,
+        shape: settings.shape,
+        hierarchy: settings.hierarchy,
+        rate_hp: settings.rate_hp,
+        rate_lp: settings.rate_lp,
+    }
+}
+
 impl Settings {
     /// The settings' own parameters, with number 0: those of the first super-frames.
     pub fn top(&self) -> Entry
         ensures { result ≡ top self.now }
     {
-        Entry {
-            after: 0,
-            shape: self.shape,
-            hierarchy: self.hierarchy,
-            rate_hp: self.rate_hp,
-            rate_lp: self.rate_lp,
-        }
+        own(self)
     }
 
     /// The parameters of a super-frame: those of the plan's last entry whose number is at most the
@@ -24,7 +31,7 @@ impl Settings {
         ensures is { result ≡ entry self.now super_frame }
         ensures first { super_frame ≡ 0 → result ≡ top self.now }
     {
-        self.plan.until(super_frame).unwrap_or(self.top())
+        self.plan.until(super_frame).unwrap_or(own(self))
     }
 
     /// Whether some super-frame may have the LP stream: it is among the settings' own parameters, or
