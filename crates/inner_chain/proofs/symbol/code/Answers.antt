@@ -1,6 +1,10 @@
 use Rattle.mode_set.specs.declared.modes.Stream.TheVariants.{Hp, Lp}
+use Rattle.inner_chain.proofs.Entering.{few_steps}
 use Rattle.inner_chain.proofs.Symbols.{code_parities, input_is, register_next}
 use Rattle.inner_chain.proofs.symbol.code.Goals as goal
+
+pub encode-requires-2-clause-room : goal.encode-requires-2-clause-room
+encode-requires-2-clause-room c = omega (arith, few_steps c.args.settings.now, c.requires.room, c.need-hp_steps.ensures.need, c.need-lp_steps.ensures.need, c.encode.auto.to)
 
 pub returns-clause-parities : goal.returns-clause-parities
 returns-clause-parities c = λ base paths at hp lp.
