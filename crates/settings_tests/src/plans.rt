@@ -36,11 +36,16 @@ fn plan_of(entries: &[Entry]) -> (Plan, u32) {
     (plan, taken)
 }
 
-// Settings of one stream on 64-QAM with these entries.
-fn planned(entries: &[Entry]) -> Settings {
+// Settings of one stream on 64-QAM with this plan.
+fn with_plan(plan: Plan) -> Settings {
     let mut settings = flat(Mode::M8k, Shape::Qam64, Rate::R5of6);
-    settings.plan = plan_of(entries).0;
+    settings.plan = plan;
     settings
+}
+
+// The same with these entries.
+fn planned(entries: &[Entry]) -> Settings {
+    with_plan(plan_of(entries).0)
 }
 
 #[test]
@@ -78,11 +83,12 @@ fn refused_entries_leave_a_plan(rt: HostRuntime) {
 
 #[test]
 fn sixteen_entries(rt: HostRuntime) {
-    let mut settings = planned(&[]);
+    let mut plan = Plan::none();
     for number in 1..17u32 {
-        assert!(rt; settings.plan.push(layered(5 * number)));
+        assert!(rt; plan.push(layered(5 * number)));
     }
-    assert!(rt; !settings.plan.push(layered(81)) && settings.plan.len() == 16);
+    assert!(rt; !plan.push(layered(81)) && plan.len() == 16);
+    let settings = with_plan(plan);
     for super_frame in 0..80u32 {
         assert_eq!(rt; settings.entry(super_frame).after, super_frame / 5 * 5);
     }
