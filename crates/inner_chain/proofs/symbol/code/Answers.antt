@@ -1,3 +1,4 @@
+use Rattle.std.proofs.Common.{arith}
 use Rattle.mode_set.specs.declared.modes.Stream.TheVariants.{Hp, Lp}
 use Rattle.inner_chain.proofs.Entering.{few_steps}
 use Rattle.inner_chain.proofs.Symbols.{code_parities, input_is, register_next}
