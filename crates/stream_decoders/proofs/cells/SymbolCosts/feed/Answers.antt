@@ -14,6 +14,16 @@ use Rattle.stream_decoders.specs.Fed.{HasHad, Fed}
 use Rattle.stream_decoders.proofs.Feeding.{rest_is_short, some_carriers, still_unfinished, within_is, ends_is, taken_is, ended_costs, ended_tps}
 use Rattle.stream_decoders.proofs.cells.SymbolCosts.feed.Goals as goal
 
+pub put_pairs-requires-clause-weights : goal.put_pairs-requires-clause-weights
+put_pairs-requires-clause-weights g c =
+    let e : g.M.Carriers.K ≡ carriers c.self.inside.settings.mode = g.M.Carriers.k_of ∙ ap carriers (sym c.self.invariant.mode_is) in
+    record { long = c.weights-weights.ensures.count ∙ e; small = λ k below. c.weights-weights.ensures.small k (subst (λ (z : ℕ). k < z) (sym e) below) }
+
+pub put_pairs-requires-2-clause-weights : goal.put_pairs-requires-2-clause-weights
+put_pairs-requires-2-clause-weights g c =
+    let e : g.M.Carriers.K ≡ carriers c.self.inside.settings.mode = g.M.Carriers.k_of ∙ ap carriers (sym c.self.invariant.mode_is) in
+    record { long = c.weights-weights.ensures.count ∙ e; small = λ k below. c.weights-weights.ensures.small k (subst (λ (z : ℕ). k < z) (sym e) below) }
+
 pub returns-then-not-whole-clause-fed : goal.returns-then-not-whole-clause-fed
 returns-then-not-whole-clause-fed g c = λ b.
     let x = c.self.inside in
