@@ -133,6 +133,28 @@ pub(crate) fn write<M: Carriers>(
     out.write(&entry, &entry, labels, to);
 }
 
+// The next symbol's bytes behind the others.
+fn add_symbol<M: Carriers>(
+    rt: &impl Abort,
+    alloc: Global,
+    settings: &Settings,
+    tx: &mut InnerTx<M>,
+    out: &mut SymbolOut<M>,
+    odd: bool,
+    sources: &mut (Source, Source),
+    waiting: &mut (WaitBuf, WaitBuf),
+    to: &mut Vec<u8>,
+) -> Result<(), AllocError>
+    requires tx { tx.old.settings.mode ≡ settings.now.mode }
+    requires room { 110000 ≤ vec_capacity to.old }
+    ensures tx { tx.new.settings.mode ≡ settings.now.mode }
+    ensures room { 110000 ≤ vec_capacity to.new }
+{
+    let labels = next_labels(rt, alloc, settings, tx, odd, sources, waiting)?;
+    write(rt, &labels, out, settings, to);
+    Ok(())
+}
+
 fn first_symbols<M: Carriers>(
     rt: &impl Abort,
     alloc: Global,
@@ -145,41 +167,24 @@ fn first_symbols<M: Carriers>(
     let mut sources = (source_of(alloc, 1)?, source_of(alloc, 100)?);
     let mut waiting = (WaitBuf::new(), WaitBuf::new());
     let mut bytes = Vec::with_capacity(alloc, 110000)?;
-    let labels = next_labels(
-        rt,
-        alloc,
-        settings,
-        &mut tx,
-        false,
-        &mut sources,
-        &mut waiting,
-    )?;
-    write(rt, &labels, &mut out, settings, &mut bytes);
-    let labels = next_labels(
-        rt,
-        alloc,
-        settings,
-        &mut tx,
-        true,
-        &mut sources,
-        &mut waiting,
-    )?;
-    write(rt, &labels, &mut out, settings, &mut bytes);
-    let labels = next_labels(
-        rt,
-        alloc,
-        settings,
-        &mut tx,
-        false,
-        &mut sources,
-        &mut waiting,
-    )?;
-    write(rt, &labels, &mut out, settings, &mut bytes);
+    for odd in [false, true, false] {
+        add_symbol(
+            rt,
+            alloc,
+            settings,
+            &mut tx,
+            &mut out,
+            odd,
+            &mut sources,
+            &mut waiting,
+            &mut bytes,
+        )?;
+    }
     Ok(sum_of(&bytes))
 }
 
-fn check(rt: &impl Abort, alloc: Global, document: &[u8], sum: u32) {
-    let settings = Settings::read(alloc, document).expect(rt, "the settings");
+fn check(rt: &impl Abort, alloc: Global, text: &str, sum: u32) {
+    let settings = Settings::read(alloc, text.as_bytes()).expect(rt, "the settings");
     let found = match settings.mode {
         Mode::M2k => first_symbols::<Mode2k>(rt, alloc, &settings),
         Mode::M8k => first_symbols::<Mode8k>(rt, alloc, &settings),
@@ -187,115 +192,86 @@ fn check(rt: &impl Abort, alloc: Global, document: &[u8], sum: u32) {
     assert!(rt; found.expect(rt, "memory") == sum);
 }
 
+// Settings, and the sum of the first three symbols.
+const CASES: [(&str, u32); 18] = [
+    (
+        "mode = \"2k\"\nconstellation = \"qpsk\"\nhierarchy = \"none\"\nrate_hp = \"1/2\"\nguard = \"1/32\"\n",
+        2066603759,
+    ),
+    (
+        "mode = \"2k\"\nconstellation = \"16qam\"\nhierarchy = \"none\"\nrate_hp = \"2/3\"\nguard = \"1/16\"\ncell_id = 65535\n",
+        4132391269,
+    ),
+    (
+        "mode = \"2k\"\nconstellation = \"16qam\"\nhierarchy = \"1\"\nrate_hp = \"3/4\"\nrate_lp = \"5/6\"\nguard = \"1/8\"\ncell_id = 43981\n",
+        1708986249,
+    ),
+    (
+        "mode = \"2k\"\nconstellation = \"16qam\"\nhierarchy = \"2\"\nrate_hp = \"5/6\"\nrate_lp = \"2/3\"\nguard = \"1/4\"\ncell_id = 0\n",
+        2212177677,
+    ),
+    (
+        "mode = \"2k\"\nconstellation = \"16qam\"\nhierarchy = \"4\"\nrate_hp = \"7/8\"\nrate_lp = \"7/8\"\nguard = \"1/32\"\ncell_id = 4660\n",
+        687970301,
+    ),
+    (
+        "mode = \"2k\"\nconstellation = \"64qam\"\nhierarchy = \"none\"\nrate_hp = \"1/2\"\nguard = \"1/16\"\n",
+        3903307431,
+    ),
+    (
+        "mode = \"2k\"\nconstellation = \"64qam\"\nhierarchy = \"1\"\nrate_hp = \"2/3\"\nrate_lp = \"1/2\"\nguard = \"1/8\"\ncell_id = 65535\n",
+        107775759,
+    ),
+    (
+        "mode = \"2k\"\nconstellation = \"64qam\"\nhierarchy = \"2\"\nrate_hp = \"3/4\"\nrate_lp = \"5/6\"\nguard = \"1/4\"\ncell_id = 43981\n",
+        1415201545,
+    ),
+    (
+        "mode = \"2k\"\nconstellation = \"64qam\"\nhierarchy = \"4\"\nrate_hp = \"5/6\"\nrate_lp = \"2/3\"\nguard = \"1/32\"\ncell_id = 0\n",
+        554663886,
+    ),
+    (
+        "mode = \"8k\"\nconstellation = \"qpsk\"\nhierarchy = \"none\"\nrate_hp = \"7/8\"\nguard = \"1/16\"\ncell_id = 4660\n",
+        1497323584,
+    ),
+    (
+        "mode = \"8k\"\nconstellation = \"16qam\"\nhierarchy = \"none\"\nrate_hp = \"1/2\"\nguard = \"1/8\"\n",
+        3714505690,
+    ),
+    (
+        "mode = \"8k\"\nconstellation = \"16qam\"\nhierarchy = \"1\"\nrate_hp = \"2/3\"\nrate_lp = \"1/2\"\nguard = \"1/4\"\ncell_id = 65535\n",
+        3473614346,
+    ),
+    (
+        "mode = \"8k\"\nconstellation = \"16qam\"\nhierarchy = \"2\"\nrate_hp = \"3/4\"\nrate_lp = \"5/6\"\nguard = \"1/32\"\ncell_id = 43981\n",
+        464339759,
+    ),
+    (
+        "mode = \"8k\"\nconstellation = \"16qam\"\nhierarchy = \"4\"\nrate_hp = \"5/6\"\nrate_lp = \"2/3\"\nguard = \"1/16\"\ncell_id = 0\n",
+        1124016755,
+    ),
+    (
+        "mode = \"8k\"\nconstellation = \"64qam\"\nhierarchy = \"none\"\nrate_hp = \"7/8\"\nguard = \"1/8\"\ncell_id = 4660\n",
+        2841195205,
+    ),
+    (
+        "mode = \"8k\"\nconstellation = \"64qam\"\nhierarchy = \"1\"\nrate_hp = \"1/2\"\nrate_lp = \"3/4\"\nguard = \"1/4\"\n",
+        46304350,
+    ),
+    (
+        "mode = \"8k\"\nconstellation = \"64qam\"\nhierarchy = \"2\"\nrate_hp = \"2/3\"\nrate_lp = \"1/2\"\nguard = \"1/32\"\ncell_id = 65535\n",
+        2246823937,
+    ),
+    (
+        "mode = \"8k\"\nconstellation = \"64qam\"\nhierarchy = \"4\"\nrate_hp = \"3/4\"\nrate_lp = \"5/6\"\nguard = \"1/16\"\ncell_id = 43981\n",
+        2117276077,
+    ),
+];
+
 #[test]
 fn cells_of_another_modulator(rt: HostRuntime) {
     let alloc = rt.alloc();
-    check(
-        &rt,
-        alloc,
-        b"mode = \"2k\"\nconstellation = \"qpsk\"\nhierarchy = \"none\"\nrate_hp = \"1/2\"\nguard = \"1/32\"\n",
-        2066603759,
-    );
-    check(
-        &rt,
-        alloc,
-        b"mode = \"2k\"\nconstellation = \"16qam\"\nhierarchy = \"none\"\nrate_hp = \"2/3\"\nguard = \"1/16\"\ncell_id = 65535\n",
-        4132391269,
-    );
-    check(
-        &rt,
-        alloc,
-        b"mode = \"2k\"\nconstellation = \"16qam\"\nhierarchy = \"1\"\nrate_hp = \"3/4\"\nrate_lp = \"5/6\"\nguard = \"1/8\"\ncell_id = 43981\n",
-        1708986249,
-    );
-    check(
-        &rt,
-        alloc,
-        b"mode = \"2k\"\nconstellation = \"16qam\"\nhierarchy = \"2\"\nrate_hp = \"5/6\"\nrate_lp = \"2/3\"\nguard = \"1/4\"\ncell_id = 0\n",
-        2212177677,
-    );
-    check(
-        &rt,
-        alloc,
-        b"mode = \"2k\"\nconstellation = \"16qam\"\nhierarchy = \"4\"\nrate_hp = \"7/8\"\nrate_lp = \"7/8\"\nguard = \"1/32\"\ncell_id = 4660\n",
-        687970301,
-    );
-    check(
-        &rt,
-        alloc,
-        b"mode = \"2k\"\nconstellation = \"64qam\"\nhierarchy = \"none\"\nrate_hp = \"1/2\"\nguard = \"1/16\"\n",
-        3903307431,
-    );
-    check(
-        &rt,
-        alloc,
-        b"mode = \"2k\"\nconstellation = \"64qam\"\nhierarchy = \"1\"\nrate_hp = \"2/3\"\nrate_lp = \"1/2\"\nguard = \"1/8\"\ncell_id = 65535\n",
-        107775759,
-    );
-    check(
-        &rt,
-        alloc,
-        b"mode = \"2k\"\nconstellation = \"64qam\"\nhierarchy = \"2\"\nrate_hp = \"3/4\"\nrate_lp = \"5/6\"\nguard = \"1/4\"\ncell_id = 43981\n",
-        1415201545,
-    );
-    check(
-        &rt,
-        alloc,
-        b"mode = \"2k\"\nconstellation = \"64qam\"\nhierarchy = \"4\"\nrate_hp = \"5/6\"\nrate_lp = \"2/3\"\nguard = \"1/32\"\ncell_id = 0\n",
-        554663886,
-    );
-    check(
-        &rt,
-        alloc,
-        b"mode = \"8k\"\nconstellation = \"qpsk\"\nhierarchy = \"none\"\nrate_hp = \"7/8\"\nguard = \"1/16\"\ncell_id = 4660\n",
-        1497323584,
-    );
-    check(
-        &rt,
-        alloc,
-        b"mode = \"8k\"\nconstellation = \"16qam\"\nhierarchy = \"none\"\nrate_hp = \"1/2\"\nguard = \"1/8\"\n",
-        3714505690,
-    );
-    check(
-        &rt,
-        alloc,
-        b"mode = \"8k\"\nconstellation = \"16qam\"\nhierarchy = \"1\"\nrate_hp = \"2/3\"\nrate_lp = \"1/2\"\nguard = \"1/4\"\ncell_id = 65535\n",
-        3473614346,
-    );
-    check(
-        &rt,
-        alloc,
-        b"mode = \"8k\"\nconstellation = \"16qam\"\nhierarchy = \"2\"\nrate_hp = \"3/4\"\nrate_lp = \"5/6\"\nguard = \"1/32\"\ncell_id = 43981\n",
-        464339759,
-    );
-    check(
-        &rt,
-        alloc,
-        b"mode = \"8k\"\nconstellation = \"16qam\"\nhierarchy = \"4\"\nrate_hp = \"5/6\"\nrate_lp = \"2/3\"\nguard = \"1/16\"\ncell_id = 0\n",
-        1124016755,
-    );
-    check(
-        &rt,
-        alloc,
-        b"mode = \"8k\"\nconstellation = \"64qam\"\nhierarchy = \"none\"\nrate_hp = \"7/8\"\nguard = \"1/8\"\ncell_id = 4660\n",
-        2841195205,
-    );
-    check(
-        &rt,
-        alloc,
-        b"mode = \"8k\"\nconstellation = \"64qam\"\nhierarchy = \"1\"\nrate_hp = \"1/2\"\nrate_lp = \"3/4\"\nguard = \"1/4\"\n",
-        46304350,
-    );
-    check(
-        &rt,
-        alloc,
-        b"mode = \"8k\"\nconstellation = \"64qam\"\nhierarchy = \"2\"\nrate_hp = \"2/3\"\nrate_lp = \"1/2\"\nguard = \"1/32\"\ncell_id = 65535\n",
-        2246823937,
-    );
-    check(
-        &rt,
-        alloc,
-        b"mode = \"8k\"\nconstellation = \"64qam\"\nhierarchy = \"4\"\nrate_hp = \"3/4\"\nrate_lp = \"5/6\"\nguard = \"1/16\"\ncell_id = 43981\n",
-        2117276077,
-    );
+    for (text, sum) in CASES {
+        check(&rt, alloc, text, sum);
+    }
 }

@@ -2,7 +2,7 @@
 //! and the first cells of transmissions with each constellation, hierarchy and mode. And what is sent,
 //! read back: the costs of own symbols in every setting, those of drawn cells and weights, a symbol cut
 //! into pieces, symbols of given bits beside a plain model of the standard. And the coded bits of bytes in
-//! a word, beside those in a queue.
+//! a word, beside those in a queue, bits in a queue, the words of the TPS code, and puncturing at each rate.
 //!
 //! The crate has tests alone.
 #![tactic(auto)]
@@ -13,6 +13,8 @@ mod carriers;
 mod cells;
 #[cfg(test)]
 mod labels;
+#[cfg(test)]
+mod rates;
 #[cfg(test)]
 mod receiving;
 #[cfg(test)]

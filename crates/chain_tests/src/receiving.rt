@@ -143,6 +143,26 @@ fn send<M: Carriers>(
     Ok(())
 }
 
+// The cost pairs of both streams of a symbol fit what was sent.
+fn both_fit<M: Carriers>(
+    rt: &impl Abort,
+    alloc: Global,
+    settings: &Settings,
+    rx: &mut InnerRx<M>,
+    symbol: &SymbolIn<M>,
+    l: u8,
+    coded: &mut (Coded, Coded),
+) -> Result<(), AllocError>
+    requires mode { settings.now.mode ≡ M.MODE }
+    requires rx { rx.old.mode ≡ settings.now.mode }
+    requires whole { length symbol.now ≡ 5 * M.K }
+    ensures { rx.new.mode ≡ settings.now.mode }
+{
+    let (hp, lp) = coded;
+    stream_fits(rt, alloc, settings, rx, symbol, l, Stream::Hp, hp)?;
+    stream_fits(rt, alloc, settings, rx, symbol, l, Stream::Lp, lp)
+}
+
 // The first four symbols of a transmission: carriers repeat after four.
 fn four_symbols<M: Carriers>(
     rt: &impl Abort,
@@ -157,39 +177,12 @@ fn four_symbols<M: Carriers>(
     let mut symbol = SymbolIn::<M>::new(alloc)?;
     let mut waiting = (WaitBuf::new(), WaitBuf::new());
     let mut states = (1, 2);
-    let mut hp = coded_from(1);
-    let mut lp = coded_from(2);
+    let mut coded = (coded_from(1), coded_from(2));
     for l in 0..4u8 {
-        let labels = drawn_labels(
-            rt,
-            alloc,
-            settings,
-            &mut tx,
-            l % 2 == 1,
-            &mut states,
-            &mut waiting,
-        )?;
+        let odd = l % 2 == 1;
+        let labels = drawn_labels(rt, alloc, settings, &mut tx, odd, &mut states, &mut waiting)?;
         send(rt, alloc, settings, &labels, &mut out, &mut symbol)?;
-        stream_fits(
-            rt,
-            alloc,
-            settings,
-            &mut rx,
-            &symbol,
-            l,
-            Stream::Hp,
-            &mut hp,
-        )?;
-        stream_fits(
-            rt,
-            alloc,
-            settings,
-            &mut rx,
-            &symbol,
-            l,
-            Stream::Lp,
-            &mut lp,
-        )?;
+        both_fit(rt, alloc, settings, &mut rx, &symbol, l, &mut coded)?;
         symbol.next();
     }
     Ok(())
@@ -286,26 +279,29 @@ fn taken_in_pieces<M: Carriers>(
     assert!(rt; whole && from == bytes.len());
 }
 
+// A symbol taken in pieces of this size has the cells that the bytes say, and the whole weight for each.
+fn cells_fit(rt: &impl Abort, alloc: Global, bytes: &[u8], size: usize) -> Result<(), AllocError> {
+    let mut symbol = SymbolIn::<Mode2k>::new(alloc)?;
+    taken_in_pieces(rt, &mut symbol, bytes, size);
+    for (k, cell) in symbol.cells().iter().enumerate() {
+        assert!(rt; 5 * k + 4 < 8525 && bytes.len() == 8525);
+        let re = i16::from_be_bytes([bytes[5 * k], bytes[5 * k + 1]]);
+        let im = i16::from_be_bytes([bytes[5 * k + 2], bytes[5 * k + 3]]);
+        assert!(rt; *cell == Cell { re, im });
+    }
+    assert!(rt; symbol.weights().iter().all(|weight| *weight == 15));
+    Ok(())
+}
+
 // Its cells and the weights behind them; pieces of four bytes cut between a cell and its weight.
 #[test]
 fn a_symbol_of_null_packets_in_pieces(rt: HostRuntime) -> Result<(), Fail> {
     let alloc = rt.alloc();
     let bytes = null_symbol(&rt, alloc)?;
-    assert!(rt; bytes.len() == 8525);
     let begins = [0xAAu8, 0xAB, 0, 0, 15, 0xD2, 0xBF, 0x2D, 0x41, 15];
-    assert_eq!(rt; &bytes[..10], begins.as_slice());
+    assert!(rt; bytes.len() == 8525 && bytes.starts_with(begins.as_slice()));
     for size in [1usize, 3, 4, 8525] {
-        let mut symbol = SymbolIn::<Mode2k>::new(alloc)?;
-        taken_in_pieces(&rt, &mut symbol, &bytes, size);
-        for (k, cell) in symbol.cells().iter().enumerate() {
-            assert!(rt; 5 * k + 4 < 8525);
-            let re = i16::from_be_bytes([bytes[5 * k], bytes[5 * k + 1]]);
-            let im = i16::from_be_bytes([bytes[5 * k + 2], bytes[5 * k + 3]]);
-            assert!(rt; *cell == Cell { re, im });
-        }
-        for weight in symbol.weights() {
-            assert!(rt; *weight == 15);
-        }
+        cells_fit(&rt, alloc, &bytes, size)?;
     }
     Ok(())
 }
@@ -393,8 +389,8 @@ fn own_costs<M: Carriers>(
     drawn_costs(rt, alloc, settings, &mut rx)
 }
 
-fn check_costs(rt: &impl Abort, alloc: Global, document: &[u8], sum: u32) {
-    let settings = Settings::read(alloc, document).expect(rt, "the settings");
+fn check_costs(rt: &impl Abort, alloc: Global, text: &str, sum: u32) {
+    let settings = Settings::read(alloc, text.as_bytes()).expect(rt, "the settings");
     let found = match settings.mode {
         Mode::M2k => own_costs::<Mode2k>(rt, alloc, &settings),
         Mode::M8k => own_costs::<Mode8k>(rt, alloc, &settings),
@@ -422,32 +418,31 @@ fn costs_of_changing_parameters(rt: HostRuntime) -> Result<(), Fail> {
     Ok(())
 }
 
+// Settings, and the sum of the costs.
+const COSTS: [(&str, u32); 4] = [
+    (
+        "mode = \"2k\"\nconstellation = \"qpsk\"\nrate_hp = \"1/2\"\nguard = \"1/32\"\n",
+        2726650226,
+    ),
+    (
+        "mode = \"2k\"\nconstellation = \"64qam\"\nhierarchy = \"4\"\nrate_hp = \"2/3\"\nrate_lp = \"3/4\"\nguard = \"1/32\"\n",
+        1262352538,
+    ),
+    (
+        "mode = \"8k\"\nconstellation = \"16qam\"\nhierarchy = \"1\"\nrate_hp = \"7/8\"\nrate_lp = \"5/6\"\nguard = \"1/32\"\n",
+        3677345420,
+    ),
+    (
+        "mode = \"8k\"\nconstellation = \"64qam\"\nrate_hp = \"3/4\"\nguard = \"1/32\"\n",
+        75597504,
+    ),
+];
+
 // Drawn cells with drawn weights cost what they cost another receiver.
 #[test]
 fn costs_by_weights_of_another_receiver(rt: HostRuntime) {
     let alloc = rt.alloc();
-    check_costs(
-        &rt,
-        alloc,
-        b"mode = \"2k\"\nconstellation = \"qpsk\"\nrate_hp = \"1/2\"\nguard = \"1/32\"\n",
-        2726650226,
-    );
-    check_costs(
-        &rt,
-        alloc,
-        b"mode = \"2k\"\nconstellation = \"64qam\"\nhierarchy = \"4\"\nrate_hp = \"2/3\"\nrate_lp = \"3/4\"\nguard = \"1/32\"\n",
-        1262352538,
-    );
-    check_costs(
-        &rt,
-        alloc,
-        b"mode = \"8k\"\nconstellation = \"16qam\"\nhierarchy = \"1\"\nrate_hp = \"7/8\"\nrate_lp = \"5/6\"\nguard = \"1/32\"\n",
-        3677345420,
-    );
-    check_costs(
-        &rt,
-        alloc,
-        b"mode = \"8k\"\nconstellation = \"64qam\"\nrate_hp = \"3/4\"\nguard = \"1/32\"\n",
-        75597504,
-    );
+    for (text, sum) in COSTS {
+        check_costs(&rt, alloc, text, sum);
+    }
 }

@@ -1,7 +1,6 @@
 // Symbols of given bits against a plain model of the standard, and back.
-ghost use Rattle.std.specs.Prelude.{◌≡◌, ◌≤◌, length};
-ghost use Rattle.mode_set.specs.StreamTable.{carriers, need};
-ghost use Rattle.mode_set.specs.declared.modes.Stream.TheVariants.{Hp};
+ghost use Rattle.std.specs.Prelude.{◌≡◌, length};
+ghost use Rattle.mode_set.specs.StreamTable.{carriers};
 
 use crate::labels::{drawn_labels, labels_of, whole_weights};
 use bit_pack::WaitBuf;
@@ -97,16 +96,13 @@ fn none_left<M: Carriers>(
     settings: &Settings,
     rx: &mut InnerRx<M>,
     cells: &[Cell],
-    steps: usize,
 ) -> Result<(), AllocError>
-    requires mode { rx.old.mode ≡ settings.now.mode }
-    requires cells { length cells.now ≡ carriers rx.old.mode }
-    requires steps { steps ≡ need settings.now Hp }
-    requires few { steps ≤ 31752 }
+    requires { length cells.now ≡ carriers rx.old.mode }
     ensures { rx.new ≡ rx.old }
 {
     let entry = settings.top();
     let weights = vec![in alloc; 0u8; cells.len()]?;
+    let steps = rx.steps(&entry, Stream::Hp) as usize;
     let mut pairs = Vec::with_capacity(alloc, steps)?;
     rx.pairs(&entry, cells, &weights, 0, Stream::Hp, &mut pairs);
     assert!(rt; pairs.len() == steps);
@@ -114,6 +110,49 @@ fn none_left<M: Carriers>(
         assert!(rt; pair.x0 == 0 && pair.x1 == 0 && pair.y0 == 0 && pair.y1 == 0);
     }
     Ok(())
+}
+
+// The cost pairs of a stream of the cells fit the bits that were sent.
+fn stream_fits<M: Carriers>(
+    rt: &impl Abort,
+    alloc: Global,
+    settings: &Settings,
+    rx: &mut InnerRx<M>,
+    cells: &[Cell],
+    stream: Stream,
+    state: u32,
+) -> Result<(), AllocError>
+    requires { length cells.now ≡ carriers rx.old.mode }
+    ensures { rx.new ≡ rx.old }
+{
+    if !settings.has_stream(stream) {
+        return Ok(());
+    }
+    let entry = settings.top();
+    let weights = whole_weights(alloc, rx, cells.len())?;
+    let steps = rx.steps(&entry, stream) as usize;
+    let coded = settings.coded(stream) as usize;
+    let mut pairs = Vec::with_capacity(alloc, steps)?;
+    rx.pairs(&entry, cells, &weights, 0, stream, &mut pairs);
+    assert!(rt; coded <= 2 * steps && steps == settings.need(stream) as usize);
+    pairs_fit(rt, &pairs, state, 2 * steps - coded);
+    Ok(())
+}
+
+// The costs of the cells of a symbol.
+fn costs_fit<M: Carriers>(
+    rt: &impl Abort,
+    alloc: Global,
+    settings: &Settings,
+    rx: &mut InnerRx<M>,
+    cells: &[Cell],
+) -> Result<(), AllocError>
+    requires { length cells.now ≡ carriers rx.old.mode }
+    ensures { rx.new ≡ rx.old }
+{
+    stream_fits(rt, alloc, settings, rx, cells, Stream::Hp, 1)?;
+    stream_fits(rt, alloc, settings, rx, cells, Stream::Lp, 2)?;
+    none_left(rt, alloc, settings, rx, cells)
 }
 
 // Two symbols of these settings by a coder whose registers are all zeros, and back.
@@ -130,7 +169,6 @@ fn coded_and_back<M: Carriers>(
     ensures tx { tx.new.settings.mode ≡ settings.now.mode }
     ensures rx { rx.new.mode ≡ settings.now.mode }
 {
-    let entry = settings.top();
     let mut waiting = (WaitBuf::new(), WaitBuf::new());
     let mut states = (1, 2);
     let labels = symbol(
@@ -145,23 +183,7 @@ fn coded_and_back<M: Carriers>(
     )?;
     let mut cells = vec![in alloc; Cell::default(); settings.mode.carriers() as usize]?;
     place_cells(rt, settings, 0, &labels, &mut cells);
-    let weights = whole_weights(alloc, rx, cells.len())?;
-    let mut pairs = Vec::with_capacity(alloc, settings.need(Stream::Hp) as usize)?;
-    rx.pairs(&entry, &cells, &weights, 0, Stream::Hp, &mut pairs);
-    let coded = settings.coded(Stream::Hp) as usize;
-    let steps = settings.need(Stream::Hp) as usize;
-    assert!(rt; coded <= 2 * steps && steps == rx.steps(&entry, Stream::Hp) as usize);
-    pairs_fit(rt, &pairs, 1, 2 * steps - coded);
-    none_left(rt, alloc, settings, rx, &cells, steps)?;
-    if settings.has_stream(Stream::Lp) {
-        let weights = whole_weights(alloc, rx, cells.len())?;
-        let mut pairs = Vec::with_capacity(alloc, settings.need(Stream::Lp) as usize)?;
-        rx.pairs(&entry, &cells, &weights, 0, Stream::Lp, &mut pairs);
-        let coded = settings.coded(Stream::Lp) as usize;
-        let steps = settings.need(Stream::Lp) as usize;
-        assert!(rt; coded <= 2 * steps);
-        pairs_fit(rt, &pairs, 2, 2 * steps - coded);
-    }
+    costs_fit(rt, alloc, settings, rx, &cells)?;
     symbol(
         rt,
         alloc,

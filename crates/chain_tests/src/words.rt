@@ -1,4 +1,4 @@
-// Bits in a word, beside a queue of bits.
+// Bits in a queue, and in a word beside a queue.
 use bit_pack::{BitBuf, BitWord};
 use mode_set::Rate;
 use puncture::PuncturedEncoder;
@@ -10,23 +10,27 @@ fn push(word: &mut BitWord, bits: u16, count: u8) {
     }
 }
 
+// How many bits wait behind these, and what is taken then.
+fn taken_behind(word: &mut BitWord, bits: u16, count: u8) -> (usize, [Option<u8>; 3]) {
+    push(word, bits, count);
+    let waiting = word.waiting();
+    let taken = [word.take_byte(), word.take_byte(), word.take_byte()];
+    (waiting as usize, taken)
+}
+
+// Of each number the lowest bits alone.
 #[test]
 fn words_to_bytes(rt: HostRuntime) {
     let mut word = BitWord::new();
-    assert_eq!(rt; word.take_byte(), None);
-    // of each word the lowest bits alone
-    push(&mut word, 0xFFF5, 3);
-    assert_eq!(rt; word.waiting(), 3);
-    assert_eq!(rt; word.take_byte(), None);
-    push(&mut word, 0b1111_1000_1101, 12);
-    assert_eq!(rt; word.take_byte(), Some(0b1011_1111));
-    push(&mut word, 0x1234, 16);
-    assert_eq!(rt; word.take_byte(), Some(0b0001_1010));
-    assert_eq!(rt; word.take_byte(), Some(0b0010_0100));
-    assert_eq!(rt; word.take_byte(), None);
-    push(&mut word, 1, 1);
-    assert_eq!(rt; word.take_byte(), Some(0b0110_1001));
-    assert_eq!(rt; word.take_byte(), None);
+    for (bits, count, waiting, taken) in [
+        (0u16, 0u8, 0usize, [None, None, None]),
+        (0xFFF5, 3, 3, [None, None, None]),
+        (0b1111_1000_1101, 12, 15, [Some(0b1011_1111u8), None, None]),
+        (0x1234, 16, 23, [Some(0b0001_1010), Some(0b0010_0100), None]),
+        (1, 1, 8, [Some(0b0110_1001), None, None]),
+    ] {
+        assert_eq!(rt; taken_behind(&mut word, bits, count), (waiting, taken));
+    }
 }
 
 // Each byte in turn at each rate, sixteen times: the word gives what the queue gives.
@@ -61,4 +65,36 @@ fn words_are_queues(rt: HostRuntime) {
         // none was left out
         assert!(rt; taken >= 4096);
     }
+}
+
+// Puts a byte behind the others, where there is room, and takes the first one.
+fn through(queue: &mut BitBuf<3>, byte: u8) -> Option<u8> {
+    if queue.waiting() <= 16 {
+        queue.push_byte(byte);
+    }
+    queue.take_byte()
+}
+
+// Three bits, and bytes behind them: they go round the end of the ring.
+#[test]
+fn bits_to_bytes(rt: HostRuntime) {
+    let mut queue: BitBuf<3> = BitBuf::new();
+    assert_eq!(rt; queue.take_bit(), None);
+    for bit in [true, false, true] {
+        if queue.waiting() < 24 {
+            queue.push_bit(bit);
+        }
+    }
+    assert_eq!(rt; through(&mut queue, 0b1100_0110), Some(0b1011_1000));
+    assert_eq!(rt; (queue.waiting(), queue.take_byte()), (3, None));
+    for byte in [0x12u8, 0x34, 0x56, 0x78] {
+        assert!(rt; through(&mut queue, byte).is_some());
+    }
+    let last = [
+        queue.take_bit(),
+        queue.take_bit(),
+        queue.take_bit(),
+        queue.take_bit(),
+    ];
+    assert_eq!(rt; last, [Some(false), Some(false), Some(false), None]);
 }

@@ -3,5 +3,5 @@ use Rattle.chain_tests.proofs.receiving.drawn_costs.Given as goal
 
 abbrev pub invariant-loop-l : goal.invariant-loop-l
 invariant-loop-l g l = record {
-  rx : l.rx ≡ l.initial.rx;
+  rx : l.rx.mode ≡ l.initial.rx.mode;
 }
