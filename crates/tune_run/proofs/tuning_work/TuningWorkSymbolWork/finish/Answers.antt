@@ -27,9 +27,16 @@ finish-requires g c κs =
     let st = stands_behind (g.T.PlaceSearch.stands c.args.self.now.search) (λ b s two found bytes behind. IsBehindPlace (g.X.CellReceiver.settings b.work.receiver) b.work.two b.skip (ReceiverStands (g.X.CellReceiver.stands b.work.receiver so_far) (g.X.CellReceiver.settings b.work.receiver) b.work.two) s two found bytes behind) s two go.bytes go.given c.args.self.now.behind b c.in-Some.is go.stands.3 in
     let p = st.4 in
     let fewer = rest_fewer s st.0 go.bytes in
-    let same = same_symbols a s (rest s go.bytes st.0) p.is_announced.mode_is in
-    ((refl, tt), (c.requires.able, (subst (λ (x : Bool). AreOpen (writes_at x) m) (sym p.two_is) c.requires.open,
-      record { bytes = rest s go.bytes st.0; given = st.1; stands = p.is_behind.stands; few = omega (arith, go.few, fewer, same) })))
+    let same = same_symbols a s (rest s go.bytes st.0) p.is_announced.mode_is in (
+      (refl, tt),
+      (
+        c.requires.able,
+        (
+          subst (λ (x : Bool). AreOpen (writes_at x) m) (sym p.two_is) c.requires.open,
+          record { bytes = rest s go.bytes st.0; given = st.1; stands = p.is_behind.stands; few = omega (arith, go.few, fewer, same) },
+        ),
+      ),
+    )
 
 pub returns-in-Some-clause-finishes : goal.returns-in-Some-clause-finishes
 returns-in-Some-clause-finishes g c = λ bytes before stood gives.
