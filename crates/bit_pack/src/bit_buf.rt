@@ -206,33 +206,3 @@ impl<const N: usize> BitBuf<N> {
         Some(whole)
     }
 }
-
-#[cfg(test)]
-mod tests {
-    use super::*;
-
-    #[test]
-    fn bits_to_bytes(rt: HostRuntime) {
-        let mut buf: BitBuf<3> = BitBuf::new();
-        assert_eq!(rt; buf.take_bit(), None);
-        for bit in [true, false, true] {
-            assert!(rt; buf.waiting() < 24);
-            buf.push_bit(bit);
-        }
-        assert!(rt; buf.waiting() <= 16);
-        buf.push_byte(0b1100_0110);
-        assert_eq!(rt; buf.take_byte(), Some(0b1011_1000));
-        assert_eq!(rt; buf.waiting(), 3);
-        assert_eq!(rt; buf.take_byte(), None);
-        // round the end of the ring
-        for byte in [0x12, 0x34, 0x56, 0x78] {
-            assert!(rt; buf.waiting() <= 16);
-            buf.push_byte(byte);
-            assert!(rt; buf.take_byte().is_some());
-        }
-        assert_eq!(rt; buf.take_bit(), Some(false));
-        assert_eq!(rt; buf.take_bit(), Some(false));
-        assert_eq!(rt; buf.take_bit(), Some(false));
-        assert_eq!(rt; buf.take_bit(), None);
-    }
-}

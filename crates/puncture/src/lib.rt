@@ -9,8 +9,6 @@ mod periods;
 mod puncturer;
 mod rule;
 mod table;
-#[cfg(test)]
-mod tests;
 
 pub use coder::PuncturedEncoder;
 pub use depuncturer::Depuncturer;
