@@ -1,5 +1,7 @@
-mod Keeping
+pub mod Keeping
 mod Pushing
 mod Unknown
 mod Reasons
 mod Periods
+mod Planned
+mod EntryKeys

@@ -6,13 +6,14 @@ use Rattle.std.proofs.lemmas.Bool.{false≢true, ltb-true, lt-ltb, lt-leb}
 use Rattle.std.proofs.lemmas.List.{length-take-le, length-set, reverse-append}
 use Rattle.std.proofs.lemmas.List.Folds.{list_all-append, find-append}
 use Rattle.mode_set.specs.declared.entry.Entry.{Entry}
+use Rattle.mode_set.specs.KeptBy.{take_front}
 use Rattle.mode_set.specs.PlanList.{filler, filled, IsFilled, is_rising}
 
-both : (b c : Bool) → IsTrue (b && c) → IsTrue b × IsTrue c
+pub both : (b c : Bool) → IsTrue (b && c) → IsTrue b × IsTrue c
 both true c h = (refl, h)
 both false c h = absurd (false≢true h)
 
-and_also : (b c : Bool) → IsTrue b → IsTrue c → IsTrue (b && c)
+pub and_also : (b c : Bool) → IsTrue b → IsTrue c → IsTrue (b && c)
 and_also true c h k = k
 and_also false c h k = h
 
@@ -38,10 +39,6 @@ below n few other = omega (arith, few, other)
 set_behind : (l : List Entry) (k : ℕ) (e : Entry) → set (l ++ replicate (suc k) filler) (length l) e ≡ (l ++ e ∷ []) ++ replicate k filler
 set_behind [] k e = refl
 set_behind (x ∷ l) k e = ap (λ (xs : List Entry). x ∷ xs) (set_behind l k e)
-
-take_front : (l m : List Entry) → take (length l) (l ++ m) ≡ l
-take_front [] m = refl
-take_front (x ∷ l) m = ap (λ (xs : List Entry). x ∷ xs) (take_front l m)
 
 length_end : (l : List Entry) (e : Entry) → length (l ++ e ∷ []) ≡ length l + 1
 length_end [] e = refl

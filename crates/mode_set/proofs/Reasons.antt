@@ -6,7 +6,10 @@ use Rattle.mode_set.specs.Values.{mode_words, shape_words, hierarchy_words, rate
 use Rattle.std.specs.List.{AllByRecursion}
 use Rattle.std.specs.Result.{result_err}
 use Rattle.toml.specs.Data.{Data, Members}
-use Rattle.mode_set.specs.Document.{at, accepted, required, with_default, if_present, first_unknown, unknown, first_of, reasons, shape_in, hierarchy_in, rate_lp_in, hierarchy_clash, rate_lp_clash}
+use Rattle.mode_set.specs.AtKeys.{at, accepted, required, with_default, if_present, shape_in, hierarchy_in, rate_lp_in, hierarchy_clash, rate_lp_clash, first_of}
+use Rattle.mode_set.specs.Document.{first_unknown, unknown, reasons}
+use Rattle.mode_set.specs.PlanKey.{a_plan}
+use Rattle.mode_set.specs.Plans.{no_plan}
 use Rattle.mode_set.specs.Causes.{is_required, fits, HasCause}
 use Rattle.mode_set.specs.Kept.{is_flat}
 use Rattle.mode_set.specs.declared.key.Key.{Key}
@@ -100,10 +103,13 @@ module _ (ms : Members) where
                       (
                         default_has key.MaxSymbols 1000000 (a_number 1 4294967295) (λ d. refl) (at key.MaxSymbols ms) refl,
                         (
-                          hierarchy_has (shape_in ms) (hierarchy_in ms) refl refl,
+                          default_has key.Plan no_plan a_plan (λ d. refl) (at key.Plan ms) refl,
                           (
-                            rate_lp_has (hierarchy_in ms) (rate_lp_in ms) refl refl,
-                            tt,
+                            hierarchy_has (shape_in ms) (hierarchy_in ms) refl refl,
+                            (
+                              rate_lp_has (hierarchy_in ms) (rate_lp_in ms) refl refl,
+                              tt,
+                            ),
                           ),
                         ),
                       ),

@@ -1,4 +1,4 @@
--- The first unknown key: the keys of a table ascend, and at most ten of them are known.
+-- The first unknown key: the keys of a table ascend, and at most eleven of them are known.
 use Rattle.std.proofs.Common.{◌≡◌, ℕ, suc, ◌+◌, ◌≤◌, Bool, true, false, not, ◌||◌, cond, ◌⊎◌, List, [], ◌∷◌, length, map, Some, None, IfSome, String, Global, string_bytes, nat_cmp, nat_eq, refl, sym, ap, ◌∙◌, arith, Less, inl, inr}
 use Rattle.std.specs.Prelude.{bytes_eq, position}
 use Rattle.std.specs.List.{AllByRecursion, IsDistinct, list_any, prefix_len}
@@ -18,13 +18,14 @@ use Rattle.toml.specs.View.{members_view}
 use Rattle.toml.specs.declared.value.Value.{Value}
 use Rattle.mode_set.specs.declared.key.Key.{Key}
 use Rattle.mode_set.specs.Keys.{key_text, is_key, all_keys}
-use Rattle.mode_set.specs.Document.{keys_of, first_unknown}
+use Rattle.mode_set.specs.AtKeys.{keys_of}
+use Rattle.mode_set.specs.Document.{first_unknown}
 
 abbrev Entry : Type 0
 Entry = String Global × Value
 
 -- a table's keys, as texts, are those of its members
-texts : (es : List Entry) → keys_of (members_view es) ≡ map string_bytes (entries.keys_of es)
+pub texts : (es : List Entry) → keys_of (members_view es) ≡ map string_bytes (entries.keys_of es)
 texts [] = refl
 texts (e ∷ es) = ap (λ ks. string_bytes e.0 ∷ ks) (texts es)
 
@@ -109,15 +110,15 @@ front_known : (ks : List (List ℕ)) (q : List ℕ) → is_member same (front is
 front_known [] q h = absurd (false≢true h)
 front_known (k ∷ ks) q h = front_here (is_key k) k ks q refl h (front_known ks q)
 
-few_known : (ks : List (List ℕ)) → IsStrictlySortedBy (slice_cmp nat_cmp) ks → prefix_len is_key ks ≤ 10
+few_known : (ks : List (List ℕ)) → IsStrictlySortedBy (slice_cmp nat_cmp) ks → prefix_len is_key ks ≤ 11
 few_known ks sorted =
-    let few : length (front is_key ks) ≤ 10 = length-le_from_is_member (eq_by_cmp_equiv nat_list_cmp_total) (front is_key ks) (map key_text all_keys) (front_distinct is_key ks (IsDistinct-from_sorted (slice_cmp nat_cmp) ks sorted)) (front_known ks) in
+    let few : length (front is_key ks) ≤ 11 = length-le_from_is_member (eq_by_cmp_equiv nat_list_cmp_total) (front is_key ks) (map key_text all_keys) (front_distinct is_key ks (IsDistinct-from_sorted (slice_cmp nat_cmp) ks sorted)) (front_known ks) in
     omega (arith, few, length_front is_key ks)
 
-if_placed : (b : Bool) (n : ℕ) → n ≤ 10 → IfSome (cond b (Some n) None) (λ m. m ≤ 10)
+if_placed : (b : Bool) (n : ℕ) → n ≤ 11 → IfSome (cond b (Some n) None) (λ m. m ≤ 11)
 if_placed true n h = h
 if_placed false n h = tt
 
--- the place of the first unknown key is at most ten
-pub few : (es : List Entry) → IsStrictlySortedBy string_cmp (entries.keys_of es) → IfSome (first_unknown (members_view es)) (λ n. n ≤ 10)
+-- the place of the first unknown key is at most eleven
+pub few : (es : List Entry) → IsStrictlySortedBy string_cmp (entries.keys_of es) → IfSome (first_unknown (members_view es)) (λ n. n ≤ 11)
 few es sorted = if_placed _ _ (omega (arith, few_known (keys_of (members_view es)) (ascending es sorted), prefix_twice is_key (keys_of (members_view es))))

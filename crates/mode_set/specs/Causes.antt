@@ -1,11 +1,13 @@
 -- What each refusal says of the document.
 use Rattle.std.specs.Prelude.{◌≡◌, ◌≢◌, Bool, true, false, is_some, IsTrue, IsFalse, IsSomeAnd, Option, Some, None, Ok}
 use Rattle.toml.specs.Data.{Data, Members}
-use Rattle.mode_set.specs.Document.{at, first_unknown, shape_in, hierarchy_in, rate_lp_in}
+use Rattle.mode_set.specs.AtKeys.{at, shape_in, hierarchy_in, rate_lp_in}
+use Rattle.mode_set.specs.Document.{first_unknown}
+use Rattle.mode_set.specs.PlanKey.{a_plan}
 use Rattle.mode_set.specs.Kept.{is_flat}
 use Rattle.mode_set.specs.Values.{mode_words, shape_words, hierarchy_words, rate_words, guard_words, start_words, a_word, a_number}
 use Rattle.mode_set.specs.declared.key.Key.{Key}
-use Rattle.mode_set.specs.declared.key.Key.TheVariants.{Mode, Constellation, Hierarchy, RateHp, RateLp, Guard, CellId, Start, Workers, MaxSymbols}
+use Rattle.mode_set.specs.declared.key.Key.TheVariants.{Mode, Constellation, Hierarchy, RateHp, RateLp, Guard, CellId, Start, Workers, MaxSymbols, Plan}
 use Rattle.mode_set.specs.declared.error.SettingsError.{SettingsError}
 use Rattle.mode_set.specs.declared.error.SettingsError.TheVariants.{NotToml, Unknown, Missing, Value, Clash, Memory}
 use Rattle.mode_set.specs.declared.modes.Shape.TheVariants.{Qpsk}
@@ -25,6 +27,7 @@ is_required CellId = false
 is_required Start = false
 is_required Workers = false
 is_required MaxSymbols = false
+is_required Plan = false
 
 -- whether a value is one that the key may have
 abbrev pub fits : Key → Data → Bool
@@ -38,6 +41,7 @@ fits CellId d = is_some (a_number 0 65535 d)
 fits Start d = is_some (a_word start_words d)
 fits Workers d = is_some (a_number 1 16 d)
 fits MaxSymbols d = is_some (a_number 1 4294967295 d)
+fits Plan d = is_some (a_plan d)
 
 abbrev pub IsMissing : Key → Members → Type 0
 IsMissing k ms = IsTrue (is_required k) × (at k ms ≡ None)

@@ -1,5 +1,6 @@
 -- What the type of settings keeps.
-use Rattle.std.specs.Prelude.{◌≡◌, ℕ, ◌≤◌, Option, IsTrue, Bool, true, false, is_some, not}
+use Rattle.std.specs.Prelude.{◌≡◌, ℕ, ◌≤◌, Option, IsTrue, Bool, true, false, is_some, not, ◌&&◌, ◌||◌}
+use Rattle.std.specs.Bool.{beq}
 use Rattle.mode_set.specs.declared.modes.Shape.{Shape}
 use Rattle.mode_set.specs.declared.modes.Shape.TheVariants.{Qpsk, Qam16, Qam64}
 use Rattle.mode_set.specs.declared.modes.Hierarchy.{Hierarchy}
@@ -29,3 +30,7 @@ pub record IsKept (shape : Shape) (hierarchy : Hierarchy) (rate_lp : Option Rate
 pub record IsKeptEntry (shape : Shape) (hierarchy : Hierarchy) (rate_lp : Option Rate) : Type 0 where
   pub qpsk : IsTrue (is_qpsk shape) → IsTrue (is_flat hierarchy)
   pub lp : is_some rate_lp ≡ not (is_flat hierarchy)
+
+-- whether parameters are so
+abbrev pub fit_together : Shape → Hierarchy → Option Rate → Bool
+fit_together shape hierarchy rate_lp = (not (is_qpsk shape) || is_flat hierarchy) && beq (is_some rate_lp) (not (is_flat hierarchy))

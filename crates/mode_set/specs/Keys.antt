@@ -2,7 +2,7 @@
 use Rattle.std.specs.Prelude.{codes, ℕ, Bool, List, [], ◌∷◌, bytes_eq}
 use Rattle.std.specs.List.{list_any}
 use Rattle.mode_set.specs.declared.key.Key.{Key}
-use Rattle.mode_set.specs.declared.key.Key.TheVariants.{Mode, Constellation, Hierarchy, RateHp, RateLp, Guard, CellId, Start, Workers, MaxSymbols}
+use Rattle.mode_set.specs.declared.key.Key.TheVariants.{Mode, Constellation, Hierarchy, RateHp, RateLp, Guard, CellId, Start, Workers, MaxSymbols, Plan}
 
 -- a key as it stands in a document
 abbrev pub key_text : Key → List ℕ
@@ -16,10 +16,11 @@ key_text CellId = codes "cell_id"
 key_text Start = codes "start"
 key_text Workers = codes "workers"
 key_text MaxSymbols = codes "max_symbols"
+key_text Plan = codes "plan"
 
 -- all of them, in the order in which they are tried
 abbrev pub all_keys : List Key
-all_keys = Mode ∷ Constellation ∷ Hierarchy ∷ RateHp ∷ RateLp ∷ Guard ∷ CellId ∷ Start ∷ Workers ∷ MaxSymbols ∷ []
+all_keys = Mode ∷ Constellation ∷ Hierarchy ∷ RateHp ∷ RateLp ∷ Guard ∷ CellId ∷ Start ∷ Workers ∷ MaxSymbols ∷ Plan ∷ []
 
 abbrev pub is_key : List ℕ → Bool
 is_key text = list_any (λ key. bytes_eq text (key_text key)) all_keys

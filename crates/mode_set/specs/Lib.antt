@@ -4,9 +4,12 @@ pub mod Levels
 pub mod Rows
 pub mod Keys
 pub mod Values
+pub mod AtKeys
 pub mod Document
 pub mod Causes
 pub mod Laws
 pub mod Entries
 pub mod PlanList
 pub mod Plans
+pub mod KeptBy
+pub mod PlanKey

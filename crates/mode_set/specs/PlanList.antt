@@ -1,5 +1,5 @@
 -- Lists of entries, and how an array of 16 holds one.
-use Rattle.std.specs.Prelude.{◌≡◌, ℕ, ◌-◌, ◌≤◌, nat_lt, ◌&&◌, Bool, true, IsTrue, List, [], ◌∷◌, ◌++◌, length, take, replicate, None, refl}
+use Rattle.std.specs.Prelude.{◌≡◌, ℕ, ◌-◌, ◌≤◌, nat_lt, nat_le, ◌&&◌, Bool, true, IsTrue, List, [], ◌∷◌, ◌++◌, length, take, replicate, None, refl}
 use Rattle.std.specs.List.{list_all}
 use Rattle.mode_set.specs.declared.modes.Shape.TheVariants.{Qpsk}
 use Rattle.mode_set.specs.declared.modes.Hierarchy.TheVariants.{Flat}
@@ -10,6 +10,10 @@ use Rattle.mode_set.specs.declared.entry.Entry.{Entry}
 abbrev pub is_rising : List Entry → Bool
 is_rising [] = true
 is_rising (e ∷ es) = nat_lt 0 e.after && list_all (λ f. nat_lt e.after f.after) es && is_rising es
+
+-- whether a list is a plan: at most 16 entries, whose numbers rise
+abbrev pub is_plan : List Entry → Bool
+is_plan es = nat_le (length es) 16 && is_rising es
 
 -- whether an entry may come behind those of a list: there is room, and its number is above 0 and above theirs
 abbrev pub may_follow : List Entry → Entry → Bool

@@ -1,7 +1,8 @@
 -- A plan as the list of its entries.
-use Rattle.std.specs.Prelude.{List, [], take, refl}
+use Rattle.std.specs.Prelude.{◌≡◌, Bool, true, false, List, [], length, take, Option, Some, None, refl}
 use Rattle.std.proofs.Common.{arith}
-use Rattle.mode_set.specs.PlanList.{filled, IsFilled}
+use Rattle.mode_set.specs.KeptBy.{kept_plan}
+use Rattle.mode_set.specs.PlanList.{filled, IsFilled, is_plan}
 use Rattle.mode_set.specs.declared.entry.Entry.{Entry}
 use Rattle.mode_set.specs.declared.plan.Plan.{Plan}
 
@@ -14,3 +15,11 @@ nothing_is_filled = record { few = omega arith; long = refl; rest = refl; rising
 -- the plan without an entry
 abbrev pub no_plan : Plan
 no_plan = record { entries = filled []; count = 0; kept = nothing_is_filled }
+
+abbrev pub plan_if : (es : List Entry) → (fits : Bool) → (fits ≡ true → IsFilled (length es) (filled es)) → Option Plan
+plan_if es true kept = Some (record { entries = filled es; count = length es; kept = kept refl })
+plan_if es false kept = None
+
+-- the plan of a list of entries, if it is one
+abbrev pub plan_of : List Entry → Option Plan
+plan_of es = plan_if es (is_plan es) (kept_plan es)

@@ -15,6 +15,7 @@ pub enum Key {
     Start,
     Workers,
     MaxSymbols,
+    Plan,
 }
 
 impl Key {
@@ -33,11 +34,12 @@ impl Key {
             Key::Start => "start",
             Key::Workers => "workers",
             Key::MaxSymbols => "max_symbols",
+            Key::Plan => "plan",
         }
     }
 }
 
-// Whether the text is one of the ten keys.
+// Whether the text is one of the eleven keys.
 pub(crate) fn is_known(text: &str) -> bool
     ensures { result ≡ is_key text.now }
 {
@@ -53,5 +55,6 @@ pub(crate) fn is_known(text: &str) -> bool
             | "start"
             | "workers"
             | "max_symbols"
+            | "plan"
     )
 }

@@ -3,6 +3,7 @@
 //! EN 300 744, 4.3 to 4.6. Every crate above takes its modes, shapes, rates and streams from here.
 #![tactic(auto)]
 
+mod at_keys;
 mod carriers;
 mod constellations;
 mod entries;
@@ -12,6 +13,7 @@ mod key;
 mod laws;
 mod modes;
 mod plan;
+mod plan_key;
 mod plans;
 mod read;
 mod settings;

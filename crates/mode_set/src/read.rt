@@ -3,7 +3,8 @@ ghost use Rattle.std.specs.Prelude.{◌≡◌, ℕ, IsSomeAnd, ◌≢◌, ◌+�
 ghost use Rattle.toml.specs.Data.{get_member};
 ghost use Rattle.toml.specs.View.{view, table_view};
 ghost use Rattle.mode_set.specs.Values.{a_word, a_number};
-ghost use Rattle.mode_set.specs.Document.{at, accepted, first_unknown, required, with_default, if_present, cell_id_in, keys_of, unknown, first_of, reasons, States, IsStatedBy, refusal, document};
+ghost use Rattle.mode_set.specs.AtKeys.{cell_id_in, keys_of, first_of};
+ghost use Rattle.mode_set.specs.Document.{first_unknown, unknown, reasons, States, IsStatedBy, refusal, document};
 ghost use Rattle.mode_set.specs.Causes.{IsMissing, HasWrongValue, Clashes};
 ghost use Rattle.mode_set.specs.declared.key.Key.{Key as AnyKey};
 ghost use Rattle.std.specs.Result.{result_err};
@@ -14,87 +15,14 @@ ghost use Rattle.std.specs.String.{string_cmp};
 ghost use Rattle.std.specs.BTreeMap.{keys};
 ghost use Rattle.mode_set.specs.Keys.{is_key};
 
+use crate::at_keys::{
+    check_fit, number_of, number_or, required_word, value_at, word_if_present, word_or,
+};
 use crate::key::is_known;
-use crate::words::Word;
-use crate::{Guard, Hierarchy, Key, Mode, Plan, Rate, Settings, SettingsError, Shape, Start};
+use crate::plan_key::plan_or_none;
+use crate::{Hierarchy, Key, Settings, SettingsError, Shape, Start};
 use std::alloc::Global;
-use toml::{Table, Value};
-
-// What stands at a key.
-fn value_at<'a>(table: &'a Table, key: Key) -> Option<&'a Value>
-    ensures { option_map (λ v. view v.now) result ≡ at key (table_view table.now) }
-{
-    table.get(key.text())
-}
-
-// A value that a word chooses.
-fn word_of<T: Word>(value: &Value, key: Key) -> Result<T, SettingsError>
-    ensures { result ≡ accepted key (a_word T.words (view value.now)) }
-{
-    match value.as_str() {
-        Some(text) => T::from_word(text).ok_or(SettingsError::Value(key)),
-        None => Err(SettingsError::Value(key)),
-    }
-}
-
-// A whole number from least to most.
-fn number_of(value: &Value, key: Key, least: u32, most: u32) -> Result<u32, SettingsError>
-    ensures value { result ≡ accepted key (a_number least most (view value.now)) }
-    ensures within { IfOk result (λ n. n ≤ most) }
-{
-    match value.as_integer() {
-        Some(n) if n >= least as i64 && n <= most as i64 => Ok(n as u32),
-        _ => Err(SettingsError::Value(key)),
-    }
-}
-
-// The value of a key that has to be there, which a word chooses.
-fn required_word<T: Word>(table: &Table, key: Key) -> Result<T, SettingsError>
-    ensures { result ≡ required key (a_word T.words) (at key (table_view table.now)) }
-{
-    match value_at(table, key) {
-        Some(value) => word_of(value, key),
-        None => Err(SettingsError::Missing(key)),
-    }
-}
-
-// The value of a key that has a default, which a word chooses.
-fn word_or<T: Word>(table: &Table, key: Key, default: T) -> Result<T, SettingsError>
-    ensures { result ≡ with_default key default (a_word T.words) (at key (table_view table.now)) }
-{
-    match value_at(table, key) {
-        Some(value) => word_of(value, key),
-        None => Ok(default),
-    }
-}
-
-// The value of a key that may be absent, which a word chooses.
-fn word_if_present<T: Word>(table: &Table, key: Key) -> Result<Option<T>, SettingsError>
-    ensures { result ≡ if_present key (a_word T.words) (at key (table_view table.now)) }
-{
-    match value_at(table, key) {
-        Some(value) => Ok(Some(word_of(value, key)?)),
-        None => Ok(None),
-    }
-}
-
-// The number of a key that has a default.
-fn number_or(
-    table: &Table,
-    key: Key,
-    default: u32,
-    least: u32,
-    most: u32,
-) -> Result<u32, SettingsError>
-    requires { default ≤ most }
-    ensures value { result ≡ with_default key default (a_number least most) (at key (table_view table.now)) }
-    ensures within { IfOk result (λ n. n ≤ most) }
-{
-    match value_at(table, key) {
-        Some(value) => number_of(value, key, least, most),
-        None => Ok(default),
-    }
-}
+use toml::Table;
 
 // The number of a key that may be absent.
 fn cell_id(table: &Table) -> Result<Option<u16>, SettingsError>
@@ -106,7 +34,7 @@ fn cell_id(table: &Table) -> Result<Option<u16>, SettingsError>
     }
 }
 
-// The place of the first key that is none of the ten.
+// The place of the first key that is none of the eleven.
 fn place_of_unknown(table: &Table) -> Option<usize>
     ensures place { result ≡ position (λ k. not (is_key (string_bytes k))) (keys table.now) }
     ensures ordered { IsStrictlySortedBy string_cmp (keys table.now) }
@@ -117,13 +45,13 @@ fn place_of_unknown(table: &Table) -> Option<usize>
 // The same of the document.
 fn first_unknown_key(table: &Table) -> Option<usize>
     ensures place { result ≡ first_unknown (table_view table.now) }
-    ensures few { IfSome result (λ n. n ≤ 10) }
+    ensures few { IfSome result (λ n. n ≤ 11) }
     ensures byte_order { IsStrictlySortedBy (slice_cmp nat_cmp) (keys_of (table_view table.now)) }
 {
     place_of_unknown(table)
 }
 
-// The document has no other key than the ten.
+// The document has no other key than the eleven.
 fn check_keys(table: &Table) -> Result<(), SettingsError>
     ensures unknown { result_err result ≡ unknown (first_unknown (table_view table.now)) }
     ensures byte_order { IsStrictlySortedBy (slice_cmp nat_cmp) (keys_of (table_view table.now)) }
@@ -151,12 +79,8 @@ fn settings_of(table: &Table) -> Result<Settings, SettingsError>
     let start = word_or(table, Key::Start, Start::Zero)?;
     let workers = number_or(table, Key::Workers, 1, 1, 16)? as u8;
     let max_symbols = number_or(table, Key::MaxSymbols, 1000000, 1, u32::MAX)?;
-    if shape.is_qpsk() && !hierarchy.is_flat() {
-        return Err(SettingsError::Clash(Key::Hierarchy));
-    }
-    if rate_lp.is_some() == hierarchy.is_flat() {
-        return Err(SettingsError::Clash(Key::RateLp));
-    }
+    let plan = plan_or_none(table)?;
+    check_fit(shape, hierarchy, rate_lp)?;
     Ok(Settings {
         mode,
         shape,
@@ -168,7 +92,7 @@ fn settings_of(table: &Table) -> Result<Settings, SettingsError>
         start,
         workers,
         max_symbols,
-        plan: Plan::none(),
+        plan,
     })
 }
 

@@ -190,7 +190,7 @@ workers2 = 1\n\
 mode = 1\n\
 == Unknown(3)\n\
 @\n\
-[[plan]]\n\
+[[plans]]\n\
 after = 1\n\
 constellation = \"qpsk\"\n\
 rate_hp = \"1/2\"\n\
@@ -209,13 +209,14 @@ modd = 1\n\
 @\n\
 start.from = 1\n\
 stars = 2\n\
-== Unknown(10)\n\
+== Unknown(11)\n\
 cell_id = 1\n\
 constellation = \"qpsk\"\n\
 guard = \"1/4\"\n\
 hierarchy = \"none\"\n\
 max_symbols = 1\n\
 mode = \"2k\"\n\
+plan = 1\n\
 rate_hp = \"1/2\"\n\
 rate_lp = \"1/2\"\n\
 start = \"any\"\n\

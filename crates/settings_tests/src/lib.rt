@@ -8,6 +8,8 @@ mod documents;
 #[cfg(test)]
 mod examples;
 #[cfg(test)]
+mod plan_documents;
+#[cfg(test)]
 mod plans;
 #[cfg(test)]
 mod tests;

@@ -103,7 +103,7 @@ fn shown(alloc: Global, answer: &Result<Settings, SettingsError>) -> Result<Stri
 }
 
 // The document of a case, in which `@` stands for the base.
-fn document(alloc: Global, case: &str) -> Result<String, AllocError> {
+pub(super) fn document(alloc: Global, case: &str) -> Result<String, AllocError> {
     match case.strip_prefix("@\n") {
         Some(more) => format!(in alloc; "{BASE}{more}"),
         None => String::from_str(alloc, case),

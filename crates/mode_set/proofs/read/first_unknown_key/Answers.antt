@@ -7,7 +7,7 @@ pub returns-clause-place : goal.returns-clause-place
 returns-clause-place c = c.place_of_unknown.ensures.place ∙ place c.args.table.now.entries
 
 pub returns-clause-few : goal.returns-clause-few
-returns-clause-few c = subst (λ o. IfSome o (λ n. n ≤ 10)) (sym (c.place_of_unknown.ensures.place ∙ place c.args.table.now.entries)) (few c.args.table.now.entries c.place_of_unknown.ensures.ordered)
+returns-clause-few c = subst (λ o. IfSome o (λ n. n ≤ 11)) (sym (c.place_of_unknown.ensures.place ∙ place c.args.table.now.entries)) (few c.args.table.now.entries c.place_of_unknown.ensures.ordered)
 
 pub returns-clause-byte_order : goal.returns-clause-byte_order
 returns-clause-byte_order c = ascending c.args.table.now.entries c.place_of_unknown.ensures.ordered

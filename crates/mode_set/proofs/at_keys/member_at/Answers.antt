@@ -1,0 +1,6 @@
+-- What the map of a table finds at a text is the member that the table shows.
+use Rattle.toml.proofs.Views.{table_get}
+use Rattle.mode_set.proofs.at_keys.member_at.Goals as goal
+
+pub returns : goal.returns
+returns c = table_get c.get.result c.args.text.now c.args.table.now.entries c.get.ensures.value

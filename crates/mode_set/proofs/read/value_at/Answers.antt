@@ -1,9 +1,0 @@
--- What the map of a table finds at a text is the member that the table shows.
-use Rattle.std.proofs.Common.{◌∙◌, ap}
-use Rattle.toml.proofs.Views.{table_get}
-use Rattle.toml.specs.Data.{get_member}
-use Rattle.toml.specs.View.{table_view}
-use Rattle.mode_set.proofs.read.value_at.Goals as goal
-
-pub returns : goal.returns
-returns c = table_get c.get.result c.text.result.now c.args.table.now.entries c.get.ensures.value ∙ ap (λ name. get_member name (table_view c.args.table.now)) c.text.ensures

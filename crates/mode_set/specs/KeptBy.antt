@@ -1,0 +1,45 @@
+-- What the tests for entries and plans find is what their types keep.
+use Rattle.std.specs.Prelude.{◌≡◌, nat_le, Bool, true, false, not, ◌||◌, List, [], ◌∷◌, ◌++◌, ◌-◌, length, take, replicate, Option, is_some, refl}
+use Rattle.std.specs.Bool.{beq}
+use Rattle.std.proofs.Common.{◌∙◌, sym, ap, arith, length-append}
+use Rattle.std.proofs.lemmas.Bool.{and_parts, leb-true, true≢false}
+use Rattle.std.proofs.lemmas.List.{length-replicate}
+use Rattle.mode_set.specs.Kept.{IsKeptEntry, is_flat, is_qpsk, fit_together}
+use Rattle.mode_set.specs.PlanList.{is_plan, is_rising, filler, filled, IsFilled}
+use Rattle.mode_set.specs.declared.entry.Entry.{Entry}
+use Rattle.mode_set.specs.declared.modes.Shape.{Shape}
+use Rattle.mode_set.specs.declared.modes.Hierarchy.{Hierarchy}
+use Rattle.mode_set.specs.declared.modes.Rate.{Rate}
+
+implied : (a b : Bool) → (not a || b) ≡ true → a ≡ true → b ≡ true
+implied true true e q = refl
+implied true false e q = e
+implied false true e q = refl
+implied false false e q = q
+
+same : (a b : Bool) → beq a b ≡ true → a ≡ b
+same true true e = refl
+same true false e = absurd (true≢false (sym e))
+same false true e = e
+same false false e = refl
+
+pub kept_together : (shape : Shape) (hierarchy : Hierarchy) (rate_lp : Option Rate) → fit_together shape hierarchy rate_lp ≡ true → IsKeptEntry shape hierarchy rate_lp
+kept_together shape hierarchy rate_lp e =
+    let a = and_parts (not (is_qpsk shape) || is_flat hierarchy) (beq (is_some rate_lp) (not (is_flat hierarchy))) e in
+    record { qpsk = implied (is_qpsk shape) (is_flat hierarchy) a.0; lp = same (is_some rate_lp) (not (is_flat hierarchy)) a.1 }
+
+pub take_front : (l m : List Entry) → take (length l) (l ++ m) ≡ l
+take_front [] m = refl
+take_front (x ∷ l) m = ap (λ (xs : List Entry). x ∷ xs) (take_front l m)
+
+pub kept_plan : (es : List Entry) → is_plan es ≡ true → IsFilled (length es) (filled es)
+kept_plan es e =
+    let a = and_parts (nat_le (length es) 16) (is_rising es) e in
+    let few = leb-true (length es) 16 a.0 in
+    let front = take_front es (replicate (16 - length es) filler) in
+    record {
+      few = few;
+      long = length-append es (replicate (16 - length es) filler) ∙ (let r = length-replicate (16 - length es) filler in omega (arith, r, few));
+      rest = ap filled (sym front);
+      rising = ap is_rising front ∙ a.1;
+    }
