@@ -1,8 +1,8 @@
 -- A form of the words with one stream or two, and the settings that fit it.
-use Rattle.std.specs.Prelude.{ℕ, Bool, not, if◌then◌else◌, List, Option, Some, None, is_some, option_and_then}
+use Rattle.std.specs.Prelude.{ℕ, Bool, if◌then◌else◌, List, Option, Some, None, is_some, option_and_then}
 use Rattle.std.specs.Bool.{beq}
 use Rattle.std.specs.Option.{option_or}
-use Rattle.mode_set.specs.Kept.{is_flat}
+use Rattle.mode_set.specs.Entries.{has_lp}
 use Rattle.mode_set.specs.declared.settings.Settings.{Settings as TheSettings}
 use Rattle.run_clauses.specs.declared.work.Refusal.{Refusal}
 use Rattle.run_clauses.specs.declared.work.Refusal.TheVariants.{Settings}
@@ -10,9 +10,9 @@ use Rattle.run_clauses.specs.declared.work.SettingsRefusal.TheVariants.{Form}
 use Rattle.run_clauses.specs.SettingsFile.{settings_refusal}
 use Rattle.run_clauses.specs.StatedSettings.{settings_of}
 
--- the form has LP exactly with a hierarchy
+-- the form has LP exactly where LP exists in the settings
 abbrev pub fits_form : TheSettings → Option (List ℕ) → Bool
-fits_form s lp = beq (is_some lp) (not (is_flat s.hierarchy))
+fits_form s lp = beq (is_some lp) (has_lp s)
 
 abbrev pub form_refusal : Option TheSettings → Option (List ℕ) → Option Refusal
 form_refusal None lp = None

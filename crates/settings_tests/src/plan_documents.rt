@@ -167,7 +167,7 @@ plan = [{ after = 1, after = 2, constellation = \"qpsk\", rate_hp = \"1/2\" }]\n
 @\n\
 plan = []\n\
 x = 1\n\
-== Unknown(3)\n\
+== Unknown(0)\n\
 @\n\
 Plan = []\n\
 after = 1\n\
