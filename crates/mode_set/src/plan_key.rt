@@ -1,5 +1,5 @@
 // The plan that a settings document states.
-ghost use Rattle.std.specs.Prelude.{◌≡◌, ◌<◌, option_and_then, IfSome, string_bytes};
+ghost use Rattle.std.specs.Prelude.{◌≡◌, option_and_then, string_bytes};
 ghost use Rattle.std.specs.List.{list_all};
 ghost use Rattle.std.specs.BTreeMap.{keys};
 ghost use Rattle.toml.specs.Data.{as_table};

@@ -1,8 +1,6 @@
 // Settings out of a TOML document.
-ghost use Rattle.std.specs.Prelude.{◌≡◌, ℕ, IsSomeAnd, ◌≢◌, ◌+◌, ◌<◌, ◌≤◌, ◌^◌, pos, Some, None, option_map, IfOk, IfSome, IfErr, MatchResult, not, position, string_bytes, Ok, Err};
-ghost use Rattle.toml.specs.Data.{get_member};
-ghost use Rattle.toml.specs.View.{view, table_view};
-ghost use Rattle.mode_set.specs.Values.{a_word, a_number};
+ghost use Rattle.std.specs.Prelude.{◌≡◌, ℕ, IsSomeAnd, ◌≢◌, ◌≤◌, Some, None, IfOk, IfSome, IfErr, not, position, string_bytes, Err};
+ghost use Rattle.toml.specs.View.{table_view};
 ghost use Rattle.mode_set.specs.AtKeys.{cell_id_in, keys_of, first_of};
 ghost use Rattle.mode_set.specs.Document.{first_unknown, unknown, reasons, States, IsStatedBy, refusal, document};
 ghost use Rattle.mode_set.specs.Causes.{IsMissing, HasWrongValue, Clashes};

@@ -4,13 +4,12 @@ use Rattle.std.specs.Prelude.{is_some}
 use Rattle.std.specs.Bool.{beq}
 use Rattle.std.specs.Option.{option_copied, option_or}
 use denote.Ref.{Bor}
-use Rattle.mode_set.specs.Kept.{is_flat}
 use Rattle.mode_set.specs.Document.{IsStatedBy}
 use Rattle.mode_set.specs.declared.settings.Settings.{Settings as TheSettings}
 use Rattle.run_clauses.specs.declared.work.Refusal.{Refusal}
 use Rattle.run_clauses.specs.declared.work.Refusal.TheVariants.{Settings}
 use Rattle.run_clauses.specs.declared.work.SettingsRefusal.TheVariants.{Form}
-use Rattle.run_clauses.specs.StreamForm.{form_refusal}
+use Rattle.run_clauses.specs.StreamForm.{fits_form, form_refusal}
 use Rattle.run_clauses.specs.SettingsFile.{settings_refusal}
 use Rattle.run_clauses.specs.StatedSettings.{settings_of}
 use Rattle.run_clauses.proofs.Stated.{stated}
@@ -20,21 +19,16 @@ pub copied_some : {A : Type 0} (o : Option (Bor A)) → is_some o ≡ is_some (o
 copied_some None = refl
 copied_some (Some name) = refl
 
-differs : (a b : Bool) → a ≡ b → beq a (not b) ≡ false
-differs true true e = refl
-differs true false e = e
-differs false true e = sym e
-differs false false e = refl
-
-pub misfit : (bytes : List ℕ) (lp : Option (List ℕ)) (s : TheSettings) → settings_refusal bytes ≡ None → IsStatedBy s bytes → is_some lp ≡ is_flat s.hierarchy
+pub misfit : (bytes : List ℕ) (lp : Option (List ℕ)) (s : TheSettings) → settings_refusal bytes ≡ None → IsStatedBy s bytes → fits_form s lp ≡ false
     → option_or (settings_refusal bytes) (form_refusal (settings_of bytes) lp) ≡ Some (Settings Form)
-misfit bytes lp s accepted is same =
+misfit bytes lp s accepted is other =
     ap (λ (o : Option Refusal). option_or o (form_refusal (settings_of bytes) lp)) accepted
     ∙ ap (λ (o : Option TheSettings). form_refusal o lp) (stated s bytes is)
-    ∙ ap (λ (b : Bool). if b then None else Some (Settings Form)) (differs (is_some lp) (is_flat s.hierarchy) same)
+    ∙ ap (λ (b : Bool). if b then None else Some (Settings Form)) other
 
-pub same_when : (a b : Bool) → beq a b ≡ true → a ≡ b
-same_when true true e = refl
-same_when true false e = sym e
-same_when false true e = e
-same_when false false e = refl
+pub differ : (a b : Bool) → not (beq a b) ≡ true → beq a b ≡ false
+differ a b e = go (beq a b) e
+  where
+    go : (c : Bool) → not c ≡ true → c ≡ false
+    go true e = sym e
+    go false e = refl

@@ -1,4 +1,4 @@
--- Settings that fit the form of a command are read: there is a file of LP exactly with a hierarchy.
+-- Settings that fit the form of a command are read: there is a file of LP exactly where LP exists in them.
 use Rattle.std.specs.Prelude.{◌≡◌, ℕ, true, List, Result, Ok, Err, Option, Some}
 use Rattle.station_core.specs.Meaning.{Meaning}
 use Rattle.station_core.specs.Causes.{Rose}

@@ -11,7 +11,7 @@ use station_core::Station;
 use std::alloc::Global;
 
 /// Reads the settings file of this name, as [`read_settings`] does, and refuses settings that do not fit
-/// the form of the command: there is a file of LP exactly with a hierarchy.
+/// the form of the command: there is a file of LP exactly where LP exists in the settings.
 pub fn read_fitting<'a, S: Station<'a>>(
     alloc: Global,
     name: &'a str,
@@ -24,7 +24,7 @@ pub fn read_fitting<'a, S: Station<'a>>(
 {
     match read_settings(alloc, name, station) {
         Ok(settings) => {
-            if lp.is_some() == settings.hierarchy.is_flat() {
+            if lp.is_some() != settings.has_lp() {
                 Err(Refusal::Settings(SettingsRefusal::Form))
             } else {
                 Ok(settings)

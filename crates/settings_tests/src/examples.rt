@@ -68,6 +68,19 @@ mode = \"8k\"\n\
 constellation = \"64qam\"\n\
 rate_hp = \"2/3\"\n\
 guard = \"1/32\"\n\
+== plan\n\
+# One stream on QPSK in the first super-frame, and from the second on two streams on 16-QAM.\n\
+mode = \"2k\"\n\
+constellation = \"qpsk\"\n\
+rate_hp = \"1/2\"\n\
+guard = \"1/32\"\n\
+\n\
+[[plan]]\n\
+after = 1\n\
+constellation = \"16qam\"\n\
+hierarchy = \"4\"\n\
+rate_hp = \"1/2\"\n\
+rate_lp = \"3/4\"\n\
 == qpsk\n\
 # One stream on QPSK: the sturdiest transmission. Base settings of many examples.\n\
 mode = \"2k\"\n\

@@ -134,6 +134,7 @@ fn examples_are_settings(rt: HostRuntime) {
         "64qam-alpha-2 M8k Qam64 Alpha2 R2of3 Some(R3of4) G1of32 None Zero 16 1000000",
         "64qam-alpha-4 M2k Qam64 Alpha4 R1of2 Some(R5of6) G1of8 None Zero 1 272",
         "64qam M8k Qam64 Flat R2of3 None G1of32 None Zero 1 1000000",
+        "plan M2k Qpsk Flat R1of2 None G1of32 None Zero 1 1000000",
         "qpsk M2k Qpsk Flat R1of2 None G1of32 None Zero 1 1000000",
     ]
     .into_iter();
@@ -143,6 +144,8 @@ fn examples_are_settings(rt: HostRuntime) {
         let got = shown(rt.alloc(), &answer).expect(&rt, "memory");
         let line = format!(in rt.alloc(); "{name} {got}").expect(&rt, "memory");
         assert_eq!(rt; names.next(), Some(line.as_str()));
+        let entries = answer.map_or(0, |settings| settings.plan.len());
+        assert_eq!(rt; entries, usize::from(name == "plan"));
     }
     assert_eq!(rt; names.next(), None);
 }
