@@ -1,7 +1,7 @@
 """Where two cell files differ: the first place, and counts by kind of carrier, by label bit and by TPS bit."""
 import numpy as np
 
-from cell_tools.standard import CONTINUAL_PILOT, DATA, FRAME, NAMES, ROWS, SCATTERED_PILOT, TPS_CARRIER, Points
+from cell_tools.standard import CONTINUAL_PILOT, DATA, FRAME, NAMES, ROWS, SCATTERED_PILOT, TPS_CARRIER
 
 # The clauses of EN 300 744 that say what such a carrier carries.
 CLAUSES = {
@@ -38,9 +38,8 @@ class Differences:
 
     def __init__(self, file, within):
         self.file, self.within = file, within
-        self.points = Points(file.settings)
         self.counts, self.totals = np.zeros(4, int), np.zeros(4, int)
-        self.bits = np.zeros(self.points.width, int)
+        self.bits = np.zeros(max((file.points(m).width for m in range(file.symbols)), default=0), int)
         self.only_size = 0  # data cells that differ and have the same label
         self.first, self.first_symbols, self.sorted_alike, self.symbols = None, {}, 0, 0
 
@@ -55,10 +54,11 @@ class Differences:
         self.counts += np.bincount(kinds[wrong], minlength=4)
         data = wrong & (kinds == DATA)
         if data.any():
-            turned = self.points.labels(ours[data]) != self.points.labels(theirs[data])
-            self.bits += turned.sum(axis=0)
+            points = self.file.points(m)
+            turned = points.labels(ours[data]) != points.labels(theirs[data])
+            self.bits[: points.width] += turned.sum(axis=0)
             self.only_size += int(np.sum(~turned.any(axis=1)))
-            whole = [np.sort(self.points.labels(it[kinds == DATA]) @ (1 << np.arange(self.points.width))) for it in (ours, theirs)]
+            whole = [np.sort(points.labels(it[kinds == DATA]) @ (1 << np.arange(points.width))) for it in (ours, theirs)]
             self.sorted_alike += bool(np.array_equal(*whole))
         if self.first is None:
             k = int(np.argmax(wrong))
@@ -87,8 +87,9 @@ class Differences:
         yield f"  A {ours[0]}, {ours[1]}; B {theirs[0]}, {theirs[1]}"
         if kind == DATA:
             q = int(np.sum(self.file.carriers.kinds(l)[:k] == DATA))
-            a, b = ("".join(map(str, self.points.labels(it))) for it in (ours, theirs))
-            bits = [f"y{bit}" for bit in range(self.points.width) if a[bit] != b[bit]]
+            points = self.file.points(m)
+            a, b = ("".join(map(str, points.labels(it))) for it in (ours, theirs))
+            bits = [f"y{bit}" for bit in range(points.width) if a[bit] != b[bit]]
             differs = f"{', '.join(bits)} differ{'s' * (len(bits) == 1)}" if bits else "the same label: levels, 4.3.5"
             yield f"  payload carrier {q} of the symbol; label of the nearest point: A {a}, B {b}; {differs}"
             yield f"  clauses: 4.3.4.1 (demultiplexing, bit interleavers), 4.3.4.2 (symbol interleaver, {'odd' if m % 2 else 'even'} symbol), 4.3.5 (mapping)"

@@ -5,12 +5,14 @@ import tomllib
 
 import numpy as np
 
-from cell_tools.standard import FRAME, KINDS, LEVELS, RATES, UNIT, VALUES, Carriers
+from cell_tools.standard import FRAME, LEVELS, SUPER_FRAME, UNIT, VALUES, Carriers, Points
 
-NUMBERS = {"cell_id": (0, 65535), "workers": (1, 16), "max_symbols": (1, 4294967295)}
+NUMBERS = {"cell_id": (0, 65535), "workers": (1, 16), "max_symbols": (1, 4294967295), "after": (1, 4294967295)}
 WORDS = VALUES | {"start": ["zero", "any"]}
-KEYS = ["mode", "constellation", "hierarchy", "rate_hp", "rate_lp", "guard", "cell_id", "start", "workers", "max_symbols"]
-ABSENT = {"hierarchy": "none", "start": "zero", "workers": 1, "max_symbols": 1000000}
+KEYS = ["mode", "constellation", "hierarchy", "rate_hp", "rate_lp", "guard", "cell_id", "start", "workers", "max_symbols", "plan"]
+NEEDED = ["mode", "constellation", "rate_hp", "guard"]
+ABSENT = {"hierarchy": "none", "start": "zero", "workers": 1, "max_symbols": 1000000, "plan": []}
+OF_ENTRY = ["after", "constellation", "hierarchy", "rate_hp", "rate_lp"]
 
 
 class Unfit(Exception):
@@ -33,24 +35,50 @@ def read_settings(path):
         if key not in KEYS:
             raise Unfit(f"{path}: settings unknown {place}: {key}")
     for key in KEYS:
-        if key not in found and key in ("mode", "constellation", "rate_hp", "guard"):
+        if key not in found and key in NEEDED:
             raise Unfit(f"{path}: settings missing {key}")
         if key in found and not is_value(key, found[key]):
             raise Unfit(f"{path}: settings value {key}: {found[key]!r}")
     settings = ABSENT | found
-    if (settings["constellation"], settings["hierarchy"]) not in LEVELS:
-        raise Unfit(f"{path}: settings clash hierarchy: qpsk has none")
-    if ("rate_lp" in settings) == (settings["hierarchy"] == "none"):
-        raise Unfit(f"{path}: settings clash rate_lp: it stands exactly with a hierarchy")
+    reason = clash(settings)
+    if reason:
+        raise Unfit(f"{path}: settings clash {reason}")
     return settings
+
+
+def clash(settings):
+    """Why parameters do not fit one another, or None."""
+    if (settings["constellation"], settings["hierarchy"]) not in LEVELS:
+        return "hierarchy: qpsk has none"
+    if ("rate_lp" in settings) == (settings["hierarchy"] == "none"):
+        return "rate_lp: it stands exactly with a hierarchy"
+    return None
 
 
 def is_value(key, value):
     """Whether a key may have this value."""
+    if key == "plan":
+        is_list = type(value) is list and 1 <= len(value) <= 16 and all(map(is_entry, value))
+        return is_list and all(a["after"] < b["after"] for a, b in zip(value, value[1:]))
     if key in NUMBERS:
         least, most = NUMBERS[key]
         return type(value) is int and least <= value <= most
     return type(value) is str and value in WORDS[key]
+
+
+def is_entry(found):
+    """Whether this is an entry of a plan: its keys and no other, with values that fit one another."""
+    if type(found) is not dict or not {"after", "constellation", "rate_hp"} <= set(found) <= set(OF_ENTRY):
+        return False
+    return all(is_value(key, value) for key, value in found.items()) and clash({"hierarchy": "none"} | found) is None
+
+
+def settings_in(settings, super_frame):
+    """The settings with the parameters of a super-frame, from 0 (docs/SETTINGS.md, plans)."""
+    begun = [entry for entry in settings["plan"] if entry["after"] <= super_frame]
+    if not begun:
+        return settings
+    return {key: value for key, value in settings.items() if key not in OF_ENTRY} | {"hierarchy": "none"} | begun[-1]
 
 
 class Version1:
@@ -118,6 +146,7 @@ class CellFile:
         self.path = path
         self.settings = settings
         self.carriers = Carriers(settings["mode"])
+        self.constellations = {}
         try:
             with open(path, "rb") as file:
                 head = file.read(8)
@@ -130,6 +159,18 @@ class CellFile:
             self.weights = self.version.weights(path, self.symbols, self.carriers.count)
         except OSError as error:
             raise Unfit(f"cells: {error}") from None
+
+    def settings_at(self, m):
+        """The settings with the parameters of symbol m."""
+        return settings_in(self.settings, m // SUPER_FRAME)
+
+    def points(self, m):
+        """The points of the constellation of symbol m."""
+        settings = self.settings_at(m)
+        name = settings["constellation"], settings["hierarchy"]
+        if name not in self.constellations:
+            self.constellations[name] = Points(settings)
+        return self.constellations[name]
 
     def array(self, symbols=slice(None)):
         """Symbols by carriers as complex numbers of the standard's normalised constellation."""

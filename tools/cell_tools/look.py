@@ -1,7 +1,7 @@
 """What is in a cell file: symbols, TPS, powers, and a picture of the constellation."""
 import numpy as np
 
-from cell_tools.files import Unfit
+from cell_tools.files import Unfit, settings_in
 from cell_tools.standard import (
     CONTINUAL_PILOT, DATA, FRAME, KINDS, SCATTERED_PILOT, SYNC, TPS_CARRIER, UNIT,
     bch_rest, described, field, ideal_points, spaced,
@@ -12,6 +12,8 @@ def look(file, words):
     """Prints what is in the file and draws it; answers whether each TPS word is as the settings say."""
     if words.out and not range(file.symbols)[words.symbols]:
         raise Unfit(f"no symbol of the {file.symbols} in the file is in --symbols")
+    if words.out and len({file.points(m) for m in range(file.symbols)[words.symbols]}) > 1:
+        raise Unfit("the symbols of --symbols have different constellations; draw those of one")
     print(f"symbols {file.symbols} of {file.size} bytes, bytes left over {file.left_over}")
     is_well = True
     if file.symbols:
@@ -29,7 +31,7 @@ def print_tps(file, frames, is_verbose):
     numbers = range(len(words))[frames]
     said, wrong = {}, 0
     for n in numbers:
-        text = described(words[n], file.settings)
+        text = described(words[n], settings_in(file.settings, n // 4 + 1))  # of the next super-frame (4.6.2)
         sync, _, _, fields = text.split(", ", 3)
         is_placed = words[n][:16] not in SYNC or field(words[n], 23, 24) == n % 4
         wrong += "DIFFERS" in text or bch_rest(words[n]) != 0 or sync == "sync wrong" or not is_placed
@@ -106,7 +108,7 @@ def draw(file, symbols, names, labels, out):
     for kind, (points, count) in found.items():
         draw_kind(axes, kind, points, count)
     if DATA in found:
-        draw_ideal(axes, file.settings, labels)
+        draw_ideal(axes, file.settings_at(range(file.symbols)[symbols][0]), labels)
     axes.set_title(title(file, symbols))
     legend = axes.legend(loc="upper center", bbox_to_anchor=(0.5, -0.08), ncol=2, frameon=False)
     handles = legend.legend_handles if hasattr(legend, "legend_handles") else legend.legendHandles
@@ -134,12 +136,12 @@ def draw_kind(axes, kind, points, count):
 
 def title(file, symbols):
     """The title of a picture."""
-    settings = file.settings
+    numbers = range(file.symbols)[symbols]
+    first, last = numbers[0], numbers[-1]
+    settings = file.settings_at(first)
     words = [settings["mode"].upper(), settings["constellation"].upper().replace("QAM", "-QAM")]
     if settings["hierarchy"] != "none":
         words.append(f"hierarchical, α = {settings['hierarchy']}")
-    numbers = range(file.symbols)[symbols]
-    first, last = numbers[0], numbers[-1]
     words.append(f"symbol {first}" if first == last else f"symbols {first} to {last}")
     return ", ".join(words)
 

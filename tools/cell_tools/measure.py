@@ -4,7 +4,7 @@ import math
 import numpy as np
 
 from cell_tools.files import Unfit
-from cell_tools.standard import CONTINUAL_PILOT, DATA, FRAME, SCATTERED_PILOT, Points, read_word
+from cell_tools.standard import CONTINUAL_PILOT, DATA, FRAME, SCATTERED_PILOT, read_word
 
 BOOSTED = 21845
 
@@ -23,7 +23,6 @@ class Measure:
 
     def __init__(self, file, sent):
         self.file, self.sent = file, sent
-        self.points = Points(file.settings)
         count = file.carriers.count
         self.of_symbols = np.zeros((file.symbols, 2))  # ideal power and power of the error
         self.of_carriers = np.zeros((count, 2))
@@ -36,13 +35,13 @@ class Measure:
         """Adds one symbol."""
         kinds = self.file.carriers.kinds(m % FRAME)
         parts, data = self.file.cells[m].astype(int), kinds == DATA
-        cells = parts[data]
-        ideal = self.sent.cells[m].astype(int)[data] if self.sent else self.points.nearest(cells)
+        cells, points = parts[data], self.file.points(m)
+        ideal = self.sent.cells[m].astype(int)[data] if self.sent else points.nearest(cells)
         error = cells - ideal
         both = np.stack([np.sum(ideal**2, axis=1), np.sum(error**2, axis=1)], axis=1)
         self.of_symbols[m] = both.sum(axis=0)
         self.of_carriers[data] += both
-        self.beyond += int(np.sum(np.any(abs(error) > self.points.tolerance, axis=1)))
+        self.beyond += int(np.sum(np.any(abs(error) > points.tolerance, axis=1)))
         self.data += len(cells)
         for place, kind in enumerate((CONTINUAL_PILOT, SCATTERED_PILOT)):
             at = kinds == kind
@@ -80,8 +79,8 @@ def measure(file, sent, words):
         print(f"  by carrier: {spread(by_carrier)}, least at carrier {at[int(np.argmin(by_carrier))]}")
     for name, turned in zip(("continual", "scattered"), found.pilots):
         print(f"{name} pilots: {of_pilots(np.concatenate(turned))}")
-    tolerance = found.points.tolerance
-    print(f"tolerance {tolerance} on each axis: data cells beyond it {found.beyond}")
+    tolerances = dict.fromkeys(file.points(m).tolerance for m in range(file.symbols))
+    print(f"tolerance {', '.join(map(str, tolerances))} on each axis: data cells beyond it {found.beyond}")
     print(f"  {premise(found, sent)}")
     frames = file.tps_words()
     errors = [word and word[1] for word in map(read_word, frames)]

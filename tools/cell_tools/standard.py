@@ -4,6 +4,7 @@ import numpy as np
 UNIT = 16384  # the fixed-point value of 1 in the standard's normalised constellation
 BOOSTED = 21845  # 4/3 of it (EN 300 744, 4.5.5)
 FRAME = 68  # symbols of a frame (4.4)
+SUPER_FRAME = 4 * FRAME
 
 # Carriers of the 2K mode; the 8K mode has them four times, 1704 apart (4.5.4, 4.6).
 CONTINUAL = [

@@ -18,7 +18,9 @@ VALUES = {
     "start": '"zero" or "any"',
     "workers": "a whole number from 1 to 16",
     "max_symbols": "a whole number from 1 to 4294967295",
+    "plan": "an array of 1 to 16 tables",
 }
+OF_ENTRY = ["after", "constellation", "hierarchy", "rate_hp", "rate_lp"]
 
 
 def say(text):
@@ -128,6 +130,8 @@ def of_settings(form, text):
         return [f"{name} is no key of the settings; the keys are {', '.join(VALUES)}"]
     if kind == "missing":
         return [f"{path} lacks {key}, which is {VALUES.get(key, 'needed')}"]
+    if kind == "value" and key == "plan":
+        return [f"{path}: {no_plan(document_of(path).get('plan'))}"]
     if kind == "value":
         return [f"{path} has {key} = {value_in(path, key)}; it is {VALUES.get(key, 'another')}"]
     if kind == "clash":
@@ -135,9 +139,46 @@ def of_settings(form, text):
             return [f"{path} has qpsk with a hierarchy; only 16qam and 64qam have one"]
         return [f"{path} has rate_lp without a hierarchy, or a hierarchy without rate_lp; they stand together"]
     if kind == "form":
-        has = "names one stream, and the settings have a hierarchy" if len(form.files) == 3 else "names two streams, and the settings have no hierarchy"
+        one = "names one stream, and the settings have a hierarchy, at the top or in their plan"
+        has = one if len(form.files) == 3 else "names two streams, and neither the settings nor their plan have a hierarchy"
         return [f"the call {has}: see bin/dvbt {form.command} --help and the key hierarchy of {path}"]
     return [f"{path} is refused; docs/SETTINGS.md says what it may hold"]
+
+
+def no_plan(plan):
+    """What is wrong with the value of `plan`: the first that is found."""
+    if not isinstance(plan, list) or not 1 <= len(plan) <= 16:
+        return f"plan is {VALUES['plan']}"
+    last = 0
+    for number, entry in enumerate(plan, 1):
+        reason = no_entry(entry, last)
+        if reason:
+            return f"table {number} of plan {reason}"
+        last = entry["after"]
+    return "docs/SETTINGS.md says what a plan may hold"
+
+
+def no_entry(entry, last):
+    """What is wrong with an entry of a plan behind that of number `last`, or None."""
+    if not isinstance(entry, dict):
+        return "is no table"
+    for key in entry:
+        if key not in OF_ENTRY:
+            return f"has {key!r}; its keys are {', '.join(OF_ENTRY)}"
+    for key in ("after", "constellation", "rate_hp"):
+        if key not in entry:
+            return f"lacks {key}"
+    if type(entry["after"]) is not int or not last < entry["after"] <= 4294967295:
+        return f"has after = {entry['after']!r}; it is a whole number from {last + 1} to 4294967295"
+    for key in OF_ENTRY[1:]:
+        if key in entry and entry[key] not in re.findall('"(.*?)"', VALUES[key]):
+            return f"has {key} = {entry[key]!r}; it is {VALUES[key]}"
+    is_flat = entry.get("hierarchy", "none") == "none"
+    if entry["constellation"] == "qpsk" and not is_flat:
+        return "has qpsk with a hierarchy; only 16qam and 64qam have one"
+    if ("rate_lp" in entry) == is_flat:
+        return "has rate_lp without a hierarchy, or a hierarchy without rate_lp; they stand together"
+    return None
 
 
 def of_packet(form, text):
@@ -204,7 +245,7 @@ def of_limit(form, text):
         return [f"an input has more than {named} packets ({(number or 0) * PACKET / 1e9:.1f} GB), the most that one run takes"]
     air = air_of(form.settings, number)
     if form.command == "trial":
-        return [f"max_symbols in {form.settings} is {named}, and a trial sends 272 symbols"]
+        return [f"max_symbols in {form.settings} is {named}, and a trial sends whole super-frames of 272 symbols"]
     what = "the transmission has" if form.command == "modulate" else "the cells have"
     lines = [f"{what} more than {named} symbols{air}, which is max_symbols in {form.settings}"]
     return [*lines, "max_symbols may be up to 4294967295; without it, it is 1,000,000"]

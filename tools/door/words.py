@@ -47,10 +47,10 @@ FILES = {
 
 MORE = {
     "modulate": """Writes whole super-frames, at least one: the fewest that carry all packets and let a receiver have them
-back. Null packets fill the rest. LP is given exactly where the settings have a hierarchy.""",
+back. Null packets fill the rest. LP is given exactly where the settings have a hierarchy, at the top or in their plan.""",
     "receive": """Reads cells from the first symbol of a super-frame on and writes packets as they are decided. A
 packet that could not be corrected is written with transport_error_indicator set. LP is given exactly where the
-settings have a hierarchy. Set start = "any" where the cells do not begin at the start of a transmission. Each cell has
+settings have a hierarchy, at the top or in their plan. Set start = "any" where the cells do not begin at the start of a transmission. Each cell has
 a weight of 0 to 15, by which its costs count.""",
     "tune": """Finds the first 68 symbols whose TPS word can be read, takes constellation, hierarchy, rates and guard interval from
 it, and receives from the next super-frame on. Of the settings mode, workers and max_symbols alone have an effect. LP is

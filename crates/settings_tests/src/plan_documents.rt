@@ -1,5 +1,6 @@
 // Documents with a plan, each with its answer: a line `== ANSWER`, then the document; `@` stands for the base.
 use crate::documents::BASE;
+use crate::examples::EXAMPLES;
 use crate::tests::document;
 use mode_set::{Key, Settings, SettingsError};
 use std::alloc::{AllocError, Global};
@@ -37,6 +38,13 @@ rate_hp = \"2/3\"\n\
 rate_lp = \"3/4\"\n\
 guard = \"1/4\"\n\
 plan = [{ after = 2, constellation = \"qpsk\", rate_hp = \"3/4\" }]\n\
+== 7 Qam16 Flat R2of3 None\n\
+@\n\
+plan = [{\n\
+\x20 after = 7,\n\
+\x20 constellation = \"16qam\",\n\
+\x20 rate_hp = \"2/3\",\n\
+}]\n\
 == Value(Plan)\n\
 @\n\
 plan = 1\n\
@@ -262,4 +270,13 @@ fn a_document_has_1_to_16_entries(rt: HostRuntime) {
         }
     }
     assert_eq!(rt; Key::Plan.text(), "plan");
+}
+
+#[test]
+fn one_example_has_a_plan(rt: HostRuntime) {
+    for case in EXAMPLES.split("== ").skip(1) {
+        let (name, text) = case.split_once("\n").expect(&rt, "a name");
+        let settings = Settings::read(rt.alloc(), text.as_bytes()).expect(&rt, "settings");
+        assert_eq!(rt; settings.plan.len() > 0, name == "plan");
+    }
 }
