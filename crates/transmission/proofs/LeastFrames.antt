@@ -22,7 +22,7 @@ use Rattle.mode_set.specs.declared.settings.Settings.{Settings}
 use Rattle.symbol_spans.specs.Spans.{exists_in, words_before}
 use Rattle.symbol_spans.specs.Laws.{WordsGrow}
 use Rattle.transmission.specs.SuperFrames.{Suffices, AreSuperFrames, IsLength, frames_by_formula, frames_by_formula_for, super_frames}
-use Rattle.transmission.specs.Laws.{TheNumberIsFound, OneNumber, TooFew, Enough, ConstantFrames}
+use Rattle.transmission.specs.Laws.{TheNumberIsFound, OneLength, TooFew, Enough, ConstantFrames}
 use Rattle.transmission.proofs.Rounding.{enough, least}
 
 positive : (m : Mode) (r : Rate) (w : ℕ) → 2 ≤ w → 0 < 272 * (payload m * w * steps_in_period r / sent_in_period r) / 1632
@@ -140,12 +140,14 @@ one_for s counts k n a b =
     let m : n ≤ k = b.least k a.some a.suffices in
     omega (arith, l, m)
 
-number_for : (s : Settings) (counts : Stream → ℕ) (n : ℕ) (o : Option ℕ) → AreSuperFrames s counts n → IsLength s counts o → o ≡ Some n
-number_for s counts n None are is = absurd (is n are.some are.suffices)
-number_for s counts n (Some k) are is = ap Some (one_for s counts k n is are)
+length_for : (s : Settings) (counts : Stream → ℕ) (o u : Option ℕ) → IsLength s counts o → IsLength s counts u → u ≡ o
+length_for s counts None None a b = refl
+length_for s counts None (Some k) a b = absurd (a k b.some b.suffices)
+length_for s counts (Some n) None a b = absurd (b n a.some a.suffices)
+length_for s counts (Some n) (Some k) a b = ap Some (one_for s counts k n b a)
 
-pub one_number : TheNumberIsFound → OneNumber
-one_number found s counts n are = number_for s counts n (super_frames s counts) are (found s counts)
+pub one_length : TheNumberIsFound → OneLength
+one_length found s counts o is = length_for s counts o (super_frames s counts) is (found s counts)
 
 -- the number that is found has the definition
 pub is_least : TheNumberIsFound → (s : Settings) (counts : Stream → ℕ) (k : ℕ) → super_frames s counts ≡ Some k → AreSuperFrames s counts k
@@ -163,5 +165,5 @@ enough_for s counts n (Some k) e is some all = (k, e, is.least n some all)
 pub enough_frames : TheNumberIsFound → Enough
 enough_frames found s counts n some all = enough_for s counts n (super_frames s counts) refl (found s counts) some all
 
-pub constant_frames : ((s : Settings) → entries_of s.plan ≡ [] → AreAlike s) → OneNumber → ConstantFrames
-constant_frames alike one s counts none = one s counts (frames_by_formula s counts) (the_formula_is_least s (alike s none) counts)
+pub constant_frames : ((s : Settings) → entries_of s.plan ≡ [] → AreAlike s) → OneLength → ConstantFrames
+constant_frames alike one s counts none = one s counts (Some (frames_by_formula s counts)) (the_formula_is_least s (alike s none) counts)

@@ -1,5 +1,5 @@
 -- The laws of symbols and of their number, each the clause of a public function of the module laws.
-use Rattle.std.specs.Prelude.{◌≡◌, ℕ, ◌+◌, ◌*◌, ◌<◌, ◌≤◌, IsTrue, [], ◌++◌, length, flat_map, take, Some}
+use Rattle.std.specs.Prelude.{◌≡◌, ℕ, ◌+◌, ◌*◌, ◌<◌, ◌≤◌, IsTrue, [], ◌++◌, length, flat_map, take, Option, Some}
 use Rattle.spec_words.specs.Words.{numbers}
 use Rattle.mode_set.specs.Plans.{entries_of}
 use Rattle.mode_set.specs.StreamTable.{carriers}
@@ -9,7 +9,7 @@ use Rattle.outer_chain.specs.Sent.{packet_at}
 use Rattle.frame_build.specs.Symbol.{sent_bytes}
 use Rattle.symbol_spans.specs.Spans.{exists_in, words_before}
 use Rattle.transmission.specs.Transmission.{Inputs, tx_cell, tx_symbol, first_symbols}
-use Rattle.transmission.specs.SuperFrames.{Suffices, AreSuperFrames, IsLength, super_frames, frames_by_formula, packets_for, ArePacketsFor}
+use Rattle.transmission.specs.SuperFrames.{Suffices, IsLength, super_frames, frames_by_formula, packets_for, ArePacketsFor}
 
 -- a symbol is its cells, carriers rising
 abbrev pub SymbolsAreCells : Type 0
@@ -42,8 +42,8 @@ SameBeginning s m = (inputs other : Inputs)
 abbrev pub TheNumberIsFound : Type 0
 TheNumberIsFound = (s : Settings) (counts : Stream → ℕ) → IsLength s counts (super_frames s counts)
 
-abbrev pub OneNumber : Type 0
-OneNumber = (s : Settings) (counts : Stream → ℕ) (n : ℕ) → AreSuperFrames s counts n → super_frames s counts ≡ Some n
+abbrev pub OneLength : Type 0
+OneLength = (s : Settings) (counts : Stream → ℕ) (length : Option ℕ) → IsLength s counts length → super_frames s counts ≡ length
 
 -- super-frames that do not carry a stream are too few, and those that carry all are enough
 abbrev pub TooFew : Type 0

@@ -1,6 +1,6 @@
 // The laws of a transmission, as contracts of functions that do nothing.
 ghost use Rattle.std.specs.Prelude.{◌≡◌};
-ghost use Rattle.transmission.specs.Laws.{SymbolsAreCells, SymbolsAreLong, NoSymbol, OneSymbolMore, FrontOfSymbols, PartOfSymbols, TheNumberIsFound, OneNumber, ConstantFrames, TooFew, Enough, ThePacketsAreLeast, NoPackets, PacketsGrow, PacketsOfSuperFrames, SameBeginning};
+ghost use Rattle.transmission.specs.Laws.{SymbolsAreCells, SymbolsAreLong, NoSymbol, OneSymbolMore, FrontOfSymbols, PartOfSymbols, TheNumberIsFound, OneLength, ConstantFrames, TooFew, Enough, ThePacketsAreLeast, NoPackets, PacketsGrow, PacketsOfSuperFrames, SameBeginning};
 ghost use Rattle.transmission.specs.AgendaLaws.{WorkBegins, TakesOfHp, TakesOfLp, SendsSymbol, StopsAtLimit, StopsAtPacket, EndsUnrefused, EndlessIsRefused, SentSoFar, SentAtFault};
 
 use bit_interleave::laws::each_bit_is_found;
@@ -43,7 +43,7 @@ pub fn symbols_begin_alike(settings: &Settings, m: u64)
 pub fn super_frames()
     ensures found { TheNumberIsFound }
     ensures constant { ConstantFrames }
-    ensures one { OneNumber }
+    ensures one { OneLength }
     ensures too_few { TooFew }
     ensures enough { Enough }
 {
