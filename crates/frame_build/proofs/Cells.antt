@@ -282,20 +282,23 @@ same_kinds s m n labels k Scattered e f = refl
 same_kinds s m n labels k Tps e f = ap (λ (z : ℕ). real 16384 (tps_sign (tps_word (signalled s z)) k (m % 68))) f ∙ ap (λ (z : ℕ). real 16384 (tps_sign (tps_word (signalled s (frame_of n))) k z)) e
 same_kinds s m n labels k (Payload q) e f = refl
 
-same_cells : (s : Settings) (m n : ℕ) (labels : ℕ → ℕ → Bool) (k : ℕ) → m % 68 ≡ n % 68 → frame_of m ≡ frame_of n → cell_at s m labels k ≡ cell_at s n labels k
-unfolding cell_at
-same_cells s m n labels k e f = same_kinds s m n labels k (kind s.mode (m % 68) k) e f ∙ ap (λ (z : ℕ). cell_of_kind s n labels k (kind s.mode z k)) e
+same_cells : (s t : Settings) (m n : ℕ) (labels : ℕ → ℕ → Bool) (k : ℕ) → m % 68 ≡ n % 68 → frame_of m ≡ frame_of n → announcing_cell s t m labels k ≡ announcing_cell s t n labels k
+unfolding announcing_cell
+same_cells s t m n labels k e f =
+    let cell : ℕ → Cell = λ z. let kd : CarrierKind = kind s.mode z k in cell_of_kind (settings_for s t kd) n labels k kd in
+    let kd : CarrierKind = kind s.mode (m % 68) k in
+    same_kinds (settings_for s t kd) m n labels k kd e f ∙ ap cell e
 
 same_flat_map : (f g : ℕ → List ℕ) → ((k : ℕ) → f k ≡ g k) → (xs : List ℕ) → flat_map f xs ≡ flat_map g xs
 same_flat_map f g same [] = refl
 same_flat_map f g same (x ∷ xs) = ap (λ (z : List ℕ). z ++ flat_map f xs) (same x) ∙ ap (λ (z : List ℕ). g x ++ z) (same_flat_map f g same xs)
 
-pub repeats : (s : Settings) (m : ℕ) (labels : ℕ → ℕ → Bool) → symbol_bytes s m labels ≡ symbol_bytes s (m % 272) labels
-unfolding symbol_bytes
-repeats s m labels =
+pub repeats : (s t : Settings) (m : ℕ) (labels : ℕ → ℕ → Bool) → announcing_bytes s t m labels ≡ announcing_bytes s t (m % 272) labels
+unfolding announcing_bytes
+repeats s t m labels =
     let symbols : m % 68 ≡ m % 272 % 68 = omega arith in
     let frames : frame_of m ≡ frame_of (m % 272) = omega arith in
-    same_flat_map (λ k. sent_bytes (cell_at s m labels k)) (λ k. sent_bytes (cell_at s (m % 272) labels k)) (λ k. ap sent_bytes (same_cells s m (m % 272) labels k symbols frames)) (numbers (carriers s.mode))
+    same_flat_map (λ k. sent_bytes (announcing_cell s t m labels k)) (λ k. sent_bytes (announcing_cell s t (m % 272) labels k)) (λ k. ap sent_bytes (same_cells s t m (m % 272) labels k symbols frames)) (numbers (carriers s.mode))
 
 -- functions that agree below n
 same_below : (f g : ℕ → List ℕ) (a n : ℕ) → ((i : ℕ) → i < n → f (a + i) ≡ g (a + i)) → flat_map f (range_with_len a n) ≡ flat_map g (range_with_len a n)
@@ -329,19 +332,20 @@ same_map_cell s h y z same =
     made : ℤ → ℤ → Cell
     made re im = record { re = re; im = im }
 
-follows_kind : (s : Settings) (m : ℕ) (labels more : ℕ → ℕ → Bool) (k : ℕ) (kd : CarrierKind) → ((q : ℕ) → kd ≡ Payload q → q < payload s.mode) → Agree s labels more → cell_of_kind s m labels k kd ≡ cell_of_kind s m more k kd
+follows_kind : (s t : Settings) (m : ℕ) (labels more : ℕ → ℕ → Bool) (k : ℕ) (kd : CarrierKind) → ((q : ℕ) → kd ≡ Payload q → q < payload s.mode) → Agree s labels more
+    → cell_of_kind (settings_for s t kd) m labels k kd ≡ cell_of_kind (settings_for s t kd) m more k kd
 unfolding cell_of_kind
-follows_kind s m labels more k Continual few same = refl
-follows_kind s m labels more k Scattered few same = refl
-follows_kind s m labels more k Tps few same = refl
-follows_kind s m labels more k (Payload q) few same = same_map_cell s.shape s.hierarchy (labels q) (more q) (λ e l. same q e (few q refl) l)
+follows_kind s t m labels more k Continual few same = refl
+follows_kind s t m labels more k Scattered few same = refl
+follows_kind s t m labels more k Tps few same = refl
+follows_kind s t m labels more k (Payload q) few same = same_map_cell s.shape s.hierarchy (labels q) (more q) (λ e l. same q e (few q refl) l)
 
 -- a symbol depends on its labels alone
-pub follows : (s : Settings) (m : ℕ) → AreNumbered s.mode (m % 68) → (labels more : ℕ → ℕ → Bool) → Agree s labels more → symbol_bytes s m labels ≡ symbol_bytes s m more
-unfolding symbol_bytes numbers cell_at
-follows s m numbered labels more same =
-    same_below (λ k. sent_bytes (cell_at s m labels k)) (λ k. sent_bytes (cell_at s m more k)) 0 (carriers s.mode)
-    (λ i l. ap sent_bytes (follows_kind s m labels more (0 + i) (kind s.mode (m % 68) (0 + i)) (λ q e. ((numbered (0 + i) q (omega (arith, l))).0 e).0) same))
+pub follows : (s t : Settings) (m : ℕ) → AreNumbered s.mode (m % 68) → (labels more : ℕ → ℕ → Bool) → Agree s labels more → announcing_bytes s t m labels ≡ announcing_bytes s t m more
+unfolding announcing_bytes numbers announcing_cell
+follows s t m numbered labels more same =
+    same_below (λ k. sent_bytes (announcing_cell s t m labels k)) (λ k. sent_bytes (announcing_cell s t m more k)) 0 (carriers s.mode)
+    (λ i l. ap sent_bytes (follows_kind s t m labels more (0 + i) (kind s.mode (m % 68) (0 + i)) (λ q e. ((numbered (0 + i) q (omega (arith, l))).0 e).0) same))
 
 -- a symbol that announces its own settings
 own_kinds : (s : Settings) (kd : CarrierKind) → settings_for s s kd ≡ s

@@ -6,8 +6,6 @@ use Rattle.mode_set.specs.StreamTable.{need, payload, label_bits}
 use Rattle.mode_set.specs.declared.modes.Stream.{Stream}
 use Rattle.mode_set.specs.declared.modes.Stream.TheVariants.{Hp, Lp}
 use Rattle.mode_set.specs.declared.settings.Settings.{Settings}
-use Rattle.mode_set.specs.declared.entry.Entry.{Entry}
-use Rattle.mode_set.specs.Entries.{top, with_entry}
 use Rattle.puncture.specs.SentBits.{bits_from}
 use Rattle.inner_chain.specs.Labels.{Paths, TxState, IsBefore, AppendsLabels, label_bit}
 use Rattle.frame_build.specs.Symbol.{Agree, bits_of}
@@ -34,11 +32,11 @@ pub own_at : (st : TxState) (hp lp : List Bool) → length st.hp ≡ 6 → lengt
 own_at st hp lp eh el Hp = own_register st.hp hp eh
 own_at st hp lp eh el Lp = own_register st.lp lp el
 
-pub own_hp : (st : TxState) (hp lp : List Bool) → length st.hp ≡ 6 → need st.settings Hp ≤ length hp → take (need st.settings Hp) hp ≡ bits_from (own_paths st hp lp Hp) 6 (need st.settings Hp)
-own_hp st hp lp e l = own_input st.hp hp (need st.settings Hp) e l
+pub own_hp : (s : Settings) (st : TxState) (hp lp : List Bool) → length st.hp ≡ 6 → need s Hp ≤ length hp → take (need s Hp) hp ≡ bits_from (own_paths st hp lp Hp) 6 (need s Hp)
+own_hp s st hp lp e l = own_input st.hp hp (need s Hp) e l
 
-pub own_lp : (st : TxState) (hp lp : List Bool) → length st.lp ≡ 6 → need st.settings Lp ≤ length lp → take (need st.settings Lp) lp ≡ bits_from (own_paths st hp lp Lp) 6 (need st.settings Lp)
-own_lp st hp lp e l = own_input st.lp lp (need st.settings Lp) e l
+pub own_lp : (s : Settings) (st : TxState) (hp lp : List Bool) → length st.lp ≡ 6 → need s Lp ≤ length lp → take (need s Lp) lp ≡ bits_from (own_paths st hp lp Lp) 6 (need s Lp)
+own_lp s st hp lp e l = own_input st.lp lp (need s Lp) e l
 
 -- labels behind nothing
 only_labels : (s : Settings) (odd : Bool) (bits : Stream → ℕ → Bool) (old new : List ℕ) (a : AppendsLabels s odd bits old new) → old ≡ [] → new ≡ a.labels
@@ -52,7 +50,3 @@ labels_small s odd bits old new a e q l = subst (λ (z : List ℕ). get_or z q 0
 
 pub labels_agree : (s : Settings) (odd : Bool) (bits : Stream → ℕ → Bool) (old new : List ℕ) → AppendsLabels s odd bits old new → old ≡ [] → Agree s (bits_of new) (label_bit s odd bits)
 labels_agree s odd bits old new a e q k l m = ap (λ (z : List ℕ). is_set (get_or z q 0) k) (only_labels s odd bits old new a e) ∙ a.are.bit q k l m
-
--- the settings with their own parameters are themselves
-pub own_parameters : (s t : Settings) (e : Entry) → t ≡ s → e ≡ top t → with_entry s e ≡ s
-own_parameters s t e same is = ap (with_entry s) (is ∙ ap top same)

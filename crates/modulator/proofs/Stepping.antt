@@ -1,5 +1,5 @@
 -- What a modulator stands for, step by step.
-use Rattle.std.proofs.Common.{◌≡◌, ℕ, zero, suc, ◌+◌, ◌-◌, ◌*◌, ◌/◌, ◌%◌, ◌<◌, ◌≤◌, Bool, true, false, cond, List, [], ◌∷◌, ◌++◌, length, take, drop, refl, sym, ap, ◌∙◌, subst, arith}
+use Rattle.std.proofs.Common.{◌≡◌, ℕ, zero, suc, ◌+◌, ◌-◌, ◌*◌, ◌/◌, ◌%◌, ◌^◌, ◌<◌, ◌≤◌, Bool, true, false, cond, List, [], ◌∷◌, ◌++◌, length, take, drop, refl, sym, ap, ◌∙◌, subst, arith}
 use Rattle.std.specs.Prelude.{Option, Some, None, IfSome, nat_lt}
 use Rattle.std.proofs.lemmas.Bool.{lt-ltb, le-ltb, ltb-false}
 use Rattle.std.proofs.lemmas.List.{get_or_push, length_push, get_or_append_left, length-drop}
@@ -17,17 +17,17 @@ use Rattle.outer_chain.specs.Sent.{packet_at, outer_byte}
 use Rattle.outer_chain.specs.Sending.{Sender, Sends}
 use Rattle.outer_chain.specs.SendingLaws.{SameBeginning}
 use Rattle.symbol_spans.specs.Spans.{settings_at, steps_before}
-use Rattle.symbol_spans.specs.Laws.{NoSteps, SettingsStay}
+use Rattle.symbol_spans.specs.Laws.{ModeStays, NoSteps, StepsOfOneMore}
 use Rattle.inner_chain.specs.Labels.{Paths, TxState, IsBefore, from_step, behind, input_bits, coded_bits, label_bit}
 use Rattle.frame_build.specs.Announcing.{announcing_bytes}
-use Rattle.frame_build.specs.Symbol.{Agree, symbol_bytes, bits_of}
+use Rattle.frame_build.specs.Symbol.{Agree, bits_of}
 use Rattle.frame_build.specs.State.{NextSymbol}
-use Rattle.transmission.specs.Transmission.{Inputs, by_stream, paths_of, paths_at, tx_label, tx_symbol}
+use Rattle.transmission.specs.Transmission.{Inputs, announced_at, by_stream, paths_of, paths_at, tx_label, tx_symbol}
 use Rattle.transmission.specs.SuperFrames.{packets_for}
 use Rattle.modulator.specs.Streams.{HoldsBits}
 use Rattle.modulator.specs.State.{Parts, Transmitter, packets_in, transmitter, IsKept, wanted, HasPut, StandsFor, IsNext, with_packet, HasOneMore}
 use Rattle.modulator.specs.Wants.{stream_of}
-use Rattle.modulator.specs.Laws.{OtherStreams, SymbolsTakeAlike}
+use Rattle.modulator.specs.Laws.{OtherStreams}
 use Rattle.modulator.specs.declared.want.Want.{Want}
 use Rattle.modulator.specs.declared.want.Want.TheVariants as wants
 use Rattle.modulator.proofs.Feeding.{holds_none, bits_next, holds_rest, holds_other, register_other, register_none}
@@ -50,27 +50,37 @@ hp_test s made p = nat_lt (packets_in (steps_before s Hp made) p.hp_waiting) (pa
 abbrev lp_test : Settings → ℕ → Parts → Bool
 lp_test s made p = nat_lt (packets_in (steps_before s Lp made) p.lp_waiting) (packets_for s Lp (made + 1))
 
-want_hp : SymbolsTakeAlike → (m : Mode) (s : Settings) (made : ℕ) (p : Parts) (next : NextSymbol) (room : ℕ) → IsKept m s made p next room → length p.hp_waiting < need s Hp → wanted (transmitter s made p) ≡ Some Hp
-want_hp more m s made p next room kept l = let test : hp_test s made p ≡ true = lt-ltb _ _ (lacks (steps_before s Hp made) (steps_before s Hp (made + 1)) (need s Hp) (length p.hp_waiting) (more s Hp made) kept.hp_whole l) in rw test refl
+want_hp : StepsOfOneMore → (m : Mode) (s : Settings) (made : ℕ) (p : Parts) (next : NextSymbol) (room : ℕ) → IsKept m s made p next room → length p.hp_waiting < need (settings_at s made) Hp → wanted (transmitter s made p) ≡ Some Hp
+want_hp more m s made p next room kept l = let test : hp_test s made p ≡ true = lt-ltb _ _ (lacks (steps_before s Hp made) (steps_before s Hp (made + 1)) (need (settings_at s made) Hp) (length p.hp_waiting) (more s Hp made) kept.hp_whole l) in rw test refl
 
-want_lp : SymbolsTakeAlike → (m : Mode) (s : Settings) (made : ℕ) (p : Parts) (next : NextSymbol) (room : ℕ) → IsKept m s made p next room → need s Hp ≤ length p.hp_waiting → length p.lp_waiting < need s Lp → wanted (transmitter s made p) ≡ Some Lp
+want_lp : StepsOfOneMore → (m : Mode) (s : Settings) (made : ℕ) (p : Parts) (next : NextSymbol) (room : ℕ) → IsKept m s made p next room → need (settings_at s made) Hp ≤ length p.hp_waiting → length p.lp_waiting < need (settings_at s made) Lp → wanted (transmitter s made p) ≡ Some Lp
 want_lp more m s made p next room kept h l =
-    let first : hp_test s made p ≡ false = le-ltb _ _ (has (steps_before s Hp made) (steps_before s Hp (made + 1)) (need s Hp) (length p.hp_waiting) (more s Hp made) kept.hp_whole h) in
-    let second : lp_test s made p ≡ true = lt-ltb _ _ (lacks (steps_before s Lp made) (steps_before s Lp (made + 1)) (need s Lp) (length p.lp_waiting) (more s Lp made) kept.lp_whole l) in
+    let first : hp_test s made p ≡ false = le-ltb _ _ (has (steps_before s Hp made) (steps_before s Hp (made + 1)) (need (settings_at s made) Hp) (length p.hp_waiting) (more s Hp made) kept.hp_whole h) in
+    let second : lp_test s made p ≡ true = lt-ltb _ _ (lacks (steps_before s Lp made) (steps_before s Lp (made + 1)) (need (settings_at s made) Lp) (length p.lp_waiting) (more s Lp made) kept.lp_whole l) in
     rw (first, second) refl
 
-pub want_none : SymbolsTakeAlike → (m : Mode) (s : Settings) (made : ℕ) (p : Parts) (next : NextSymbol) (room : ℕ) → IsKept m s made p next room → need s Hp ≤ length p.hp_waiting → need s Lp ≤ length p.lp_waiting → wanted (transmitter s made p) ≡ None
+pub want_none : StepsOfOneMore → (m : Mode) (s : Settings) (made : ℕ) (p : Parts) (next : NextSymbol) (room : ℕ) → IsKept m s made p next room → need (settings_at s made) Hp ≤ length p.hp_waiting → need (settings_at s made) Lp ≤ length p.lp_waiting → wanted (transmitter s made p) ≡ None
 want_none more m s made p next room kept h l =
-    let first : hp_test s made p ≡ false = le-ltb _ _ (has (steps_before s Hp made) (steps_before s Hp (made + 1)) (need s Hp) (length p.hp_waiting) (more s Hp made) kept.hp_whole h) in
-    let second : lp_test s made p ≡ false = le-ltb _ _ (has (steps_before s Lp made) (steps_before s Lp (made + 1)) (need s Lp) (length p.lp_waiting) (more s Lp made) kept.lp_whole l) in
+    let first : hp_test s made p ≡ false = le-ltb _ _ (has (steps_before s Hp made) (steps_before s Hp (made + 1)) (need (settings_at s made) Hp) (length p.hp_waiting) (more s Hp made) kept.hp_whole h) in
+    let second : lp_test s made p ≡ false = le-ltb _ _ (has (steps_before s Lp made) (steps_before s Lp (made + 1)) (need (settings_at s made) Lp) (length p.lp_waiting) (more s Lp made) kept.lp_whole l) in
     rw (first, second) refl
 
-pub want_is : SymbolsTakeAlike → (m : Mode) (s : Settings) (made : ℕ) (p : Parts) (next : NextSymbol) (room : ℕ) → IsKept m s made p next room → (w : Want)
-    → (w ≡ wants.Hp → length p.hp_waiting < need s Hp) → (w ≡ wants.Lp → (need s Hp ≤ length p.hp_waiting) × (length p.lp_waiting < need s Lp)) → (w ≡ wants.Symbol → (need s Hp ≤ length p.hp_waiting) × (need s Lp ≤ length p.lp_waiting))
+pub want_is : StepsOfOneMore → (m : Mode) (s : Settings) (made : ℕ) (p : Parts) (next : NextSymbol) (room : ℕ) → IsKept m s made p next room → (w : Want)
+    → (w ≡ wants.Hp → length p.hp_waiting < need (settings_at s made) Hp) → (w ≡ wants.Lp → (need (settings_at s made) Hp ≤ length p.hp_waiting) × (length p.lp_waiting < need (settings_at s made) Lp)) → (w ≡ wants.Symbol → (need (settings_at s made) Hp ≤ length p.hp_waiting) × (need (settings_at s made) Lp ≤ length p.lp_waiting))
     → stream_of w ≡ wanted (transmitter s made p)
 want_is more m s made p next room kept wants.Hp hp lp none = sym (want_hp more m s made p next room kept (hp refl))
 want_is more m s made p next room kept wants.Lp hp lp none = let both = lp refl in sym (want_lp more m s made p next room kept both.0 both.1)
 want_is more m s made p next room kept wants.Symbol hp lp none = let both = none refl in sym (want_none more m s made p next room kept both.0 both.1)
+
+-- the same by settings that are those of the symbol
+pub want_at : StepsOfOneMore → (m : Mode) (s z : Settings) (made : ℕ) (p : Parts) (next : NextSymbol) (room : ℕ) → z ≡ settings_at s made → IsKept m s made p next room → (w : Want)
+    → (w ≡ wants.Hp → length p.hp_waiting < need z Hp) → (w ≡ wants.Lp → (need z Hp ≤ length p.hp_waiting) × (length p.lp_waiting < need z Lp)) → (w ≡ wants.Symbol → (need z Hp ≤ length p.hp_waiting) × (need z Lp ≤ length p.lp_waiting))
+    → stream_of w ≡ wanted (transmitter s made p)
+want_at more m s z made p next room is kept w hp lp none =
+    want_is more m s made p next room kept w
+    (λ e. subst (λ (y : Settings). length p.hp_waiting < need y Hp) is (hp e))
+    (λ e. subst (λ (y : Settings). (need y Hp ≤ length p.hp_waiting) × (length p.lp_waiting < need y Lp)) is (lp e))
+    (λ e. subst (λ (y : Settings). (need y Hp ≤ length p.hp_waiting) × (need y Lp ≤ length p.lp_waiting)) is (none e))
 
 -- where a symbol is wanted its bits wait
 enough : (a b need w : ℕ) → b ≡ a + need → (a + w) % 1632 ≡ 0 → rounded_up b 1632 ≤ (a + w) / 1632 → need ≤ w
@@ -81,10 +91,10 @@ none_tests true c e = cc
 none_tests false true e = cc
 none_tests false false e = (refl, refl)
 
-pub bits_wait : SymbolsTakeAlike → (m : Mode) (s : Settings) (made : ℕ) (p : Parts) (next : NextSymbol) (room : ℕ) → IsKept m s made p next room → wanted (transmitter s made p) ≡ None → (need s Hp ≤ length p.hp_waiting) × (need s Lp ≤ length p.lp_waiting)
+pub bits_wait : StepsOfOneMore → (m : Mode) (s : Settings) (made : ℕ) (p : Parts) (next : NextSymbol) (room : ℕ) → IsKept m s made p next room → wanted (transmitter s made p) ≡ None → (need (settings_at s made) Hp ≤ length p.hp_waiting) × (need (settings_at s made) Lp ≤ length p.lp_waiting)
 bits_wait more m s made p next room kept e =
     let both = none_tests (hp_test s made p) (lp_test s made p) e in
-    (enough (steps_before s Hp made) (steps_before s Hp (made + 1)) (need s Hp) (length p.hp_waiting) (more s Hp made) kept.hp_whole (ltb-false _ _ both.0), enough (steps_before s Lp made) (steps_before s Lp (made + 1)) (need s Lp) (length p.lp_waiting) (more s Lp made) kept.lp_whole (ltb-false _ _ both.1))
+    (enough (steps_before s Hp made) (steps_before s Hp (made + 1)) (need (settings_at s made) Hp) (length p.hp_waiting) (more s Hp made) kept.hp_whole (ltb-false _ _ both.0), enough (steps_before s Lp made) (steps_before s Lp (made + 1)) (need (settings_at s made) Lp) (length p.lp_waiting) (more s Lp made) kept.lp_whole (ltb-false _ _ both.1))
 
 -- ---- a path from one of its steps on
 run_from : (path : ℕ → Bool) (n t u k : ℕ) → n + t ≡ u → bits_from (from_step path n) t k ≡ bits_from path u k
@@ -122,6 +132,7 @@ kept_at_start none m s p next room mode inner hp lp hp_bits lp_bits out first la
   lp_register = ap length lp;
   out = out;
   symbol = first;
+  few = omega arith;
   hp_whole = (no_bits (steps_before s Hp 0) p.hp_waiting (none s Hp) hp_bits).1;
   lp_whole = (no_bits (steps_before s Lp 0) p.lp_waiting (none s Lp) lp_bits).1;
   labels = labels;
@@ -179,7 +190,7 @@ one_packet a old new e = (go (length old) (length new) e, λ h. rest (length old
 abbrev pub Feeds : Sender → List Bool → Sender → List Bool → List ℕ → Type 0
 Feeds sender waiting new_sender new_waiting packet = (packets : List (List ℕ)) (n taken : ℕ) → HoldsBits sender waiting packets n taken → packet ≡ packet_at packets n → HoldsBits new_sender new_waiting packets (n + 1) taken
 
-pub put_hp : SymbolsTakeAlike → (m : Mode) (s : Settings) (made : ℕ) (p : Parts) (next : NextSymbol) (room : ℕ) (sender : Sender) (waiting : List Bool) (packet : List ℕ) → IsKept m s made p next room → length p.hp_waiting < need s Hp
+pub put_hp : StepsOfOneMore → (m : Mode) (s : Settings) (made : ℕ) (p : Parts) (next : NextSymbol) (room : ℕ) (sender : Sender) (waiting : List Bool) (packet : List ℕ) → IsKept m s made p next room → length p.hp_waiting < need (settings_at s made) Hp
     → length waiting ≡ length p.hp_waiting + 1632 → Feeds p.hp_sender p.hp_waiting sender waiting packet
     → WasPut (transmitter s made p) (transmitter s made (parts_of sender p.lp_sender waiting p.lp_waiting p.inner)) packet
 put_hp more m s made p next room sender waiting packet kept few amount feeds =
@@ -198,7 +209,7 @@ put_hp more m s made p next room sender waiting packet kept few amount feeds =
           };
     }
 
-pub put_lp : SymbolsTakeAlike → (m : Mode) (s : Settings) (made : ℕ) (p : Parts) (next : NextSymbol) (room : ℕ) (sender : Sender) (waiting : List Bool) (packet : List ℕ) → IsKept m s made p next room → need s Hp ≤ length p.hp_waiting → length p.lp_waiting < need s Lp
+pub put_lp : StepsOfOneMore → (m : Mode) (s : Settings) (made : ℕ) (p : Parts) (next : NextSymbol) (room : ℕ) (sender : Sender) (waiting : List Bool) (packet : List ℕ) → IsKept m s made p next room → need (settings_at s made) Hp ≤ length p.hp_waiting → length p.lp_waiting < need (settings_at s made) Lp
     → length waiting ≡ length p.lp_waiting + 1632 → Feeds p.lp_sender p.lp_waiting sender waiting packet
     → WasPut (transmitter s made p) (transmitter s made (parts_of p.hp_sender sender p.hp_waiting waiting p.inner)) packet
 put_lp more m s made p next room sender waiting packet kept many few amount feeds =
@@ -219,11 +230,11 @@ put_lp more m s made p next room sender waiting packet kept many few amount feed
 
 pub kept_hp : (m : Mode) (s : Settings) (made : ℕ) (p : Parts) (next : NextSymbol) (room : ℕ) (sender : Sender) (waiting : List Bool) → IsKept m s made p next room → length waiting ≡ length p.hp_waiting + 1632 → IsKept m s made (parts_of sender p.lp_sender waiting p.lp_waiting p.inner) next room
 kept_hp m s made p next room sender waiting kept amount =
-    record { mode = kept.mode; inner = kept.inner; hp_register = kept.hp_register; lp_register = kept.lp_register; out = kept.out; symbol = kept.symbol; hp_whole = (one_packet (steps_before s Hp made) p.hp_waiting waiting amount).1 kept.hp_whole; lp_whole = kept.lp_whole; labels = kept.labels }
+    record { mode = kept.mode; inner = kept.inner; hp_register = kept.hp_register; lp_register = kept.lp_register; out = kept.out; symbol = kept.symbol; few = kept.few; hp_whole = (one_packet (steps_before s Hp made) p.hp_waiting waiting amount).1 kept.hp_whole; lp_whole = kept.lp_whole; labels = kept.labels }
 
 pub kept_lp : (m : Mode) (s : Settings) (made : ℕ) (p : Parts) (next : NextSymbol) (room : ℕ) (sender : Sender) (waiting : List Bool) → IsKept m s made p next room → length waiting ≡ length p.lp_waiting + 1632 → IsKept m s made (parts_of p.hp_sender sender p.hp_waiting waiting p.inner) next room
 kept_lp m s made p next room sender waiting kept amount =
-    record { mode = kept.mode; inner = kept.inner; hp_register = kept.hp_register; lp_register = kept.lp_register; out = kept.out; symbol = kept.symbol; hp_whole = kept.hp_whole; lp_whole = (one_packet (steps_before s Lp made) p.lp_waiting waiting amount).1 kept.lp_whole; labels = kept.labels }
+    record { mode = kept.mode; inner = kept.inner; hp_register = kept.hp_register; lp_register = kept.lp_register; out = kept.out; symbol = kept.symbol; few = kept.few; hp_whole = kept.hp_whole; lp_whole = (one_packet (steps_before s Lp made) p.lp_waiting waiting amount).1 kept.lp_whole; labels = kept.labels }
 
 -- the list of packets put grows by the packet
 pub stands_more : OtherStreams → (old new : Transmitter) (packet : List ℕ) → WasPut old new packet → (packets : Inputs) → StandsFor old packets → StandsFor new (with_packet packets (wanted old) packet)
@@ -269,8 +280,8 @@ stands_more others old new packet was packets st = go (wanted old) refl
         }
 
 -- ---- a symbol more
-abbrev pub after_symbol : Settings → Parts → TxState → Parts
-after_symbol s p inner = parts_of p.hp_sender p.lp_sender (drop (need s Hp) p.hp_waiting) (drop (need s Lp) p.lp_waiting) inner
+abbrev pub after_symbol : Settings → ℕ → Parts → TxState → Parts
+after_symbol s made p inner = parts_of p.hp_sender p.lp_sender (drop (need (settings_at s made) Hp) p.hp_waiting) (drop (need (settings_at s made) Lp) p.lp_waiting) inner
 
 bits_taken : (a b need : ℕ) (waiting : List Bool) → b ≡ a + need → need ≤ length waiting → (packets_in b (drop need waiting) ≡ packets_in a waiting) × ((a + length waiting) % 1632 ≡ 0 → (b + length (drop need waiting)) % 1632 ≡ 0)
 bits_taken a b need waiting next l =
@@ -278,9 +289,9 @@ bits_taken a b need waiting next l =
     let same : b + length (drop need waiting) ≡ a + length waiting = omega (arith, next, size, l) in
     (ap (λ (z : ℕ). z / 1632) same, λ h. ap (λ (z : ℕ). z % 1632) same ∙ h)
 
-pub kept_symbol : SymbolsTakeAlike → (m : Mode) (s : Settings) (made : ℕ) (p : Parts) (next after : NextSymbol) (room left : ℕ) (inner : TxState) → IsKept m s made p next room → wanted (transmitter s made p) ≡ None
-    → inner.settings ≡ p.inner.settings → length inner.hp ≡ 6 → length inner.lp ≡ 6 → after.settings ≡ next.settings → after.number ≡ (next.number + 1) % 272 → left ≡ room → IsKept m s (made + 1) (after_symbol s p inner) after left
-kept_symbol more m s made p next after room left inner kept none same hp lp out number capacity =
+pub kept_symbol : StepsOfOneMore → (m : Mode) (s : Settings) (made : ℕ) (p : Parts) (next after : NextSymbol) (room left : ℕ) (inner : TxState) → IsKept m s made p next room → wanted (transmitter s made p) ≡ None
+    → made < 2 ^ 32 → inner.settings ≡ p.inner.settings → length inner.hp ≡ 6 → length inner.lp ≡ 6 → after.settings ≡ next.settings → after.number ≡ (next.number + 1) % 272 → left ≡ room → IsKept m s (made + 1) (after_symbol s made p inner) after left
+kept_symbol more m s made p next after room left inner kept none few same hp lp out number capacity =
     let wait = bits_wait more m s made p next room kept none in
     record {
       mode = kept.mode;
@@ -289,76 +300,62 @@ kept_symbol more m s made p next after room left inner kept none same hp lp out 
       lp_register = lp;
       out = out ∙ kept.out;
       symbol = omega (arith, number, kept.symbol);
-      hp_whole = (bits_taken (steps_before s Hp made) (steps_before s Hp (made + 1)) (need s Hp) p.hp_waiting (more s Hp made) wait.0).1 kept.hp_whole;
-      lp_whole = (bits_taken (steps_before s Lp made) (steps_before s Lp (made + 1)) (need s Lp) p.lp_waiting (more s Lp made) wait.1).1 kept.lp_whole;
+      few = omega (arith, few);
+      hp_whole = (bits_taken (steps_before s Hp made) (steps_before s Hp (made + 1)) (need (settings_at s made) Hp) p.hp_waiting (more s Hp made) wait.0).1 kept.hp_whole;
+      lp_whole = (bits_taken (steps_before s Lp made) (steps_before s Lp (made + 1)) (need (settings_at s made) Lp) p.lp_waiting (more s Lp made) wait.1).1 kept.lp_whole;
       labels = omega (arith, kept.labels, capacity);
     }
 
-pub counts_kept : SymbolsTakeAlike → (m : Mode) (s : Settings) (made : ℕ) (p : Parts) (next : NextSymbol) (room : ℕ) (inner : TxState) → IsKept m s made p next room → wanted (transmitter s made p) ≡ None
-    → ((transmitter s (made + 1) (after_symbol s p inner)).hp ≡ (transmitter s made p).hp) × ((transmitter s (made + 1) (after_symbol s p inner)).lp ≡ (transmitter s made p).lp)
+pub counts_kept : StepsOfOneMore → (m : Mode) (s : Settings) (made : ℕ) (p : Parts) (next : NextSymbol) (room : ℕ) (inner : TxState) → IsKept m s made p next room → wanted (transmitter s made p) ≡ None
+    → ((transmitter s (made + 1) (after_symbol s made p inner)).hp ≡ (transmitter s made p).hp) × ((transmitter s (made + 1) (after_symbol s made p inner)).lp ≡ (transmitter s made p).lp)
 counts_kept more m s made p next room inner kept none =
     let wait = bits_wait more m s made p next room kept none in
-    ((bits_taken (steps_before s Hp made) (steps_before s Hp (made + 1)) (need s Hp) p.hp_waiting (more s Hp made) wait.0).0, (bits_taken (steps_before s Lp made) (steps_before s Lp (made + 1)) (need s Lp) p.lp_waiting (more s Lp made) wait.1).0)
+    ((bits_taken (steps_before s Hp made) (steps_before s Hp (made + 1)) (need (settings_at s made) Hp) p.hp_waiting (more s Hp made) wait.0).0, (bits_taken (steps_before s Lp made) (steps_before s Lp (made + 1)) (need (settings_at s made) Lp) p.lp_waiting (more s Lp made) wait.1).0)
 
--- the bits that the symbol takes, at the settings of the inner coder
-pub hp_input : SymbolsTakeAlike → (m : Mode) (s : Settings) (made : ℕ) (p : Parts) (next : NextSymbol) (room : ℕ) (inputs : Inputs) → IsKept m s made p next room → wanted (transmitter s made p) ≡ None → HasPut (transmitter s made p) inputs
-    → take (need p.inner.settings Hp) p.hp_waiting ≡ input_bits p.inner.settings (paths_at s inputs made) Hp
-hp_input more m s made p next room inputs kept none h =
+-- the bits that the symbol takes, at its own settings
+pub hp_input : StepsOfOneMore → (m : Mode) (s z : Settings) (made : ℕ) (p : Parts) (next : NextSymbol) (room : ℕ) (inputs : Inputs) → z ≡ settings_at s made → IsKept m s made p next room → wanted (transmitter s made p) ≡ None → HasPut (transmitter s made p) inputs
+    → take (need z Hp) p.hp_waiting ≡ input_bits z (paths_at s inputs made) Hp
+hp_input more m s z made p next room inputs is kept none h =
     let wait = bits_wait more m s made p next room kept none in
-    subst (λ (z : Settings). take (need z Hp) p.hp_waiting ≡ input_bits z (paths_at s inputs made) Hp) (sym kept.inner)
-    (bits_next p.hp_sender p.hp_waiting (inputs Hp) (packets_in (steps_before s Hp made) p.hp_waiting) (steps_before s Hp made) (need s Hp) h.hp wait.0
-    ∙ sym (run_from (paths_of inputs Hp) (steps_before s Hp made) 6 (steps_before s Hp made + 6) (need s Hp) refl))
+    subst (λ (y : Settings). take (need y Hp) p.hp_waiting ≡ input_bits y (paths_at s inputs made) Hp) (sym is)
+    (bits_next p.hp_sender p.hp_waiting (inputs Hp) (packets_in (steps_before s Hp made) p.hp_waiting) (steps_before s Hp made) (need (settings_at s made) Hp) h.hp wait.0
+    ∙ sym (run_from (paths_of inputs Hp) (steps_before s Hp made) 6 (steps_before s Hp made + 6) (need (settings_at s made) Hp) refl))
 
-pub lp_input : SymbolsTakeAlike → (m : Mode) (s : Settings) (made : ℕ) (p : Parts) (next : NextSymbol) (room : ℕ) (inputs : Inputs) → IsKept m s made p next room → wanted (transmitter s made p) ≡ None → HasPut (transmitter s made p) inputs
-    → take (need p.inner.settings Lp) p.lp_waiting ≡ input_bits p.inner.settings (paths_at s inputs made) Lp
-lp_input more m s made p next room inputs kept none h =
+pub lp_input : StepsOfOneMore → (m : Mode) (s z : Settings) (made : ℕ) (p : Parts) (next : NextSymbol) (room : ℕ) (inputs : Inputs) → z ≡ settings_at s made → IsKept m s made p next room → wanted (transmitter s made p) ≡ None → HasPut (transmitter s made p) inputs
+    → take (need z Lp) p.lp_waiting ≡ input_bits z (paths_at s inputs made) Lp
+lp_input more m s z made p next room inputs is kept none h =
     let wait = bits_wait more m s made p next room kept none in
-    subst (λ (z : Settings). take (need z Lp) p.lp_waiting ≡ input_bits z (paths_at s inputs made) Lp) (sym kept.inner)
-    (bits_next p.lp_sender p.lp_waiting (inputs Lp) (packets_in (steps_before s Lp made) p.lp_waiting) (steps_before s Lp made) (need s Lp) h.lp wait.1
-    ∙ sym (run_from (paths_of inputs Lp) (steps_before s Lp made) 6 (steps_before s Lp made + 6) (need s Lp) refl))
+    subst (λ (y : Settings). take (need y Lp) p.lp_waiting ≡ input_bits y (paths_at s inputs made) Lp) (sym is)
+    (bits_next p.lp_sender p.lp_waiting (inputs Lp) (packets_in (steps_before s Lp made) p.lp_waiting) (steps_before s Lp made) (need (settings_at s made) Lp) h.lp wait.1
+    ∙ sym (run_from (paths_of inputs Lp) (steps_before s Lp made) 6 (steps_before s Lp made + 6) (need (settings_at s made) Lp) refl))
 
-pub put_kept : SymbolsTakeAlike → (m : Mode) (s : Settings) (made : ℕ) (p : Parts) (next : NextSymbol) (room : ℕ) (inner : TxState) (inputs : Inputs) → IsKept m s made p next room → wanted (transmitter s made p) ≡ None → inner.settings ≡ p.inner.settings
-    → IsBefore inner (behind p.inner.settings (paths_at s inputs made)) → HasPut (transmitter s made p) inputs → HasPut (transmitter s (made + 1) (after_symbol s p inner)) inputs
-put_kept more m s made p next room inner inputs kept none same at h =
+pub put_kept : StepsOfOneMore → (m : Mode) (s z : Settings) (made : ℕ) (p : Parts) (next : NextSymbol) (room : ℕ) (inner : TxState) (inputs : Inputs) → z ≡ settings_at s made → IsKept m s made p next room → wanted (transmitter s made p) ≡ None → inner.settings ≡ p.inner.settings
+    → IsBefore inner (behind z (paths_at s inputs made)) → HasPut (transmitter s made p) inputs → HasPut (transmitter s (made + 1) (after_symbol s made p inner)) inputs
+put_kept more m s z made p next room inner inputs is kept none same at h =
     let wait = bits_wait more m s made p next room kept none in
     let counts = counts_kept more m s made p next room inner kept none in
     record {
       settings = same ∙ kept.inner;
-      hp = subst (λ (z : ℕ). HoldsBits p.hp_sender (drop (need s Hp) p.hp_waiting) (inputs Hp) z (steps_before s Hp (made + 1))) (sym counts.0)
-          (holds_rest p.hp_sender p.hp_waiting (drop (need s Hp) p.hp_waiting) (inputs Hp) (packets_in (steps_before s Hp made) p.hp_waiting) (steps_before s Hp made) (need s Hp) (steps_before s Hp (made + 1)) h.hp wait.0 refl (more s Hp made));
-      lp = subst (λ (z : ℕ). HoldsBits p.lp_sender (drop (need s Lp) p.lp_waiting) (inputs Lp) z (steps_before s Lp (made + 1))) (sym counts.1)
-          (holds_rest p.lp_sender p.lp_waiting (drop (need s Lp) p.lp_waiting) (inputs Lp) (packets_in (steps_before s Lp made) p.lp_waiting) (steps_before s Lp made) (need s Lp) (steps_before s Lp (made + 1)) h.lp wait.1 refl (more s Lp made));
+      hp = subst (λ (z : ℕ). HoldsBits p.hp_sender (drop (need (settings_at s made) Hp) p.hp_waiting) (inputs Hp) z (steps_before s Hp (made + 1))) (sym counts.0)
+          (holds_rest p.hp_sender p.hp_waiting (drop (need (settings_at s made) Hp) p.hp_waiting) (inputs Hp) (packets_in (steps_before s Hp made) p.hp_waiting) (steps_before s Hp made) (need (settings_at s made) Hp) (steps_before s Hp (made + 1)) h.hp wait.0 refl (more s Hp made));
+      lp = subst (λ (z : ℕ). HoldsBits p.lp_sender (drop (need (settings_at s made) Lp) p.lp_waiting) (inputs Lp) z (steps_before s Lp (made + 1))) (sym counts.1)
+          (holds_rest p.lp_sender p.lp_waiting (drop (need (settings_at s made) Lp) p.lp_waiting) (inputs Lp) (packets_in (steps_before s Lp made) p.lp_waiting) (steps_before s Lp made) (need (settings_at s made) Lp) (steps_before s Lp (made + 1)) h.lp wait.1 refl (more s Lp made));
       inner = ahead;
     }
   where
-    takes : (σ : Stream) → steps_before s σ (made + 1) ≡ steps_before s σ made + need p.inner.settings σ
-    takes σ = subst (λ (z : Settings). steps_before s σ (made + 1) ≡ steps_before s σ made + need z σ) (sym kept.inner) (more s σ made)
+    takes : (σ : Stream) → steps_before s σ (made + 1) ≡ steps_before s σ made + need z σ
+    takes σ = subst (λ (y : Settings). steps_before s σ (made + 1) ≡ steps_before s σ made + need y σ) (sym is) (more s σ made)
 
     ahead : IsBefore inner (paths_at s inputs (made + 1))
-    ahead Hp = register_behind (paths_of inputs Hp) (steps_before s Hp made) (need p.inner.settings Hp) (steps_before s Hp (made + 1)) inner.hp (takes Hp) (at Hp)
-    ahead Lp = register_behind (paths_of inputs Lp) (steps_before s Lp made) (need p.inner.settings Lp) (steps_before s Lp (made + 1)) inner.lp (takes Lp) (at Lp)
+    ahead Hp = register_behind (paths_of inputs Hp) (steps_before s Hp made) (need z Hp) (steps_before s Hp (made + 1)) inner.hp (takes Hp) (at Hp)
+    ahead Lp = register_behind (paths_of inputs Lp) (steps_before s Lp made) (need z Lp) (steps_before s Lp (made + 1)) inner.lp (takes Lp) (at Lp)
 
 pub stands_kept : (old new : Transmitter) (packets : Inputs) → new.hp ≡ old.hp → new.lp ≡ old.lp → (HasPut old packets → HasPut new packets) → StandsFor old packets → StandsFor new packets
 stands_kept old new packets hp lp put st = record { hp = st.hp ∙ sym hp; lp = st.lp ∙ sym lp; put = put st.put }
 
 -- what is written is the symbol of the transmission
-pub symbol_is : (s z y : Settings) (made number : ℕ) (inputs : Inputs) (labels : List ℕ) → y ≡ s → z ≡ s → number ≡ made % 272
-    → ((l : ℕ → ℕ → Bool) → symbol_bytes s made l ≡ symbol_bytes s (made % 272) l)
-    → ((l k : ℕ → ℕ → Bool) → Agree s l k → symbol_bytes s made l ≡ symbol_bytes s made k)
-    → Agree s (bits_of labels) (label_bit s (is_odd made) (coded_bits s (paths_at s inputs made))) → symbol_bytes z number (bits_of labels) ≡ symbol_bytes y made (label_bit y (is_odd made) (coded_bits y (paths_at s inputs made)))
-symbol_is s z y made number inputs labels ey es en repeats follows agree =
-    ap (λ (x : Settings). symbol_bytes x number (bits_of labels)) es ∙ ap (λ (n : ℕ). symbol_bytes s n (bits_of labels)) en ∙ sym (repeats (bits_of labels))
-    ∙ follows (bits_of labels) (label_bit s (is_odd made) (coded_bits s (paths_at s inputs made))) agree
-    ∙ ap (λ (x : Settings). symbol_bytes x made (label_bit x (is_odd made) (coded_bits x (paths_at s inputs made)))) (sym ey)
-
--- a symbol that announces the settings that it has
-pub own_symbol : (s z w : Settings) (m n : ℕ) (labels : ℕ → ℕ → Bool) → w ≡ z → z ≡ s → n ≡ m → ((l : ℕ → ℕ → Bool) → announcing_bytes s s m l ≡ symbol_bytes s m l) → announcing_bytes w w n labels ≡ symbol_bytes z n labels
-own_symbol s z w m n labels ew ez en law =
-    ap (λ (x : Settings). announcing_bytes x x n labels) (ew ∙ ez) ∙ ap (λ (k : ℕ). announcing_bytes s s k labels) en ∙ law labels
-    ∙ ap (λ (k : ℕ). symbol_bytes s k labels) (sym en) ∙ ap (λ (x : Settings). symbol_bytes x n labels) (sym ez)
-
--- a symbol of the transmission has the settings of its super-frame
-tx_symbol_is : (s : Settings) (inputs : Inputs) (m : ℕ) → tx_symbol s inputs m ≡ symbol_bytes (settings_at s m) m (label_bit (settings_at s m) (is_odd m) (coded_bits (settings_at s m) (paths_at s inputs m)))
+tx_symbol_is : (s : Settings) (inputs : Inputs) (m : ℕ)
+    → tx_symbol s inputs m ≡ announcing_bytes (settings_at s m) (announced_at s m) m (label_bit (settings_at s m) (is_odd m) (coded_bits (settings_at s m) (paths_at s inputs m)))
 unfolding tx_symbol tx_label
 tx_symbol_is s inputs m = refl
 
@@ -371,28 +368,52 @@ pub record AfterSymbol (old new : Transmitter) : Type 0 where
 taken_at : (s z : Settings) (σ : Stream) (waiting new : List Bool) → z ≡ s → new ≡ drop (need z σ) waiting → drop (need s σ) waiting ≡ new
 taken_at s z σ waiting new e is = sym (is ∙ ap (λ (y : Settings). drop (need y σ) waiting) e)
 
-pub symbol_made : SymbolsTakeAlike → (m : Mode) (s : Settings) (made : ℕ) (p : Parts) (next : NextSymbol) (room : ℕ) (inner : TxState) (hp lp : List Bool) → IsKept m s made p next room → wanted (transmitter s made p) ≡ None → inner.settings ≡ p.inner.settings
-    → hp ≡ drop (need p.inner.settings Hp) p.hp_waiting → lp ≡ drop (need p.inner.settings Lp) p.lp_waiting
-    → ((paths : Paths) → IsBefore p.inner paths → take (need p.inner.settings Hp) p.hp_waiting ≡ input_bits p.inner.settings paths Hp → take (need p.inner.settings Lp) p.lp_waiting ≡ input_bits p.inner.settings paths Lp → IsBefore inner (behind p.inner.settings paths))
+-- what the inner coder did with the settings of the symbol
+abbrev pub GoesOn : Settings → Parts → TxState → Type 0
+GoesOn z p inner = (paths : Paths) → IsBefore p.inner paths → take (need z Hp) p.hp_waiting ≡ input_bits z paths Hp → take (need z Lp) p.lp_waiting ≡ input_bits z paths Lp → IsBefore inner (behind z paths)
+
+pub symbol_made : StepsOfOneMore → (m : Mode) (s z : Settings) (made : ℕ) (p : Parts) (next : NextSymbol) (room : ℕ) (inner : TxState) (hp lp : List Bool) → z ≡ settings_at s made → IsKept m s made p next room → wanted (transmitter s made p) ≡ None
+    → inner.settings ≡ p.inner.settings → hp ≡ drop (need z Hp) p.hp_waiting → lp ≡ drop (need z Lp) p.lp_waiting → GoesOn z p inner
     → AfterSymbol (transmitter s made p) (transmitter s (made + 1) (parts_of p.hp_sender p.lp_sender hp lp inner))
-symbol_made more m s made p next room inner hp lp kept none same eh el goes =
-    subst (λ (z : List Bool). AfterSymbol (transmitter s made p) (transmitter s (made + 1) (parts_of p.hp_sender p.lp_sender z lp inner))) (taken_at s p.inner.settings Hp p.hp_waiting hp kept.inner eh)
-    (subst (λ (z : List Bool). AfterSymbol (transmitter s made p) (transmitter s (made + 1) (parts_of p.hp_sender p.lp_sender (drop (need s Hp) p.hp_waiting) z inner))) (taken_at s p.inner.settings Lp p.lp_waiting lp kept.inner el)
+symbol_made more m s z made p next room inner hp lp is kept none same eh el goes =
+    subst (λ (w : List Bool). AfterSymbol (transmitter s made p) (transmitter s (made + 1) (parts_of p.hp_sender p.lp_sender w lp inner))) (taken_at (settings_at s made) z Hp p.hp_waiting hp is eh)
+    (subst (λ (w : List Bool). AfterSymbol (transmitter s made p) (transmitter s (made + 1) (parts_of p.hp_sender p.lp_sender (drop (need (settings_at s made) Hp) p.hp_waiting) w inner))) (taken_at (settings_at s made) z Lp p.lp_waiting lp is el)
     (record {
       hp = (counts_kept more m s made p next room inner kept none).0;
       lp = (counts_kept more m s made p next room inner kept none).1;
-      put = λ inputs h. put_kept more m s made p next room inner inputs kept none same (goes (paths_at s inputs made) h.inner (hp_input more m s made p next room inputs kept none h) (lp_input more m s made p next room inputs kept none h)) h;
+      put = λ inputs h. put_kept more m s z made p next room inner inputs is kept none same
+          (goes (paths_at s inputs made) h.inner (hp_input more m s z made p next room inputs is kept none h) (lp_input more m s z made p next room inputs is kept none h)) h;
     }))
 
--- what is written
-pub bytes_made : SettingsStay → SymbolsTakeAlike → (m : Mode) (s : Settings) (made : ℕ) (p : Parts) (next : NextSymbol) (room : ℕ) (labels : List ℕ) (inputs : Inputs) → IsKept m s made p next room → wanted (transmitter s made p) ≡ None
-    → ((l : ℕ → ℕ → Bool) → symbol_bytes s made l ≡ symbol_bytes s (made % 272) l)
-    → ((l k : ℕ → ℕ → Bool) → Agree s l k → symbol_bytes s made l ≡ symbol_bytes s made k)
-    → ((paths : Paths) → IsBefore p.inner paths → take (need p.inner.settings Hp) p.hp_waiting ≡ input_bits p.inner.settings paths Hp → take (need p.inner.settings Lp) p.lp_waiting ≡ input_bits p.inner.settings paths Lp
-    → Agree p.inner.settings (bits_of labels) (label_bit p.inner.settings (is_odd made) (coded_bits p.inner.settings paths)))
-    → HasPut (transmitter s made p) inputs → symbol_bytes next.settings next.number (bits_of labels) ≡ tx_symbol s inputs made
-bytes_made stay more m s made p next room labels inputs kept none repeats follows agrees h =
-    let agree : Agree s (bits_of labels) (label_bit s (is_odd made) (coded_bits s (paths_at s inputs made))) =
-    subst (λ (z : Settings). Agree z (bits_of labels) (label_bit z (is_odd made) (coded_bits z (paths_at s inputs made)))) kept.inner
-    (agrees (paths_at s inputs made) h.inner (hp_input more m s made p next room inputs kept none h) (lp_input more m s made p next room inputs kept none h)) in
-    symbol_is s next.settings (settings_at s made) made next.number inputs labels (stay s (made / 272)) kept.out kept.symbol repeats follows agree ∙ sym (tx_symbol_is s inputs made)
+-- the labels that the inner coder gave with the settings of the symbol
+abbrev pub Labels : Settings → ℕ → Parts → List ℕ → Type 0
+Labels z made p labels = (paths : Paths) → IsBefore p.inner paths → take (need z Hp) p.hp_waiting ≡ input_bits z paths Hp → take (need z Lp) p.lp_waiting ≡ input_bits z paths Lp
+    → Agree z (bits_of labels) (label_bit z (is_odd made) (coded_bits z paths))
+
+pub record AreCells (s : Settings) (made : ℕ) : Type 0 where
+  pub repeats : (a b : Settings) (l : ℕ → ℕ → Bool) → announcing_bytes a b made l ≡ announcing_bytes a b (made % 272) l
+  pub follow : (a b : Settings) (l k : ℕ → ℕ → Bool) → a.mode ≡ s.mode → Agree a l k → announcing_bytes a b made l ≡ announcing_bytes a b made k
+
+-- what is written, by settings that are those of the symbol and of the next super-frame
+pub bytes_made : ModeStays → StepsOfOneMore → (m : Mode) (s z now coming : Settings) (made : ℕ) (p : Parts) (next : NextSymbol) (room : ℕ) (labels : List ℕ) (inputs : Inputs)
+    → z ≡ settings_at s made → now ≡ settings_at s made → coming ≡ announced_at s made → IsKept m s made p next room → wanted (transmitter s made p) ≡ None
+    → AreCells s made → Labels z made p labels → HasPut (transmitter s made p) inputs → announcing_bytes now coming next.number (bits_of labels) ≡ tx_symbol s inputs made
+bytes_made stay more m s z now coming made p next room labels inputs ez en ec kept none cells agrees h =
+    let agree : Agree (settings_at s made) (bits_of labels) (label_bit (settings_at s made) (is_odd made) (coded_bits (settings_at s made) (paths_at s inputs made))) =
+    subst (λ (y : Settings). Agree y (bits_of labels) (label_bit y (is_odd made) (coded_bits y (paths_at s inputs made)))) ez
+    (agrees (paths_at s inputs made) h.inner (hp_input more m s z made p next room inputs ez kept none h) (lp_input more m s z made p next room inputs ez kept none h)) in
+    ap (λ (y : Settings). announcing_bytes y coming next.number (bits_of labels)) en
+    ∙ ap (λ (y : Settings). announcing_bytes (settings_at s made) y next.number (bits_of labels)) ec
+    ∙ ap (λ (n : ℕ). announcing_bytes (settings_at s made) (announced_at s made) n (bits_of labels)) kept.symbol
+    ∙ sym (cells.repeats (settings_at s made) (announced_at s made) (bits_of labels))
+    ∙ cells.follow (settings_at s made) (announced_at s made) (bits_of labels) (label_bit (settings_at s made) (is_odd made) (coded_bits (settings_at s made) (paths_at s inputs made))) (stay s (made / 272)) agree
+    ∙ sym (tx_symbol_is s inputs made)
+
+-- what is kept after a symbol
+pub kept_made : StepsOfOneMore → (m : Mode) (s z : Settings) (made : ℕ) (p : Parts) (next after : NextSymbol) (room left : ℕ) (inner : TxState) (hp lp : List Bool) → z ≡ settings_at s made → IsKept m s made p next room → wanted (transmitter s made p) ≡ None
+    → made < 2 ^ 32 → inner.settings ≡ p.inner.settings → length inner.hp ≡ 6 → length inner.lp ≡ 6 → after.settings ≡ next.settings → after.number ≡ (next.number + 1) % 272 → left ≡ room
+    → hp ≡ drop (need z Hp) p.hp_waiting → lp ≡ drop (need z Lp) p.lp_waiting → IsKept m s (made + 1) (parts_of p.hp_sender p.lp_sender hp lp inner) after left
+kept_made more m s z made p next after room left inner hp lp is kept none few same rh rl out number capacity eh el =
+    subst (λ (w : List Bool). IsKept m s (made + 1) (parts_of p.hp_sender p.lp_sender w lp inner) after left) (taken_at (settings_at s made) z Hp p.hp_waiting hp is eh)
+    (subst (λ (w : List Bool). IsKept m s (made + 1) (parts_of p.hp_sender p.lp_sender (drop (need (settings_at s made) Hp) p.hp_waiting) w inner) after left) (taken_at (settings_at s made) z Lp p.lp_waiting lp is el)
+    (kept_symbol more m s made p next after room left inner kept none few same rh rl out number capacity))

@@ -1,10 +1,7 @@
 -- What a modulator stands for, each the clause of a public function of the module laws.
-use Rattle.std.specs.Prelude.{◌≡◌, ℕ, ◌+◌, ◌<◌}
-use Rattle.mode_set.specs.StreamTable.{need}
+use Rattle.std.specs.Prelude.{◌≡◌, ℕ, ◌<◌}
 use Rattle.mode_set.specs.declared.modes.Stream.{Stream}
-use Rattle.mode_set.specs.declared.settings.Settings.{Settings}
 use Rattle.outer_chain.specs.Sent.{packet_at}
-use Rattle.symbol_spans.specs.Spans.{steps_before}
 use Rattle.transmission.specs.Transmission.{Inputs, by_stream}
 use Rattle.modulator.specs.State.{Transmitter, HasPut}
 
@@ -12,7 +9,3 @@ use Rattle.modulator.specs.State.{Transmitter, HasPut}
 abbrev pub OtherStreams : Type 0
 OtherStreams = (t : Transmitter) (inputs other : Inputs) → HasPut t inputs
     → ((σ : Stream) (i : ℕ) → i < by_stream t.hp t.lp σ → packet_at (inputs σ) i ≡ packet_at (other σ) i) → HasPut t other
-
--- each symbol takes the input bits of one symbol of the modulator's settings
-abbrev pub SymbolsTakeAlike : Type 0
-SymbolsTakeAlike = (s : Settings) (σ : Stream) (m : ℕ) → steps_before s σ (m + 1) ≡ steps_before s σ m + need s σ

@@ -1,5 +1,5 @@
 -- What is seen of a modulator, and what it stands for.
-use Rattle.std.specs.Prelude.{◌≡◌, ℕ, ◌+◌, ◌/◌, ◌%◌, ◌≤◌, Bool, List, [], ◌∷◌, ◌++◌, length, Option, Some, None, IfSome}
+use Rattle.std.specs.Prelude.{◌≡◌, ℕ, ◌+◌, ◌/◌, ◌%◌, ◌^◌, ◌≤◌, Bool, List, [], ◌∷◌, ◌++◌, length, Option, Some, None, IfSome}
 use Rattle.mode_set.specs.StreamTable.{payload}
 use Rattle.mode_set.specs.declared.modes.Mode.{Mode}
 use Rattle.mode_set.specs.declared.modes.Stream.{Stream}
@@ -37,7 +37,7 @@ packets_in taken waiting = (taken + length waiting) / 1632
 abbrev pub transmitter : Settings → ℕ → Parts → Transmitter
 transmitter s made parts = record { settings = s; made = made; hp = packets_in (steps_before s Hp made) parts.hp_waiting; lp = packets_in (steps_before s Lp made) parts.lp_waiting; parts = parts }
 
--- what a modulator keeps: its parts are of the same settings and at the same symbol, each stream has whole packets, and there is room for the labels of a symbol
+-- what a modulator keeps: its parts are of the same settings and at the same symbol, no more symbols were made than 32 bits count, each stream has whole packets, and there is room for the labels of a symbol
 pub record IsKept (m : Mode) (s : Settings) (made : ℕ) (parts : Parts) (next : NextSymbol) (room : ℕ) : Type 0 where
   pub mode : s.mode ≡ m
   pub inner : parts.inner.settings ≡ s
@@ -45,6 +45,7 @@ pub record IsKept (m : Mode) (s : Settings) (made : ℕ) (parts : Parts) (next :
   pub lp_register : length parts.inner.lp ≡ 6
   pub out : next.settings ≡ s
   pub symbol : next.number ≡ made % 272
+  pub few : made ≤ 2 ^ 32
   pub hp_whole : (steps_before s Hp made + length parts.hp_waiting) % 1632 ≡ 0
   pub lp_whole : (steps_before s Lp made + length parts.lp_waiting) % 1632 ≡ 0
   pub labels : payload s.mode ≤ room

@@ -9,6 +9,7 @@ pub mod laws;
 mod modulator;
 mod next_labels;
 mod stream;
+mod super_frames;
 mod want;
 
 pub use modulator::Modulator;

@@ -1,23 +1,26 @@
 // From packets to symbols.
 ghost use Rattle.std.specs.Prelude.{◌≡◌, ◌≢◌, ◌+◌, ◌*◌, ◌^◌, ◌<◌, ◌≤◌, ◌++◌, ℕ, Some, None, IfOk, length, vec_capacity, vec_len};
-ghost use Rattle.spec_words.specs.Words.{rounded_up};
 ghost use Rattle.mode_set.specs.StreamTable.{need};
 ghost use Rattle.mode_set.specs.declared.modes.Stream.TheVariants as streams;
 ghost use Rattle.transmission.specs.Transmission.{Inputs, by_stream, tx_symbol};
-ghost use Rattle.transmission.specs.SuperFrames.{AreSuperFrames, super_frames};
+ghost use Rattle.symbol_spans.specs.Spans.{settings_at};
+ghost use Rattle.transmission.specs.SuperFrames.{IsLength, super_frames};
 ghost use Rattle.modulator.specs.State.{HasOneMore, HasPut, IsNext, StandsFor, no_packets, wanted, with_packet};
 ghost use Rattle.modulator.specs.Wants.{stream_of};
 
-use crate::laws::{other_streams, symbols_take_alike};
+use crate::laws::other_streams;
 use crate::next_labels::next_labels;
 use crate::stream::StreamTx;
+use crate::super_frames::frames_for;
 use crate::want::Want;
 use bit_pack::WaitBuf;
-use frame_build::{SymbolOut, symbols_announce_themselves, symbols_follow_labels, symbols_repeat};
+use frame_build::{SymbolOut, symbols_follow_labels, symbols_repeat};
 use inner_chain::InnerTx;
 use mode_set::{Carriers, Settings, Stream};
 use std::alloc::{AllocError, Global};
 use std::marker::Model;
+use symbol_spans::laws::{settings as super_frame_settings, steps, words};
+use symbol_spans::parameters_of_symbol;
 use transmission::laws::super_frames as super_frames_are_least;
 use ts_packet::Packet;
 
@@ -38,13 +41,12 @@ fn want_of(settings: &Settings, hp: &WaitBuf, lp: &WaitBuf) -> Want
     Want::Symbol
 }
 
-// The super-frames that carry so many packets and eleven words more.
-fn frames_for(count: u64, words: u32) -> u64
-    requires some { 0 < words }
-    requires few { count ≤ 100000000 }
-    ensures { result ≡ rounded_up (count + 11) words }
+// The settings of the next symbol.
+fn settings_of_next(settings: &Settings, made: u64) -> Settings
+    requires { made ≤ 2 ^ 32 }
+    ensures { result ≡ settings_at settings.now made }
 {
-    (count + 11).div_ceil(words as u64)
+    settings.with_entry(&parameters_of_symbol(settings, made))
 }
 
 /// A transmitter: packets are put as [`wants`](Modulator::wants) asks for them, and symbols are made of
@@ -87,7 +89,7 @@ impl<M: Carriers> Modulator<M> {
         ensures put { IfOk result (λ tx. (inputs : Inputs) → HasPut tx inputs) }
         ensures stands { IfOk result (λ tx. StandsFor tx no_packets) }
     {
-        symbols_take_alike();
+        steps();
         Ok(Modulator {
             settings: *settings,
             hp: StreamTx::new(alloc)?,
@@ -100,12 +102,13 @@ impl<M: Carriers> Modulator<M> {
     }
 
     /// What is to be done next: HP where the packets of HP do not suffice for the next symbol, else LP
-    /// likewise, else the symbol. Where there is no hierarchy LP is never wanted.
+    /// likewise, else the symbol. Where there is no LP in the symbol's super-frame it is never wanted.
     pub fn wants(&self) -> Want
         ensures { stream_of result ≡ wanted self.now }
     {
-        symbols_take_alike();
-        want_of(&self.settings, &self.hp.waiting, &self.lp.waiting)
+        steps();
+        let settings = settings_of_next(&self.settings, self.made);
+        want_of(&settings, &self.hp.waiting, &self.lp.waiting)
     }
 
     /// Puts the next packet of the stream that is wanted.
@@ -118,8 +121,9 @@ impl<M: Carriers> Modulator<M> {
         ensures stands { (packets : Inputs) → StandsFor self.old packets → StandsFor self.new (with_packet packets (wanted self.old) packet.now) }
     {
         other_streams();
-        symbols_take_alike();
-        match want_of(&self.settings, &self.hp.waiting, &self.lp.waiting) {
+        steps();
+        let settings = settings_of_next(&self.settings, self.made);
+        match want_of(&settings, &self.hp.waiting, &self.lp.waiting) {
             Want::Hp => self.hp.put(packet),
             Want::Lp => self.lp.put(packet),
             Want::Symbol => {}
@@ -145,20 +149,21 @@ impl<M: Carriers> Modulator<M> {
         ensures len { vec_len to.new ≡ vec_len to.old + 5 * M.K }
         ensures capacity { vec_capacity to.new ≡ vec_capacity to.old }
     {
-        symbols_take_alike();
-        symbols_announce_themselves(&self.settings, self.made % 272);
-        symbols_repeat(&self.settings, self.made);
-        symbols_follow_labels(&self.settings, self.made);
+        steps();
+        super_frame_settings();
+        symbols_repeat(self.made);
+        symbols_follow_labels(self.settings.mode, self.made);
+        let now = parameters_of_symbol(&self.settings, self.made);
+        let next = parameters_of_symbol(&self.settings, self.made + 272);
         next_labels(
-            &self.settings,
+            &now,
             self.made % 2 == 1,
             &mut self.inner,
             &mut self.hp.waiting,
             &mut self.lp.waiting,
             &mut self.labels,
         );
-        let entry = self.settings.top();
-        self.out.write(&entry, &entry, &self.labels, to);
+        self.out.write(&now, &next, &self.labels, to);
         self.made += 1;
     }
 
@@ -170,18 +175,22 @@ impl<M: Carriers> Modulator<M> {
     }
 
     /// The super-frames of a transmission of so many packets: the least number, at least 1, that carries
-    /// the packets of each stream and eleven words more.
-    pub fn super_frames(settings: &Settings, n_hp: u64, n_lp: u64) -> u64
+    /// the packets of each stream and eleven words more. It is `None` exactly where no number does, since
+    /// a stream is absent from some super-frame on.
+    pub fn super_frames(settings: &Settings, n_hp: u64, n_lp: u64) -> Option<u64>
         requires hp { n_hp ≤ 100000000 }
         requires lp { n_lp ≤ 100000000 }
-        ensures least { AreSuperFrames settings.now (by_stream n_hp n_lp) result }
-        ensures formula { result ≡ super_frames settings.now (by_stream n_hp n_lp) }
+        ensures length { IsLength settings.now (by_stream n_hp n_lp) result }
+        ensures is { result ≡ super_frames settings.now (by_stream n_hp n_lp) }
     {
         super_frames_are_least();
-        let hp = frames_for(n_hp, settings.words_per_super_frame(Stream::Hp));
-        if settings.hierarchy.is_flat() {
-            return hp;
+        super_frame_settings();
+        words();
+        let hp = frames_for(settings, Stream::Hp, n_hp + 11)?;
+        if !settings.has_lp() {
+            return Some(hp);
         }
-        hp.max(frames_for(n_lp, settings.words_per_super_frame(Stream::Lp)))
+        let lp = frames_for(settings, Stream::Lp, n_lp + 11)?;
+        Some(hp.max(lp))
     }
 }

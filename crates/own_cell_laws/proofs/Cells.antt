@@ -6,18 +6,20 @@ use Rattle.spec_words.specs.Words.{numbers}
 use Rattle.mode_set.specs.StreamTable.{carriers, payload, label_bits}
 use Rattle.mode_set.specs.declared.modes.Mode.{Mode}
 use Rattle.mode_set.specs.declared.settings.Settings.{Settings}
+use Rattle.pilots.specs.declared.carrier_kind.CarrierKind.{CarrierKind}
 use Rattle.pilots.specs.declared.carrier_kind.CarrierKind.TheVariants.{Continual, Scattered, Tps, Payload}
 use Rattle.pilots.specs.Carriers.{is_continual, is_scattered, is_tps, is_payload, payload_carriers, kind, AreNumbered}
 use Rattle.qam_map.specs.Points.{map_cell, on_axis}
 use Rattle.qam_map.specs.declared.cell.Cell.{Cell}
 use Rattle.soft_metric.specs.Costs.{IsNear, cost, NearPointsFavourTheirBits}
-use Rattle.frame_build.specs.Symbol.{cell_at, cell_of_kind}
+use Rattle.frame_build.specs.Announcing.{announcing_cell, settings_for}
+use Rattle.frame_build.specs.Symbol.{cell_of_kind}
 use Rattle.soft_metric.specs.Weights.{weighted}
 use Rattle.qam_map.specs.Cells.{cell_of}
 use Rattle.inner_chain.specs.CostPairs.{weight_of, costs_on, weighted_costs_on}
 use Rattle.symbol_spans.specs.Spans.{settings_at}
 use Rattle.symbol_spans.specs.Laws.{ModeStays}
-use Rattle.transmission.specs.Transmission.{Inputs, tx_cell, tx_label}
+use Rattle.transmission.specs.Transmission.{Inputs, announced_at, tx_cell, tx_label}
 use Rattle.transmission.specs.SuperFrames.{symbols_of}
 use Rattle.reception.specs.Cells.{symbol_cells, symbol_weights}
 use Rattle.own_cell_laws.specs.Counted.{AreCounted}
@@ -105,8 +107,8 @@ carrier_of s m q counts l =
 -- ---- the cell of a label
 pub point_is : (s : Settings) (inputs : Inputs) (m q k : ℕ) → kind (settings_at s m).mode (m % 68) k ≡ Payload q
     → tx_cell s inputs m k ≡ map_cell (settings_at s m).shape (settings_at s m).hierarchy (tx_label s inputs m q)
-unfolding tx_cell cell_at cell_of_kind
-point_is s inputs m q k e = ap (cell_of_kind (settings_at s m) m (tx_label s inputs m) k) e
+unfolding tx_cell announcing_cell cell_of_kind
+point_is s inputs m q k e = ap (λ (kd : CarrierKind). cell_of_kind (settings_for (settings_at s m) (announced_at s m) kd) m (tx_label s inputs m) k kd) e
 
 -- the cell that a receiver finds on a payload place
 abbrev pub cell_on : Settings → List ℕ → ℕ → ℕ → Cell

@@ -1,6 +1,6 @@
 -- What comes back of a stream are its packets, and then null packets.
-use Rattle.std.proofs.Common.{◌≡◌, ℕ, zero, suc, ◌+◌, ◌-◌, ◌≤◌, List, [], ◌∷◌, ◌++◌, length, take, refl, sym, ap, ◌∙◌, arith, append_assoc, append-nil}
-use Rattle.std.specs.Prelude.{replicate}
+use Rattle.std.proofs.Common.{◌≡◌, ℕ, zero, suc, ◌+◌, ◌-◌, ◌≤◌, List, [], ◌∷◌, ◌++◌, length, take, refl, sym, ap, ◌∙◌, subst, arith, append_assoc, append-nil}
+use Rattle.std.specs.Prelude.{Some, replicate}
 use Rattle.std.specs.List.{concat}
 use Rattle.std.proofs.lemmas.List.{take_all, get_or_past}
 use Rattle.std.proofs.lemmas.List.Folds.{concat-append}
@@ -8,8 +8,10 @@ use Rattle.std.proofs.Math.Seq.{take-suc}
 use Rattle.ts_packet.specs.Packet.{null_packet}
 use Rattle.outer_chain.specs.Sent.{packet_at, joined}
 use Rattle.symbol_spans.specs.Spans.{words_before}
-use Rattle.transmission.specs.SuperFrames.{super_frames, counts_of}
-use Rattle.transmission.specs.Laws.{TheFormulaIsLeast}
+use Rattle.mode_set.specs.declared.settings.Settings.{Settings}
+use Rattle.transmission.specs.Transmission.{Inputs}
+use Rattle.transmission.specs.SuperFrames.{AreSuperFrames, IsLength, super_frames, counts_of}
+use Rattle.transmission.specs.Laws.{TheNumberIsFound}
 use Rattle.own_cell_laws.specs.Returned.{words_of}
 use Rattle.own_cell_laws.specs.Laws.{PacketsThenNulls}
 
@@ -40,11 +42,14 @@ behind xs (suc j) =
     ∙ append_assoc (concat xs) (concat (replicate j null_packet)) null_packet
     ∙ ap (λ (z : List ℕ). concat xs ++ z) (one_more null_packet j)
 
-pub packets_then_nulls : TheFormulaIsLeast → PacketsThenNulls
-packets_then_nulls least s inputs σ exists =
-    let enough = (least s (counts_of inputs)).suffices σ exists in
-    let all : words_of s inputs σ ≡ words_of s inputs σ - length (inputs σ) + length (inputs σ) = sum_up (words_before s σ (super_frames s (counts_of inputs))) (length (inputs σ)) enough in
-    ap (joined (packet_at (inputs σ))) all ∙ behind (inputs σ) (words_of s inputs σ - length (inputs σ))
+enough_for : (s : Settings) (inputs : Inputs) (n : ℕ) → TheNumberIsFound → super_frames s (counts_of inputs) ≡ Some n → AreSuperFrames s (counts_of inputs) n
+enough_for s inputs n found e = subst (IsLength s (counts_of inputs)) e (found s (counts_of inputs))
+
+pub packets_then_nulls : TheNumberIsFound → PacketsThenNulls
+packets_then_nulls found s inputs n σ frames exists =
+    let enough = (enough_for s inputs n found frames).suffices σ exists in
+    let all : words_of s σ n ≡ words_of s σ n - length (inputs σ) + length (inputs σ) = sum_up (words_before s σ n) (length (inputs σ)) enough in
+    ap (joined (packet_at (inputs σ))) all ∙ behind (inputs σ) (words_of s σ n - length (inputs σ))
   where
     sum_up : (a n : ℕ) → n + 11 ≤ a → a - 11 ≡ a - 11 - n + n
     sum_up a n l = omega (arith, l)

@@ -27,11 +27,12 @@ use Rattle.pilots.specs.Reference.{reference}
 use Rattle.qam_map.specs.declared.cell.Cell.{Cell}
 use Rattle.qam_map.specs.Points.{value_of, real_bits, imaginary_bits, distance}
 use Rattle.soft_metric.specs.Costs.{IsNear}
-use Rattle.frame_build.specs.Symbol.{real, cell_of_kind, cell_at, cell_bytes, sent_bytes, cell_from, weight_from, cells_from, weights_from}
+use Rattle.frame_build.specs.Announcing.{announcing_cell, settings_for}
+use Rattle.frame_build.specs.Symbol.{real, cell_of_kind, cell_bytes, sent_bytes, cell_from, weight_from, cells_from, weights_from}
 use Rattle.soft_metric.specs.Weights.{weight_of_byte}
 use Rattle.inner_chain.specs.CostPairs.{weight_of}
 use Rattle.symbol_spans.specs.Spans.{settings_at}
-use Rattle.transmission.specs.Transmission.{Inputs, tx_label, tx_cell, tx_symbol, first_symbols}
+use Rattle.transmission.specs.Transmission.{Inputs, announced_at, tx_label, tx_cell, tx_symbol, first_symbols}
 use Rattle.transmission.specs.SuperFrames.{symbols_of, tx}
 use Rattle.transmission.specs.Laws.{SymbolsAreCells, SymbolsAreLong}
 use Rattle.reception.specs.Cells.{symbol_length, symbols, bytes_of_symbol, symbol_cells, symbol_weights}
@@ -111,8 +112,8 @@ kind_small s m labels k Tps = signal_small _
 kind_small s m labels k (Payload q) = record { re = real_small s.shape s.hierarchy (labels q); im = imaginary_small s.shape s.hierarchy (labels q) }
 
 cell_small : (s : Settings) (inputs : Inputs) (m k : ℕ) → IsSmallCell (tx_cell s inputs m k)
-unfolding tx_cell cell_at
-cell_small s inputs m k = kind_small (settings_at s m) m (tx_label s inputs m) k (kind (settings_at s m).mode (m % 68) k)
+unfolding tx_cell announcing_cell
+cell_small s inputs m k = let kd : CarrierKind = kind (settings_at s m).mode (m % 68) k in kind_small (settings_for (settings_at s m) (announced_at s m) kd) m (tx_label s inputs m) k kd
 
 -- ---- a part among parts of one length
 pub record BeginsWith (xs part : List ℕ) : Type 0 where

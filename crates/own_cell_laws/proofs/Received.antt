@@ -1,13 +1,12 @@
 -- Costs that speak for the path that was sent give its bytes, and these the packets.
 use Rattle.std.proofs.Common.{◌≡◌, ℕ, zero, suc, ◌+◌, ◌-◌, ◌*◌, ◌/◌, ◌%◌, ◌<◌, ◌≤◌, List, [], ◌∷◌, ◌++◌, length, get_or, take, drop, map, refl, sym, ap, ◌∙◌, subst, arith, Bool, false, cond}
-use Rattle.std.specs.Prelude.{IsTrue, Some, replicate, slice_index, nat_lt}
+use Rattle.std.specs.Prelude.{IsTrue, Option, Some, option_map, unwrap_or, replicate, slice_index, nat_lt}
 use Rattle.std.proofs.lemmas.Bool.{le-ltb}
 use Rattle.std.proofs.lemmas.List.{length-map}
 use Rattle.std.proofs.lemmas.List.FromFn.{get_or-map-range_with_len}
 use Rattle.spec_words.specs.Bits.{bit, is_set}
 use Rattle.spec_words.specs.Words.{numbers}
 use Rattle.spec_words.proofs.Counting.{length-numbers}
-use Rattle.mode_set.specs.StreamTable.{need}
 use Rattle.mode_set.specs.declared.modes.Start.{Start}
 use Rattle.mode_set.specs.declared.modes.Start.TheVariants.{Zero}
 use Rattle.mode_set.specs.declared.modes.Stream.{Stream}
@@ -26,11 +25,11 @@ use Rattle.outer_chain.specs.SendingLaws.{ByteAfterByte}
 use Rattle.outer_chain.specs.Laws.{OuterAreBytes, OwnBytes, OwnTally}
 use Rattle.inner_chain.specs.PairLists.{pair_of}
 use Rattle.inner_chain.specs.Labels.{from_step}
-use Rattle.symbol_spans.specs.Spans.{settings_at, exists_in, steps_of, steps_before, IsStepOf, words_before}
-use Rattle.symbol_spans.specs.Laws.{SettingsStay, StepsOfOneMore, StepsHaveSymbols, StepsAreOfAStream, ConstantSteps, SpansHaveWholeWords}
+use Rattle.symbol_spans.specs.Spans.{exists_in, steps_of, steps_before, IsStepOf, words_before}
+use Rattle.symbol_spans.specs.Laws.{StepsOfOneMore, StepsHaveSymbols, StepsAreOfAStream, SpansHaveWholeWords}
 use Rattle.transmission.specs.Transmission.{Inputs, paths_of, paths_at}
 use Rattle.transmission.specs.SuperFrames.{super_frames, counts_of, symbols_of}
-use Rattle.reception.specs.Cells.{symbols, symbol_cells, symbol_weights}
+use Rattle.reception.specs.Cells.{symbols}
 use Rattle.reception.specs.Costs.{costs}
 use Rattle.reception.specs.Laws.{CostsAreSteps, CostOfStep}
 use Rattle.reception.specs.Streams.{memory, start_of, Reception, Final}
@@ -178,9 +177,9 @@ sent_bytes_of own packets n h = ap bytes_of (sent_rest (outer_byte packets) n) �
 words_are : (steps words : ℕ) → 1632 * words ≡ steps → steps / 8 / 204 ≡ words
 words_are steps words e = omega (arith, e)
 
-symbols_are : (s : Settings) (inputs : Inputs) → symbols_of s inputs ≡ 272 * super_frames s (counts_of inputs)
+symbols_are : (s : Settings) (inputs : Inputs) (n : ℕ) → super_frames s (counts_of inputs) ≡ Some n → symbols_of s inputs ≡ 272 * n
 unfolding symbols_of
-symbols_are s inputs = refl
+symbols_are s inputs n e = ap (λ (o : Option ℕ). unwrap_or (option_map (λ k. 272 * k) o) (s.max_symbols + 1)) e
 
 -- the bits at the end are those that were sent
 ended_bytes : AreKnown → AreSteps → AreListed → ListsArePaths → AreOwn → (s : Settings) (inputs : Inputs) (bytes : List ℕ) (r : Reception) (σ : Stream) (e : s.start ≡ Zero) → HavePackets s inputs → IsWithin s inputs bytes → (f : Final s bytes r)
@@ -190,21 +189,20 @@ ended_bytes known steps listed lists own s inputs bytes r σ e have w f exists =
     let n : ℕ = steps_before s σ (symbols s bytes) in
     ap bytes_of ((own.keeps memory).ended (replicate 6 false) (sent_path (outer_byte (inputs σ)) n) (f.bits σ) (costs s bytes σ) (all_speak known steps listed lists s inputs bytes σ w) ended) ∙ sent_bytes_of own (inputs σ) n (have σ exists)
 
-word_count_is : AreOwn → (s : Settings) (inputs : Inputs) (bytes : List ℕ) (σ : Stream) → IsWithin s inputs bytes → steps_before s σ (symbols s bytes) / 8 / 204 - 11 ≡ words_of s inputs σ
-word_count_is own s inputs bytes σ w =
-    let f : ℕ = super_frames s (counts_of inputs) in
-    ap (λ (z : ℕ). z - 11) (words_are (steps_before s σ (symbols s bytes)) (words_before s σ f) (own.whole s σ f ∙ ap (steps_before s σ) (sym (w.all ∙ symbols_are s inputs))))
+word_count_is : AreOwn → (s : Settings) (inputs : Inputs) (bytes : List ℕ) (n : ℕ) (σ : Stream) → super_frames s (counts_of inputs) ≡ Some n → IsWithin s inputs bytes → steps_before s σ (symbols s bytes) / 8 / 204 - 11 ≡ words_of s σ n
+word_count_is own s inputs bytes n σ frames w =
+    ap (λ (z : ℕ). z - 11) (words_are (steps_before s σ (symbols s bytes)) (words_before s σ n) (own.whole s σ n ∙ ap (steps_before s σ) (sym (w.all ∙ symbols_are s inputs n frames))))
 
 pub noise_law : AreKnown → AreSteps → AreListed → ListsArePaths → AreOwn → NoiseLaw
-noise_law known steps listed lists own s inputs bytes r e have w f σ exists =
+noise_law known steps listed lists own s inputs bytes r e have w f n σ frames exists =
     own.packets (inputs σ) (steps_before s σ (symbols s bytes) / 8) (r.packets σ) (have σ exists) (subst (λ (z : List ℕ). Packets z (r.packets σ)) (ended_bytes known steps listed lists own s inputs bytes r σ e have w f exists) (f.packets σ))
-    ∙ ap (first_packets (inputs σ)) (word_count_is own s inputs bytes σ w)
+    ∙ ap (first_packets (inputs σ)) (word_count_is own s inputs bytes n σ frames w)
 
 all_clean : ℕ → Tally
 all_clean n = record { words = n; clean = n; corrected = 0; bad = 0; unphased = 0 }
 
 pub noise_is_clean : AreKnown → AreSteps → AreListed → ListsArePaths → AreOwn → NoiseIsClean
 unfolding all_clean
-noise_is_clean known steps listed lists own s inputs bytes r e have w f σ exists =
+noise_is_clean known steps listed lists own s inputs bytes r e have w f n σ frames exists =
     own.tally (inputs σ) (steps_before s σ (symbols s bytes) / 8) (r.tally σ) (have σ exists) (subst (λ (z : List ℕ). Tallies z (r.tally σ)) (ended_bytes known steps listed lists own s inputs bytes r σ e have w f exists) (f.tally σ))
-    ∙ ap all_clean (word_count_is own s inputs bytes σ w)
+    ∙ ap all_clean (word_count_is own s inputs bytes n σ frames w)

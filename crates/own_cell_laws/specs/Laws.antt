@@ -1,5 +1,5 @@
 -- The laws of own cells, each the clause of a public function of the module laws.
-use Rattle.std.specs.Prelude.{◌≡◌, ℕ, ◌-◌, ◌<◌, IsTrue, List, ◌++◌, length, replicate}
+use Rattle.std.specs.Prelude.{◌≡◌, ℕ, ◌-◌, ◌<◌, IsTrue, List, ◌++◌, length, replicate, Some}
 use Rattle.std.specs.List.{concat}
 use Rattle.mode_set.specs.StreamTable.{carriers}
 use Rattle.mode_set.specs.declared.modes.Start.TheVariants.{Zero}
@@ -9,7 +9,7 @@ use Rattle.ts_packet.specs.Packet.{null_packet}
 use Rattle.qam_map.specs.Cells.{cell_of}
 use Rattle.symbol_spans.specs.Spans.{exists_in}
 use Rattle.transmission.specs.Transmission.{Inputs, tx_cell}
-use Rattle.transmission.specs.SuperFrames.{symbols_of, tx}
+use Rattle.transmission.specs.SuperFrames.{counts_of, super_frames, symbols_of, tx}
 use Rattle.reception.specs.Cells.{symbol_cells}
 use Rattle.reception.specs.Streams.{Reception, Final}
 use Rattle.own_cell_laws.specs.Returned.{words_of, returned, HavePackets, IsReturned, AreClean, IsWithin}
@@ -46,5 +46,5 @@ OwnAreClean = (s : Settings) (inputs : Inputs) (r : Reception) → s.start ≡ Z
 
 -- the packets of a stream, and null packets behind them
 abbrev pub PacketsThenNulls : Type 0
-PacketsThenNulls = (s : Settings) (inputs : Inputs) (σ : Stream) → IsTrue (exists_in s σ)
-    → returned s inputs σ ≡ concat (inputs σ) ++ concat (replicate (words_of s inputs σ - length (inputs σ)) null_packet)
+PacketsThenNulls = (s : Settings) (inputs : Inputs) (n : ℕ) (σ : Stream) → super_frames s (counts_of inputs) ≡ Some n → IsTrue (exists_in s σ)
+    → returned s inputs σ n ≡ concat (inputs σ) ++ concat (replicate (words_of s σ n - length (inputs σ)) null_packet)

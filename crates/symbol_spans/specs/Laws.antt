@@ -1,7 +1,10 @@
 -- The laws of settings, steps and words along a transmission, each the clause of a public function of the module laws.
-use Rattle.std.specs.Prelude.{◌≡◌, ℕ, ◌+◌, ◌*◌, ◌<◌, ◌≤◌, IsTrue}
+use Rattle.std.specs.Prelude.{◌≡◌, ℕ, ◌+◌, ◌*◌, ◌<◌, ◌≤◌, IsTrue, true, []}
+use Rattle.mode_set.specs.Entries.{entry, has_lp, with_entry}
+use Rattle.mode_set.specs.Plans.{entries_of}
 use Rattle.mode_set.specs.StreamTable.{has_stream, need, words_per_super_frame}
 use Rattle.mode_set.specs.declared.modes.Stream.{Stream}
+use Rattle.mode_set.specs.declared.modes.Stream.TheVariants.{Hp, Lp}
 use Rattle.mode_set.specs.declared.settings.Settings.{Settings}
 use Rattle.symbol_spans.specs.Spans.{settings_in, exists_in, steps_of, steps_before, IsStepOf, words_in, words_before}
 
@@ -17,13 +20,30 @@ GuardStays = (s : Settings) (j : ℕ) → (settings_in s j).guard ≡ s.guard
 abbrev pub CellIdStays : Type 0
 CellIdStays = (s : Settings) (j : ℕ) → (settings_in s j).cell_id ≡ s.cell_id
 
+abbrev pub StartStays : Type 0
+StartStays = (s : Settings) (j : ℕ) → (settings_in s j).start ≡ s.start
+
+-- all that changes are the parameters of the super-frame
+abbrev pub ParametersChange : Type 0
+ParametersChange = (s : Settings) (j : ℕ) → settings_in s j ≡ with_entry s (entry s j)
+
+-- HP is in each transmission, LP in those of which some super-frame may have it
+abbrev pub HpExists : Type 0
+HpExists = (s : Settings) → exists_in s Hp ≡ true
+
+abbrev pub LpExists : Type 0
+LpExists = (s : Settings) → exists_in s Lp ≡ has_lp s
+
 -- a stream of the settings themselves exists
 abbrev pub StreamsExist : Type 0
 StreamsExist = (s : Settings) (σ : Stream) → IsTrue (has_stream s.hierarchy σ) → IsTrue (exists_in s σ)
 
--- all settings are as they were
+-- without a plan all settings stay, and the streams are those of the settings
 abbrev pub SettingsStay : Type 0
-SettingsStay = (s : Settings) (j : ℕ) → settings_in s j ≡ s
+SettingsStay = (s : Settings) (j : ℕ) → entries_of s.plan ≡ [] → settings_in s j ≡ s
+
+abbrev pub ConstantStreams : Type 0
+ConstantStreams = (s : Settings) (σ : Stream) → entries_of s.plan ≡ [] → exists_in s σ ≡ has_stream s.hierarchy σ
 
 -- ---- steps
 
@@ -52,10 +72,7 @@ pub record IsThere (s : Settings) (σ : Stream) (j : ℕ) : Type 0 where
 abbrev pub StepsAreOfAStream : Type 0
 StepsAreOfAStream = (s : Settings) (σ : Stream) (j : ℕ) → 0 < need (settings_in s j) σ → IsThere s σ j
 
--- where no settings change all symbols are alike, and the streams are those of the settings
-abbrev pub ConstantStreams : Type 0
-ConstantStreams = (s : Settings) (σ : Stream) → ((j : ℕ) → settings_in s j ≡ s) → exists_in s σ ≡ has_stream s.hierarchy σ
-
+-- where no settings change all symbols are alike
 abbrev pub ConstantSteps : Type 0
 ConstantSteps = (s : Settings) (σ : Stream) (m : ℕ) → ((j : ℕ) → settings_in s j ≡ s) → steps_before s σ m ≡ m * need s σ
 

@@ -1,21 +1,24 @@
 -- The settings of each symbol and super-frame of a transmission, and how much of a stream comes before them (EN 300 744, 4.4 and 4.7).
-use Rattle.std.specs.Prelude.{ℕ, ◌+◌, ◌/◌, ◌<◌, ◌≤◌, Bool, sum_by}
+use Rattle.std.specs.Prelude.{ℕ, ◌+◌, ◌/◌, ◌<◌, ◌≤◌, Bool, true, sum_by}
 use Rattle.spec_words.specs.Words.{numbers}
-use Rattle.mode_set.specs.StreamTable.{has_stream, need, words_per_super_frame}
+use Rattle.mode_set.specs.Entries.{entry, has_lp, with_entry}
+use Rattle.mode_set.specs.StreamTable.{need, words_per_super_frame}
 use Rattle.mode_set.specs.declared.modes.Stream.{Stream}
+use Rattle.mode_set.specs.declared.modes.Stream.TheVariants.{Hp, Lp}
 use Rattle.mode_set.specs.declared.settings.Settings.{Settings}
 
--- the settings of super-frame j: no settings change within a transmission yet
+-- the settings of super-frame j: those of the transmission, with the parameters of that super-frame
 unfoldable pub settings_in : Settings → ℕ → Settings
-settings_in s j = s
+settings_in s j = with_entry s (entry s j)
 
 -- the settings of symbol m: a super-frame has 272 symbols
 abbrev pub settings_at : Settings → ℕ → Settings
 settings_at s m = settings_in s (m / 272)
 
--- whether a stream exists in a transmission of these settings
+-- whether a stream exists in a transmission of these settings: HP always, LP where some super-frame may have it
 unfoldable pub exists_in : Settings → Stream → Bool
-exists_in s σ = has_stream s.hierarchy σ
+exists_in s Hp = true
+exists_in s Lp = has_lp s
 
 -- the steps of a stream in symbol m, none where it is absent
 abbrev pub steps_of : Settings → Stream → ℕ → ℕ

@@ -1,14 +1,18 @@
 // The laws of the spans of a transmission, as contracts of functions that do nothing.
-ghost use Rattle.symbol_spans.specs.Laws.{ModeStays, GuardStays, CellIdStays, StreamsExist, SettingsStay, NoSteps, StepsOfOneMore, StepsGrow, StepsHaveSymbols, OneSymbol, ConstantStreams, ConstantSteps, NoWords, WordsOfOneMore, WordsGrow, SpansHaveWholeWords, ConstantWords, StepsAreOfAStream};
+ghost use Rattle.symbol_spans.specs.Laws.{ModeStays, GuardStays, CellIdStays, StartStays, ParametersChange, HpExists, LpExists, StreamsExist, SettingsStay, NoSteps, StepsOfOneMore, StepsGrow, StepsHaveSymbols, OneSymbol, ConstantStreams, ConstantSteps, NoWords, WordsOfOneMore, WordsGrow, SpansHaveWholeWords, ConstantWords, StepsAreOfAStream};
 
 use mode_set::super_frames_have_whole_words;
 
-/// The settings of a super-frame keep the mode, the guard interval and the cell identifier. No settings
-/// change within a transmission yet, so they are even the settings themselves.
+/// The settings of a super-frame are those of the transmission with its own parameters; mode, guard
+/// interval, cell identifier and start stay. Without a plan all settings stay.
 pub fn settings()
     ensures mode { ModeStays }
     ensures guard { GuardStays }
     ensures cell_id { CellIdStays }
+    ensures start { StartStays }
+    ensures parameters { ParametersChange }
+    ensures hp { HpExists }
+    ensures lp { LpExists }
     ensures exist { StreamsExist }
     ensures same { SettingsStay }
     ensures streams { ConstantStreams }

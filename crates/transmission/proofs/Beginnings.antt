@@ -24,10 +24,11 @@ use Rattle.bit_interleave.specs.Place.{place_in_label, word_of_bit, offset, stan
 use Rattle.symbol_interleave.specs.Carried.{h, carried, is_odd, HIsAPermutation, PlacesAndWordsAgree}
 use Rattle.outer_chain.specs.Sent.{packet_at, outer_byte}
 use Rattle.inner_chain.specs.Labels.{number_at, label_bit}
-use Rattle.frame_build.specs.Symbol.{symbol_bytes, Agree}
+use Rattle.frame_build.specs.Announcing.{announcing_bytes}
+use Rattle.frame_build.specs.Symbol.{Agree}
 use Rattle.symbol_spans.specs.Spans.{settings_at, steps_of, steps_before}
-use Rattle.symbol_spans.specs.Laws.{SettingsStay, StepsOfOneMore}
-use Rattle.transmission.specs.Transmission.{Inputs, paths_at, tx_label, tx_symbol}
+use Rattle.symbol_spans.specs.Laws.{ModeStays, StepsOfOneMore}
+use Rattle.transmission.specs.Transmission.{Inputs, announced_at, paths_at, tx_label, tx_symbol}
 use Rattle.transmission.specs.SuperFrames.{packets_for}
 use Rattle.transmission.specs.Laws.{SameBeginning}
 use Rattle.transmission.proofs.PacketCounts.{the_packets_are_least}
@@ -314,9 +315,9 @@ same_labels known s inputs other m same q e l k =
     same_coded_bit known.steps z σ (number_at z e w) (paths_at s inputs m σ) (paths_at s other m σ) (number_within known.found z e w k (word_within known.permutation known.agree z.mode (is_odd m) q l))
     (same_paths known.bytes known.more s inputs other m σ (same σ))
 
--- symbols follow their labels, by the settings of the symbol
-pub same_beginning : (s : Settings) (m : ℕ) → SettingsStay → AreCoded → ((labels more : ℕ → ℕ → Bool) → Agree s labels more → symbol_bytes s m labels ≡ symbol_bytes s m more) → SameBeginning s m
+-- symbols follow their labels, whatever the settings of their mode
+pub same_beginning : (s : Settings) (m : ℕ) → ModeStays → AreCoded
+    → ((now next : Settings) (labels more : ℕ → ℕ → Bool) → now.mode ≡ s.mode → Agree now labels more → announcing_bytes now next m labels ≡ announcing_bytes now next m more) → SameBeginning s m
 unfolding tx_symbol
 same_beginning s m stay known follows inputs other same =
-    subst (λ (z : Settings). ((labels more : ℕ → ℕ → Bool) → Agree z labels more → symbol_bytes z m labels ≡ symbol_bytes z m more)) (sym (stay s (m / 272))) follows
-    (tx_label s inputs m) (tx_label s other m) (same_labels known s inputs other m same)
+    follows (settings_at s m) (announced_at s m) (tx_label s inputs m) (tx_label s other m) (stay s (m / 272)) (same_labels known s inputs other m same)

@@ -1,11 +1,12 @@
 -- The number of super-frames is the least that suffices.
-use Rattle.std.proofs.Common.{◌≡◌, ℕ, ◌+◌, ◌-◌, ◌*◌, ◌/◌, ◌<◌, ◌≤◌, ◌⊎◌, inl, inr, refl, sym, ◌∙◌, arith, Bool, true, false, IsTrue, max, not}
+use Rattle.std.proofs.Common.{◌≡◌, ℕ, ◌+◌, ◌-◌, ◌*◌, ◌/◌, ◌<◌, ◌≤◌, ◌⊎◌, inl, inr, [], refl, sym, ap, ◌∙◌, subst, arith, Bool, true, false, IsTrue, max, not}
 use Rattle.std.proofs.lemmas.Nat.{le-div}
 use Rattle.std.proofs.lemmas.Bool.{cases_lt}
 use Rattle.std.proofs.Math.Nat.{mul-le-mul_right, le-max_left, le-max_right, max-le}
-use Rattle.std.specs.Prelude.{if◌then◌else◌}
+use Rattle.std.specs.Prelude.{if◌then◌else◌, Option, Some, None}
 use Rattle.spec_words.specs.Words.{rounded_up}
 use Rattle.mode_set.specs.Kept.{is_flat, is_qpsk}
+use Rattle.mode_set.specs.Plans.{entries_of}
 use Rattle.mode_set.specs.StreamTable.{payload, width, has_stream, steps_in_period, sent_in_period, words_per_super_frame, rate}
 use Rattle.mode_set.specs.declared.modes.Mode.{Mode}
 use Rattle.mode_set.specs.declared.modes.Mode.TheVariants.{M2k, M8k}
@@ -20,8 +21,8 @@ use Rattle.mode_set.specs.declared.modes.Stream.TheVariants.{Hp, Lp}
 use Rattle.mode_set.specs.declared.settings.Settings.{Settings}
 use Rattle.symbol_spans.specs.Spans.{exists_in, words_before}
 use Rattle.symbol_spans.specs.Laws.{WordsGrow}
-use Rattle.transmission.specs.SuperFrames.{Suffices, AreSuperFrames, super_frames_for, super_frames}
-use Rattle.transmission.specs.Laws.{TheFormulaIsLeast, OneNumber, TooFew, Enough}
+use Rattle.transmission.specs.SuperFrames.{Suffices, AreSuperFrames, IsLength, frames_by_formula, frames_by_formula_for, super_frames}
+use Rattle.transmission.specs.Laws.{TheNumberIsFound, OneLength, TooFew, Enough, ConstantFrames}
 use Rattle.transmission.proofs.Rounding.{enough, least}
 
 positive : (m : Mode) (r : Rate) (w : ℕ) → 2 ≤ w → 0 < 272 * (payload m * w * steps_in_period r / sent_in_period r) / 1632
@@ -86,41 +87,41 @@ unfolding frames
 short_enough true f g k l m = l
 short_enough false f g k l m = let n : g ≤ k = m refl in max-le l n
 
--- all super-frames are alike
-pub record AreAlike : Type 0 where
-  pub words : (s : Settings) (σ : Stream) (n : ℕ) → words_before s σ n ≡ n * words_per_super_frame s σ
-  pub streams : (s : Settings) (σ : Stream) → exists_in s σ ≡ has_stream s.hierarchy σ
+-- all super-frames of a transmission are alike
+pub record AreAlike (s : Settings) : Type 0 where
+  pub words : (σ : Stream) (n : ℕ) → words_before s σ n ≡ n * words_per_super_frame s σ
+  pub streams : (σ : Stream) → exists_in s σ ≡ has_stream s.hierarchy σ
 
 -- so many super-frames carry a stream, by the words of one
 abbrev Carries : Settings → (Stream → ℕ) → ℕ → Stream → Type 0
 Carries s counts n σ = IsTrue (has_stream s.hierarchy σ) → counts σ + 11 ≤ n * words_per_super_frame s σ
 
-carries : AreAlike → (s : Settings) (counts : Stream → ℕ) (n : ℕ) → Suffices s counts n → (σ : Stream) → Carries s counts n σ
-carries alike s counts n all σ has = let w = alike.words s σ n in let l = all σ (alike.streams s σ ∙ has) in omega (arith, w, l)
+carries : (s : Settings) → AreAlike s → (counts : Stream → ℕ) (n : ℕ) → Suffices s counts n → (σ : Stream) → Carries s counts n σ
+carries s alike counts n all σ has = let w = alike.words σ n in let l = all σ (alike.streams σ ∙ has) in omega (arith, w, l)
 
-suffices : AreAlike → (s : Settings) (counts : Stream → ℕ) (n : ℕ) → ((σ : Stream) → Carries s counts n σ) → Suffices s counts n
-suffices alike s counts n all σ exists = let w = alike.words s σ n in let l = all σ (sym (alike.streams s σ) ∙ exists) in omega (arith, w, l)
+suffices : (s : Settings) → AreAlike s → (counts : Stream → ℕ) (n : ℕ) → ((σ : Stream) → Carries s counts n σ) → Suffices s counts n
+suffices s alike counts n all σ exists = let w = alike.words σ n in let l = all σ (sym (alike.streams σ) ∙ exists) in omega (arith, w, l)
 
-pub the_formula_is_least : AreAlike → TheFormulaIsLeast
+pub the_formula_is_least : (s : Settings) → AreAlike s → (counts : Stream → ℕ) → AreSuperFrames s counts (frames_by_formula s counts)
 unfolding frames
-the_formula_is_least alike s counts =
+the_formula_is_least s alike counts =
     let b : Bool = is_flat s.hierarchy in
-    let f : ℕ = super_frames_for s counts Hp in
-    let g : ℕ = super_frames_for s counts Lp in
+    let f : ℕ = frames_by_formula_for s counts Hp in
+    let g : ℕ = frames_by_formula_for s counts Lp in
     let some_hp : 0 < words_per_super_frame s Hp = some_words s Hp refl in
     let one : 1 ≤ f = some_frame (counts Hp + 11) (words_per_super_frame s Hp) some_hp (omega arith) in
     let hp_fits : f ≤ frames b f g = long_enough b f g in
     record {
       some = omega (arith, one, hp_fits);
-      suffices = suffices alike s counts (frames b f g) (each s counts);
+      suffices = suffices s alike counts (frames b f g) (each s counts);
       least = λ k at_least all. short_enough b f g k
-          (least (counts Hp + 11) (words_per_super_frame s Hp) k some_hp (carries alike s counts k all Hp refl))
-          (λ has. least (counts Lp + 11) (words_per_super_frame s Lp) k (some_words s Lp has) (carries alike s counts k all Lp has));
+          (least (counts Hp + 11) (words_per_super_frame s Hp) k some_hp (carries s alike counts k all Hp refl))
+          (λ has. least (counts Lp + 11) (words_per_super_frame s Lp) k (some_words s Lp has) (carries s alike counts k all Lp has));
     }
   where
-    each : (s : Settings) (counts : Stream → ℕ) (σ : Stream) → Carries s counts (frames (is_flat s.hierarchy) (super_frames_for s counts Hp) (super_frames_for s counts Lp)) σ
-    each s counts Hp has = at_max (words_per_super_frame s Hp) (super_frames_for s counts Hp) (frames (is_flat s.hierarchy) (super_frames_for s counts Hp) (super_frames_for s counts Lp)) (counts Hp + 11) (enough (counts Hp + 11) (words_per_super_frame s Hp) (some_words s Hp has)) (long_enough (is_flat s.hierarchy) (super_frames_for s counts Hp) (super_frames_for s counts Lp))
-    each s counts Lp has = at_max (words_per_super_frame s Lp) (super_frames_for s counts Lp) (frames (is_flat s.hierarchy) (super_frames_for s counts Hp) (super_frames_for s counts Lp)) (counts Lp + 11) (enough (counts Lp + 11) (words_per_super_frame s Lp) (some_words s Lp has)) (long_enough_lp (is_flat s.hierarchy) (super_frames_for s counts Hp) (super_frames_for s counts Lp) has)
+    each : (s : Settings) (counts : Stream → ℕ) (σ : Stream) → Carries s counts (frames (is_flat s.hierarchy) (frames_by_formula_for s counts Hp) (frames_by_formula_for s counts Lp)) σ
+    each s counts Hp has = at_max (words_per_super_frame s Hp) (frames_by_formula_for s counts Hp) (frames (is_flat s.hierarchy) (frames_by_formula_for s counts Hp) (frames_by_formula_for s counts Lp)) (counts Hp + 11) (enough (counts Hp + 11) (words_per_super_frame s Hp) (some_words s Hp has)) (long_enough (is_flat s.hierarchy) (frames_by_formula_for s counts Hp) (frames_by_formula_for s counts Lp))
+    each s counts Lp has = at_max (words_per_super_frame s Lp) (frames_by_formula_for s counts Lp) (frames (is_flat s.hierarchy) (frames_by_formula_for s counts Hp) (frames_by_formula_for s counts Lp)) (counts Lp + 11) (enough (counts Lp + 11) (words_per_super_frame s Lp) (some_words s Lp has)) (long_enough_lp (is_flat s.hierarchy) (frames_by_formula_for s counts Hp) (frames_by_formula_for s counts Lp) has)
 
 -- from the definition alone, for any number that has it
 too_few_for : WordsGrow → (s : Settings) (counts : Stream → ℕ) (k n : ℕ) (σ : Stream) → AreSuperFrames s counts k → IsTrue (exists_in s σ) → words_before s σ n < counts σ + 11 → n < k
@@ -139,11 +140,30 @@ one_for s counts k n a b =
     let m : n ≤ k = b.least k a.some a.suffices in
     omega (arith, l, m)
 
-pub one_number : TheFormulaIsLeast → OneNumber
-one_number least s counts n are = one_for s counts (super_frames s counts) n (least s counts) are
+length_for : (s : Settings) (counts : Stream → ℕ) (o u : Option ℕ) → IsLength s counts o → IsLength s counts u → u ≡ o
+length_for s counts None None a b = refl
+length_for s counts None (Some k) a b = absurd (a k b.some b.suffices)
+length_for s counts (Some n) None a b = absurd (b n a.some a.suffices)
+length_for s counts (Some n) (Some k) a b = ap Some (one_for s counts k n b a)
 
-pub too_few : WordsGrow → TheFormulaIsLeast → TooFew
-too_few grow least s counts n σ has few = too_few_for grow s counts (super_frames s counts) n σ (least s counts) has few
+pub one_length : TheNumberIsFound → OneLength
+one_length found s counts o is = length_for s counts o (super_frames s counts) is (found s counts)
 
-pub enough_frames : TheFormulaIsLeast → Enough
-enough_frames least s counts n some all = (least s counts).least n some all
+-- the number that is found has the definition
+pub is_least : TheNumberIsFound → (s : Settings) (counts : Stream → ℕ) (k : ℕ) → super_frames s counts ≡ Some k → AreSuperFrames s counts k
+is_least found s counts k e = subst (IsLength s counts) e (found s counts)
+
+pub too_few : WordsGrow → TheNumberIsFound → TooFew
+too_few grow found s counts k n σ e has few = too_few_for grow s counts k n σ (is_least found s counts k e) has few
+
+-- where a number suffices one is found
+enough_for : (s : Settings) (counts : Stream → ℕ) (n : ℕ) (o : Option ℕ) → super_frames s counts ≡ o → IsLength s counts o → 1 ≤ n → Suffices s counts n
+    → (k : ℕ) × (super_frames s counts ≡ Some k) × (k ≤ n)
+enough_for s counts n None e is some all = absurd (is n some all)
+enough_for s counts n (Some k) e is some all = (k, e, is.least n some all)
+
+pub enough_frames : TheNumberIsFound → Enough
+enough_frames found s counts n some all = enough_for s counts n (super_frames s counts) refl (found s counts) some all
+
+pub constant_frames : ((s : Settings) → entries_of s.plan ≡ [] → AreAlike s) → OneLength → ConstantFrames
+constant_frames alike one s counts none = one s counts (Some (frames_by_formula s counts)) (the_formula_is_least s (alike s none) counts)

@@ -1,5 +1,7 @@
 pub mod Rounding
+pub mod Finding
 pub mod LeastFrames
+pub mod Endless
 pub mod PacketCounts
 pub mod SymbolLists
 pub mod Items

@@ -10,16 +10,17 @@ use Rattle.spec_words.proofs.Counting.{numbers_end}
 use Rattle.mode_set.specs.StreamTable.{carriers}
 use Rattle.mode_set.specs.declared.modes.Mode.{Mode}
 use Rattle.mode_set.specs.declared.settings.Settings.{Settings}
-use Rattle.symbol_spans.specs.Spans.{settings_at}
+use Rattle.symbol_spans.specs.Spans.{settings_in, settings_at}
 use Rattle.symbol_spans.specs.Laws.{ModeStays}
 use Rattle.qam_map.specs.declared.cell.Cell.{Cell}
-use Rattle.frame_build.specs.Symbol.{cell_bytes, sent_bytes, symbol_bytes, cell_at}
-use Rattle.transmission.specs.Transmission.{Inputs, tx_label, tx_cell, tx_symbol, first_symbols}
+use Rattle.frame_build.specs.Announcing.{announcing_bytes, announcing_cell}
+use Rattle.frame_build.specs.Symbol.{cell_bytes, sent_bytes}
+use Rattle.transmission.specs.Transmission.{Inputs, announced_at, tx_label, tx_cell, tx_symbol, first_symbols}
 use Rattle.transmission.specs.Laws.{SymbolsAreCells, SymbolsAreLong, NoSymbol, OneSymbolMore, FrontOfSymbols, PartOfSymbols}
 
 pub symbols_are_cells : ModeStays → SymbolsAreCells
-unfolding tx_symbol tx_cell symbol_bytes
-symbols_are_cells stays s inputs m = ap (λ (z : Mode). flat_map (λ k. sent_bytes (cell_at (settings_at s m) m (tx_label s inputs m) k)) (numbers (carriers z))) (stays s (m / 272))
+unfolding tx_symbol tx_cell announcing_bytes
+symbols_are_cells stays s inputs m = ap (λ (z : Mode). flat_map (λ k. sent_bytes (announcing_cell (settings_at s m) (announced_at s m) m (tx_label s inputs m) k)) (numbers (carriers z))) (stays s (m / 272))
 
 five : (c : Cell) → length (sent_bytes c) ≡ 5
 unfolding sent_bytes cell_bytes
@@ -34,9 +35,9 @@ all_long f c a (suc n) each =
     omega (arith, rest, here, both)
 
 pub symbols_are_long : ModeStays → SymbolsAreLong
-unfolding tx_symbol symbol_bytes numbers
+unfolding tx_symbol announcing_bytes numbers
 symbols_are_long stays s inputs m =
-    all_long (λ k. sent_bytes (cell_at (settings_at s m) m (tx_label s inputs m) k)) 5 0 (carriers (settings_at s m).mode) (λ k. five (cell_at (settings_at s m) m (tx_label s inputs m) k))
+    all_long (λ k. sent_bytes (announcing_cell (settings_at s m) (announced_at s m) m (tx_label s inputs m) k)) 5 0 (carriers (settings_at s m).mode) (λ k. five (announcing_cell (settings_at s m) (announced_at s m) m (tx_label s inputs m) k))
     ∙ ap (λ (z : Mode). 5 * carriers z) (stays s (m / 272))
 
 pub no_symbol : NoSymbol

@@ -17,7 +17,8 @@ use Rattle.qam_map.specs.Points.{map_cell}
 use Rattle.pilots.specs.Reference.{reference, eleven_from}
 use Rattle.pilots.specs.Carriers.{kind, is_continual, is_scattered, is_tps, is_payload, tps_carriers}
 use Rattle.tps_word.specs.Tps.{tps_word, tps_info, sync_word}
-use Rattle.frame_build.specs.Symbol.{cell_at, cell_of_kind, cell_bytes, sent_bytes, tps_sign}
+use Rattle.frame_build.specs.Announcing.{announcing_cell}
+use Rattle.frame_build.specs.Symbol.{cell_of_kind, cell_bytes, sent_bytes, tps_sign}
 use Rattle.symbol_spans.specs.Spans.{settings_in, steps_before}
 use Rattle.transmission.specs.Transmission.{Inputs, by_stream, tx_label, tx_cell}
 use Rattle.transmission.proofs.VectorSettings.{flat}
@@ -29,19 +30,19 @@ abbrev nothing : Inputs
 nothing = by_stream [] []
 
 carrier_0 : sent_bytes (tx_cell base nothing 0 0) ≡ 0xAA ∷ 0xAB ∷ 0x00 ∷ 0x00 ∷ 0x0F ∷ []
-unfolding tx_cell settings_in cell_at cell_of_kind sent_bytes cell_bytes kind is_continual numbers reference eleven_from
+unfolding tx_cell settings_in announcing_cell cell_of_kind sent_bytes cell_bytes kind is_continual numbers reference eleven_from
 carrier_0 = refl
 
 carrier_12 : sent_bytes (tx_cell base nothing 0 12) ≡ 0x55 ∷ 0x55 ∷ 0x00 ∷ 0x00 ∷ 0x0F ∷ []
-unfolding tx_cell settings_in cell_at cell_of_kind sent_bytes cell_bytes kind is_continual is_scattered numbers reference eleven_from
+unfolding tx_cell settings_in announcing_cell cell_of_kind sent_bytes cell_bytes kind is_continual is_scattered numbers reference eleven_from
 carrier_12 = refl
 
 carrier_34 : sent_bytes (tx_cell base nothing 0 34) ≡ 0x40 ∷ 0x00 ∷ 0x00 ∷ 0x00 ∷ 0x0F ∷ []
-unfolding tx_cell settings_in cell_at cell_of_kind sent_bytes cell_bytes kind is_continual is_scattered is_tps tps_carriers tps_sign numbers reference eleven_from
+unfolding tx_cell settings_in announcing_cell cell_of_kind sent_bytes cell_bytes kind is_continual is_scattered is_tps tps_carriers tps_sign numbers reference eleven_from
 carrier_34 = refl
 
 later_34 : sent_bytes (tx_cell base nothing 3 34) ≡ 0xC0 ∷ 0x00 ∷ 0x00 ∷ 0x00 ∷ 0x0F ∷ []
-unfolding tx_cell settings_in cell_at cell_of_kind sent_bytes cell_bytes kind is_continual is_scattered is_tps tps_carriers tps_sign tps_word tps_info sync_word numbers reference eleven_from
+unfolding tx_cell settings_in announcing_cell cell_of_kind sent_bytes cell_bytes kind is_continual is_scattered is_tps tps_carriers tps_sign tps_word tps_info sync_word numbers reference eleven_from
 later_34 = refl
 
 -- the first byte sent is the inverted sync byte, and the eighth is a zero of the delay lines
@@ -82,5 +83,5 @@ unfolding numbers sent_bytes cell_bytes
 cell_of y e f = rw (e, f) refl
 
 carrier_1 : sent_bytes (tx_cell base nothing 0 1) ≡ 0xD2 ∷ 0xBF ∷ 0x2D ∷ 0x41 ∷ 0x0F ∷ []
-unfolding tx_cell settings_in cell_at cell_of_kind kind is_continual is_scattered is_tps is_payload tps_carriers numbers
+unfolding tx_cell settings_in announcing_cell cell_of_kind kind is_continual is_scattered is_tps is_payload tps_carriers numbers
 carrier_1 = cell_of (tx_label base nothing 0 0) label_0 label_1

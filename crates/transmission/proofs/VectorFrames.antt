@@ -1,5 +1,6 @@
 -- How many words a super-frame has (EN 300 744, 4.7), and how many super-frames some transmissions.
 use Rattle.std.proofs.Common.{◌≡◌, ℕ, ◌*◌, List, [], ◌∷◌, map, refl}
+use Rattle.std.specs.Prelude.{Some}
 use Rattle.mode_set.specs.StreamTable.{need, words_per_super_frame}
 use Rattle.mode_set.specs.declared.modes.Mode.{Mode}
 use Rattle.mode_set.specs.declared.modes.Mode.TheVariants.{M2k, M8k}
@@ -9,7 +10,7 @@ use Rattle.mode_set.specs.declared.modes.Rate.{Rate}
 use Rattle.mode_set.specs.declared.modes.Rate.TheVariants.{R1of2, R2of3, R3of4, R5of6, R7of8}
 use Rattle.mode_set.specs.declared.modes.Stream.TheVariants.{Hp, Lp}
 use Rattle.spec_words.specs.Words.{numbers}
-use Rattle.symbol_spans.specs.Spans.{settings_in, steps_before}
+use Rattle.symbol_spans.specs.Spans.{exists_in, settings_in, steps_before, words_before}
 use Rattle.transmission.specs.Transmission.{by_stream}
 use Rattle.transmission.specs.SuperFrames.{super_frames, packets_for}
 use Rattle.transmission.proofs.VectorSettings.{flat, two_16, two_64}
@@ -61,23 +62,29 @@ unfolding rates
 needs = refl
 
 -- one super-frame at least; eleven words more than there are packets
-no_packet : super_frames (flat M2k Qpsk R1of2) (by_stream 0 0) ≡ 1
+no_packet : super_frames (flat M2k Qpsk R1of2) (by_stream 0 0) ≡ Some 1
+unfolding super_frames exists_in settings_in words_before numbers
 no_packet = refl
 
-just_one : super_frames (flat M2k Qpsk R1of2) (by_stream 241 0) ≡ 1
+just_one : super_frames (flat M2k Qpsk R1of2) (by_stream 241 0) ≡ Some 1
+unfolding super_frames exists_in settings_in words_before numbers
 just_one = refl
 
-just_two : super_frames (flat M2k Qpsk R1of2) (by_stream 242 0) ≡ 2
+just_two : super_frames (flat M2k Qpsk R1of2) (by_stream 242 0) ≡ Some 2
+unfolding super_frames exists_in settings_in words_before numbers
 just_two = refl
 
-two : super_frames (flat M2k Qpsk R1of2) (by_stream 300 0) ≡ 2
+two : super_frames (flat M2k Qpsk R1of2) (by_stream 300 0) ≡ Some 2
+unfolding super_frames exists_in settings_in words_before numbers
 two = refl
 
-three : super_frames (flat M8k Qam64 R2of3) (by_stream 10000 0) ≡ 3
+three : super_frames (flat M8k Qam64 R2of3) (by_stream 10000 0) ≡ Some 3
+unfolding super_frames exists_in settings_in words_before numbers
 three = refl
 
 -- with a hierarchy the longer stream decides
-longer_lp : super_frames (two_64 M8k R2of3 R3of4) (by_stream 1000 4000) ≡ 2
+longer_lp : super_frames (two_64 M8k R2of3 R3of4) (by_stream 1000 4000) ≡ Some 2
+unfolding super_frames exists_in settings_in words_before numbers
 longer_lp = refl
 
 -- the packets of the first symbols: one outer word has 1632 bits

@@ -4,7 +4,7 @@ use Rattle.mode_set.specs.declared.modes.Stream.{Stream}
 use Rattle.mode_set.specs.declared.modes.Stream.TheVariants.{Hp, Lp}
 use Rattle.mode_set.specs.declared.settings.Settings.{Settings}
 use Rattle.transmission.specs.Transmission.{Inputs, by_stream}
-use Rattle.transmission.specs.SuperFrames.{packets_for, symbols_of}
+use Rattle.transmission.specs.SuperFrames.{counts_of, packets_for, super_frames, symbols_of}
 use Rattle.transmission.specs.Agenda.{Refusal, Limit, packet_refusal, first_refusal, symbols_sent, next_stream, IsEnoughFor}
 
 -- a point of the order of work before which nothing was refused: m symbols were sent, and so many packets taken of HP and of LP
@@ -56,6 +56,10 @@ StopsAtPacket = (s : Settings) (most : ℕ) (inputs : Inputs) (m hp lp : ℕ) (�
 -- where all symbols were sent nothing is refused
 abbrev pub EndsUnrefused : Type 0
 EndsUnrefused = (s : Settings) (most : ℕ) (inputs : Inputs) (m hp lp : ℕ) → IsAt s most inputs m hp lp → m ≡ symbols_of s inputs → GoesThrough s most inputs
+
+-- a work without end is refused
+abbrev pub EndlessIsRefused : Type 0
+EndlessIsRefused = (s : Settings) (most : ℕ) (inputs : Inputs) → super_frames s (counts_of inputs) ≡ None → first_refusal s most inputs ≡ None → ⊥
 
 -- the symbols sent so far are among those that are sent
 abbrev pub SentSoFar : Type 0

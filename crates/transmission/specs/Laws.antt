@@ -1,6 +1,7 @@
 -- The laws of symbols and of their number, each the clause of a public function of the module laws.
-use Rattle.std.specs.Prelude.{◌≡◌, ℕ, ◌+◌, ◌*◌, ◌<◌, ◌≤◌, IsTrue, [], ◌++◌, length, flat_map, take}
+use Rattle.std.specs.Prelude.{◌≡◌, ℕ, ◌+◌, ◌*◌, ◌<◌, ◌≤◌, IsTrue, [], ◌++◌, length, flat_map, take, Option, Some}
 use Rattle.spec_words.specs.Words.{numbers}
+use Rattle.mode_set.specs.Plans.{entries_of}
 use Rattle.mode_set.specs.StreamTable.{carriers}
 use Rattle.mode_set.specs.declared.modes.Stream.{Stream}
 use Rattle.mode_set.specs.declared.settings.Settings.{Settings}
@@ -8,7 +9,7 @@ use Rattle.outer_chain.specs.Sent.{packet_at}
 use Rattle.frame_build.specs.Symbol.{sent_bytes}
 use Rattle.symbol_spans.specs.Spans.{exists_in, words_before}
 use Rattle.transmission.specs.Transmission.{Inputs, tx_cell, tx_symbol, first_symbols}
-use Rattle.transmission.specs.SuperFrames.{Suffices, AreSuperFrames, super_frames, packets_for, ArePacketsFor}
+use Rattle.transmission.specs.SuperFrames.{Suffices, IsLength, super_frames, frames_by_formula, packets_for, ArePacketsFor}
 
 -- a symbol is its cells, carriers rising
 abbrev pub SymbolsAreCells : Type 0
@@ -37,19 +38,23 @@ abbrev pub SameBeginning : Settings → ℕ → Type 0
 SameBeginning s m = (inputs other : Inputs)
     → ((σ : Stream) (i : ℕ) → i < packets_for s σ (m + 1) → packet_at (inputs σ) i ≡ packet_at (other σ) i) → tx_symbol s inputs m ≡ tx_symbol s other m
 
--- the formula is the least number of super-frames, and there is no other such number
-abbrev pub TheFormulaIsLeast : Type 0
-TheFormulaIsLeast = (s : Settings) (counts : Stream → ℕ) → AreSuperFrames s counts (super_frames s counts)
+-- the number found is the least, and where none is found there is none; no other number is the least
+abbrev pub TheNumberIsFound : Type 0
+TheNumberIsFound = (s : Settings) (counts : Stream → ℕ) → IsLength s counts (super_frames s counts)
 
-abbrev pub OneNumber : Type 0
-OneNumber = (s : Settings) (counts : Stream → ℕ) (n : ℕ) → AreSuperFrames s counts n → super_frames s counts ≡ n
+abbrev pub OneLength : Type 0
+OneLength = (s : Settings) (counts : Stream → ℕ) (length : Option ℕ) → IsLength s counts length → super_frames s counts ≡ length
 
 -- super-frames that do not carry a stream are too few, and those that carry all are enough
 abbrev pub TooFew : Type 0
-TooFew = (s : Settings) (counts : Stream → ℕ) (n : ℕ) (σ : Stream) → IsTrue (exists_in s σ) → words_before s σ n < counts σ + 11 → n < super_frames s counts
+TooFew = (s : Settings) (counts : Stream → ℕ) (k n : ℕ) (σ : Stream) → super_frames s counts ≡ Some k → IsTrue (exists_in s σ) → words_before s σ n < counts σ + 11 → n < k
 
 abbrev pub Enough : Type 0
-Enough = (s : Settings) (counts : Stream → ℕ) (n : ℕ) → 1 ≤ n → Suffices s counts n → super_frames s counts ≤ n
+Enough = (s : Settings) (counts : Stream → ℕ) (n : ℕ) → 1 ≤ n → Suffices s counts n → (k : ℕ) × (super_frames s counts ≡ Some k) × (k ≤ n)
+
+-- without a plan there is always one, by a formula
+abbrev pub ConstantFrames : Type 0
+ConstantFrames = (s : Settings) (counts : Stream → ℕ) → entries_of s.plan ≡ [] → super_frames s counts ≡ Some (frames_by_formula s counts)
 
 -- the packets of so many symbols
 abbrev pub ThePacketsAreLeast : Type 0

@@ -1,7 +1,8 @@
 -- How long a transmission is (EN 300 744, 4.7; that it has the fewest super-frames is this project's own).
-use Rattle.std.specs.Prelude.{ℕ, ◌+◌, ◌*◌, ◌≤◌, max, if◌then◌else◌, IsTrue, List, length}
-use Rattle.spec_words.specs.Words.{rounded_up}
+use Rattle.std.specs.Prelude.{◌≡◌, ℕ, ◌+◌, ◌*◌, ◌≤◌, nat_le, nat_lt, max, ◌&&◌, ◌||◌, not, if◌then◌else◌, Bool, IsTrue, List, length, map, reverse, get_or, Option, Some, None, option_map, unwrap_or}
+use Rattle.spec_words.specs.Words.{first_below, rounded_up}
 use Rattle.mode_set.specs.Kept.{is_flat}
+use Rattle.mode_set.specs.Plans.{entries_of}
 use Rattle.mode_set.specs.StreamTable.{words_per_super_frame}
 use Rattle.mode_set.specs.declared.modes.Stream.{Stream}
 use Rattle.mode_set.specs.declared.modes.Stream.TheVariants.{Hp, Lp}
@@ -19,22 +20,53 @@ pub record AreSuperFrames (s : Settings) (counts : Stream → ℕ) (n : ℕ) : T
   pub suffices : Suffices s counts n
   pub least : (k : ℕ) → 1 ≤ k → Suffices s counts k → n ≤ k
 
--- the same by a formula, for one stream and for all, since all super-frames are alike
-abbrev pub super_frames_for : Settings → (Stream → ℕ) → Stream → ℕ
-super_frames_for s counts σ = rounded_up (counts σ + 11) (words_per_super_frame s σ)
+-- such a number, or none where no number suffices: from some super-frame on a stream may be absent
+abbrev pub IsLength : Settings → (Stream → ℕ) → Option ℕ → Type 0
+IsLength s counts None = (n : ℕ) → 1 ≤ n → Suffices s counts n → ⊥
+IsLength s counts (Some n) = AreSuperFrames s counts n
 
-abbrev pub super_frames : Settings → (Stream → ℕ) → ℕ
-super_frames s counts = if is_flat s.hierarchy then super_frames_for s counts Hp else max (super_frames_for s counts Hp) (super_frames_for s counts Lp)
+-- the same found: from the last change on all super-frames are alike, so as many of them as there are packets suffice where any number does
+abbrev pub carries : Settings → (Stream → ℕ) → ℕ → Stream → Bool
+carries s counts n σ = not (exists_in s σ) || nat_le (counts σ + 11) (words_before s σ n)
+
+abbrev pub is_enough : Settings → (Stream → ℕ) → ℕ → Bool
+is_enough s counts n = nat_le 1 n && (carries s counts n Hp && carries s counts n Lp)
+
+-- the super-frame from which on nothing changes
+abbrev pub last_change : Settings → ℕ
+last_change s = get_or (map (λ e. e.after) (reverse (entries_of s.plan))) 0 0
+
+abbrev pub most_frames : Settings → (Stream → ℕ) → ℕ
+most_frames s counts = last_change s + max (counts Hp) (counts Lp) + 12
+
+abbrev pub found_below : ℕ → ℕ → Option ℕ
+found_below most n = if nat_lt n most then Some n else None
+
+unfoldable pub super_frames : Settings → (Stream → ℕ) → Option ℕ
+super_frames s counts = found_below (most_frames s counts) (first_below (most_frames s counts) (is_enough s counts))
+
+-- without a plan the same by a formula, for one stream and for all, since all super-frames are alike
+abbrev pub frames_by_formula_for : Settings → (Stream → ℕ) → Stream → ℕ
+frames_by_formula_for s counts σ = rounded_up (counts σ + 11) (words_per_super_frame s σ)
+
+abbrev pub frames_by_formula : Settings → (Stream → ℕ) → ℕ
+frames_by_formula s counts = if is_flat s.hierarchy then frames_by_formula_for s counts Hp else max (frames_by_formula_for s counts Hp) (frames_by_formula_for s counts Lp)
 
 -- how many packets each stream has
 abbrev pub counts_of : Inputs → Stream → ℕ
 counts_of inputs σ = length (inputs σ)
 
--- the symbols of a transmission: 272 a super-frame
+-- the symbols whose turn comes: 272 a super-frame; where no number of super-frames suffices the work has no end, and goes on to the symbol
+-- before which the limit refuses
 unfoldable pub symbols_of : Settings → Inputs → ℕ
-symbols_of s inputs = 272 * super_frames s (counts_of inputs)
+symbols_of s inputs = unwrap_or (option_map (λ n. 272 * n) (super_frames s (counts_of inputs))) (s.max_symbols + 1)
 
--- all cells of a transmission
+-- these packets have a transmission of n super-frames, whose cells these are
+pub record IsTransmission (s : Settings) (inputs : Inputs) (n : ℕ) (bytes : List ℕ) : Type 0 where
+  pub length_is : super_frames s (counts_of inputs) ≡ Some n
+  pub bytes_are : bytes ≡ first_symbols s inputs (272 * n)
+
+-- the cells of all symbols whose turn comes
 abbrev pub tx : Settings → Inputs → List ℕ
 tx s inputs = first_symbols s inputs (symbols_of s inputs)
 

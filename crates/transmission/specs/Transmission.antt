@@ -1,5 +1,5 @@
 -- The cells of a transmission, from its packets (EN 300 744, 4.3 to 4.6; the cell file is this project's own).
-use Rattle.std.specs.Prelude.{ℕ, Bool, List, flat_map}
+use Rattle.std.specs.Prelude.{ℕ, ◌+◌, ◌/◌, Bool, List, flat_map}
 use Rattle.spec_words.specs.Words.{numbers}
 use Rattle.mode_set.specs.declared.modes.Stream.{Stream}
 use Rattle.mode_set.specs.declared.modes.Stream.TheVariants.{Hp, Lp}
@@ -9,8 +9,8 @@ use Rattle.symbol_interleave.specs.Carried.{is_odd}
 use Rattle.outer_chain.specs.Sent.{outer_byte}
 use Rattle.inner_chain.specs.Labels.{Paths, from_step, label_bit, coded_bits}
 use Rattle.qam_map.specs.declared.cell.Cell.{Cell}
-use Rattle.frame_build.specs.Symbol.{cell_at, symbol_bytes}
-use Rattle.symbol_spans.specs.Spans.{settings_at, steps_before}
+use Rattle.frame_build.specs.Announcing.{announcing_cell, announcing_bytes}
+use Rattle.symbol_spans.specs.Spans.{settings_in, settings_at, steps_before}
 
 -- the packets of each stream, which null packets follow without end
 abbrev pub Inputs : Type 0
@@ -34,13 +34,17 @@ paths_at s inputs m σ = from_step (paths_of inputs σ) (steps_before s σ m)
 unfoldable pub tx_label : Settings → Inputs → ℕ → ℕ → ℕ → Bool
 tx_label s inputs m q e = label_bit (settings_at s m) (is_odd m) (coded_bits (settings_at s m) (paths_at s inputs m)) q e
 
+-- the settings that symbol m announces: those of the next super-frame (4.6.2)
+abbrev pub announced_at : Settings → ℕ → Settings
+announced_at s m = settings_in s (m / 272 + 1)
+
 -- the cell of carrier k in symbol m of a transmission: a pilot, a TPS cell, or the point of its label (4.3.5, 4.4 to 4.6)
 unfoldable pub tx_cell : Settings → Inputs → ℕ → ℕ → Cell
-tx_cell s inputs m k = cell_at (settings_at s m) m (tx_label s inputs m) k
+tx_cell s inputs m k = announcing_cell (settings_at s m) (announced_at s m) m (tx_label s inputs m) k
 
 -- the bytes of symbol m, carriers rising
 unfoldable pub tx_symbol : Settings → Inputs → ℕ → List ℕ
-tx_symbol s inputs m = symbol_bytes (settings_at s m) m (tx_label s inputs m)
+tx_symbol s inputs m = announcing_bytes (settings_at s m) (announced_at s m) m (tx_label s inputs m)
 
 -- those of the first n symbols
 unfoldable pub first_symbols : Settings → Inputs → ℕ → List ℕ

@@ -1,7 +1,7 @@
 // The laws of a transmission, as contracts of functions that do nothing.
 ghost use Rattle.std.specs.Prelude.{◌≡◌};
-ghost use Rattle.transmission.specs.Laws.{SymbolsAreCells, SymbolsAreLong, NoSymbol, OneSymbolMore, FrontOfSymbols, PartOfSymbols, TheFormulaIsLeast, OneNumber, TooFew, Enough, ThePacketsAreLeast, NoPackets, PacketsGrow, PacketsOfSuperFrames, SameBeginning};
-ghost use Rattle.transmission.specs.AgendaLaws.{WorkBegins, TakesOfHp, TakesOfLp, SendsSymbol, StopsAtLimit, StopsAtPacket, EndsUnrefused, SentSoFar, SentAtFault};
+ghost use Rattle.transmission.specs.Laws.{SymbolsAreCells, SymbolsAreLong, NoSymbol, OneSymbolMore, FrontOfSymbols, PartOfSymbols, TheNumberIsFound, OneLength, ConstantFrames, TooFew, Enough, ThePacketsAreLeast, NoPackets, PacketsGrow, PacketsOfSuperFrames, SameBeginning};
+ghost use Rattle.transmission.specs.AgendaLaws.{WorkBegins, TakesOfHp, TakesOfLp, SendsSymbol, StopsAtLimit, StopsAtPacket, EndsUnrefused, EndlessIsRefused, SentSoFar, SentAtFault};
 
 use bit_interleave::laws::each_bit_is_found;
 use frame_build::symbols_follow_labels;
@@ -30,7 +30,7 @@ pub fn symbols_begin_alike(settings: &Settings, m: u64)
 {
     super_frame_settings();
     steps();
-    symbols_follow_labels(settings, m);
+    symbols_follow_labels(settings.mode, m);
     each_bit_is_found();
     h_is_a_permutation();
     places_and_words_agree();
@@ -39,10 +39,11 @@ pub fn symbols_begin_alike(settings: &Settings, m: u64)
 }
 
 /// The number of super-frames is the least that carries all packets and eleven words more of each
-/// stream.
+/// stream. There is none where no number does; without a plan there is always one.
 pub fn super_frames()
-    ensures least { TheFormulaIsLeast }
-    ensures one { OneNumber }
+    ensures found { TheNumberIsFound }
+    ensures constant { ConstantFrames }
+    ensures one { OneLength }
     ensures too_few { TooFew }
     ensures enough { Enough }
 {
@@ -63,7 +64,7 @@ pub fn packets()
 }
 
 /// How the work goes along its order: it begins, takes packets, sends symbols, and stops at the first
-/// point that is refused, or goes through.
+/// point that is refused, or goes through. A work without end is refused.
 pub fn work()
     ensures begins { WorkBegins }
     ensures takes_hp { TakesOfHp }
@@ -72,6 +73,7 @@ pub fn work()
     ensures at_limit { StopsAtLimit }
     ensures at_packet { StopsAtPacket }
     ensures ends { EndsUnrefused }
+    ensures endless { EndlessIsRefused }
     ensures so_far { SentSoFar }
     ensures at_fault { SentAtFault }
 {

@@ -1,10 +1,17 @@
-use Rattle.transmission.specs.Laws.{TheFormulaIsLeast}
-use Rattle.transmission.proofs.LeastFrames.{AreAlike, the_formula_is_least, one_number, too_few, enough_frames}
+use Rattle.std.specs.Prelude.{◌≡◌, []}
+use Rattle.mode_set.specs.Plans.{entries_of}
+use Rattle.mode_set.specs.declared.settings.Settings.{Settings}
+use Rattle.transmission.specs.Laws.{TheNumberIsFound, OneLength}
+use Rattle.transmission.proofs.Finding.{the_number_is_found}
+use Rattle.transmission.proofs.LeastFrames.{AreAlike, constant_frames, enough_frames, one_length, too_few}
 use Rattle.transmission.proofs.laws.super_frames.Goals as goal
 
 pub returns : goal.returns
 returns c =
-    let stay = c.settings.ensures.same in
-    let alike : AreAlike = record { words = λ s σ n. c.words.ensures.constant s σ n (stay s); streams = λ s σ. c.settings.ensures.streams s σ (stay s) } in
-    let least : TheFormulaIsLeast = the_formula_is_least alike in
-    record { least = least; one = one_number least; too_few = too_few c.words.ensures.grow least; enough = enough_frames least }
+    let found : TheNumberIsFound = the_number_is_found c.words.ensures.next in
+    let one : OneLength = one_length found in
+    let alike : (s : Settings) → entries_of s.plan ≡ [] → AreAlike s = λ s none. record {
+      words = λ σ n. c.words.ensures.constant s σ n (λ j. c.settings.ensures.same s j none);
+      streams = λ σ. c.settings.ensures.streams s σ none;
+    } in
+    record { found = found; constant = constant_frames alike one; one = one; too_few = too_few c.words.ensures.grow found; enough = enough_frames found }

@@ -11,4 +11,4 @@ returns c =
       agree = c.places_and_words_agree.ensures;
       steps = c.sent_bits_have_steps.ensures;
     } in
-    same_beginning c.args.settings.now c.args.m c.settings.ensures.same known c.symbols_follow_labels.ensures
+    same_beginning c.args.settings.now c.args.m c.settings.ensures.mode known c.symbols_follow_labels.ensures

@@ -1,3 +1,4 @@
+use Rattle.transmission.proofs.Endless.{endless_is_refused}
 use Rattle.transmission.proofs.PacketCounts.{sent_at_fault}
 use Rattle.transmission.proofs.Points.{work_begins, takes_of_hp, takes_of_lp, sends_symbol, stops_at_limit, stops_at_packet, ends_unrefused, sent_so_far}
 use Rattle.transmission.proofs.laws.work.Goals as goal
@@ -22,6 +23,9 @@ returns-clause-at_packet c = stops_at_packet c.packets.ensures.grow
 
 pub returns-clause-ends : goal.returns-clause-ends
 returns-clause-ends c = ends_unrefused c.packets.ensures.grow
+
+pub returns-clause-endless : goal.returns-clause-endless
+returns-clause-endless c = endless_is_refused
 
 pub returns-clause-so_far : goal.returns-clause-so_far
 returns-clause-so_far c = sent_so_far c.packets.ensures.grow

@@ -1,0 +1,1 @@
+-- Super-frames that carry nothing, or too little each.

@@ -1,0 +1,16 @@
+// The parameters of a symbol.
+ghost use Rattle.std.specs.Prelude.{◌≡◌, ◌<◌, ◌^◌};
+ghost use Rattle.mode_set.specs.Entries.{with_entry};
+ghost use Rattle.symbol_spans.specs.Spans.{settings_at};
+
+use crate::laws::settings as super_frame_settings;
+use mode_set::{Entry, Settings};
+
+/// The parameters of symbol `m` of a transmission, which are those of its super-frame.
+pub fn parameters_of_symbol(settings: &Settings, m: u64) -> Entry
+    requires { m < 2 ^ 40 }
+    ensures { with_entry settings.now result ≡ settings_at settings.now m }
+{
+    super_frame_settings();
+    settings.entry((m / 272) as u32)
+}
