@@ -293,6 +293,8 @@ def what_stands(form, status, before):
         ("modulate", 8): "the header and the symbols before the limit",
         ("receive", 5): "what is decided by the symbols read",
         ("receive", 8): "what is decided by the symbols within the limit",
+        ("rescue", 5): "what is decided by the symbols read",
+        ("rescue", 8): "what is decided by the symbols within the limit",
         ("tune", 5): "what is decided by the symbols read from the super-frame behind the frame on",
         ("tune", 8): "what is decided by the symbols within the limit from the super-frame behind the frame on",
         ("tune", 10): "nothing was received",

@@ -11,6 +11,7 @@ IN, CORRECTED = ("cells", "IN"), ("out", "OUT")
 FORMS = {
     "modulate": [(SETTINGS, HP, TO_CELLS), (SETTINGS, HP, LP, TO_CELLS)],
     "receive": [(SETTINGS, CELLS, TO_HP), (SETTINGS, CELLS, TO_HP, TO_LP)],
+    "rescue": [(SETTINGS, CELLS, TO_HP), (SETTINGS, CELLS, TO_HP, TO_LP)],
     "tune": [(SETTINGS, CELLS, TO_HP), (SETTINGS, CELLS, TO_HP, TO_LP)],
     "upgrade": [(SETTINGS, OLD, NEW)],
     "equalise": [(SETTINGS, IN, CORRECTED)],
@@ -23,6 +24,7 @@ FORMS = {
 SHORT = {
     "modulate": "transport packets to the cells of the OFDM carriers",
     "receive": "cells, noisy ones too, back to transport packets",
+    "rescue": "cells back to transport packets, more of them out of noise, at some cost in time",
     "tune": "cells from any symbol on, their settings read from the signal",
     "upgrade": "a cell file of version 1 as one of version 2",
     "equalise": "cells corrected by the pilots of their own symbols",
@@ -52,6 +54,9 @@ back. Null packets fill the rest. LP is given exactly where the settings have a 
 packet that could not be corrected is written with transport_error_indicator set. LP is given exactly where the
 settings have a hierarchy, at the top or in their plan. Set start = "any" where the cells do not begin at the start of a transmission. Each cell has
 a weight of 0 to 15, by which its costs count.""",
+    "rescue": """Reads cells and writes packets as `receive` does. Where a word of 204 bytes has more than eight errors, its eight
+least sure bytes are erased, and it is decoded once more: with up to four errors among the others it comes back, and
+is counted as rescued. Packets come later than those of `receive`, and no line `tps` is printed.""",
     "tune": """Finds the first 68 symbols whose TPS word can be read, takes constellation, hierarchy, rates and guard interval from
 it, and receives from the next super-frame on. Of the settings mode, workers and max_symbols alone have an effect. LP is
 given exactly where the signal has a hierarchy. `tune at I frame F` tells the first symbol of the frame, counted from 0.""",
@@ -69,6 +74,7 @@ settings the mode and max_symbols alone have an effect.""",
 EXAMPLES = {
     "modulate": ["bin/dvbt modulate examples/settings/64qam.toml examples/sample.ts out.cells"],
     "receive": ["bin/dvbt receive examples/settings/64qam.toml out.cells back.ts"],
+    "rescue": ["bin/dvbt rescue examples/settings/64qam.toml noisy.cells back.ts"],
     "tune": ["bin/dvbt tune examples/settings/64qam.toml recorded.cells back.ts"],
     "upgrade": ["bin/dvbt upgrade examples/settings/64qam.toml old.cells new.cells"],
     "equalise": ["bin/dvbt equalise examples/settings/64qam.toml received.cells corrected.cells"],
@@ -82,14 +88,14 @@ EXAMPLES = {
 STATUSES = [
     (0, "the work was done whole; the lines say what was counted", FORMS),
     (2, "the words are of no form: `usage`", FORMS),
-    (3, "the settings are refused: `settings ..` says why", ("modulate", "receive", "tune", "upgrade", "equalise", "trial", "inner")),
+    (3, "the settings are refused: `settings ..` says why", ("modulate", "receive", "rescue", "tune", "upgrade", "equalise", "trial", "inner")),
     (4, "a packet does not begin with the sync byte 47: `hp packet N`, `lp packet N`, counted from 0",
      ("modulate", "disperse", "outer", "inner")),
     (5, "a file can't be opened or read: `read fault`", FORMS),
     (6, "a file can't be made, written or closed: `write fault`", FORMS),
-    (7, "memory is wanting: `memory`", ("modulate", "receive", "tune", "upgrade", "equalise", "trial", "outer", "inner")),
+    (7, "memory is wanting: `memory`", ("modulate", "receive", "rescue", "tune", "upgrade", "equalise", "trial", "outer", "inner")),
     (8, "more packets or symbols than the limit: `limit N`", FORMS),
-    (9, "the cells do not begin with the header of the settings' mode: `cells header`", ("receive", "tune", "equalise")),
+    (9, "the cells do not begin with the header of the settings' mode: `cells header`", ("receive", "rescue", "tune", "equalise")),
     (10, "no frame is found in the cells: `tune none`", ("tune",)),
     (11, "the signal has a hierarchy and LP is not given, or the reverse: `tune form`", ("tune",)),
 ]

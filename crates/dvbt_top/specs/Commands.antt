@@ -5,11 +5,12 @@ use Rattle.run_clauses.specs.declared.work.Refusal.TheVariants.{Usage}
 use Rattle.packet_runs.specs.Commands.{disperse_command, outer_command, inner_command}
 use Rattle.modulate_run.specs.ModulateCommand.{modulate_command}
 use Rattle.receive_run.specs.ReceiveCommand.{receive_command}
+use Rattle.rescue_run.specs.RescueCommand.{rescue_command}
 use Rattle.trial_run.specs.TrialCommand.{trial_command}
 use Rattle.tune_run.specs.TuneCommand.{tune_command}
 use Rattle.upgrade_run.specs.UpgradeCommand.{upgrade_command}
 use Rattle.equalise_run.specs.EqualiseCommand.{equalise_command}
-use Rattle.dvbt_top.specs.Order.{Order, Disperse, Outer, Inner, Code, Modulate, Receive, Tune, Upgrade, Equalise, Trial, order_of}
+use Rattle.dvbt_top.specs.Order.{Order, Disperse, Outer, Inner, Code, Modulate, Receive, Rescue, Tune, Upgrade, Equalise, Trial, order_of}
 
 -- words of no form: they are refused, and no file is asked for
 abbrev pub no_command : Command
@@ -36,6 +37,7 @@ command_for (Some (Code Outer input output)) = outer_command input output
 command_for (Some (Code (Inner settings) input output)) = inner_command settings input output
 command_for (Some (Modulate settings hp lp cells)) = modulate_command settings hp lp cells
 command_for (Some (Receive settings cells hp lp)) = receive_command settings cells hp lp
+command_for (Some (Rescue settings cells hp lp)) = rescue_command settings cells hp lp
 command_for (Some (Tune settings cells hp lp)) = tune_command settings cells hp lp
 command_for (Some (Upgrade settings old new)) = upgrade_command settings old new
 command_for (Some (Equalise settings old new)) = equalise_command settings old new

@@ -21,6 +21,8 @@ pub data Order : Type 0 where
   Modulate : List ℕ → List ℕ → Option (List ℕ) → List ℕ → Order
   -- receive SETTINGS CELLS HP, receive SETTINGS CELLS HP LP
   Receive : List ℕ → List ℕ → List ℕ → Option (List ℕ) → Order
+  -- rescue SETTINGS CELLS HP, rescue SETTINGS CELLS HP LP
+  Rescue : List ℕ → List ℕ → List ℕ → Option (List ℕ) → Order
   -- tune SETTINGS CELLS HP, tune SETTINGS CELLS HP LP
   Tune : List ℕ → List ℕ → List ℕ → Option (List ℕ) → Order
   -- upgrade SETTINGS OLD NEW
@@ -41,10 +43,12 @@ order_of (name ∷ first ∷ second ∷ []) = if bytes_eq name (codes "trial") t
 order_of (name ∷ settings ∷ input ∷ output ∷ []) = if bytes_eq name (codes "inner") then Some (Code (Inner settings) input output)
     else if bytes_eq name (codes "modulate") then Some (Modulate settings input None output)
     else if bytes_eq name (codes "receive") then Some (Receive settings input output None)
+    else if bytes_eq name (codes "rescue") then Some (Rescue settings input output None)
     else if bytes_eq name (codes "tune") then Some (Tune settings input output None)
     else if bytes_eq name (codes "upgrade") then Some (Upgrade settings input output)
     else if bytes_eq name (codes "equalise") then Some (Equalise settings input output) else None
 order_of (name ∷ settings ∷ first ∷ second ∷ third ∷ []) = if bytes_eq name (codes "modulate") then Some (Modulate settings first (Some second) third)
     else if bytes_eq name (codes "receive") then Some (Receive settings first second (Some third))
+    else if bytes_eq name (codes "rescue") then Some (Rescue settings first second (Some third))
     else if bytes_eq name (codes "tune") then Some (Tune settings first second (Some third)) else None
 order_of words = None

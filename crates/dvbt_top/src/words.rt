@@ -115,6 +115,22 @@ pub fn form_of<'a>(words: &'a [String]) -> Option<Form<'a>>
             lp: Some(lp),
         });
     }
+    if let Some((settings, cells, hp)) = three_after(words, "rescue") {
+        return Some(Form::Rescue {
+            settings,
+            cells,
+            hp,
+            lp: None,
+        });
+    }
+    if let Some((settings, cells, hp, lp)) = four_after(words, "rescue") {
+        return Some(Form::Rescue {
+            settings,
+            cells,
+            hp,
+            lp: Some(lp),
+        });
+    }
     if let Some((settings, cells, hp)) = three_after(words, "tune") {
         return Some(Form::Tune {
             settings,

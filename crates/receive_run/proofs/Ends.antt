@@ -12,10 +12,8 @@ use Rattle.mode_set.specs.declared.settings.Settings.{Settings}
 use Rattle.rx_report.specs.Text.{event_line}
 use Rattle.rx_report.specs.declared.counts.Event.{Event}
 use Rattle.reception.specs.Cells.{symbols}
-use Rattle.reception.specs.Streams.{Reception, Final}
-use Rattle.reception.specs.Lines.{events, event_lines, closing_lines}
+use Rattle.reception.specs.Lines.{events}
 use Rattle.reception.specs.Feeds.{Output, packets_of}
-use Rattle.reception.specs.Laws.{Ends}
 use Rattle.symbol_runs.specs.declared.stop.Stop.{Stop}
 use Rattle.symbol_runs.specs.declared.stop.Stop.TheVariants.{WriteFault}
 use Rattle.symbol_runs.specs.Outputs.{IsWriting}
@@ -23,7 +21,7 @@ use Rattle.symbol_runs.specs.Work.{Finishes, Follows, Holds, HoldsFront, Written
 use Rattle.symbol_runs.specs.Work.{Takes as TakesPiece}
 use Rattle.symbol_runs.proofs.Fronts.{all_of, none_of}
 use Rattle.receive_run.specs.Writing.{Appends, IsPartlyWritten, IsWritten, ReportOnly, WritesOnly, WritesOut, event_text, lp_bytes}
-use Rattle.receive_run.specs.Working.{Takes, final_at, live_at, reception_work, written_at}
+use Rattle.receive_run.specs.Kinds.{Kind, TakesAs, final_of, lines_of, live_of, work_of, written_at}
 
 -- what is written of an output, with lines at Report
 abbrev given_at : Bool → Output → List ℕ → Written
@@ -34,11 +32,11 @@ given_at two out lines outs.Bytes = []
 given_at two out lines outs.Report = lines
 
 -- it follows what was written of the reception before
-follows_by : (two : Bool) (before : Written) (r after : Reception) (out : Output) (lines more all : List ℕ) → ((port : OutPort) → before port ≡ written_at two r lines port)
-    → ((σ : Stream) → after.packets σ ≡ r.packets σ ++ packets_of out σ) → all ≡ lines ++ more → Follows before (given_at two out more) (written_at two after all)
+follows_by : (two : Bool) (before : Written) (r after : Stream → List ℕ) (out : Output) (lines more all : List ℕ) → ((port : OutPort) → before port ≡ written_at two r lines port)
+    → ((σ : Stream) → after σ ≡ r σ ++ packets_of out σ) → all ≡ lines ++ more → Follows before (given_at two out more) (written_at two after all)
 follows_by two before r after out lines more all is packets report port = go port ∙ ap (λ (l : List ℕ). l ++ given_at two out more port) (sym (is port))
   where
-    lp_more : (b : Bool) → (if b then after.packets Lp else []) ≡ (if b then r.packets Lp else []) ++ lp_bytes b out.lp
+    lp_more : (b : Bool) → (if b then after Lp else []) ≡ (if b then r Lp else []) ++ lp_bytes b out.lp
     lp_more true = packets Lp
     lp_more false = refl
 
@@ -77,51 +75,51 @@ stopped_by P stop is p = subst (λ (x : Stop). P (Err x)) (sym is) p
 more_lines : (a b c : List Event) → c ≡ a ++ b → flat_map event_line c ≡ flat_map event_line a ++ flat_map event_line b
 more_lines a b c e = ap (flat_map event_line) e ∙ flat_map-append event_line a b
 
-module _ (s : Settings) (two : Bool) (standing' : List ℕ → Written → Type 0) (bytes piece : List ℕ) (r : Reception) (given : Written) (is : (port : OutPort) → given port ≡ live_at s two bytes r port)
-    (stands : List ℕ → Reception → Type 0) (out : Output) (takes : Takes stands s bytes piece r out) (standing : standing' (bytes ++ piece) (live_at s two (bytes ++ piece) takes.after))
+module _ (k : Kind) (s : Settings) (two : Bool) (standing' : List ℕ → Written → Type 0) (bytes piece : List ℕ) (r : k.Received) (given : Written) (is : (port : OutPort) → given port ≡ live_of k s two bytes r port)
+    (stands : List ℕ → k.Received → Type 0) (out : Output) (takes : TakesAs k stands s bytes piece r out) (standing : standing' (bytes ++ piece) (live_of k s two (bytes ++ piece) takes.after))
     (m m' : Meaning) (only : WritesOnly m m') where
-  follows_live : Follows given (given_at two out (event_text out.events)) (live_at s two (bytes ++ piece) takes.after)
-  follows_live = follows_by two given r takes.after out (event_lines s bytes r) (event_text out.events) (event_lines s (bytes ++ piece) takes.after) is takes.follows.packets
-      (more_lines (events s (symbols s bytes) r.reports) out.events (events s (symbols s (bytes ++ piece)) takes.after.reports) takes.follows.events_are)
+  follows_live : Follows given (given_at two out (event_text out.events)) (live_of k s two (bytes ++ piece) takes.after)
+  follows_live = follows_by two given (k.packets r) (k.packets takes.after) out (lines_of k s bytes r) (event_text out.events) (lines_of k s (bytes ++ piece) takes.after) is takes.packets
+      (more_lines (events s (symbols s bytes) (k.reports r)) out.events (events s (symbols s (bytes ++ piece)) (k.reports takes.after)) takes.events_are)
 
   -- the packets and the lines of a piece were written, or fronts of them
-  pub took_piece : (result : Result (Unit {0}) Stop) → (m.tells ≡ true → WritesOut two out m m' result) → IsWriting result → TakesPiece (reception_work s two) standing' bytes piece given m m' result
+  pub took_piece : (result : Result (Unit {0}) Stop) → (m.tells ≡ true → WritesOut two out m m' result) → IsWriting result → TakesPiece (work_of k s two) standing' bytes piece given m m' result
   took_piece (Ok u) written kind = record {
-    after = live_at s two (bytes ++ piece) takes.after;
+    after = live_of k s two (bytes ++ piece) takes.after;
     more = given_at two out (event_text out.events);
     is = (standing, (takes.after, takes.live, (λ port. refl)));
     follows = follows_live;
     written = λ t. holds_by two out m m' only (written t);
   }
-  took_piece (Err stop) written kind = stopped_by (TakesPiece (reception_work s two) standing' bytes piece given m m') stop kind (record {
-    after = live_at s two (bytes ++ piece) takes.after;
+  took_piece (Err stop) written kind = stopped_by (TakesPiece (work_of k s two) standing' bytes piece given m m') stop kind (record {
+    after = live_of k s two (bytes ++ piece) takes.after;
     more = given_at two out (event_text out.events);
     is = (takes.after, takes.live, (λ port. refl));
     follows = follows_live;
     written = λ t. fronts_by two out m m' only (written t).1;
   })
 
-module _ (s : Settings) (two : Bool) (bytes : List ℕ) (r : Reception) (given : Written) (is : (port : OutPort) → given port ≡ live_at s two bytes r port)
-    (out : Output) (after : Reception) (ends : Ends r after) (final : Final s bytes after) (packets : (σ : Stream) → after.packets σ ≡ r.packets σ ++ packets_of out σ) (none : out.events ≡ [])
+module _ (k : Kind) (s : Settings) (two : Bool) (bytes : List ℕ) (r : k.Received) (given : Written) (is : (port : OutPort) → given port ≡ live_of k s two bytes r port)
+    (out : Output) (after : k.Received) (reports : (σ : Stream) → k.reports after σ ≡ k.reports r σ) (final : k.Final s bytes after) (packets : (σ : Stream) → k.packets after σ ≡ k.packets r σ ++ packets_of out σ) (none : out.events ≡ [])
     (m m' : Meaning) (only : WritesOnly m m') where
   -- the events are those before
-  lines_are : event_lines s bytes after ≡ event_lines s bytes r
-  lines_are = ap (λ (f : Stream → List ℕ). flat_map event_line (events s (symbols s bytes) f)) (λ i σ. ends.reports σ i)
+  lines_are : lines_of k s bytes after ≡ lines_of k s bytes r
+  lines_are = ap (λ (f : Stream → List ℕ). flat_map event_line (events s (symbols s bytes) f)) (λ i σ. reports σ i)
 
   no_text : event_text out.events ≡ []
   no_text = ap event_text none
 
   abbrev more : Written
-  more = given_at two out (closing_lines s bytes after)
+  more = given_at two out (k.closing s bytes after)
 
-  follows_final : Follows given more (final_at s two bytes after)
-  follows_final = follows_by two given r after out (event_lines s bytes r) (closing_lines s bytes after) (event_lines s bytes after ++ closing_lines s bytes after) is packets
-      (ap (λ (l : List ℕ). l ++ closing_lines s bytes after) lines_are)
+  follows_final : Follows given more (final_of k s two bytes after)
+  follows_final = follows_by two given (k.packets r) (k.packets after) out (lines_of k s bytes r) (k.closing s bytes after) (lines_of k s bytes after ++ k.closing s bytes after) is packets
+      (ap (λ (l : List ℕ). l ++ k.closing s bytes after) lines_are)
 
   -- the rest of the packets was not written
-  pub rest_failed : (stop : Stop) → stop ≡ WriteFault → (m.tells ≡ true → WritesOut two out m m' (Err stop)) → Finishes (reception_work s two) bytes given m m' (Err stop)
-  rest_failed stop kind written = stopped_by (Finishes (reception_work s two) bytes given m m') stop kind (record {
-    after = final_at s two bytes after;
+  pub rest_failed : (stop : Stop) → stop ≡ WriteFault → (m.tells ≡ true → WritesOut two out m m' (Err stop)) → Finishes (work_of k s two) bytes given m m' (Err stop)
+  rest_failed stop kind written = stopped_by (Finishes (work_of k s two) bytes given m m') stop kind (record {
+    after = final_of k s two bytes after;
     more = more;
     is = (after, final, (λ port. refl));
     follows = follows_final;
@@ -134,7 +132,7 @@ module _ (s : Settings) (two : Bool) (bytes : List ℕ) (r : Reception) (given :
       fronts w outs.Lp = w.lp
       fronts w outs.Bytes = fronts_by two out m m' only w outs.Bytes
       fronts w outs.Report =
-          none_of m.report.written (closing_lines s bytes after) m'.report.written
+          none_of m.report.written (k.closing s bytes after) m'.report.written
           (w.report.1 ∙ ap (λ (l : List ℕ). m.report.written ++ take w.report.0 l) no_text ∙ ap (λ (l : List ℕ). m.report.written ++ l) (take_none w.report.0) ∙ append-nil m.report.written)
 
   -- the closing lines were written, or were not
@@ -157,10 +155,10 @@ module _ (s : Settings) (two : Bool) (bytes : List ℕ) (r : Reception) (given :
     bytes_is : m''.bytes_out.written ≡ m.bytes_out.written
     bytes_is = ap (λ (x : Meaning). x.bytes_out.written) report_only ∙ ap (λ (x : Meaning). x.bytes_out.written) only
 
-    pub ended : (result : Result (Unit {0}) Stop) → (m'.tells ≡ true → Appends (closing_lines s bytes after) m'.report.written m''.report.written result) → IsWriting result
-        → Finishes (reception_work s two) bytes given m m'' result
+    pub ended : (result : Result (Unit {0}) Stop) → (m'.tells ≡ true → Appends (k.closing s bytes after) m'.report.written m''.report.written result) → IsWriting result
+        → Finishes (work_of k s two) bytes given m m'' result
     ended (Ok u) a kind = record {
-      after = final_at s two bytes after;
+      after = final_of k s two bytes after;
       more = more;
       is = (tt, (after, final, (λ port. refl)));
       follows = follows_final;
@@ -169,11 +167,11 @@ module _ (s : Settings) (two : Bool) (bytes : List ℕ) (r : Reception) (given :
         | outs.Hp ↦ hp_is t
         | outs.Lp ↦ lp_is t
         | outs.Bytes ↦ bytes_is ∙ sym (append-nil m.bytes_out.written)
-        | outs.Report ↦ a (tells' t) ∙ ap (λ (l : List ℕ). l ++ closing_lines s bytes after) (report_was t)
+        | outs.Report ↦ a (tells' t) ∙ ap (λ (l : List ℕ). l ++ k.closing s bytes after) (report_was t)
       ];
     }
-    ended (Err stop) a kind = stopped_by (Finishes (reception_work s two) bytes given m m'') stop kind (record {
-      after = final_at s two bytes after;
+    ended (Err stop) a kind = stopped_by (Finishes (work_of k s two) bytes given m m'') stop kind (record {
+      after = final_of k s two bytes after;
       more = more;
       is = (after, final, (λ port. refl));
       follows = follows_final;
@@ -182,6 +180,6 @@ module _ (s : Settings) (two : Bool) (bytes : List ℕ) (r : Reception) (given :
         | outs.Hp ↦ all_of m.hp_out.written out.hp m''.hp_out.written (hp_is t)
         | outs.Lp ↦ all_of m.lp_out.written (lp_bytes two out.lp) m''.lp_out.written (lp_is t)
         | outs.Bytes ↦ none_of m.bytes_out.written [] m''.bytes_out.written bytes_is
-        | outs.Report ↦ (let b = a (tells' t) in (b.1, b.2 ∙ ap (λ (l : List ℕ). l ++ take b.1 (closing_lines s bytes after)) (report_was t)))
+        | outs.Report ↦ (let b = a (tells' t) in (b.1, b.2 ∙ ap (λ (l : List ℕ). l ++ take b.1 (k.closing s bytes after)) (report_was t)))
       ];
     })

@@ -1,14 +1,10 @@
 -- The lines of a report one after another, and a front of them.
 use Rattle.std.proofs.Common.{◌≡◌, ℕ, zero, suc, ◌+◌, List, [], ◌∷◌, ◌++◌, length, take, Some, refl, ◌∙◌, sym, ap, append_assoc}
-use Rattle.std.specs.Prelude.{Option, None, slice_get}
+use Rattle.std.specs.Prelude.{slice_get}
 use Rattle.std.specs.List.{concat}
 use Rattle.std.proofs.lemmas.List.{append-nil}
 use Rattle.std.proofs.Math.Seq.{take-append-add}
 use Rattle.symbol_runs.proofs.Fronts.{front_of}
-use Rattle.rx_report.specs.Text.{closing_lines, lp_lines, symbols_line, tps_line, stream_line}
-use Rattle.mode_set.specs.declared.modes.Stream.TheVariants.{Hp}
-use Rattle.rx_report.specs.declared.counts.Counts.{Counts}
-use Rattle.rx_report.specs.declared.counts.StreamCounts.{StreamCounts}
 
 -- the lines before one, and that line
 pub line_more : (lines : List (List ℕ)) (n : ℕ) (x : List ℕ) → slice_get lines n ≡ Some x → concat (take (suc n) lines) ≡ concat (take n lines) ++ x
@@ -34,11 +30,3 @@ line_front lines n x before after k e p =
       p ∙ append_assoc before first (take k x) ∙ ap (λ (l : List ℕ). before ++ (first ++ l)) f.1
           ∙ ap (λ (l : List ℕ). before ++ l) (sym (take-append-add first (x ++ s.0) f.0) ∙ ap (λ (l : List ℕ). take (length first + f.0) l) (sym s.1)),
     )
-
--- there are four closing lines at most
-pub all_lines : (c : Counts) → take 4 (closing_lines c) ≡ closing_lines c
-all_lines c = go c.lp
-  where
-    go : (o : Option StreamCounts) → take 4 (symbols_line c ∷ tps_line c ∷ stream_line Hp c.hp ∷ lp_lines o) ≡ symbols_line c ∷ tps_line c ∷ stream_line Hp c.hp ∷ lp_lines o
-    go None = refl
-    go (Some s) = refl

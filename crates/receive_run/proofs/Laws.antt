@@ -6,17 +6,15 @@ use Rattle.mode_set.specs.declared.settings.Settings.{Settings}
 use Rattle.reception.specs.Cells.{symbols}
 use Rattle.reception.specs.Streams.{Reception, Live, Final}
 use Rattle.reception.specs.Lines.{event_lines, closing_lines}
-use Rattle.reception.specs.Laws.{NoEvents, NothingLive}
 use Rattle.own_cell_laws.specs.Laws.{NoiseLaw, CleanLaw}
 use Rattle.worker_laws.specs.Alike.{DifferInWorkers, SameLive, SameFinal, SameLines}
 use Rattle.receive_run.specs.Received.{cells_in, IsAll, IsCutOff, IsSoFar, within_limit}
 use Rattle.receive_run.specs.OwnLaws.{AreAlike, ReceiveLaws}
-use Rattle.receive_run.proofs.Begun.{ReceptionLaws}
+use Rattle.receive_run.specs.Working.{plain}
+use Rattle.receive_run.proofs.OfKinds.{KindLaws}
 
 pub record Laws : Type 0 where
-  pub receptions : ReceptionLaws
-  pub nothing_live : NothingLive
-  pub no_events : NoEvents
+  pub receptions : KindLaws plain
   pub noise : NoiseLaw
   pub clean : CleanLaw
   pub live : SameLive
@@ -33,19 +31,19 @@ module _ (laws : Laws) (s t : Settings) (file : List ℕ) (d : DifferInWorkers s
   within_same : within_limit t bytes ≡ within_limit s bytes
   within_same = ap₂ (λ (n : ℕ) (m : Mode). take (n * (5 * carriers m)) bytes) d.max_symbols d.mode
 
-  all : (r : Reception) → IsAll s bytes r → IsAll t bytes r
+  all : (r : Reception) → IsAll Final s bytes r → IsAll Final t bytes r
   all r is = record {
     within = subst (λ (n : ℕ). n ≤ t.max_symbols) (sym (symbols_same bytes)) (subst (λ (n : ℕ). symbols s bytes ≤ n) (sym d.max_symbols) is.within);
     final = laws.final s t bytes r d is.final;
   }
 
-  cut_off : (r : Reception) → IsCutOff s bytes r → IsCutOff t bytes r
+  cut_off : (r : Reception) → IsCutOff Live s bytes r → IsCutOff Live t bytes r
   cut_off r is = record {
     past = subst (λ (n : ℕ). t.max_symbols < n) (sym (symbols_same bytes)) (subst (λ (n : ℕ). n < symbols s bytes) (sym d.max_symbols) is.past);
     live = subst (λ (l : List ℕ). Live t l r) (sym within_same) (laws.live s t (within_limit s bytes) r d is.live);
   }
 
-  abbrev so_far : (left : List ℕ) (r : Reception) → IsSoFar s file left r → IsSoFar t file left r
+  abbrev so_far : (left : List ℕ) (r : Reception) → IsSoFar Live s file left r → IsSoFar Live t file left r
   so_far left r is = record {
     taken = is.taken;
     are = is.are;

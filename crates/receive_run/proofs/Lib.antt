@@ -3,6 +3,7 @@ pub mod Keeping
 pub mod Lines
 pub mod Events
 pub mod Parts
+pub mod OfKinds
 pub mod Ends
 pub mod Begun
 pub mod Laws

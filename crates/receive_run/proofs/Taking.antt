@@ -2,23 +2,33 @@
 use Rattle.std.proofs.Common.{◌≡◌, ℕ, ◌+◌, ◌≤◌, List, ◌++◌, length, take, subst, arith}
 use Rattle.std.proofs.lemmas.List.{take_all}
 use Rattle.mode_set.specs.declared.settings.Settings.{Settings}
-use Rattle.reception.specs.Cells.{symbol_length, tail}
-use Rattle.reception.specs.Streams.{Reception, Live}
-use Rattle.reception.specs.Feeds.{Feeds, Finishes, Follows, Output}
-use Rattle.receive_run.specs.Working.{Takes}
+use Rattle.mode_set.specs.declared.modes.Stream.{Stream}
+use Rattle.reception.specs.Cells.{symbol_length, symbols, tail}
+use Rattle.reception.specs.Lines.{events}
+use Rattle.reception.specs.Streams.{Reception}
+use Rattle.reception.specs.Feeds.{Feeds, Finishes, Output, packets_of, taken}
+use Rattle.receive_run.specs.Kinds.{Kind, TakesAs}
+use Rattle.receive_run.specs.Working.{Takes, plain}
 
-pub took : (s : Settings) (bytes piece : List ℕ) (before : Reception) (n : ℕ) (out : Output) (standing : List ℕ → Reception → Type 0)
-    → tail s bytes + length piece ≤ symbol_length s → Feeds standing s bytes piece before n out → Takes standing s bytes piece before out
-took s bytes piece before n out standing fits f =
-    let count = f.count in
+pub took_as : (k : Kind) (s : Settings) (bytes piece : List ℕ) (before after : k.Received) (n : ℕ) (out : Output) (standing : List ℕ → k.Received → Type 0)
+    → tail s bytes + length piece ≤ symbol_length s → n ≡ taken s bytes piece → standing (bytes ++ take n piece) after → k.Live s (bytes ++ take n piece) after
+    → ((σ : Stream) → k.packets after σ ≡ k.packets before σ ++ packets_of out σ)
+    → events s (symbols s (bytes ++ take n piece)) (k.reports after) ≡ events s (symbols s bytes) (k.reports before) ++ out.events
+    → TakesAs k standing s bytes piece before out
+took_as k s bytes piece before after n out standing fits count stands live packets events_are =
     let all : length piece ≤ n = omega (arith, count, fits) in
     let whole : take n piece ≡ piece = take_all n piece all in
     record {
-      after = f.after;
-      stands = subst (λ (l : List ℕ). standing (bytes ++ l) f.after) whole f.stands;
-      live = subst (λ (l : List ℕ). Live s (bytes ++ l) f.after) whole f.live;
-      follows = subst (λ (l : List ℕ). Follows s bytes (bytes ++ l) before f.after out) whole f.follows;
+      after = after;
+      stands = subst (λ (l : List ℕ). standing (bytes ++ l) after) whole stands;
+      live = subst (λ (l : List ℕ). k.Live s (bytes ++ l) after) whole live;
+      packets = packets;
+      events_are = subst (λ (l : List ℕ). events s (symbols s (bytes ++ l)) (k.reports after) ≡ events s (symbols s bytes) (k.reports before) ++ out.events) whole events_are;
     }
+
+pub took : (s : Settings) (bytes piece : List ℕ) (before : Reception) (n : ℕ) (out : Output) (standing : List ℕ → Reception → Type 0)
+    → tail s bytes + length piece ≤ symbol_length s → Feeds standing s bytes piece before n out → Takes standing s bytes piece before out
+took s bytes piece before n out standing fits f = took_as plain s bytes piece before f.after n out standing fits f.count f.stands f.live f.follows.packets f.follows.events_are
 
 -- what goes on standing stands beside it
 pub kept_feeds : (Kept : Type 0) (standing : List ℕ → Reception → Type 0) (s : Settings) (bytes piece : List ℕ) (before : Reception) (n : ℕ) (out : Output)

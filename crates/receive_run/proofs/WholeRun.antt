@@ -1,4 +1,4 @@
--- The promise of a whole run of `receive`.
+-- The promise of a whole run of a command that receives.
 use Rattle.std.proofs.Common.{◌≡◌, ◌≢◌, inl, inr, true, ℕ, Bool, List, [], Option, Some, None, Ok, Err, refl, ◌∙◌, sym, ap, subst, arith}
 use Rattle.station_core.specs.Meaning.{Meaning, IsFresh}
 use Rattle.station_core.specs.declared.ports.InPort.{InPort}
@@ -22,27 +22,26 @@ use Rattle.run_steps.specs.FittingStep.{Accepts}
 use Rattle.run_steps.specs.Ended.{Ended}
 use Rattle.run_steps.proofs.Early.{RefusedEarly, early_ended}
 use Rattle.run_steps.proofs.Whole.{run_refused}
-use Rattle.receive_run.specs.ReceiveCommand.{receive_command}
 use Rattle.symbol_runs.specs.Commands.{SettingsDone}
 use Rattle.symbol_runs.specs.Outputs.{stream_names}
 use Rattle.symbol_runs.specs.Runs.{IsReady}
 use Rattle.symbol_runs.proofs.Ending.{run_of}
 use Rattle.symbol_runs.proofs.Ending.{ready as cells_ready}
 use Rattle.receive_run.specs.Runs.{RunsReceiving, RunsOrLacks}
-use Rattle.receive_run.specs.Working.{reception_work}
+use Rattle.receive_run.specs.Kinds.{Kind, work_of}
 use Rattle.receive_run.proofs.Commands.{command_of, no_lines}
-use Rattle.receive_run.proofs.Laws.{Laws, own_laws}
+use Rattle.receive_run.proofs.OfKinds.{KindLaws, command}
 
-module _ (limit : ℕ) (name cells hp : List ℕ) (lp : Option (List ℕ)) (start mid new : Meaning) (laws : Laws) (fresh : IsFresh start) (asks : AsksSettings name start mid) where
+module _ {k : Kind} (laws : KindLaws k) (Own : Option TheSettings → List ℕ → Type 0) (own : (stated : Option TheSettings) (file : List ℕ) → Own stated file) (limit : ℕ) (name cells hp : List ℕ) (lp : Option (List ℕ)) (start mid new : Meaning) (fresh : IsFresh start) (asks : AsksSettings name start mid) where
   abbrev c : Command
-  c = receive_command name cells hp lp
+  c = command k Own name cells hp lp
 
   -- ---- refused before another port is asked
   nothing : (u : Unread) → ((port : InPort) → port ≢ ins.Settings → u port ≡ input_file start.file c port) → c.PrintsSoFar limit start.file u []
   nothing u whole = no_lines laws (settings_of (start.file name)) (start.file cells) (u ins.Cells) 0 (omega arith) (whole ins.Cells (λ is. cc))
 
   early : (r : Refusal) → RefusedEarly c limit start mid r → is_among (status_of (Some r)) c.statuses ≡ true → Ended c limit start mid (Some r)
-  early = early_ended c limit name start mid refl (inr (refl, refl)) nothing (own_laws laws (settings_of (start.file name)) (start.file cells)) fresh asks
+  early = early_ended c limit name start mid refl (inr (refl, refl)) nothing (own (settings_of (start.file name)) (start.file cells)) fresh asks
 
   refused_at : (r : Refusal) → Accepts name lp start mid (Err r) → Ended c limit start mid (Some r)
   refused_at Usage a = absurd a
@@ -80,13 +79,13 @@ module _ (limit : ℕ) (name cells hp : List ℕ) (lp : Option (List ℕ)) (star
         is_stated t = stated s (start.file name) (accepts.0.3 t).1.2
 
     -- the run has ended with its outcome, and then a text was written or not
-    finished : (old : Meaning) → old ≡ record start { settings = mid.settings } → (status : ℕ) → RunsReceiving reception_work s cells hp lp old new status → Run c limit start new status
+    finished : (old : Meaning) → old ≡ record start { settings = mid.settings } → (status : ℕ) → RunsReceiving (work_of k) s cells hp lp old new status → Run c limit start new status
     finished old same status runs =
-        run_of c limit name cells (Some (header s.mode)) (stream_names hp lp) (reception_work s (is_some lp)) s.max_symbols start new mid.settings status fresh settings
-        (command_of laws limit name cells hp lp s start (λ t. stated s (start.file name) (accepts.0.3 t).1.2))
-        (subst (λ (m : Meaning). RunsReceiving reception_work s cells hp lp m new status) same runs)
+        run_of c limit name cells (Some (header s.mode)) (stream_names hp lp) (work_of k s (is_some lp)) s.max_symbols start new mid.settings status fresh settings
+        (command_of laws Own own limit name cells hp lp s start (λ t. stated s (start.file name) (accepts.0.3 t).1.2))
+        (subst (λ (m : Meaning). RunsReceiving (work_of k) s cells hp lp m new status) same runs)
 
-    pub run : (status : ℕ) → RunsOrLacks reception_work s cells hp lp mid new status → Run c limit start new status
+    pub run : (status : ℕ) → RunsOrLacks (work_of k) s cells hp lp mid new status → Run c limit start new status
     run status runs = elim runs [
       | inl r ↦ finished mid same_mid status r
       | inr lacks ↦ refused Memory accepts.0.0 status lacks.0 lacks.1

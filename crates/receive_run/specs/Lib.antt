@@ -2,6 +2,8 @@ pub mod Received
 pub mod OwnLaws
 pub mod ReceiveCommand
 pub mod Writing
+pub mod Kinds
 pub mod Working
+pub mod Closing
 pub mod Runs
 pub mod Feeder

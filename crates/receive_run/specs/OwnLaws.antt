@@ -6,7 +6,7 @@ use Rattle.mode_set.specs.declared.settings.Settings.{Settings}
 use Rattle.transmission.specs.Transmission.{Inputs}
 use Rattle.transmission.specs.SuperFrames.{tx}
 use Rattle.own_cell_laws.specs.Returned.{HavePackets, IsReturned, IsWithin}
-use Rattle.reception.specs.Streams.{Reception}
+use Rattle.reception.specs.Streams.{Reception, Final}
 use Rattle.worker_laws.specs.Alike.{DifferInWorkers}
 use Rattle.receive_run.specs.Received.{cells_in, IsAll, LinesCome, LinesSoFar, OutputComes, OutputSoFar}
 
@@ -14,9 +14,9 @@ use Rattle.receive_run.specs.Received.{cells_in, IsAll, LinesCome, LinesSoFar, O
 -- them give for each stream is the packets of that transmission, and then null packets.
 pub record Returns (s : Settings) (bytes : List ℕ) : Type 0 where
   pub own : (inputs : Inputs) → s.start ≡ Zero → HavePackets s inputs → bytes ≡ tx s inputs
-      → (r : Reception) → IsAll s bytes r → IsReturned s inputs r.packets
+      → (r : Reception) → IsAll Final s bytes r → IsReturned s inputs r.packets
   pub noise : (inputs : Inputs) → s.start ≡ Zero → HavePackets s inputs → IsWithin s inputs bytes
-      → (r : Reception) → IsAll s bytes r → IsReturned s inputs r.packets
+      → (r : Reception) → IsAll Final s bytes r → IsReturned s inputs r.packets
 
 -- What the file of cells comes to by settings s it comes to by settings t: the outputs and the lines of the
 -- report, of all cells or of those within the limit, and likewise so far as a failed read.

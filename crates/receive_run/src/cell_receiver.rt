@@ -7,7 +7,8 @@ ghost use Rattle.reception.specs.Lines.{counts_of};
 ghost use Rattle.reception.specs.Feeds.{Output, Finishes};
 ghost use Rattle.receive_run.specs.Working.{GoesOn, Takes};
 
-use rx_report::{Counts, Event};
+use receiver::RxOut;
+use rx_report::Counts;
 
 /// A receiver with what its last call gave.
 ///
@@ -39,17 +40,9 @@ pub trait CellReceiver {
         ensures finishes { (bytes : List ℕ) (before : Reception) → stands self.old so_far bytes before
             → Finishes (stands self.new at_end) (settings self.old) bytes before (gave self.new) };
 
-    /// The bytes of the packets of HP that the last call gave.
-    fn hp(&self) -> &[u8]
-        ensures { result.now ≡ (gave self.now).hp };
-
-    /// The bytes of the packets of LP that the last call gave.
-    fn lp(&self) -> &[u8]
-        ensures { result.now ≡ (gave self.now).lp };
-
-    /// The unmerged reports that the last call gave.
-    fn events(&self) -> &[Event]
-        ensures { result.now ≡ (gave self.now).events };
+    /// What the last call gave.
+    fn out(&self) -> &RxOut
+        ensures { result.now ≡ gave self.now };
 
     /// The counts so far, or at the end.
     fn counts(&self) -> Counts

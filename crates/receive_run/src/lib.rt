@@ -3,7 +3,8 @@
 //!
 //! The cells are read symbol by symbol and given to a receiver; after each symbol what it gave is
 //! written: the packets of HP, those of LP, and the lines of its unmerged reports. The call carries the
-//! promise of a run. The work on the symbols, [`ReceptionWork`], serves every command that receives.
+//! promise of a run. The work on the symbols, [`ReceptionWork`], serves every command that receives as this
+//! one does; another kind of reception takes the writing and the run from here.
 #![tactic(auto)]
 
 mod cell_receiver;
@@ -18,3 +19,4 @@ pub use command::receive;
 pub use receivers::{ModeReceiver, ReceiverWithOutput};
 pub use reception_work::ReceptionWork;
 pub use running::ReceptionFiles;
+pub use writing::{ClosingLines, write_lines, write_out};

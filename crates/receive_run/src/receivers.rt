@@ -10,7 +10,7 @@ ghost use Rattle.receiver.specs.Standing.{StandsFor};
 use crate::cell_receiver::CellReceiver;
 use mode_set::Carriers;
 use receiver::{Receiver, RxOut};
-use rx_report::{Counts, Event};
+use rx_report::Counts;
 use std::thread::Threads;
 
 /// The receiver of a mode.
@@ -80,16 +80,8 @@ impl<'r, R: Threads + Sync, F: Fn(&mut T, &[u8], &mut RxOut) -> usize, T: ModeRe
         self.receiver.finish(self.rt, &mut self.out);
     }
 
-    fn hp(&self) -> &[u8] {
-        self.out.hp()
-    }
-
-    fn lp(&self) -> &[u8] {
-        self.out.lp()
-    }
-
-    fn events(&self) -> &[Event] {
-        self.out.events()
+    fn out(&self) -> &RxOut {
+        &self.out
     }
 
     fn counts(&self) -> Counts {

@@ -44,13 +44,13 @@ impl<'a, S: Station<'a>, X: CellReceiver> SymbolWork<'a, S> for ReceptionWork<X>
 
     fn take(&mut self, piece: &[u8], station: &mut S) -> Result<(), Stop> {
         self.receiver.feed(piece);
-        write_out(self.two, &self.receiver, station)
+        write_out(self.two, self.receiver.out(), station)
     }
 
     fn finish(&mut self, station: &mut S) -> Result<(), Stop> {
         reception::laws::receptions();
         self.receiver.finish();
-        match write_out(self.two, &self.receiver, station) {
+        match write_out(self.two, self.receiver.out(), station) {
             Ok(()) => write_lines(&self.receiver.counts(), station),
             Err(stop) => Err(stop),
         }

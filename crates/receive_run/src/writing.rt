@@ -1,14 +1,15 @@
 // What the receiver gave is written behind what was written before.
-ghost use Rattle.std.specs.Prelude.{◌≡◌, ◌≤◌, ℕ, List, true, false, IsTrue, length};
+ghost use Rattle.std.specs.Prelude.{◌≡◌, ◌≤◌, ◌↔◌, ℕ, List, true, false, IfSome, IsNone, IsTrue, Some, length, slice_get, take};
 ghost use Rattle.std.specs.List.{concat};
 ghost use Rattle.arrayvec.specs.ArrayString.{array_string_len};
 ghost use Rattle.rx_report.specs.Text.{closing_lines};
 ghost use Rattle.symbol_runs.specs.Stops.{HasCause};
 ghost use Rattle.symbol_runs.specs.Outputs.{IsWriting};
 ghost use Rattle.receive_run.specs.Writing.{AreOpen, Appends, IsPrinting, Pushes, ReportOnly, WritesLp, WritesOnly, WritesOut, event_text};
+ghost use Rattle.receive_run.specs.Closing.{few_lines};
 
-use crate::cell_receiver::CellReceiver;
 use arrayvec::ArrayString;
+use receiver::RxOut;
 use rx_report::{Counts, Event, Line};
 use station_core::{OutPort, Station};
 use symbol_runs::{Stop, write_some};
@@ -79,33 +80,54 @@ fn write_events<'a, S: Station<'a>>(events: &[Event], station: &mut S) -> Result
     write_some(OutPort::Report, text.as_str().as_bytes(), station)
 }
 
-/// Writes what the receiver gave: the packets of HP, those of LP, and the lines of its events, each
+/// Writes what a receiver gave: the packets of HP, those of LP where there are two streams, and the lines of its events, each
 /// port by one write where there is something to write.
-pub(crate) fn write_out<'a, X: CellReceiver, S: Station<'a>>(
-    two: bool,
-    receiver: &X,
-    station: &mut S,
-) -> Result<(), Stop>
+pub fn write_out<'a, S: Station<'a>>(two: bool, out: &RxOut, station: &mut S) -> Result<(), Stop>
     requires open { AreOpen two (S.meaning station.old) }
     ensures kind { IsWriting result }
     ensures cause { HasCause (S.meaning station.old) (S.meaning station.new) result }
     ensures later_report { (S.meaning station.old).report_faults ≤ (S.meaning station.new).report_faults }
     ensures others { WritesOnly (S.meaning station.old) (S.meaning station.new) }
-    ensures written { IsTrue (S.meaning station.old).tells → WritesOut two (X.gave receiver.now) (S.meaning station.old) (S.meaning station.new) result }
+    ensures written { IsTrue (S.meaning station.old).tells → WritesOut two out.now (S.meaning station.old) (S.meaning station.new) result }
 {
-    write_some(OutPort::Hp, receiver.hp(), station)?;
-    write_lp(two, receiver.lp(), station)?;
-    write_events(receiver.events(), station)
+    write_some(OutPort::Hp, out.hp(), station)?;
+    write_lp(two, out.lp(), station)?;
+    write_events(out.events(), station)
+}
+
+/// Counts whose closing lines end a report: at most four.
+pub trait ClosingLines {
+    ghost lines: { Self → List (List ℕ) };
+
+    ghost few: { (c : Self) → take 4 (lines c) ≡ lines c };
+
+    /// The closing lines in order, by their numbers from 0: `None` exactly past the last.
+    fn line(&self, number: u8) -> Option<Line>
+        ensures line { IfSome result (λ l. slice_get (lines self.now) number ≡ Some l.bytes) }
+        ensures past { IsNone result ↔ (length (lines self.now) ≤ number) };
+}
+
+impl ClosingLines for Counts {
+    ghost lines = { λ c. closing_lines c };
+
+    ghost few = { few_lines };
+
+    fn line(&self, number: u8) -> Option<Line> {
+        Counts::line(self, number)
+    }
 }
 
 /// Writes the closing lines to Report, each by one write.
-pub(crate) fn write_lines<'a, S: Station<'a>>(counts: &Counts, station: &mut S) -> Result<(), Stop>
+pub fn write_lines<'a, C: ClosingLines, S: Station<'a>>(
+    counts: &C,
+    station: &mut S,
+) -> Result<(), Stop>
     requires printing { IsPrinting (S.meaning station.old) }
     ensures kind { IsWriting result }
     ensures cause { HasCause (S.meaning station.old) (S.meaning station.new) result }
     ensures later_report { (S.meaning station.old).report_faults ≤ (S.meaning station.new).report_faults }
     ensures others { ReportOnly (S.meaning station.old) (S.meaning station.new) }
-    ensures written { IsTrue (S.meaning station.old).tells → Appends (concat (closing_lines counts.now))
+    ensures written { IsTrue (S.meaning station.old).tells → Appends (concat (C.lines counts.now))
         (S.meaning station.old).report.written (S.meaning station.new).report.written result }
 {
     for number in 0..4u8 {

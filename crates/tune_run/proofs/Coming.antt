@@ -24,14 +24,14 @@ use Rattle.reception.specs.Frames.{tps_cells}
 use Rattle.reception.specs.Lines.{events, event_lines, closing_lines}
 use Rattle.reception.specs.Streams.{Reception, Live, Final}
 use Rattle.reception.specs.Laws.{TpsCellsStay}
-use Rattle.reception_laws.specs.Laws.{Begins}
 use Rattle.run_clauses.specs.declared.work.Refusal.{Refusal}
 use Rattle.run_clauses.specs.declared.work.Refusal.TheVariants.{Cells, Limit}
 use Rattle.run_clauses.specs.declared.work.CellsRefusal.TheVariants.{NoPlace, AnnouncedForm}
 use Rattle.symbol_runs.specs.Work.{Written}
 use Rattle.receive_run.specs.Received.{reception_refusal, within_limit}
-use Rattle.receive_run.specs.Working.{FinalGives, LiveGives, final_at, live_at, written_at}
-use Rattle.receive_run.proofs.Begun.{ReceptionLaws, after, is_within, length_whole, whole_of}
+use Rattle.receive_run.specs.Working.{FinalGives, LiveGives, final_at, live_at, plain, written_at}
+use Rattle.receive_run.proofs.OfKinds.{Begins, KindLaws}
+use Rattle.receive_run.proofs.Begun.{after, is_within, length_whole, whole_of}
 use Rattle.receive_run.proofs.Parts.{symbols_are}
 use Rattle.tps_word.specs.Tps.{IsValid}
 use Rattle.tps_word.specs.declared.word.TpsWord.{TpsWord}
@@ -46,7 +46,7 @@ use Rattle.tune_run.proofs.LeastPlaces.{searches}
 use Rattle.tune_run.proofs.Bytes.{rest_within, start, symbols_grow}
 
 pub record Laws : Type 0 where
-  pub receptions : ReceptionLaws
+  pub receptions : KindLaws plain
   pub one : OneFound
   pub stays : FoundStaysInBytes
   pub tps : TpsCellsStay
@@ -173,7 +173,7 @@ module _ (laws : Laws) (s : Settings) (two : Bool) (bytes : List ℕ) where
 
   -- what is written of a reception begins what is written of one that it begins
   written_begins : (q r : Reception) (more lines : List ℕ) → ((σ : Stream) → (rest : List ℕ) × (q.packets σ ≡ r.packets σ ++ rest)) → ((rest : List ℕ) × (more ≡ lines ++ rest))
-      → (port : OutPort) → (rest : List ℕ) × (written_at two q more port ≡ written_at two r lines port ++ rest)
+      → (port : OutPort) → (rest : List ℕ) × (written_at two q.packets more port ≡ written_at two r.packets lines port ++ rest)
   written_begins q r more lines packets report outs.Cells = ([], refl)
   written_begins q r more lines packets report outs.Hp = packets Hp
   written_begins q r more lines packets report outs.Lp = if_two two
@@ -209,12 +209,12 @@ module _ (laws : Laws) (s : Settings) (two : Bool) (bytes : List ℕ) where
         go (inr long) = (left, ap (λ (l : List ℕ). rest s l found) are ∙ drop-append-le (start s found) taken left long)
 
     -- what begins so is written behind the same line
-    continued : (q : Reception) (cells lines : List ℕ) → Begins a had cells r q → ((more : List ℕ) × (lines ≡ event_lines a cells q ++ more)) → (port : OutPort) → (rest : List ℕ) × (at_place found port ++ written_at two q lines port ≡ given port ++ rest)
+    continued : (q : Reception) (cells lines : List ℕ) → Begins plain a had cells r q → ((more : List ℕ) × (lines ≡ event_lines a cells q ++ more)) → (port : OutPort) → (rest : List ℕ) × (at_place found port ++ written_at two q.packets lines port ≡ given port ++ rest)
     continued q cells lines b ends port =
         let report : (rest : List ℕ) × (lines ≡ event_lines a had r ++ rest) = (b.lines.0 ++ ends.0, ends.1 ∙ ap (λ (l : List ℕ). l ++ ends.0) b.lines.1 ∙ append_assoc (event_lines a had r) b.lines.0 ends.0) in
         let f = written_begins q r lines (event_lines a had r) b.packets report port in (
           f.0,
-          ap (λ (l : List ℕ). at_place found port ++ l) f.1 ∙ sym (append_assoc (at_place found port) (written_at two r (event_lines a had r) port) f.0)
+          ap (λ (l : List ℕ). at_place found port ++ l) f.1 ∙ sym (append_assoc (at_place found port) (written_at two r.packets (event_lines a had r) port) f.0)
               ∙ ap (λ (l : List ℕ). (at_place found port ++ l) ++ f.0) (sym (tuned.received.2 port)) ∙ ap (λ (l : List ℕ). l ++ f.0) (sym (tuned.is port)),
         )
 
@@ -223,7 +223,7 @@ module _ (laws : Laws) (s : Settings) (two : Bool) (bytes : List ℕ) where
     within_by within =
         let cells : List ℕ = rest s bytes found in
         let q = laws.receptions.some_final a cells in
-        let b : Begins a had cells r q.0 = subst (λ (l : List ℕ). Begins a had l r q.0) (sym rest_grows.1)
+        let b : Begins plain a had cells r q.0 = subst (λ (l : List ℕ). Begins plain a had l r q.0) (sym rest_grows.1)
         (laws.receptions.last a had rest_grows.0 r q.0 live (subst (λ (l : List ℕ). Final a l q.0) rest_grows.1 q.1)) in
         let behind : Written = final_at a two cells q.0 in
         record {
@@ -280,7 +280,7 @@ module _ (laws : Laws) (s : Settings) (two : Bool) (bytes : List ℕ) where
         let b = laws.receptions.live a whole limited_is.0 r q.0 begun (subst (λ (l : List ℕ). Live a l q.0) limited_is.1 q.1) in
         let same : symbols a whole ≡ symbols a had = symbols_are a whole (symbols a had) (length_whole laws.receptions a had) in
         let lines : event_lines a whole r ≡ event_lines a had r = ap (λ (k : ℕ). flat_map event_line (events a k r.reports)) same in
-        let begins : Begins a had cells r q.0 = record { packets = b.packets; lines = (b.lines.0, ap (λ (l : List ℕ). event_lines a l q.0) limited_is.1 ∙ b.lines.1 ∙ ap (λ (l : List ℕ). l ++ b.lines.0) lines) } in
+        let begins : Begins plain a had cells r q.0 = record { packets = b.packets; lines = (b.lines.0, ap (λ (l : List ℕ). event_lines a l q.0) limited_is.1 ∙ b.lines.1 ∙ ap (λ (l : List ℕ). l ++ b.lines.0) lines) } in
         let behind : Written = live_at a two cells q.0 in
         record {
           all = λ port. at_place found port ++ behind port;

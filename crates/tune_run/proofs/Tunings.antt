@@ -37,7 +37,7 @@ part_gives : SameSymbols → SameCosts → TpsCellsStay → BitsOfCells → (a :
 part_gives same costs tps bits a two bytes more given within is = (
   is.0,
   part_live same costs tps bits a bytes more is.0 within is.1,
-  (λ port. is.2 port ∙ ap (λ (q : ℕ). written_at two is.0 (flat_map event_line (events a q is.0.reports)) port) (sym (same a bytes more within))),
+  (λ port. is.2 port ∙ ap (λ (q : ℕ). written_at two is.0.packets (flat_map event_line (events a q is.0.reports)) port) (sym (same a bytes more within))),
 )
 
 -- nor do they make a place
@@ -98,7 +98,7 @@ module _ (no_events : NoEvents) (nothing_live : NothingLive) (s : Settings) (two
   none port = []
 
   nothing_given : (a : Settings) (b : Bool) → (port : OutPort) → [] ≡ live_at a b [] nothing port
-  nothing_given a b port = sym (nothing_written no_events a b port)
+  nothing_given a b port = sym (nothing_written no_events nothing.packets nothing.reports (λ σ. refl) a b port)
 
   -- a reception that begins there stands for the bytes behind the place, of which there are none
   begins : (a : Settings) (standing : List ℕ → Reception → Type 0) (skip : ℕ) (its_two : Bool) → BeginsBehind a (standing [] nothing) s skip its_two two found

@@ -1,18 +1,15 @@
 // The command `tune`. The expected reports, lengths and sums are those of an independent program.
 ghost use Rattle.std.specs.Prelude.{◌≤◌};
 
-use run_tools::{BASE, Conditions, File, LAYERED, Ran, ample, checksum, run_files, text_bytes};
+use run_tools::{
+    BASE, Conditions, File, Found, LAYERED, NONE, Ran, SUPER_FRAME, SYMBOL, ample, noisy,
+    null_cells, run_files, stands, text_bytes,
+};
 use station_core::{Failing, InPort, OutPort};
 use std::alloc::{AllocError, Global};
 use std::process::Abort;
 use std::test::Fail;
 use std::thread::Threads;
-use test_tools::next_number;
-
-/// The bytes of a symbol of the 2K mode, and of a cell file of a super-frame.
-const SYMBOL: usize = 8_525;
-
-const SUPER_FRAME: u32 = 2_318_808;
 
 /// The symbols that are taken of the super-frame that follows.
 const FOLLOWING: usize = 24;
@@ -21,13 +18,8 @@ const FOLLOWING: usize = 24;
 const RECEIVED: &str =
     "tune at 4 frame 4\nsymbols 24 tail 0\ntps read 0 bad 0\nhp words 11 clean 11 corrected 0 bad 0 unphased 0 unmerged 0\n";
 
-// What is to be found: the status, the report, how many bytes of HP and of LP stand, and their sums.
-type Found<'a> = (u8, &'a str, (usize, u32), (usize, u32));
-
 // A transmission that is announced: its shape and rates, the first symbol of it that is heard, and what is found.
 type Announced<'a> = (&'a str, usize, Found<'a>);
-
-const NONE: (usize, u32) = (0, 0);
 
 const PACKETS: (usize, u32) = (2_068, 3_923_578_435);
 
@@ -49,23 +41,6 @@ const SECOND: &str =
 /// QPSK at 1/2 in the 8K mode.
 const EIGHT: &str =
     "mode = \"8k\"\nconstellation = \"qpsk\"\nrate_hp = \"1/2\"\nguard = \"1/32\"\n";
-
-// The cells of the super-frame of null packets by these settings, behind their header.
-fn modulated<R: Threads + Sync>(
-    rt: &R,
-    alloc: Global,
-    settings: &str,
-    two: bool,
-) -> Result<Vec<u8>, AllocError> {
-    let words = if two {
-        "modulate s a b cells"
-    } else {
-        "modulate s a cells"
-    };
-    let inputs = (Vec::new(alloc), Vec::new(alloc));
-    let settings = text_bytes(alloc, settings, "")?;
-    Ok(run_files(rt, alloc, words, settings, inputs, 1, ample(SUPER_FRAME))?.cells)
-}
 
 // The header, and behind it the symbols of that file from this one on and the first ones of a super-frame that follows.
 fn heard(
@@ -107,13 +82,6 @@ fn tuned<R: Threads + Sync>(
     )
 }
 
-// Whether this stands.
-fn stands(ran: &Ran, found: Found<'_>) -> bool {
-    let told = ran.status == found.0 && ran.report.as_slice() == found.1.as_bytes();
-    let hp = (ran.hp.len(), checksum(&ran.hp)) == found.2;
-    told && hp && (ran.lp.len(), checksum(&ran.lp)) == found.3
-}
-
 // A transmission of these choices is found, and by settings of another one, from this symbol on.
 fn is_found<R: Threads + Sync>(
     rt: &R,
@@ -121,7 +89,7 @@ fn is_found<R: Threads + Sync>(
     case: Announced<'_>,
 ) -> Result<bool, AllocError> {
     let two = case.2.3 != NONE;
-    let cells = modulated(rt, alloc, case.0, two)?;
+    let cells = null_cells(rt, alloc, case.0, two)?;
     let file = heard(alloc, &cells, case.1, FOLLOWING)?;
     let ran = tuned(rt, alloc, (BASE, ""), file, two, ample(SUPER_FRAME))?;
     Ok(stands(&ran, case.2))
@@ -257,30 +225,11 @@ const CORRECTED: &str =
 const MOSTLY_BAD: &str =
     "tune at 49 frame 4\nsymbols 24 tail 0\ntps read 0 bad 0\nhp words 48 clean 0 corrected 5 bad 43 unphased 0 unmerged 0\n";
 
-// A part of a cell moved by a drawn number of at most this size, and kept within 16 bits.
-fn moved(part: [u8; 2], most: u32, state: &mut u32) -> [u8; 2] {
-    let drawn = (next_number(state) >> 16) % (2 * most.min(32_767) + 1);
-    let number = i32::from(i16::from_be_bytes(part)) + drawn as i32 - most.min(32_767) as i32;
-    (number.clamp(-32_768, 32_767) as i16).to_be_bytes()
-}
-
-// A file with noise on all cells, those of the pilots and of the signalling too.
-fn noisy(alloc: Global, file: &[u8], most: u32) -> Result<Vec<u8>, AllocError> {
-    let mut bytes = Vec::from_slice(alloc, &file[..8.min(file.len())])?;
-    let mut state = 1;
-    for cell in file[bytes.len()..].chunks_exact(5) {
-        bytes.extend_from_slice(moved([cell[0], cell[1]], most, &mut state).as_slice())?;
-        bytes.extend_from_slice(moved([cell[2], cell[3]], most, &mut state).as_slice())?;
-        bytes.push(cell[4])?;
-    }
-    Ok(bytes)
-}
-
 // Noise that the outer code corrects, noise that it mostly does not, and noise in which nothing is readable.
 #[test]
 fn noise_on_all_cells(rt: HostRuntime) -> Result<(), Fail> {
     let alloc = rt.alloc();
-    let cells = modulated(&rt, alloc, SIXTEEN, false)?;
+    let cells = null_cells(&rt, alloc, SIXTEEN, false)?;
     let file = heard(alloc, &cells, 155, FOLLOWING)?;
     let cases = [
         (7_000, (0, CORRECTED, (9_024, 2_591_075_248), NONE)),
@@ -300,7 +249,7 @@ type Span = (usize, usize);
 
 // Symbols 200 to 271 of the null super-frame of `BASE`, and its symbols 0 to 23 behind them.
 fn late_nulls<R: Threads + Sync>(rt: &R, alloc: Global) -> Result<Vec<u8>, AllocError> {
-    let cells = modulated(rt, alloc, BASE, false)?;
+    let cells = null_cells(rt, alloc, BASE, false)?;
     heard(alloc, &cells, 200, FOLLOWING)
 }
 
@@ -439,7 +388,7 @@ fn first_symbols(rt: HostRuntime) -> Result<(), Fail> {
         (BASE, 68, (EIGHT, ""), false, header),
     ];
     for (sent, count, settings, two, found) in cases {
-        let cells = modulated(&rt, alloc, sent, sent == LAYERED)?;
+        let cells = null_cells(&rt, alloc, sent, sent == LAYERED)?;
         let file = heard(alloc, &cells, 300, count)?;
         let ran = tuned(&rt, alloc, settings, file, two, ample(SUPER_FRAME))?;
         assert!(rt; stands(&ran, found), "{} symbols beside {}", count, found.1);

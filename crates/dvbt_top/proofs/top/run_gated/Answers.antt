@@ -46,6 +46,13 @@ returns-in-Some-Receive g c =
     subst (λ (x : Option Order). Run (command_for x) c.args.limits.packets old new c.receive.result)
     (ap (λ (f : Form). Some (order f)) (sym c.in-Some-Receive.field-0-is) ∙ c.in-Some-Receive.ensures) c.receive.ensures
 
+pub returns-in-Some-Rescue : goal.returns-in-Some-Rescue
+returns-in-Some-Rescue g c =
+    let old : Meaning = g.S.Station.meaning c.args.station.now in
+    let new : Meaning = g.S.Station.meaning c.rescue.new.station in
+    subst (λ (x : Option Order). Run (command_for x) c.args.limits.packets old new c.rescue.result)
+    (ap (λ (f : Form). Some (order f)) (sym c.in-Some-Rescue.field-0-is) ∙ c.in-Some-Rescue.ensures) c.rescue.ensures
+
 pub returns-in-Some-Tune : goal.returns-in-Some-Tune
 returns-in-Some-Tune g c =
     let old : Meaning = g.S.Station.meaning c.args.station.now in

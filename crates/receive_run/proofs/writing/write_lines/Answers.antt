@@ -1,9 +1,8 @@
 use Rattle.std.proofs.Common.{◌≡◌, ◌+◌, ◌++◌, ◌≤◌, suc, ℕ, List, length, take, refl, sym, ◌∙◌, ap, subst, rules, arith, Ok, Err}
 use Rattle.std.specs.List.{concat}
-use Rattle.std.proofs.lemmas.List.{take_all}
+use Rattle.std.proofs.lemmas.List.{length-take, take_all}
 use Rattle.station_core.specs.Meaning.{Meaning}
 use Rattle.station_core.specs.declared.ports.OutPort.TheVariants as outs
-use Rattle.rx_report.specs.Text.{closing_lines}
 use Rattle.symbol_runs.specs.declared.stop.Stop.TheVariants.{WriteFault}
 use Rattle.symbol_runs.specs.Writing.{WritesAt}
 use Rattle.receive_run.proofs.Fronts.{line_more, line_front}
@@ -18,14 +17,14 @@ returns-in-Err-clause-written g c = λ t.
     let inv = c.loop-number.invariant in
     let text : c.as_bytes.result.now ≡ c.in-Some.line.bytes = c.as_bytes.ensures.value ∙ c.as_str.ensures.value in
     let a = report_appends c.as_bytes.result.now m' m'' (Err WriteFault) (ap (λ (x : Meaning). x.tells) inv.others ∙ t) (refl, c.in-Err.ensures.err.0, c.in-Err.ensures.err.1) in
-    let f = line_front (closing_lines c.args.counts.now) c.loop-number.number c.in-Some.line.bytes m.report.written m''.report.written a.1 c.in-Some.ensures.line
+    let f = line_front (g.C.ClosingLines.lines c.args.counts.now) c.loop-number.number c.in-Some.line.bytes m.report.written m''.report.written a.1 c.in-Some.ensures.line
     (a.2 ∙ (λ i. inv.written t i ++ take a.1 (text i))) in
     (refl, f.0, f.1)
 
 pub returns-in-None-clause-written : goal.returns-in-None-clause-written
 returns-in-None-clause-written g c = λ t.
     let m : Meaning = g.S.Station.meaning c.args.station.now in
-    let lines = closing_lines c.args.counts.now in
+    let lines = g.C.ClosingLines.lines c.args.counts.now in
     let n : ℕ = c.loop-number.number in
     let all : length lines ≤ n = c.in-None.ensures.past.0 (search rules) in
     c.loop-number.invariant.written t ∙ ap (λ (ls : List (List ℕ)). m.report.written ++ concat ls) (take_all n lines all)
@@ -36,7 +35,7 @@ loop-number-preserved g c =
     let m' : Meaning = g.S.Station.meaning c.loop-number.station in
     let m'' : Meaning = g.S.Station.meaning c.write.new.self in
     let inv = c.loop-number.invariant in
-    let lines = closing_lines c.args.counts.now in
+    let lines = g.C.ClosingLines.lines c.args.counts.now in
     let n : ℕ = c.loop-number.number in
     let line = c.in-Some.line.bytes in
     let text : c.as_bytes.result.now ≡ line = c.as_bytes.ensures.value ∙ c.as_str.ensures.value in
@@ -46,3 +45,10 @@ loop-number-preserved g c =
     let p : Printed m m'' (concat (take (n + 1) lines)) = subst (Printed m m'') (sym more)
     (line_printed m m' m'' (concat (take n lines)) line (inv.printing, inv.others, inv.write_faults, inv.report_faults, inv.written) w) in
     record { printing = p.0; others = p.1; write_faults = p.2; report_faults = p.3; written = p.4 }
+
+pub returns-clause-written : goal.returns-clause-written
+returns-clause-written g c = λ t.
+    let m : Meaning = g.S.Station.meaning c.args.station.now in
+    let lines = g.C.ClosingLines.lines c.args.counts.now in
+    let n : ℕ = c.loop-number.number in
+    c.loop-number.invariant.written t ∙ ap (λ (ls : List (List ℕ)). m.report.written ++ concat ls) (take_all n lines (let few : length (take 4 lines) ≡ length lines = ap length (g.C.ClosingLines.few c.args.counts.now) in let most = length-take 4 lines in omega (arith, few, most, c.loop-number-test.false)))

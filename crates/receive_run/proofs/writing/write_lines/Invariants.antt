@@ -1,6 +1,5 @@
 use Rattle.std.proofs.Common.{◌≡◌, ◌++◌, true, take}
 use Rattle.std.specs.List.{concat}
-use Rattle.rx_report.specs.Text.{closing_lines}
 use Rattle.receive_run.specs.Writing.{IsPrinting, ReportOnly}
 use Rattle.receive_run.proofs.writing.write_lines.Given as goal
 
@@ -11,5 +10,5 @@ invariant-loop-number g l = record {
   others : ReportOnly (g.S.Station.meaning l.initial.station) (g.S.Station.meaning l.station);
   write_faults : (g.S.Station.meaning l.station).write_faults ≡ (g.S.Station.meaning l.initial.station).write_faults;
   report_faults : (g.S.Station.meaning l.station).report_faults ≡ (g.S.Station.meaning l.initial.station).report_faults;
-  written : (g.S.Station.meaning l.initial.station).tells ≡ true → (g.S.Station.meaning l.station).report.written ≡ (g.S.Station.meaning l.initial.station).report.written ++ concat (take l.number (closing_lines l.counts));
+  written : (g.S.Station.meaning l.initial.station).tells ≡ true → (g.S.Station.meaning l.station).report.written ≡ (g.S.Station.meaning l.initial.station).report.written ++ concat (take l.number (g.C.ClosingLines.lines l.counts));
 }

@@ -15,7 +15,7 @@ pub returns-in_err-write_some-clause-written : goal.returns-in_err-write_some-cl
 returns-in_err-write_some-clause-written g c = λ t.
     let m : Meaning = g.S.Station.meaning c.args.station.now in
     let m' : Meaning = g.S.Station.meaning c.write_some.new.station in
-    let out : Output = g.X.CellReceiver.gave c.args.receiver.now in
+    let out : Output = c.args.out.now in
     let stop : Stop = c.in_err-write_some.field-0.0 in
     handed_on c.from_residual.result stop (WritesOut c.args.two out m m') c.from_residual.ensures.1
     (failed_hp c.args.two out m m' stop t (subst (λ (b : List ℕ). WritesAt outs.Hp b m m' (Err stop)) c.hp.ensures c.in_err-write_some.ensures.writes))
@@ -25,7 +25,7 @@ returns-in_err-write_lp-clause-written g c = λ t.
     let m : Meaning = g.S.Station.meaning c.args.station.now in
     let m' : Meaning = g.S.Station.meaning c.write_some.new.station in
     let m'' : Meaning = g.S.Station.meaning c.write_lp.new.station in
-    let out : Output = g.X.CellReceiver.gave c.args.receiver.now in
+    let out : Output = c.args.out.now in
     let stop : Stop = c.in_err-write_lp.field-0.0 in
     handed_on c.from_residual-in_err-write_lp.result stop (WritesOut c.args.two out m m'') c.from_residual-in_err-write_lp.ensures.1
     (failed_lp c.args.two out m m' m'' t (subst (λ (b : List ℕ). WritesAt outs.Hp b m m' (Ok tt)) c.hp.ensures c.in_ok-write_some.ensures.writes) stop
@@ -37,7 +37,7 @@ returns-clause-written g c = λ t.
     let m' : Meaning = g.S.Station.meaning c.write_some.new.station in
     let m'' : Meaning = g.S.Station.meaning c.write_lp.new.station in
     let m''' : Meaning = g.S.Station.meaning c.write_events.new.station in
-    let out : Output = g.X.CellReceiver.gave c.args.receiver.now in
+    let out : Output = c.args.out.now in
     let w : WritesAt outs.Hp out.hp m m' (Ok tt) = subst (λ (b : List ℕ). WritesAt outs.Hp b m m' (Ok tt)) c.hp.ensures c.in_ok-write_some.ensures.writes in
     let v : WritesLp c.args.two out.lp m' m'' (Ok tt) = subst (λ (b : List ℕ). WritesLp c.args.two b m' m'' (Ok tt)) c.lp.ensures c.in_ok-write_lp.ensures.writes in
     let both : WritesOnly m m'' = writes_again m m' m'' (hp_frame out.hp m m' (Ok tt) w) (lp_frame c.args.two out.lp m' m'' (Ok tt) v) in

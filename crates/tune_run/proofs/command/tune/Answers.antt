@@ -1,6 +1,7 @@
 use Rattle.std.proofs.Common.{List, ℕ, Option, refl}
 use Rattle.std.specs.Option.{option_copied}
 use Rattle.station_core.specs.Meaning.{Meaning}
+use Rattle.receive_run.proofs.OfKinds.{plain_laws}
 use Rattle.tune_run.proofs.Coming.{Laws}
 use Rattle.tune_run.proofs.WholeRun.{ready, refused, run}
 use Rattle.tune_run.proofs.command.tune.Goals as goal
@@ -11,14 +12,7 @@ tune_accepted-requires g c =
     let mid : Meaning = g.S.Station.meaning c.read_settings.new.station in
     let lp : Option (List ℕ) = option_copied c.args.lp in
     let laws : Laws = record {
-      receptions = record {
-        some_live = c.existence.ensures.live;
-        some_final = c.existence.ensures.last;
-        live = c.beginnings.ensures.live;
-        last = c.beginnings.ensures.last;
-        whole = c.beginnings.ensures.whole;
-        unfinished = c.symbols.ensures.tail;
-      };
+      receptions = plain_laws c.existence.ensures.live c.existence.ensures.last c.beginnings.ensures.live c.beginnings.ensures.last c.beginnings.ensures.whole c.symbols.ensures.tail c.nothing.ensures.live c.events.ensures.none;
       one = c.one_found.ensures;
       stays = c.more_bytes.ensures.stays;
       tps = c.symbols.ensures.tps;
@@ -41,14 +35,7 @@ returns-in-Ok g c =
     let new : Meaning = g.S.Station.meaning c.tune_accepted.new.station in
     let lp : Option (List ℕ) = option_copied c.args.lp in
     let laws : Laws = record {
-      receptions = record {
-        some_live = c.existence.ensures.live;
-        some_final = c.existence.ensures.last;
-        live = c.beginnings.ensures.live;
-        last = c.beginnings.ensures.last;
-        whole = c.beginnings.ensures.whole;
-        unfinished = c.symbols.ensures.tail;
-      };
+      receptions = plain_laws c.existence.ensures.live c.existence.ensures.last c.beginnings.ensures.live c.beginnings.ensures.last c.beginnings.ensures.whole c.symbols.ensures.tail c.nothing.ensures.live c.events.ensures.none;
       one = c.one_found.ensures;
       stays = c.more_bytes.ensures.stays;
       tps = c.symbols.ensures.tps;
@@ -63,14 +50,7 @@ returns-in-Err g c =
     let new : Meaning = g.S.Station.meaning c.refuse.new.station in
     let lp : Option (List ℕ) = option_copied c.args.lp in
     let laws : Laws = record {
-      receptions = record {
-        some_live = c.existence.ensures.live;
-        some_final = c.existence.ensures.last;
-        live = c.beginnings.ensures.live;
-        last = c.beginnings.ensures.last;
-        whole = c.beginnings.ensures.whole;
-        unfinished = c.symbols.ensures.tail;
-      };
+      receptions = plain_laws c.existence.ensures.live c.existence.ensures.last c.beginnings.ensures.live c.beginnings.ensures.last c.beginnings.ensures.whole c.symbols.ensures.tail c.nothing.ensures.live c.events.ensures.none;
       one = c.one_found.ensures;
       stays = c.more_bytes.ensures.stays;
       tps = c.symbols.ensures.tps;

@@ -18,5 +18,5 @@ returns-clause-begins g c =
       more = live_at s two [] nothing;
       is = ((nothing, c.requires.new, live, (λ port. refl)), (nothing, live, (λ port. refl)));
       follows = λ port. refl;
-      written = λ t port. sym (append-nil (sink_at port m).written) ∙ ap (λ (l : List ℕ). (sink_at port m).written ++ l) (sym (nothing_written c.events.ensures.none s two port));
+      written = λ t port. sym (append-nil (sink_at port m).written) ∙ ap (λ (l : List ℕ). (sink_at port m).written ++ l) (sym (nothing_written c.events.ensures.none nothing.packets nothing.reports (λ σ. refl) s two port));
     }

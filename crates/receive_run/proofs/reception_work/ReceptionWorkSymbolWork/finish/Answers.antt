@@ -1,4 +1,4 @@
-use Rattle.std.proofs.Common.{◌≡◌, Bool, refl, ◌∙◌, ap, subst}
+use Rattle.std.proofs.Common.{◌≡◌, Bool, refl, ◌∙◌, ap, subst, Ok, Err}
 use Rattle.std.specs.List.{concat}
 use Rattle.station_core.specs.Meaning.{Meaning}
 use Rattle.station_core.specs.declared.ports.OutPort.TheVariants as outs
@@ -8,7 +8,8 @@ use Rattle.rx_report.specs.declared.counts.Counts.{Counts}
 use Rattle.reception.specs.Streams.{at_end}
 use Rattle.reception.specs.Feeds.{Output}
 use Rattle.reception.specs.Lines.{counts_of}
-use Rattle.receive_run.specs.Writing.{Appends}
+use Rattle.receive_run.specs.Writing.{Appends, WritesOut}
+use Rattle.receive_run.specs.Working.{plain}
 use Rattle.receive_run.proofs.Ends.{ended, rest_failed}
 use Rattle.receive_run.proofs.reception_work.ReceptionWorkSymbolWork.finish.Goals as goal
 
@@ -36,7 +37,7 @@ returns-in-Ok-clause-finishes g c = λ bytes before stood gives.
     let f = c.finish.ensures.finishes bytes stood.0 stood.1 in
     let ends = c.receptions.ensures.ends s bytes stood.0 f.after stood.2 f.final in
     let counts : c.counts.result ≡ counts_of s bytes f.after = c.counts.ensures at_end bytes f.after f.ends ∙ ap (λ (x : Settings). counts_of x bytes f.after) c.finish.ensures.settings in
-    ended s two bytes stood.0 before stood.3 out f.after ends f.final f.packets f.no_event m m' c.in-Ok.ensures.others m'' c.write_lines.ensures.others c.in-Ok.ensures.written c.write_lines.result
+    ended plain s two bytes stood.0 before stood.3 out f.after ends.reports f.final f.packets f.no_event m m' c.in-Ok.ensures.others m'' c.write_lines.ensures.others (λ t. subst (λ (o : Output). WritesOut two o m m' (Ok tt)) c.out.ensures (c.in-Ok.ensures.written t)) c.write_lines.result
     (λ t. subst (λ (x : Counts). Appends (concat (closing_lines x)) m'.report.written m''.report.written c.write_lines.result) counts (c.write_lines.ensures.written t))
     c.write_lines.ensures.kind
 
@@ -49,4 +50,4 @@ returns-in-Err-clause-finishes g c = λ bytes before stood gives.
     let out : Output = g.X.CellReceiver.gave c.finish.new.self in
     let f = c.finish.ensures.finishes bytes stood.0 stood.1 in
     let ends = c.receptions.ensures.ends s bytes stood.0 f.after stood.2 f.final in
-    rest_failed s two bytes stood.0 before stood.3 out f.after ends f.final f.packets f.no_event m m' c.in-Err.ensures.others c.in-Err.stop c.in-Err.ensures.kind c.in-Err.ensures.written
+    rest_failed plain s two bytes stood.0 before stood.3 out f.after ends.reports f.final f.packets f.no_event m m' c.in-Err.ensures.others c.in-Err.stop c.in-Err.ensures.kind (λ t. subst (λ (o : Output). WritesOut two o m m' (Err c.in-Err.stop)) c.out.ensures (c.in-Err.ensures.written t))

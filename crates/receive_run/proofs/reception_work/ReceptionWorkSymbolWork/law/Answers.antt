@@ -13,6 +13,6 @@ returns g c = record {
       let s : Settings = g.X.CellReceiver.settings c.args.self.now.receiver in (
         is.0,
         part_live c.symbols.ensures.same c.costs.ensures.same c.symbols.ensures.tps c.symbols.ensures.bits s bytes more is.0 within is.1,
-        (λ port. is.2 port ∙ ap (λ (q : ℕ). written_at c.args.self.now.two is.0 (flat_map event_line (events s q is.0.reports)) port) (sym (c.symbols.ensures.same s bytes more within))),
+        (λ port. is.2 port ∙ ap (λ (q : ℕ). written_at c.args.self.now.two is.0.packets (flat_map event_line (events s q is.0.reports)) port) (sym (c.symbols.ensures.same s bytes more within))),
       );
 }

@@ -1,11 +1,12 @@
-use Rattle.std.proofs.Common.{◌++◌, Bool, refl, sym, arith}
+use Rattle.std.proofs.Common.{◌++◌, Bool, refl, sym, subst, arith}
 use Rattle.station_core.specs.Meaning.{Meaning}
 use Rattle.station_core.specs.declared.ports.OutPort.TheVariants as outs
 use Rattle.mode_set.specs.declared.settings.Settings.{Settings}
 use Rattle.reception.specs.Streams.{so_far}
 use Rattle.reception.specs.Feeds.{Output}
 use Rattle.symbol_runs.proofs.Steps.{moved}
-use Rattle.receive_run.specs.Working.{ReceiverStands, live_at}
+use Rattle.receive_run.specs.Working.{ReceiverStands, live_at, plain}
+use Rattle.receive_run.specs.Writing.{WritesOut}
 use Rattle.receive_run.proofs.Ends.{took_piece}
 use Rattle.receive_run.proofs.reception_work.ReceptionWorkSymbolWork.take.Goals as goal
 
@@ -36,4 +37,5 @@ returns-clause-takes g c = λ bytes before stood gives none fits.
     let given = live_at s two (bytes ++ piece) takes.after in
     let standing : ReceiverStands stands' s' two (bytes ++ piece) given =
     moved s' s (λ (x : Settings). ReceiverStands stands' x two (bytes ++ piece) given) (sym c.feed.ensures.settings) (takes.after, takes.stands, takes.live, (λ port. refl)) in
-    took_piece s two (ReceiverStands stands' s' two) bytes piece stood.0 before stood.3 stands' out takes standing m m' c.write_out.ensures.others c.write_out.result c.write_out.ensures.written c.write_out.ensures.kind
+    took_piece plain s two (ReceiverStands stands' s' two) bytes piece stood.0 before stood.3 stands' out takes standing m m' c.write_out.ensures.others c.write_out.result
+    (λ t. subst (λ (o : Output). WritesOut two o m m' c.write_out.result) c.out.ensures (c.write_out.ensures.written t)) c.write_out.ensures.kind

@@ -1,0 +1,53 @@
+use Rattle.std.proofs.Common.{◌≡◌, Bool, refl, ◌∙◌, ap, subst}
+use Rattle.std.specs.List.{concat}
+use Rattle.station_core.specs.Meaning.{Meaning}
+use Rattle.station_core.specs.declared.ports.OutPort.TheVariants as outs
+use Rattle.mode_set.specs.declared.settings.Settings.{Settings}
+use Rattle.reception.specs.Streams.{at_end}
+use Rattle.reception.specs.Feeds.{Output}
+use Rattle.rescue_report.specs.Text.{closing_lines}
+use Rattle.rescue_report.specs.declared.counts.Counts.{Counts}
+use Rattle.rescue_reception.specs.Lines.{counts_of}
+use Rattle.receive_run.specs.Writing.{Appends}
+use Rattle.receive_run.proofs.Ends.{ended, rest_failed}
+use Rattle.rescue_run.specs.Working.{rescuing}
+use Rattle.rescue_run.proofs.work.RescueWorkSymbolWork.finish.Goals as goal
+
+pub write_out-requires : goal.write_out-requires
+write_out-requires g c κs =
+    let o = c.requires.open in (
+      (refl, tt),
+      record {
+        hp = o.made outs.Hp refl;
+        hp_open = o.opened outs.Hp refl;
+        lp = o.made outs.Lp;
+        lp_open = o.opened outs.Lp;
+        report = record { created = o.report; opened = o.report_open };
+      },
+    )
+
+pub returns-in-Ok-clause-finishes : goal.returns-in-Ok-clause-finishes
+returns-in-Ok-clause-finishes g c = λ bytes before stood gives.
+    let m : Meaning = g.S.Station.meaning c.args.station.now in
+    let m' : Meaning = g.S.Station.meaning c.write_out.new.station in
+    let m'' : Meaning = g.S.Station.meaning c.write_lines.new.station in
+    let s : Settings = c.args.self.now.receiver.settings in
+    let two : Bool = c.args.self.now.two in
+    let out : Output = c.finish.new.out in
+    let f = c.finish.ensures.finished bytes stood.0 stood.1 in
+    let ends = c.receptions.ensures.ends s bytes stood.0 f.after stood.2 f.final in
+    let counts : c.counts-counts.result ≡ counts_of s bytes f.after = c.counts-counts.ensures at_end bytes f.after f.ends ∙ ap (λ (x : Settings). counts_of x bytes f.after) c.finish.ensures.settings in
+    ended rescuing s two bytes stood.0 before stood.3 out f.after ends.reports f.final f.packets f.no_event m m' c.in-Ok.ensures.others m'' c.write_lines.ensures.others c.in-Ok.ensures.written c.write_lines.result
+    (λ t. subst (λ (x : Counts). Appends (concat (closing_lines x)) m'.report.written m''.report.written c.write_lines.result) counts (c.write_lines.ensures.written t))
+    c.write_lines.ensures.kind
+
+pub returns-in-Err-clause-finishes : goal.returns-in-Err-clause-finishes
+returns-in-Err-clause-finishes g c = λ bytes before stood gives.
+    let m : Meaning = g.S.Station.meaning c.args.station.now in
+    let m' : Meaning = g.S.Station.meaning c.write_out.new.station in
+    let s : Settings = c.args.self.now.receiver.settings in
+    let two : Bool = c.args.self.now.two in
+    let out : Output = c.finish.new.out in
+    let f = c.finish.ensures.finished bytes stood.0 stood.1 in
+    let ends = c.receptions.ensures.ends s bytes stood.0 f.after stood.2 f.final in
+    rest_failed rescuing s two bytes stood.0 before stood.3 out f.after ends.reports f.final f.packets f.no_event m m' c.in-Err.ensures.others c.in-Err.stop c.in-Err.ensures.kind c.in-Err.ensures.written

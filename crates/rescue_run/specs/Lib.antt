@@ -1,0 +1,4 @@
+pub mod Rescued
+pub mod RescueCommand
+pub mod Working
+pub mod Closing

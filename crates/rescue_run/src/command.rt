@@ -1,0 +1,101 @@
+// The command.
+ghost use Rattle.std.specs.Prelude.{◌≡◌};
+ghost use Rattle.std.specs.Option.{option_copied};
+ghost use Rattle.station_core.specs.Meaning.{IsFresh};
+ghost use Rattle.run_clauses.specs.Run.{Run};
+ghost use Rattle.symbol_runs.specs.Runs.{IsReady};
+ghost use Rattle.symbol_runs.specs.Outputs.{stream_names};
+ghost use Rattle.receive_run.specs.Runs.{RunsOrLacks};
+ghost use Rattle.rescue_run.specs.Working.{rescue_work};
+ghost use Rattle.rescue_run.specs.RescueCommand.{rescue_command};
+
+use crate::work::RescueWork;
+use mode_set::{Carriers, Mode, Mode2k, Mode8k, Settings};
+use receive_run::ReceptionFiles;
+use rescue::{Rescue, RescueOut};
+use run_clauses::{Limits, Refusal};
+use run_steps::{read_fitting, refuse};
+use station_core::Station;
+use std::alloc::Global;
+use std::thread::Threads;
+
+// Takes the memory of a mode's receiver and of one symbol, and runs the reception.
+fn rescue_in<'a, M: Carriers, R: Threads + Sync, S: Station<'a>>(
+    rt: &R,
+    alloc: Global,
+    settings: &Settings,
+    files: ReceptionFiles<'a>,
+    station: &mut S,
+) -> u8
+    requires mode { settings.now.mode ≡ M.MODE }
+    requires ready { IsReady (stream_names files.hp.now (option_copied files.lp)) (S.meaning station.old) }
+    ensures { RunsOrLacks rescue_work settings.now files.entry.cells.now files.entry.hp.now (option_copied files.entry.lp) (S.meaning station.old) (S.meaning station.new) result }
+{
+    let Ok(receiver) = Rescue::<M>::new(alloc, settings) else {
+        return refuse(&Refusal::Memory, station);
+    };
+    let Ok(out) = RescueOut::new(alloc) else {
+        return refuse(&Refusal::Memory, station);
+    };
+    let Ok(mut symbol) = vec![in alloc; 0u8; 5 * M::K as usize] else {
+        return refuse(&Refusal::Memory, station);
+    };
+    let two = files.lp.is_some();
+    let mut work = RescueWork {
+        rt,
+        receiver,
+        out,
+        two,
+    };
+    files.run_work(settings, &mut work, &mut symbol, station)
+}
+
+// The same in the mode that is set.
+fn rescue_accepted<'a, R: Threads + Sync, S: Station<'a>>(
+    rt: &R,
+    alloc: Global,
+    settings: &Settings,
+    files: ReceptionFiles<'a>,
+    station: &mut S,
+) -> u8
+    requires ready { IsReady (stream_names files.hp.now (option_copied files.lp)) (S.meaning station.old) }
+    ensures { RunsOrLacks rescue_work settings.now files.entry.cells.now files.entry.hp.now (option_copied files.entry.lp) (S.meaning station.old) (S.meaning station.new) result }
+{
+    match settings.mode {
+        Mode::M2k => rescue_in::<Mode2k, R, S>(rt, alloc, settings, files, station),
+        Mode::M8k => rescue_in::<Mode8k, R, S>(rt, alloc, settings, files, station),
+    }
+}
+
+/// Runs `rescue SETTINGS CELLS HP` or, with a file of LP, `rescue SETTINGS CELLS HP LP`, and gives its
+/// status.
+///
+/// What it promises is `Run` of its definition, `rescue_command`. The settings are read and checked, and
+/// then all memory is taken, before another port is asked; the cells are opened, and their header is read,
+/// before an output is made.
+pub fn rescue<'a, R: Threads + Sync, S: Station<'a>>(
+    rt: &R,
+    alloc: Global,
+    settings: &'a str,
+    cells: &'a str,
+    hp: &'a str,
+    lp: Option<&'a str>,
+    limits: &Limits,
+    station: &mut S,
+) -> u8
+    requires fresh { IsFresh (S.meaning station.old) }
+    ensures { Run (rescue_command settings.now cells.now hp.now (option_copied lp.entry)) limits.now.packets (S.meaning station.old) (S.meaning station.new) result }
+{
+    reception::laws::symbols();
+    reception::laws::events();
+    rescue_laws::laws::nothing();
+    rescue_laws::laws::existence();
+    rescue_laws::laws::beginnings();
+    match read_fitting(alloc, settings, lp, station) {
+        Ok(accepted) => {
+            let files = ReceptionFiles { cells, hp, lp };
+            rescue_accepted(rt, alloc, &accepted, files, station)
+        }
+        Err(refusal) => refuse(&refusal, station),
+    }
+}

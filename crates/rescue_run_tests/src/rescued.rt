@@ -1,0 +1,235 @@
+// The command `rescue`. The expected reports, lengths and sums are those of an independent program.
+ghost use Rattle.std.specs.Prelude.{◌≤◌};
+
+use run_tools::{
+    BASE, Conditions, Found, LAYERED, NONE, SUPER_FRAME, SYMBOL, ample, noisy, null_cells,
+    run_files, stands, text_bytes,
+};
+use station_core::{Failing, InPort, OutPort};
+use std::alloc::{AllocError, Global};
+use std::process::Abort;
+use std::test::Fail;
+use std::thread::Threads;
+
+/// QPSK at 7/8.
+const QPSK: &str = "mode = \"2k\"\nconstellation = \"qpsk\"\nrate_hp = \"7/8\"\nguard = \"1/32\"\n";
+
+/// 16-QAM at 2/3, and what 20 symbols of it give where noise moves each part by at most 7,380: 4 words of 18 come back.
+const SIXTEEN: &str =
+    "mode = \"2k\"\nconstellation = \"16qam\"\nrate_hp = \"2/3\"\nguard = \"1/32\"\n";
+
+const FOUR_OF_18: &str =
+    "symbols 20 tail 0\nhp words 38 clean 0 corrected 20 rescued 4 bad 14 unphased 0 unmerged 0\n";
+
+const ALL: (usize, u32) = (7_144, 3_112_967_656);
+
+/// What those give but for the last symbol.
+const ALL_BUT_ONE: (usize, u32) = (6_580, 2_132_560_500);
+
+/// Half of what is written first.
+const HALF: (usize, u32) = (282, 1_288_369_202);
+
+/// The lines of them all, behind which a close failed.
+const CLOSED: &str =
+    "symbols 20 tail 0\nhp words 38 clean 0 corrected 20 rescued 4 bad 14 unphased 0 unmerged 0\nwrite fault\n";
+
+/// QPSK: all of three words without a nearest codeword come back.
+const ALL_THREE: &str =
+    "symbols 20 tail 0\nhp words 21 clean 2 corrected 16 rescued 3 bad 0 unphased 0 unmerged 0\n";
+
+/// Two streams: of nine such words of LP two come back.
+const TWO_OF_NINE: &str =
+    "symbols 30 tail 0\nhp words 16 clean 16 corrected 0 rescued 0 bad 0 unphased 0 unmerged 0\nlp words 30 clean 0 corrected 21 rescued 2 bad 7 unphased 0 unmerged 0\n";
+
+/// The super-frame of null packets in `BASE`, and none of its symbols.
+const WHOLE_NULLS: &str =
+    "symbols 272 tail 0\nhp words 241 clean 241 corrected 0 rescued 0 bad 0 unphased 0 unmerged 0\n";
+
+const NO_WORDS: &str =
+    "symbols 0 tail 0\nhp words 0 clean 0 corrected 0 rescued 0 bad 0 unphased 0 unmerged 0\n";
+
+// A file with noise: the settings of its transmission, how many of its symbols there are, and by how much each part is moved at
+// most.
+type Noisy<'a> = (&'a str, usize, u32);
+
+// The header and the first symbols of a cell file.
+fn front(file: &[u8], symbols: usize) -> &[u8] {
+    &file[..(8 + symbols.min(300) * SYMBOL).min(file.len())]
+}
+
+// The symbols of null packets with noise.
+fn disturbed<R: Threads + Sync>(
+    rt: &R,
+    alloc: Global,
+    file: Noisy<'_>,
+    two: bool,
+) -> Result<Vec<u8>, AllocError> {
+    let cells = null_cells(rt, alloc, file.0, two)?;
+    noisy(alloc, front(&cells, file.1), file.2)
+}
+
+// Whether the words over this file leave this.
+fn leaves<R: Threads + Sync>(
+    rt: &R,
+    alloc: Global,
+    words: &str,
+    settings: (&str, &str),
+    file: &[u8],
+    conditions: Conditions,
+    found: Found<'_>,
+) -> Result<bool, AllocError>
+    requires { 1 ≤ conditions.most }
+{
+    let settings = text_bytes(alloc, settings.0, settings.1)?;
+    let inputs = (Vec::from_slice(alloc, file)?, Vec::new(alloc));
+    let ran = run_files(rt, alloc, words, settings, inputs, 1, conditions)?;
+    Ok(stands(&ran, found))
+}
+
+// QPSK from any register, 16-QAM from the register zero, and two streams; whole reads, and reads of few bytes.
+#[test]
+fn words_come_back(rt: HostRuntime) -> Result<(), Fail> {
+    let alloc = rt.alloc();
+    let any = "start = \"any\"\n";
+    let pieces = Conditions {
+        most: 997,
+        ..ample(SUPER_FRAME)
+    };
+    let cases = [
+        (
+            (QPSK, 20, 12_460),
+            any,
+            (0, ALL_THREE, (3_948, 1_716_182_877), NONE),
+        ),
+        ((SIXTEEN, 20, 7_380), "", (0, FOUR_OF_18, ALL, NONE)),
+        (
+            (LAYERED, 30, 2_680),
+            "",
+            (
+                0,
+                TWO_OF_NINE,
+                (3_008, 2_915_110_544),
+                (5_640, 3_964_788_347),
+            ),
+        ),
+    ];
+    for (sent, start, found) in cases {
+        let two = found.3 != NONE;
+        let words = if two {
+            "rescue s a hp lp"
+        } else {
+            "rescue s a hp"
+        };
+        let file = disturbed(&rt, alloc, sent, two)?;
+        let settings = (sent.0, start);
+        let whole = leaves(
+            &rt,
+            alloc,
+            words,
+            settings,
+            &file,
+            ample(SUPER_FRAME),
+            found,
+        )?;
+        let cut = leaves(&rt, alloc, words, settings, &file, pieces, found)?;
+        assert!(rt; whole && cut, "{}", found.1);
+    }
+    Ok(())
+}
+
+// Limits of symbols: all of them, and one fewer.
+#[test]
+fn limits_of_symbols(rt: HostRuntime) -> Result<(), Fail> {
+    let alloc = rt.alloc();
+    let file = disturbed(&rt, alloc, (SIXTEEN, 20, 7_380), false)?;
+    let cases = [
+        ("max_symbols = 20\n", (0, FOUR_OF_18, ALL, NONE)),
+        ("max_symbols = 19\n", (8, "limit 19\n", ALL_BUT_ONE, NONE)),
+    ];
+    for (limit, found) in cases {
+        let wide = ample(SUPER_FRAME);
+        let settings = (SIXTEEN, limit);
+        assert!(rt;
+            leaves(&rt, alloc, "rescue s a hp", settings, &file, wide, found)?,
+            "{}",
+            limit
+        );
+    }
+    Ok(())
+}
+
+// One call of the station fails. A write that fails writes the first half of its bytes.
+#[test]
+fn faults_of_the_station(rt: HostRuntime) -> Result<(), Fail> {
+    let alloc = rt.alloc();
+    let file = disturbed(&rt, alloc, (SIXTEEN, 20, 7_380), false)?;
+    let cases = [
+        (
+            Failing::Attach(InPort::Cells, 1),
+            (5, "read fault\n", NONE, NONE),
+        ),
+        (
+            Failing::Read(InPort::Cells, 21),
+            (5, "read fault\n", ALL_BUT_ONE, NONE),
+        ),
+        (
+            Failing::Create(OutPort::Hp, 1),
+            (6, "write fault\n", NONE, NONE),
+        ),
+        (
+            Failing::Write(OutPort::Hp, 1),
+            (6, "write fault\n", HALF, NONE),
+        ),
+        (
+            Failing::Write(OutPort::Report, 1),
+            (6, "symbols 2write fault\n", ALL, NONE),
+        ),
+        (Failing::Close(OutPort::Hp, 1), (6, CLOSED, ALL, NONE)),
+    ];
+    for (place, (call, found)) in cases.iter().enumerate() {
+        let conditions = Conditions {
+            failing: Some(*call),
+            ..ample(SUPER_FRAME)
+        };
+        let settings = (SIXTEEN, "");
+        let is_so = leaves(
+            &rt,
+            alloc,
+            "rescue s a hp",
+            settings,
+            &file,
+            conditions,
+            *found,
+        )?;
+        assert!(rt; is_so, "fault {}", place);
+    }
+    Ok(())
+}
+
+// The super-frame of null packets, its header and parts of it, and forms that do not fit.
+#[test]
+fn null_super_frame(rt: HostRuntime) -> Result<(), Fail> {
+    let alloc = rt.alloc();
+    let cells = null_cells(&rt, alloc, BASE, false)?;
+    assert!(rt; cells.len() == 8 + 272 * SYMBOL);
+    let one = "rescue s a hp";
+    let two = "rescue s a hp lp";
+    let form = (3, "settings form\n", NONE, NONE);
+    let header = (9, "cells header\n", NONE, NONE);
+    let packets = (45_308, 481_694_105);
+    let cases = [
+        (one, BASE, cells.len(), (0, WHOLE_NULLS, packets, NONE)),
+        (one, BASE, 8, (0, NO_WORDS, NONE, NONE)),
+        (one, BASE, 7, header),
+        (two, BASE, 8, form),
+        (one, LAYERED, 8, form),
+        ("rescue s a", BASE, 8, (2, "usage\n", NONE, NONE)),
+    ];
+    for (words, settings, length, found) in cases {
+        let file = &cells[..length.min(cells.len())];
+        let wide = ample(SUPER_FRAME);
+        let is_so = leaves(&rt, alloc, words, (settings, ""), file, wide, found)?;
+        assert!(rt; is_so, "{} of {} bytes beside {}", words, length, found.1);
+    }
+    Ok(())
+}
