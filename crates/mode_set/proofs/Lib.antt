@@ -5,3 +5,5 @@ mod Reasons
 mod Periods
 mod Planned
 mod EntryKeys
+mod Stated
+mod PlanVectors

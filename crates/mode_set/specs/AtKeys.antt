@@ -1,7 +1,9 @@
--- What stands at the keys of a settings document.
+-- A settings document, and what stands at its keys.
 use Rattle.std.specs.Prelude.{ℕ, not, ◌&&◌, if◌then◌else◌, List, [], ◌∷◌, Option, Some, None, is_some, Result, Ok, Err}
 use Rattle.std.specs.Bool.{beq}
+use Rattle.std.specs.Str.{is_utf8}
 use Rattle.toml.specs.Data.{Data, Members, no_members, member, get_member}
+use Rattle.toml.specs.Parse.{parse_document}
 use Rattle.mode_set.specs.Keys.{key_text}
 use Rattle.mode_set.specs.Kept.{is_flat, is_qpsk}
 use Rattle.mode_set.specs.Values.{mode_words, shape_words, hierarchy_words, rate_words, guard_words, start_words, a_word, a_number}
@@ -17,6 +19,10 @@ use Rattle.mode_set.specs.declared.modes.Rate.{Rate}
 use Rattle.mode_set.specs.declared.modes.Guard.{Guard}
 use Rattle.mode_set.specs.declared.modes.Start.{Start}
 use Rattle.mode_set.specs.declared.modes.Start.TheVariants.{Zero}
+
+-- the table of a document, where its bytes are UTF-8 and TOML
+abbrev pub document : List ℕ → Option Members
+document bytes = if is_utf8 bytes then parse_document bytes else None
 
 -- the keys of a table, in its order, which is byte order
 abbrev pub keys_of : Members → List (List ℕ)

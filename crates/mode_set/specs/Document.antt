@@ -1,19 +1,14 @@
 -- What a settings document says, and the first reason to refuse it.
-use Rattle.std.specs.Prelude.{◌≡◌, ℕ, not, if◌then◌else◌, List, [], ◌∷◌, Option, Some, None, IsSomeAnd, position, Ok}
-use Rattle.std.specs.Str.{is_utf8}
+use Rattle.std.specs.Prelude.{◌≡◌, ℕ, not, List, [], ◌∷◌, Option, Some, None, position, Ok}
 use Rattle.std.specs.Result.{result_err}
 use Rattle.toml.specs.Data.{Members}
-use Rattle.toml.specs.Parse.{parse_document}
 use Rattle.mode_set.specs.Keys.{is_key}
-use Rattle.mode_set.specs.AtKeys.{keys_of, mode_in, shape_in, hierarchy_in, rate_hp_in, rate_lp_in, guard_in, cell_id_in, start_in, workers_in, max_symbols_in, hierarchy_clash, rate_lp_clash, first_of}
+use Rattle.mode_set.specs.AtKeys.{document, keys_of, mode_in, shape_in, hierarchy_in, rate_hp_in, rate_lp_in, guard_in, cell_id_in, start_in, workers_in, max_symbols_in, hierarchy_clash, rate_lp_clash, first_of}
 use Rattle.mode_set.specs.PlanKey.{plan_in}
+use Rattle.mode_set.specs.StatedSettings.{settings_of}
 use Rattle.mode_set.specs.declared.error.SettingsError.{SettingsError}
 use Rattle.mode_set.specs.declared.error.SettingsError.TheVariants.{NotToml, Unknown}
 use Rattle.mode_set.specs.declared.settings.Settings.{Settings}
-
--- the table of a document, where its bytes are UTF-8 and TOML
-abbrev pub document : List ℕ → Option Members
-document bytes = if is_utf8 bytes then parse_document bytes else None
 
 -- the place of the first key that is none of the table
 abbrev pub first_unknown : Members → Option ℕ
@@ -40,7 +35,7 @@ refusal bytes = of_document (document bytes)
     of_document None = Some NotToml
     of_document (Some ms) = first_of (reasons ms)
 
--- the settings are what the document says
+-- the settings are what stands at each key
 pub record States (ms : Members) (s : Settings) : Type 0 where
   pub mode : mode_in ms ≡ Ok s.mode
   pub shape : shape_in ms ≡ Ok s.shape
@@ -56,4 +51,4 @@ pub record States (ms : Members) (s : Settings) : Type 0 where
 
 -- the settings are those of a document
 abbrev pub IsStatedBy : Settings → List ℕ → Type 0
-IsStatedBy s bytes = IsSomeAnd (document bytes) (λ ms. States ms s)
+IsStatedBy s bytes = settings_of bytes ≡ Some s

@@ -1,5 +1,5 @@
 -- What the type of settings keeps.
-use Rattle.std.specs.Prelude.{◌≡◌, ℕ, ◌≤◌, Option, IsTrue, Bool, true, false, is_some, not, ◌&&◌, ◌||◌}
+use Rattle.std.specs.Prelude.{◌≡◌, ℕ, ◌≤◌, Option, IsTrue, Bool, true, false, is_some, not, ◌&&◌, ◌||◌, nat_le}
 use Rattle.std.specs.Bool.{beq}
 use Rattle.mode_set.specs.declared.modes.Shape.{Shape}
 use Rattle.mode_set.specs.declared.modes.Shape.TheVariants.{Qpsk, Qam16, Qam64}
@@ -34,3 +34,7 @@ pub record IsKeptEntry (shape : Shape) (hierarchy : Hierarchy) (rate_lp : Option
 -- whether parameters are so
 abbrev pub fit_together : Shape → Hierarchy → Option Rate → Bool
 fit_together shape hierarchy rate_lp = (not (is_qpsk shape) || is_flat hierarchy) && beq (is_some rate_lp) (not (is_flat hierarchy))
+
+-- whether they and the numbers are those of settings
+abbrev pub fit : Shape → Hierarchy → Option Rate → ℕ → ℕ → Bool
+fit shape hierarchy rate_lp workers most = fit_together shape hierarchy rate_lp && (nat_le 1 workers && (nat_le workers 16 && nat_le 1 most))

@@ -1,10 +1,10 @@
--- What the tests for entries and plans find is what their types keep.
-use Rattle.std.specs.Prelude.{◌≡◌, nat_le, Bool, true, false, not, ◌||◌, List, [], ◌∷◌, ◌++◌, ◌-◌, length, take, replicate, Option, is_some, refl}
+-- What the tests for settings, entries and plans find is what their types keep.
+use Rattle.std.specs.Prelude.{◌≡◌, ℕ, nat_le, Bool, true, false, not, ◌&&◌, ◌||◌, List, [], ◌∷◌, ◌++◌, ◌-◌, length, take, replicate, Option, is_some, refl}
 use Rattle.std.specs.Bool.{beq}
 use Rattle.std.proofs.Common.{◌∙◌, sym, ap, arith, length-append}
 use Rattle.std.proofs.lemmas.Bool.{and_parts, leb-true, true≢false}
 use Rattle.std.proofs.lemmas.List.{length-replicate}
-use Rattle.mode_set.specs.Kept.{IsKeptEntry, is_flat, is_qpsk, fit_together}
+use Rattle.mode_set.specs.Kept.{IsKept, IsKeptEntry, is_flat, is_qpsk, fit, fit_together}
 use Rattle.mode_set.specs.PlanList.{is_plan, is_rising, filler, filled, IsFilled}
 use Rattle.mode_set.specs.declared.entry.Entry.{Entry}
 use Rattle.mode_set.specs.declared.modes.Shape.{Shape}
@@ -27,6 +27,20 @@ pub kept_together : (shape : Shape) (hierarchy : Hierarchy) (rate_lp : Option Ra
 kept_together shape hierarchy rate_lp e =
     let a = and_parts (not (is_qpsk shape) || is_flat hierarchy) (beq (is_some rate_lp) (not (is_flat hierarchy))) e in
     record { qpsk = implied (is_qpsk shape) (is_flat hierarchy) a.0; lp = same (is_some rate_lp) (not (is_flat hierarchy)) a.1 }
+
+pub kept_if : (shape : Shape) (hierarchy : Hierarchy) (rate_lp : Option Rate) (workers most : ℕ) → fit shape hierarchy rate_lp workers most ≡ true → IsKept shape hierarchy rate_lp workers most
+kept_if shape hierarchy rate_lp workers most e =
+    let a = and_parts (fit_together shape hierarchy rate_lp) (nat_le 1 workers && (nat_le workers 16 && nat_le 1 most)) e in
+    let kept = kept_together shape hierarchy rate_lp a.0 in
+    let b = and_parts (nat_le 1 workers) (nat_le workers 16 && nat_le 1 most) a.1 in
+    let c = and_parts (nat_le workers 16) (nat_le 1 most) b.1 in
+    record {
+      qpsk = kept.qpsk;
+      lp = kept.lp;
+      some_worker = leb-true 1 workers b.0;
+      few_workers = leb-true workers 16 c.0;
+      some_symbol = leb-true 1 most c.1;
+    }
 
 pub take_front : (l m : List Entry) → take (length l) (l ++ m) ≡ l
 take_front [] m = refl

@@ -13,3 +13,4 @@ pub mod PlanList
 pub mod Plans
 pub mod KeptBy
 pub mod PlanKey
+pub mod StatedSettings

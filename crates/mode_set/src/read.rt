@@ -1,8 +1,8 @@
 // Settings out of a TOML document.
 ghost use Rattle.std.specs.Prelude.{◌≡◌, ℕ, IsSomeAnd, ◌≢◌, ◌≤◌, Some, None, IfOk, IfSome, IfErr, not, position, string_bytes, Err};
 ghost use Rattle.toml.specs.View.{table_view};
-ghost use Rattle.mode_set.specs.AtKeys.{cell_id_in, keys_of, first_of};
-ghost use Rattle.mode_set.specs.Document.{first_unknown, unknown, reasons, States, IsStatedBy, refusal, document};
+ghost use Rattle.mode_set.specs.AtKeys.{document, cell_id_in, keys_of, first_of};
+ghost use Rattle.mode_set.specs.Document.{first_unknown, unknown, reasons, States, IsStatedBy, refusal};
 ghost use Rattle.mode_set.specs.Causes.{IsMissing, HasWrongValue, Clashes};
 ghost use Rattle.mode_set.specs.declared.key.Key.{Key as AnyKey};
 ghost use Rattle.std.specs.Result.{result_err};

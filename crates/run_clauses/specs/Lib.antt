@@ -1,7 +1,5 @@
 pub mod Packets
 pub mod SettingsFile
-pub mod Fit
-pub mod FitKept
 pub mod StatedSettings
 pub mod StreamForm
 pub mod Text
