@@ -2,8 +2,10 @@
 ghost use Rattle.std.specs.Prelude.{◌≡◌, ◌<◌, ◌≤◌, map, length, vec_len, vec_capacity};
 ghost use Rattle.spec_words.specs.Words.{numbers};
 ghost use Rattle.mode_set.specs.StreamTable.{carriers, need};
+ghost use Rattle.symbol_spans.specs.Spans.{settings_in};
 ghost use Rattle.inner_chain.specs.CostTables.{AreWeights};
 ghost use Rattle.inner_chain.specs.PairLists.{pair_of};
+ghost use Rattle.stream_decoders.specs.Rooms.{most_pairs};
 
 use conv_code::CostPair;
 use inner_chain::InnerRx;
@@ -11,9 +13,23 @@ use inner_chain::laws::pairs_are_listed;
 use mode_set::{Carriers, Settings, Stream};
 use qam_map::Cell;
 
-/// Puts the cost pairs of a stream in a symbol in the place of what was there.
+/// The most cost pairs of a stream in a symbol, whatever its parameters: none where the stream does not exist in the
+/// transmission.
+pub fn most_pairs(settings: &Settings, stream: Stream) -> u32
+    ensures most { result ≡ most_pairs settings.now stream }
+    ensures few { result ≤ 31752 }
+{
+    match stream {
+        Stream::Hp => 21 * settings.mode.payload() / 4,
+        Stream::Lp if settings.has_lp() => 7 * settings.mode.payload() / 2,
+        Stream::Lp => 0,
+    }
+}
+
+/// Puts the cost pairs of a stream in a symbol of a super-frame in the place of what was there.
 pub(crate) fn put_pairs<M: Carriers>(
     settings: &Settings,
+    super_frame: u32,
     inner: &mut InnerRx<M>,
     cells: &[Cell],
     weights: &[u8],
@@ -25,15 +41,18 @@ pub(crate) fn put_pairs<M: Carriers>(
     requires cells { length cells.now ≡ carriers settings.now.mode }
     requires weights { AreWeights settings.now.mode weights.now }
     requires symbol { l < 68 }
-    requires spare { need settings.now stream ≤ vec_capacity to.old }
-    ensures pairs { to.new.items ≡ map (pair_of settings.now cells.now weights.now l stream) (numbers (need settings.now stream)) }
-    ensures long { vec_len to.new ≡ need settings.now stream }
+    requires spare { most_pairs settings.now stream ≤ vec_capacity to.old }
+    ensures pairs { to.new.items ≡ map (pair_of (settings_in settings.now super_frame) cells.now weights.now l stream) (numbers (need (settings_in settings.now super_frame) stream)) }
+    ensures few { vec_len to.new ≤ most_pairs settings.now stream }
     ensures inner { inner.new ≡ settings.now }
     ensures capacity { vec_capacity to.new ≡ vec_capacity to.old }
 {
+    symbol_spans::laws::settings();
+    symbol_spans::laws::steps();
     to.clear();
-    if settings.need(stream) > 0 {
+    let entry = settings.entry(super_frame);
+    if inner.steps(&entry, stream) > 0 {
         pairs_are_listed();
-        inner.pairs(&settings.top(), cells, weights, l, stream, to);
+        inner.pairs(&entry, cells, weights, l, stream, to);
     }
 }
