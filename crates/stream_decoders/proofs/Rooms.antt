@@ -1,11 +1,9 @@
 -- No symbol has more pairs of a stream than there is room for.
-use Rattle.std.proofs.Common.{◌≡◌, ℕ, zero, suc, ◌+◌, ◌-◌, ◌*◌, ◌/◌, ◌≤◌, Bool, true, false, refl, sym, ap, ◌∙◌, subst, arith}
+use Rattle.std.proofs.Common.{◌≡◌, ℕ, zero, suc, ◌+◌, ◌-◌, ◌*◌, ◌/◌, ◌≤◌, Bool, true, false, refl, sym, ◌∙◌, subst, arith}
 use Rattle.std.specs.Prelude.{if◌then◌else◌}
 use Rattle.std.proofs.lemmas.Bool.{true≢false}
-use Rattle.mode_set.specs.Entries.{entry, has_lp, with_entry}
 use Rattle.mode_set.specs.Kept.{is_flat}
 use Rattle.mode_set.specs.StreamTable.{payload, label_bits, coded, need, rate, steps_in_period, sent_in_period}
-use Rattle.mode_set.specs.declared.entry.Entry.{Entry}
 use Rattle.mode_set.specs.declared.modes.Mode.{Mode}
 use Rattle.mode_set.specs.declared.modes.Mode.TheVariants.{M2k, M8k}
 use Rattle.mode_set.specs.declared.modes.Rate.{Rate}
@@ -18,20 +16,6 @@ use Rattle.mode_set.specs.declared.settings.Settings.{Settings}
 use Rattle.symbol_spans.specs.Laws.{ModeStays, StepsAreOfAStream}
 use Rattle.symbol_spans.specs.Spans.{settings_in, exists_in}
 use Rattle.stream_decoders.specs.Rooms.{most_steps, most_pairs}
-
--- the parameters of a super-frame, told as an entry
-pub told : (s t : Settings) (e : Entry) (j : ℕ) → t ≡ s → e ≡ entry s j → with_entry t e ≡ settings_in s j
-unfolding settings_in
-told s t e j same is = ap (with_entry t) is ∙ ap (λ (z : Settings). with_entry z (entry s j)) same
-
--- LP exists in a transmission where some of its parameters have it
-pub lp_exists : (s : Settings) → exists_in s Lp ≡ has_lp s
-unfolding exists_in
-lp_exists s = refl
-
-pub hp_exists : (s : Settings) → exists_in s Hp ≡ true
-unfolding exists_in
-hp_exists s = refl
 
 -- no rate is above 7/8
 part : (r : Rate) (c : ℕ) → 8 * (c * steps_in_period r / sent_in_period r) ≤ 7 * c

@@ -106,27 +106,23 @@ impl<M: Carriers> SymbolCosts<M> {
             return count;
         }
         self.whole = true;
-        let l = (self.taken % 68) as u8;
-        let super_frame = (self.taken / 272) as u32;
         let cells = self.input.cells();
         let weights = self.input.weights();
         put_pairs(
             &self.settings,
-            super_frame,
+            self.taken,
             &mut self.inner,
             cells,
             weights,
-            l,
             Stream::Hp,
             &mut self.hp,
         );
         put_pairs(
             &self.settings,
-            super_frame,
+            self.taken,
             &mut self.inner,
             cells,
             weights,
-            l,
             Stream::Lp,
             &mut self.lp,
         );
