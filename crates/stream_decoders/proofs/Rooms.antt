@@ -1,9 +1,15 @@
 -- No symbol has more pairs of a stream than there is room for.
-use Rattle.std.proofs.Common.{◌≡◌, ℕ, zero, suc, ◌+◌, ◌-◌, ◌*◌, ◌/◌, ◌≤◌, Bool, true, false, refl, sym, ◌∙◌, subst, arith}
+use Rattle.std.proofs.Common.{◌≡◌, ℕ, zero, suc, ◌+◌, ◌-◌, ◌*◌, ◌/◌, ◌≤◌, Bool, true, false, List, length, map, refl, sym, ap, ◌∙◌, subst, arith}
 use Rattle.std.specs.Prelude.{if◌then◌else◌}
 use Rattle.std.proofs.lemmas.Bool.{true≢false}
+use Rattle.std.proofs.lemmas.List.{length-map}
+use Rattle.spec_words.specs.Words.{numbers}
+use Rattle.spec_words.proofs.Counting.{length-numbers}
+use Rattle.code_paths.specs.declared.costs.CostPair.{CostPair}
+use Rattle.mode_set.specs.Entries.{with_entry}
 use Rattle.mode_set.specs.Kept.{is_flat}
 use Rattle.mode_set.specs.StreamTable.{payload, label_bits, coded, need, rate, steps_in_period, sent_in_period}
+use Rattle.mode_set.specs.declared.entry.Entry.{Entry}
 use Rattle.mode_set.specs.declared.modes.Mode.{Mode}
 use Rattle.mode_set.specs.declared.modes.Mode.TheVariants.{M2k, M8k}
 use Rattle.mode_set.specs.declared.modes.Rate.{Rate}
@@ -14,7 +20,7 @@ use Rattle.mode_set.specs.declared.modes.Stream.{Stream}
 use Rattle.mode_set.specs.declared.modes.Stream.TheVariants.{Hp, Lp}
 use Rattle.mode_set.specs.declared.settings.Settings.{Settings}
 use Rattle.symbol_spans.specs.Laws.{ModeStays, StepsAreOfAStream}
-use Rattle.symbol_spans.specs.Spans.{settings_in, exists_in}
+use Rattle.symbol_spans.specs.Spans.{settings_in, settings_at, exists_in}
 use Rattle.stream_decoders.specs.Rooms.{most_steps, most_pairs}
 
 -- no rate is above 7/8
@@ -60,11 +66,12 @@ few_pairs mode streams s j σ = go (exists_in s σ) refl
     go true e = subst (λ (m : Mode). need (settings_in s j) σ ≤ most_steps m σ) (mode s j) (few_steps (settings_in s j) σ)
     go false e = none (need (settings_in s j) σ) refl e
 
--- the bounds of all modes
-pub hp_all : (m : Mode) → most_steps m Hp ≤ 31752
-hp_all M2k = omega arith
-hp_all M8k = omega arith
+-- the settings of a symbol, told as its parameters
+pub told : (s t x : Settings) (e : Entry) → t ≡ s → with_entry s e ≡ x → with_entry t e ≡ x
+told s t x e same is = ap (λ (z : Settings). with_entry z e) same ∙ is
 
-pub lp_all : (m : Mode) → most_steps m Lp ≤ 31752
-lp_all M2k = omega arith
-lp_all M8k = omega arith
+pub fits : ModeStays → StepsAreOfAStream → (s t : Settings) (e : Entry) (m : ℕ) (σ : Stream) → t ≡ s → with_entry s e ≡ settings_at s m → need (with_entry t e) σ ≤ most_pairs s σ
+fits mode streams s t e m σ same is = subst (λ (z : Settings). need z σ ≤ most_pairs s σ) (sym (told s t (settings_at s m) e same is)) (few_pairs mode streams s (m / 272) σ)
+
+pub as_many : (f : ℕ → CostPair) (n k : ℕ) (xs : List CostPair) → xs ≡ map f (numbers n) → n ≤ k → length xs ≤ k
+as_many f n k xs is l = let e = ap length is ∙ length-map (numbers n) f ∙ length-numbers n in omega (arith, e, l)

@@ -182,6 +182,7 @@ impl<M: Carriers> SymbolCosts<M> {
     pub fn where_lp<T: Copy>(&self, of_lp: T) -> Option<T>
         ensures { result ≡ (if exists_in self.now.settings Lp then Some of_lp else None) }
     {
+        symbol_spans::laws::settings();
         if self.settings.has_lp() {
             Some(of_lp)
         } else {

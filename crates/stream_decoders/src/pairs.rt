@@ -1,5 +1,5 @@
 // The cost pairs of a stream in a symbol.
-ghost use Rattle.std.specs.Prelude.{◌≡◌, ◌%◌, ◌<◌, ◌≤◌, ◌^◌, map, length, vec_len, vec_capacity};
+ghost use Rattle.std.specs.Prelude.{◌≡◌, ◌%◌, ◌<◌, ◌≤◌, ◌^◌, map, length, vec_capacity};
 ghost use Rattle.spec_words.specs.Words.{numbers};
 ghost use Rattle.mode_set.specs.StreamTable.{carriers, need};
 ghost use Rattle.symbol_spans.specs.Spans.{settings_at};
@@ -20,6 +20,7 @@ pub fn most_pairs(settings: &Settings, stream: Stream) -> u32
     ensures most { result ≡ most_pairs settings.now stream }
     ensures few { result ≤ 31752 }
 {
+    symbol_spans::laws::settings();
     match stream {
         Stream::Hp => 21 * settings.mode.payload() / 4,
         Stream::Lp if settings.has_lp() => 7 * settings.mode.payload() / 2,
@@ -45,7 +46,7 @@ pub(crate) fn put_pairs<M: Carriers>(
     requires weights { AreWeights settings.now.mode weights.now }
     requires spare { most_pairs settings.now stream ≤ vec_capacity to.old }
     ensures pairs { to.new.items ≡ map (pair_of (settings_at settings.now symbol) cells.now weights.now (symbol % 68) stream) (numbers (need (settings_at settings.now symbol) stream)) }
-    ensures few { vec_len to.new ≤ most_pairs settings.now stream }
+    ensures few { length to.new.items ≤ most_pairs settings.now stream }
     ensures inner { inner.new ≡ settings.now }
     ensures capacity { vec_capacity to.new ≡ vec_capacity to.old }
 {
