@@ -1,7 +1,6 @@
 -- What a stream stands for, from symbol to symbol.
 use Rattle.std.proofs.Common.{◌≡◌, ℕ, suc, ◌+◌, ◌*◌, ◌^◌, ◌<◌, ◌≤◌, Bool, true, false, List, [], ◌∷◌, ◌++◌, length, take, get_or, map, refl, sym, ap, ◌∙◌, subst, arith, length-append, append_assoc}
 use Rattle.std.specs.Prelude.{Option, All}
-use Rattle.mode_set.specs.StreamTable.{need}
 use Rattle.mode_set.specs.declared.modes.Stream.{Stream}
 use Rattle.mode_set.specs.declared.settings.Settings.{Settings}
 use Rattle.std.proofs.lemmas.List.Elements.{All-nil, All-append, All-head, All-tail}
@@ -26,6 +25,7 @@ use Rattle.receiver.specs.Ready.{IsReady, MayGive, IsKeptStream}
 use Rattle.receiver.specs.declared.stream.StreamRx.{StreamRx}
 use Rattle.receiver.proofs.Pending.{few_more}
 use Rattle.stream_decoders.specs.Branches.{HasGiven, HasTaken, HasEnded, MayTake}
+use Rattle.stream_decoders.specs.Rooms.{most_pairs}
 use Rattle.receiver.specs.Standing.{StreamStands, StreamGave}
 
 bits_append : (a b : List ℕ) → bits_of_bytes (a ++ b) ≡ bits_of_bytes a ++ bits_of_bytes b
@@ -168,6 +168,6 @@ keeps x y ran xs steps taken h long run rest ready few = record {
 }
 
 -- at first
-pub first_kept : (x : StreamRx) (s t : Settings) (σ : Stream) (taken : ℕ) → s ≡ t → IsReady x → x.branch.most ≡ need t σ → need t σ ≤ 31752 → x.branch.decoder.steps ≡ 0 → AreFew x.counts 0 → taken ≡ 0 → IsKeptStream x (need s σ) taken
+pub first_kept : (x : StreamRx) (s t : Settings) (σ : Stream) (taken : ℕ) → s ≡ t → IsReady x → x.branch.most ≡ most_pairs t σ → most_pairs t σ ≤ 31752 → x.branch.decoder.steps ≡ 0 → AreFew x.counts 0 → taken ≡ 0 → IsKeptStream x (most_pairs s σ) taken
 first_kept x s t σ taken same ready most few none counts e =
-    subst (λ (z : Settings). IsKeptStream x (need z σ) taken) (sym same) (record { ready = ready; most = most; few_steps = few; steps_were = omega (arith, none); counts = few_more _ 0 (40 * taken) (omega arith) counts })
+    subst (λ (z : Settings). IsKeptStream x (most_pairs z σ) taken) (sym same) (record { ready = ready; most = most; few_steps = few; steps_were = omega (arith, none); counts = few_more _ 0 (40 * taken) (omega arith) counts })

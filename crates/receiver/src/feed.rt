@@ -1,7 +1,7 @@
 // The receiver.
 ghost use Rattle.std.specs.Prelude.{◌≡◌, ◌+◌, ◌-◌, ◌*◌, ◌<◌, ◌≤◌, ◌^◌, ◌++◌, [], ℕ, List, IsTrue, true, false, min, take, length, IfOk};
-ghost use Rattle.mode_set.specs.StreamTable.{has_stream};
 ghost use Rattle.mode_set.specs.declared.modes.Stream.TheVariants.{Hp, Lp};
+ghost use Rattle.symbol_spans.specs.Spans.{exists_in};
 ghost use Rattle.reception.specs.Streams.{so_far, at_end, start_of, Moment, Reception};
 ghost use Rattle.reception.specs.Lines.{counts_of};
 ghost use Rattle.reception.specs.Laws.{nothing};
@@ -21,7 +21,7 @@ use rx_report::Counts;
 use std::alloc::{AllocError, Global};
 use std::marker::Model;
 use std::thread::Threads;
-use stream_decoders::{SymbolCosts, take_symbol};
+use stream_decoders::{SymbolCosts, most_pairs, take_symbol};
 use survivor_ring::RingSurvivors;
 use word_workers::{Gate, OpenGate};
 
@@ -59,7 +59,8 @@ impl<M: Carriers> Model for Receiver<M> {
 }
 
 impl<M: Carriers> Receiver<M> {
-    /// A receiver that has had no byte. It takes all its memory; the only error is want of it.
+    /// A receiver that has had no byte. It takes all its memory, enough for any parameters of the mode; the only error is want
+    /// of it.
     pub fn new(alloc: Global, settings: &Settings) -> Result<Self, AllocError>
         requires mode { settings.now.mode ≡ M.MODE }
         ensures settings { IfOk result (λ x. x.settings ≡ settings.now) }
@@ -71,8 +72,8 @@ impl<M: Carriers> Receiver<M> {
         reception::laws::costs();
         Ok(Receiver {
             cells: SymbolCosts::new(alloc, settings)?,
-            hp: StreamRx::new(alloc, settings.start, settings.need(Stream::Hp))?,
-            lp: StreamRx::new(alloc, settings.start, settings.need(Stream::Lp))?,
+            hp: StreamRx::new(alloc, settings.start, most_pairs(settings, Stream::Hp))?,
+            lp: StreamRx::new(alloc, settings.start, most_pairs(settings, Stream::Lp))?,
             frames: FrameReader::new(),
             ended: false,
         })
@@ -126,7 +127,7 @@ impl<M: Carriers> Receiver<M> {
         take_symbol(
             rt,
             gate,
-            !settings.hierarchy.is_flat(),
+            settings.has_lp(),
             self.cells.pairs(Stream::Hp),
             self.cells.pairs(Stream::Lp),
             &mut self.hp.branch,
@@ -183,14 +184,14 @@ impl<M: Carriers> Receiver<M> {
             tps_read: self.frames.read,
             tps_bad: self.frames.bad,
             hp: self.hp.counts,
-            lp: self.cells.where_layered(self.lp.counts),
+            lp: self.cells.where_lp(self.lp.counts),
         }
     }
 
-    /// The inner decoder of a stream that exists. It stands for the costs of the whole symbols and the bits given of them, and
+    /// The inner decoder of a stream that exists in the transmission. It stands for the costs of the whole symbols and the bits given of them, and
     /// after `finish` for the bits at the end: no bit waits then, and one state is alive, the last six bits of the path.
     pub fn branch(&self, stream: Stream) -> &Branch<LaneAcs, RingSurvivors<2048>>
-        requires exists { IsTrue (has_stream self.now.settings.hierarchy stream) }
+        requires exists { IsTrue (exists_in self.now.settings stream) }
         ensures branch { result.now ≡ (stream_of self.now stream).branch }
         ensures loaded { (moment : Moment) (bytes : List ℕ) (r : Reception) → StandsFor moment self.now bytes r → result.now.loaded ≡ [] }
         ensures stands { (moment : Moment) (bytes : List ℕ) (r : Reception) → StandsFor moment self.now bytes r → HasBits moment result.now (start_of self.now.settings.start) (costs self.now.settings bytes stream) }

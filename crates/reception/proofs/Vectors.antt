@@ -14,7 +14,7 @@ use Rattle.tps_bch.specs.Bch.{bit_distance, tps_parity}
 use Rattle.tps_word.specs.Tps.{tps_word, tps_info, sync_word, length_bits, shape_bits, hierarchy_bits, rate_bits, guard_bits, mode_bits, signalled}
 use Rattle.tps_word.specs.Vote.{vote, bits_from}
 use Rattle.frame_build.specs.Symbol.{cell_from, weight_from, weights_from, tps_sign, real}
-use Rattle.symbol_spans.specs.Spans.{settings_in, steps_before}
+use Rattle.symbol_spans.specs.Spans.{settings_in, exists_in, steps_before}
 use Rattle.reception.specs.Cells.{symbols, tail, bytes_of_symbol, symbol_weights}
 use Rattle.reception.specs.Frames.{frame_bits}
 use Rattle.reception.specs.Streams.{Reception}
@@ -55,17 +55,17 @@ reported hp lp = record { packets = λ σ. []; reports = by_stream hp lp; tally 
 
 -- no bytes
 lines_of_nothing : closing_lines base [] nothing ≡ codes "symbols 0 tail 0\ntps read 0 bad 0\nhp words 0 clean 0 corrected 0 bad 0 unphased 0 unmerged 0\n"
-unfolding digits
+unfolding digits exists_in
 lines_of_nothing = refl
 
 -- one symbol and a byte
 lines_of_one : closing_lines base (replicate 8526 0) nothing ≡ codes "symbols 1 tail 1\ntps read 0 bad 0\nhp words 0 clean 0 corrected 0 bad 0 unphased 0 unmerged 0\n"
-unfolding digits
+unfolding digits exists_in
 lines_of_one = refl
 
 -- one report
 lines_of_two : closing_lines midst (replicate 17050 0) (reported (2049 ∷ []) []) ≡ codes "symbols 2 tail 0\ntps read 0 bad 0\nhp words 0 clean 0 corrected 0 bad 0 unphased 0 unmerged 1\n"
-unfolding digits
+unfolding digits exists_in
 lines_of_two = refl
 
 event : event_lines midst (replicate 17050 0) (reported (2049 ∷ []) []) ≡ codes "hp unmerged at 2049\n"

@@ -2,11 +2,10 @@
 use Rattle.std.specs.Prelude.{ℕ, ◌+◌, ◌&&◌, nat_lt, nat_le, if◌then◌else◌, List, ◌++◌, None, Some, map, filter, flat_map, length}
 use Rattle.std.specs.List.{concat}
 use Rattle.spec_words.specs.Words.{numbers}
-use Rattle.mode_set.specs.Kept.{is_flat}
 use Rattle.mode_set.specs.declared.modes.Stream.{Stream}
 use Rattle.mode_set.specs.declared.modes.Stream.TheVariants.{Hp, Lp}
 use Rattle.mode_set.specs.declared.settings.Settings.{Settings}
-use Rattle.symbol_spans.specs.Spans.{steps_before}
+use Rattle.symbol_spans.specs.Spans.{exists_in, steps_before}
 use Rattle.outer_chain.specs.Words.{Tally}
 use Rattle.rx_report.specs.Text.{event_line}
 use Rattle.rx_report.specs.Text as text
@@ -34,7 +33,7 @@ stream_counts t unmerged = record { words = t.words; clean = t.clean; corrected 
 abbrev pub counts_of_stream : Reception → Stream → StreamCounts
 counts_of_stream r σ = stream_counts (r.tally σ) (length (r.reports σ))
 
--- the counts of a reception of these bytes
+-- the counts of a reception of these bytes: of LP where it exists in the transmission
 abbrev pub counts_of : Settings → List ℕ → Reception → Counts
 counts_of s bytes r = record {
   symbols = symbols s bytes;
@@ -42,7 +41,7 @@ counts_of s bytes r = record {
   tps_read = r.read;
   tps_bad = r.bad;
   hp = counts_of_stream r Hp;
-  lp = if is_flat s.hierarchy then None else Some (counts_of_stream r Lp);
+  lp = if exists_in s Lp then Some (counts_of_stream r Lp) else None;
 }
 
 abbrev pub event_lines : Settings → List ℕ → Reception → List ℕ

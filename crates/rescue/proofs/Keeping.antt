@@ -2,11 +2,11 @@
 use Rattle.std.proofs.Common.{◌≡◌, ℕ, ◌+◌, ◌*◌, ◌^◌, ◌<◌, ◌≤◌, List, length, sym, ap, ◌∙◌, subst, arith}
 use Rattle.std.proofs.lemmas.Nat.{mul-lt}
 use Rattle.code_paths.specs.declared.costs.CostPair.{CostPair}
-use Rattle.mode_set.specs.StreamTable.{need}
 use Rattle.mode_set.specs.declared.modes.Stream.{Stream}
 use Rattle.mode_set.specs.declared.settings.Settings.{Settings}
 use Rattle.inner_decoder.specs.Running.{BranchState}
 use Rattle.stream_decoders.specs.Branches.{MayTake, HasTaken}
+use Rattle.stream_decoders.specs.Rooms.{most_pairs}
 use Rattle.rescue.specs.Kept.{AreFew, IsReady, IsKeptStream, RanFrom, seen}
 use Rattle.rescue.specs.Seen.{StreamState}
 use Rattle.rescue.specs.declared.stream.StreamRx.{StreamRx}
@@ -42,6 +42,6 @@ keeps x y ran xs steps taken h long run rest ready few = record {
 }
 
 -- at first
-pub first_kept : (x : StreamRx) (s t : Settings) (σ : Stream) (taken : ℕ) → s ≡ t → IsReady x → x.branch.most ≡ need t σ → need t σ ≤ 31752 → x.branch.decoder.steps ≡ 0 → AreFew (seen x) 0 → taken ≡ 0 → IsKeptStream x (need s σ) taken
+pub first_kept : (x : StreamRx) (s t : Settings) (σ : Stream) (taken : ℕ) → s ≡ t → IsReady x → x.branch.most ≡ most_pairs t σ → most_pairs t σ ≤ 31752 → x.branch.decoder.steps ≡ 0 → AreFew (seen x) 0 → taken ≡ 0 → IsKeptStream x (most_pairs s σ) taken
 first_kept x s t σ taken same ready most few none counts e =
-    subst (λ (z : Settings). IsKeptStream x (need z σ) taken) (sym same) (record { ready = ready; most = most; few_steps = few; steps_were = omega (arith, none); counts = few_more _ 0 (4400 * taken) (omega arith) counts })
+    subst (λ (z : Settings). IsKeptStream x (most_pairs z σ) taken) (sym same) (record { ready = ready; most = most; few_steps = few; steps_were = omega (arith, none); counts = few_more _ 0 (4400 * taken) (omega arith) counts })

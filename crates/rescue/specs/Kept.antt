@@ -1,13 +1,13 @@
 -- What a receiver that rescues words keeps.
 use Rattle.std.specs.Prelude.{◌≡◌, ℕ, ◌*◌, ◌^◌, ◌≤◌, Bool, false, List, Option, vec_capacity}
 use Rattle.code_paths.specs.declared.costs.CostPair.{CostPair}
-use Rattle.mode_set.specs.StreamTable.{need}
 use Rattle.mode_set.specs.declared.modes.Stream.TheVariants.{Hp, Lp}
 use Rattle.mode_set.specs.declared.settings.Settings.{Settings}
 use Rattle.reception.specs.Streams.{so_far}
 use Rattle.rescue_words.specs.Rescued.{RescueTally}
 use Rattle.inner_decoder.specs.Running.{BranchState}
 use Rattle.stream_decoders.specs.Branches.{HasTaken}
+use Rattle.stream_decoders.specs.Rooms.{most_pairs}
 use Rattle.rescue.specs.Seen.{StreamState}
 use Rattle.rescue.specs.Standing.{StreamStands}
 use Rattle.rescue.specs.declared.stream.StreamRx.{StreamRx}
@@ -58,6 +58,6 @@ pub record IsKeptStream (x : StreamRx) (steps taken : ℕ) : Type 0 where
 
 -- until the end both streams have had the symbols taken
 pub record IsRescuing (settings : Settings) (taken : ℕ) (hp lp : StreamRx) (ended : Bool) : Type 0 where
-  pub hp_kept : ended ≡ false → IsKeptStream hp (need settings Hp) taken
-  pub lp_kept : ended ≡ false → IsKeptStream lp (need settings Lp) taken
+  pub hp_kept : ended ≡ false → IsKeptStream hp (most_pairs settings Hp) taken
+  pub lp_kept : ended ≡ false → IsKeptStream lp (most_pairs settings Lp) taken
   pub few_taken : taken ≤ 2 ^ 32

@@ -16,7 +16,7 @@ use rescue_report::Counts;
 use std::alloc::{AllocError, Global};
 use std::marker::Model;
 use std::thread::Threads;
-use stream_decoders::{SymbolCosts, take_symbol};
+use stream_decoders::{SymbolCosts, most_pairs, take_symbol};
 use word_workers::OpenGate;
 
 /// Receives the cells of a transmission, as bytes that are cut anywhere, and gives the packets of its streams as far as they are
@@ -50,7 +50,8 @@ impl<M: Carriers> Model for Rescue<M> {
 }
 
 impl<M: Carriers> Rescue<M> {
-    /// A receiver that has had no byte. It takes all its memory; the only error is want of it.
+    /// A receiver that has had no byte. It takes all its memory, enough for any parameters of the mode; the only error is want
+    /// of it.
     pub fn new(alloc: Global, settings: &Settings) -> Result<Self, AllocError>
         requires mode { settings.now.mode ≡ M.MODE }
         ensures settings { IfOk result (λ x. x.settings ≡ settings.now) }
@@ -63,8 +64,8 @@ impl<M: Carriers> Rescue<M> {
         rescue_words::laws::receiving();
         Ok(Rescue {
             cells: SymbolCosts::new(alloc, settings)?,
-            hp: StreamRx::new(alloc, settings.start, settings.need(Stream::Hp))?,
-            lp: StreamRx::new(alloc, settings.start, settings.need(Stream::Lp))?,
+            hp: StreamRx::new(alloc, settings.start, most_pairs(settings, Stream::Hp))?,
+            lp: StreamRx::new(alloc, settings.start, most_pairs(settings, Stream::Lp))?,
             ended: false,
         })
     }
@@ -97,7 +98,7 @@ impl<M: Carriers> Rescue<M> {
         take_symbol(
             rt,
             &OpenGate,
-            !self.cells.settings().hierarchy.is_flat(),
+            self.cells.settings().has_lp(),
             hp_pairs,
             lp_pairs,
             &mut self.hp.branch,
@@ -150,7 +151,7 @@ impl<M: Carriers> Rescue<M> {
             symbols: self.cells.symbols(),
             tail: self.cells.waiting(),
             hp: self.hp.counts(),
-            lp: self.cells.where_layered(self.lp.counts()),
+            lp: self.cells.where_lp(self.lp.counts()),
         }
     }
 

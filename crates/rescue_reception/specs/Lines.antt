@@ -1,10 +1,10 @@
 -- The counts of what is rescued, and the lines of its report.
 use Rattle.std.specs.Prelude.{ℕ, if◌then◌else◌, List, None, Some, flat_map, length}
 use Rattle.std.specs.List.{concat}
-use Rattle.mode_set.specs.Kept.{is_flat}
 use Rattle.mode_set.specs.declared.modes.Stream.{Stream}
 use Rattle.mode_set.specs.declared.modes.Stream.TheVariants.{Hp, Lp}
 use Rattle.mode_set.specs.declared.settings.Settings.{Settings}
+use Rattle.symbol_spans.specs.Spans.{exists_in}
 use Rattle.rescue_words.specs.Running as words
 use Rattle.rescue_report.specs.Text as text
 use Rattle.rescue_report.specs.declared.counts.Counts.{Counts}
@@ -18,13 +18,13 @@ use Rattle.rescue_reception.specs.Streams.{Rescue}
 abbrev pub counts_of_stream : Rescue → Stream → StreamCounts
 counts_of_stream r σ = record { words = words.counts_of (r.tally σ); unmerged = length (r.reports σ) }
 
--- the counts of what these bytes gave: of LP where there is a hierarchy
+-- the counts of what these bytes gave: of LP where it exists in the transmission
 abbrev pub counts_of : Settings → List ℕ → Rescue → Counts
 counts_of s bytes r = record {
   symbols = symbols s bytes;
   tail = tail s bytes;
   hp = counts_of_stream r Hp;
-  lp = if is_flat s.hierarchy then None else Some (counts_of_stream r Lp);
+  lp = if exists_in s Lp then Some (counts_of_stream r Lp) else None;
 }
 
 -- the lines of all unmerged reports

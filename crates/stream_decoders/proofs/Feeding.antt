@@ -9,8 +9,6 @@ use Rattle.mode_set.specs.Rows.{IsModeRow}
 use Rattle.mode_set.specs.declared.modes.Mode.{Mode}
 use Rattle.mode_set.specs.declared.modes.Mode.TheVariants.{M2k, M8k}
 use Rattle.mode_set.specs.declared.modes.Stream.{Stream}
-use Rattle.mode_set.specs.declared.entry.Entry.{Entry}
-use Rattle.mode_set.specs.Entries.{top, with_entry}
 use Rattle.mode_set.specs.declared.settings.Settings.{Settings}
 use Rattle.pilots.specs.Carriers.{tps_carriers}
 use Rattle.qam_map.specs.declared.cell.Cell.{Cell}
@@ -18,7 +16,7 @@ use Rattle.frame_build.specs.Symbol.{cells_from, weights_from}
 use Rattle.qam_map.specs.Cells.{cell_of}
 use Rattle.inner_chain.specs.PairLists.{pair_of}
 use Rattle.reception.specs.Cells.{symbols, tail, symbol_length, bytes_of_symbol, symbol_cells, symbol_weights}
-use Rattle.symbol_spans.specs.Laws.{SettingsStay}
+use Rattle.symbol_spans.specs.Spans.{settings_at}
 use Rattle.reception.specs.Costs.{symbol_costs}
 use Rattle.reception.specs.Frames.{tps_cells}
 use Rattle.reception.specs.Feeds.{taken}
@@ -51,15 +49,14 @@ pub ends_is : TailIsUnfinished → (s : Settings) (bytes rest piece new : List �
 ends_is law s bytes rest piece new n k h e is l = more_tail law s bytes rest piece new n h is ∙ l ∙ ap (λ (z : ℕ). 5 * z) e
 
 -- the costs of the symbol that is ended, from its cells
-pub ended_costs : SettingsStay → EndedSymbol → (s : Settings) (bytes p : List ℕ) (cells : List Cell) (weights new : List ℕ) (count k : ℕ) (σ : Stream) → EndsSymbol s bytes p → new ≡ unfinished s bytes ++ p → cells ≡ cells_from new k → weights ≡ weights_from new k → k ≡ carriers s.mode → count ≡ symbols s bytes
-    → map (pair_of s cells weights (count % 68) σ) (numbers (need s σ)) ≡ symbol_costs s (bytes ++ p) σ (symbols s bytes)
+pub ended_costs : EndedSymbol → (s : Settings) (bytes p : List ℕ) (cells : List Cell) (weights new : List ℕ) (count k : ℕ) (σ : Stream) → EndsSymbol s bytes p → new ≡ unfinished s bytes ++ p → cells ≡ cells_from new k → weights ≡ weights_from new k → k ≡ carriers s.mode → count ≡ symbols s bytes
+    → map (pair_of (settings_at s count) cells weights (count % 68) σ) (numbers (need (settings_at s count) σ)) ≡ symbol_costs s (bytes ++ p) σ (symbols s bytes)
 unfolding symbol_costs symbol_cells symbol_weights
-ended_costs stay ended s bytes p cells weights new count k σ ends r c w e n =
+ended_costs ended s bytes p cells weights new count k σ ends r c w e n =
     let same : cells ≡ cells_from (bytes_of_symbol s (bytes ++ p) (symbols s bytes)) (carriers s.mode) = c ∙ ap₂ cells_from (r ∙ sym (ended s bytes p ends).0) e in
     let weighed : weights ≡ weights_from (bytes_of_symbol s (bytes ++ p) (symbols s bytes)) (carriers s.mode) = w ∙ ap₂ weights_from (r ∙ sym (ended s bytes p ends).0) e in
-    ap₂ (λ (z : List Cell) (m : ℕ). map (pair_of s z weights (m % 68) σ) (numbers (need s σ))) same n
-    ∙ ap (λ (z : List ℕ). map (pair_of s (cells_from (bytes_of_symbol s (bytes ++ p) (symbols s bytes)) (carriers s.mode)) z (symbols s bytes % 68) σ) (numbers (need s σ))) weighed
-    ∙ ap (λ (x : Settings). map (pair_of x (cells_from (bytes_of_symbol s (bytes ++ p) (symbols s bytes)) (carriers s.mode)) (weights_from (bytes_of_symbol s (bytes ++ p) (symbols s bytes)) (carriers s.mode)) (symbols s bytes % 68) σ) (numbers (need x σ))) (sym (stay s (symbols s bytes / 272)))
+    ap₂ (λ (z : List Cell) (m : ℕ). map (pair_of (settings_at s m) z weights (m % 68) σ) (numbers (need (settings_at s m) σ))) same n
+    ∙ ap (λ (z : List ℕ). map (pair_of (settings_at s (symbols s bytes)) (cells_from (bytes_of_symbol s (bytes ++ p) (symbols s bytes)) (carriers s.mode)) z (symbols s bytes % 68) σ) (numbers (need (settings_at s (symbols s bytes)) σ))) weighed
 
 pub ended_tps : EndedSymbol → (s : Settings) (bytes p : List ℕ) (cells : List Cell) (new : List ℕ) (k : ℕ) → EndsSymbol s bytes p → new ≡ unfinished s bytes ++ p → cells ≡ cells_from new k → k ≡ carriers s.mode
     → tps_cells s (bytes ++ p) (symbols s bytes) ≡ map (cell_of cells) (tps_carriers s.mode)
@@ -89,7 +86,3 @@ no_pairs f n e = sym (ap (λ k. map f (numbers k)) e)
 pub rest_is_short : (whole : Bool) (input : List ℕ) (k : ℕ) → 0 < 5 * k → (whole ≡ false → length input < 5 * k) → length (cond whole [] input) < 5 * k
 rest_is_short true input k some l = omega (arith, some)
 rest_is_short false input k some l = l refl
-
--- the settings with their own parameters are themselves
-pub own_parameters : (s t : Settings) (e : Entry) → t ≡ s → e ≡ top s → with_entry t e ≡ s
-own_parameters s t e same is = ap (with_entry t) is ∙ ap (λ (z : Settings). with_entry z (top s)) same

@@ -1,2 +1,3 @@
+mod Rooms
 mod Feeding
 mod Branching

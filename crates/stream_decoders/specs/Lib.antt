@@ -1,3 +1,4 @@
+pub mod Rooms
 pub mod Seen
 pub mod Kept
 pub mod Fed

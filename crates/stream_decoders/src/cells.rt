@@ -1,11 +1,13 @@
 // From bytes that were cut anywhere to the cost pairs of symbols.
 ghost use Rattle.std.specs.Prelude.{◌≡◌, ◌+◌, ◌-◌, ◌*◌, ◌<◌, ◌≤◌, ◌^◌, [], ℕ, List, true, false, cond, min, length, IfOk, if◌then◌else◌, None, Some};
-ghost use Rattle.mode_set.specs.Kept.{is_flat};
-ghost use Rattle.mode_set.specs.StreamTable.{carriers, need};
+ghost use Rattle.mode_set.specs.StreamTable.{carriers};
+ghost use Rattle.mode_set.specs.declared.modes.Stream.TheVariants.{Lp};
+ghost use Rattle.symbol_spans.specs.Spans.{exists_in};
+ghost use Rattle.stream_decoders.specs.Rooms.{most_pairs};
 ghost use Rattle.stream_decoders.specs.Seen.{pairs_of};
 ghost use Rattle.stream_decoders.specs.Fed.{HasHad, Fed};
 
-use crate::pairs::put_pairs;
+use crate::pairs::{most_pairs, put_pairs};
 use conv_code::CostPair;
 use frame_build::SymbolIn;
 use inner_chain::InnerRx;
@@ -63,7 +65,7 @@ fn pass_on<M: Carriers>(whole: &mut bool, input: &mut SymbolIn<M>)
 }
 
 impl<M: Carriers> SymbolCosts<M> {
-    /// It has had no byte. It takes all its memory; the only error is want of it.
+    /// It has had no byte. It takes all its memory, enough for symbols of any parameters of the mode; the only error is want of it.
     pub fn new(alloc: Global, settings: &Settings) -> Result<Self, AllocError>
         requires mode { settings.now.mode ≡ M.MODE }
         ensures settings { IfOk result (λ x. x.settings ≡ settings.now) }
@@ -71,15 +73,15 @@ impl<M: Carriers> SymbolCosts<M> {
         ensures rest { IfOk result (λ x. x.rest ≡ []) }
         ensures had { IfOk result (λ x. HasHad x []) }
     {
-        let hp_steps = settings.need(Stream::Hp) as usize;
-        let lp_steps = settings.need(Stream::Lp) as usize;
+        let hp_pairs = most_pairs(settings, Stream::Hp) as usize;
+        let lp_pairs = most_pairs(settings, Stream::Lp) as usize;
         Ok(SymbolCosts {
             settings: *settings,
             input: SymbolIn::new(alloc)?,
             whole: false,
             inner: InnerRx::new(alloc, settings)?,
-            hp: Vec::with_capacity(alloc, hp_steps)?,
-            lp: Vec::with_capacity(alloc, lp_steps)?,
+            hp: Vec::with_capacity(alloc, hp_pairs)?,
+            lp: Vec::with_capacity(alloc, lp_pairs)?,
             taken: 0,
         })
     }
@@ -96,7 +98,6 @@ impl<M: Carriers> SymbolCosts<M> {
         ensures ended { self.new.whole ≡ true → self.new.taken ≡ self.old.taken + 1 }
         ensures fed { (bytes : List ℕ) → HasHad self.old bytes → Fed self.new bytes piece.now result }
     {
-        symbol_spans::laws::settings();
         reception::laws::symbols();
         reception::laws::costs();
         pass_on(&mut self.whole, &mut self.input);
@@ -105,24 +106,23 @@ impl<M: Carriers> SymbolCosts<M> {
             return count;
         }
         self.whole = true;
-        let l = (self.taken % 68) as u8;
         let cells = self.input.cells();
         let weights = self.input.weights();
         put_pairs(
             &self.settings,
+            self.taken,
             &mut self.inner,
             cells,
             weights,
-            l,
             Stream::Hp,
             &mut self.hp,
         );
         put_pairs(
             &self.settings,
+            self.taken,
             &mut self.inner,
             cells,
             weights,
-            l,
             Stream::Lp,
             &mut self.lp,
         );
@@ -146,10 +146,10 @@ impl<M: Carriers> SymbolCosts<M> {
         self.input.cells()
     }
 
-    /// The cost pairs of a stream in the symbol that was ended, one for each step: none where it does not exist.
+    /// The cost pairs of a stream in the symbol that was ended, one for each step: none where the symbol does not have it.
     pub fn pairs(&self, stream: Stream) -> &[CostPair]
         ensures pairs { result.now ≡ pairs_of self.now stream }
-        ensures few { length result.now ≤ need self.now.settings stream }
+        ensures few { length result.now ≤ most_pairs self.now.settings stream }
     {
         match stream {
             Stream::Hp => &self.hp,
@@ -177,14 +177,16 @@ impl<M: Carriers> SymbolCosts<M> {
     {
         if self.whole { 0 } else { self.input.waiting() }
     }
-    /// What belongs to LP, where there is a hierarchy.
-    pub fn where_layered<T: Copy>(&self, of_lp: T) -> Option<T>
-        ensures { result ≡ (if is_flat self.now.settings.hierarchy then None else Some of_lp) }
+
+    /// What belongs to LP, where it exists in the transmission.
+    pub fn where_lp<T: Copy>(&self, of_lp: T) -> Option<T>
+        ensures { result ≡ (if exists_in self.now.settings Lp then Some of_lp else None) }
     {
-        if self.settings.hierarchy.is_flat() {
-            None
-        } else {
+        symbol_spans::laws::settings();
+        if self.settings.has_lp() {
             Some(of_lp)
+        } else {
+            None
         }
     }
 }

@@ -1,11 +1,15 @@
 -- The number of workers stands in no definition of what is received.
-use Rattle.std.proofs.Common.{◌≡◌, ℕ, ◌%◌, ◌/◌, List, Option, map, refl, sym, subst}
-use Rattle.std.specs.Prelude.{flat_map}
+use Rattle.std.proofs.Common.{◌≡◌, ℕ, ◌+◌, ◌%◌, ◌/◌, ◌++◌, ◌&&◌, List, Option, map, refl, sym, ap, subst}
+use Rattle.std.specs.Prelude.{Some, None, nat_lt, nat_le, filter, find, flat_map, reverse, sum_by, unwrap_or}
 use Rattle.std.proofs.Math.Bridge.{le_prop}
 use Rattle.spec_words.specs.Words.{numbers}
 use Rattle.code_paths.specs.declared.costs.CostPair.{CostPair}
 use Rattle.code_paths.specs.Streams.{Reports}
+use Rattle.mode_set.specs.Entries.{top, with_entry}
 use Rattle.mode_set.specs.Kept.{IsKept}
+use Rattle.mode_set.specs.Plans.{entries_of}
+use Rattle.mode_set.specs.StreamTable.{need}
+use Rattle.mode_set.specs.declared.entry.Entry.{Entry}
 use Rattle.mode_set.specs.declared.plan.Plan.{Plan}
 use Rattle.mode_set.specs.declared.modes.Mode.{Mode}
 use Rattle.mode_set.specs.declared.modes.Shape.{Shape}
@@ -14,6 +18,7 @@ use Rattle.mode_set.specs.declared.modes.Rate.{Rate}
 use Rattle.mode_set.specs.declared.modes.Guard.{Guard}
 use Rattle.mode_set.specs.declared.modes.Start.{Start}
 use Rattle.mode_set.specs.declared.modes.Stream.{Stream}
+use Rattle.mode_set.specs.declared.modes.Stream.TheVariants.{Hp, Lp}
 use Rattle.mode_set.specs.declared.settings.Settings.{Settings}
 use Rattle.qam_map.specs.declared.cell.Cell.{Cell}
 use Rattle.inner_chain.specs.CostPairs.{costs_on, weighted_costs_on}
@@ -22,7 +27,9 @@ use Rattle.symbol_spans.specs.Spans.{settings_in, exists_in, steps_of, steps_bef
 use Rattle.reception.specs.Cells.{symbols, symbol_cells, symbol_weights, bytes_of_symbol}
 use Rattle.reception.specs.Costs.{symbol_costs, costs}
 use Rattle.reception.specs.Frames.{tps_cells, frame_bits, CountsWords}
-use Rattle.reception.specs.Lines.{events, event_lines, closing_lines}
+use Rattle.rx_report.specs.Text.{event_line}
+use Rattle.rx_report.specs.declared.counts.Event.{Event}
+use Rattle.reception.specs.Lines.{event_at, events, event_lines, closing_lines}
 use Rattle.reception.specs.Streams.{memory, start_of, Moment, so_far, at_end, IsDecoded, Reception, Receives}
 use Rattle.worker_laws.specs.Alike.{DifferInWorkers, SameLive, SameFinal, SameLines}
 
@@ -65,9 +72,35 @@ module _ (s : Settings) (w : ℕ) (k : IsKept s.shape s.hierarchy s.rate_lp w s.
         small = record { x0_small = le_prop p.small.x0_small q.small.x0_small i; x1_small = le_prop p.small.x1_small q.small.x1_small i; y0_small = le_prop p.small.y0_small q.small.y0_small i; y1_small = le_prop p.small.y1_small q.small.y1_small i };
       }
 
+  -- and so are those of all its steps in a symbol
+  pub pairs_alike : (cells : List Cell) (weights : List ℕ) (l : ℕ) (σ : Stream) → map (pair_of s cells weights l σ) (numbers (need s σ)) ≡ map (pair_of (with_workers s w k) cells weights l σ) (numbers (need (with_workers s w k) σ))
+  pairs_alike cells weights l σ = λ i. map (λ t. pair_alike cells weights l σ t i) (numbers (need s σ))
+
+module _ (s : Settings) (w : ℕ) (k : IsKept s.shape s.hierarchy s.rate_lp w s.max_symbols) where
+  -- the settings with the parameters that were found, or with their own
+  abbrev with_found : Settings → Option Entry → Settings
+  with_found z e = with_entry z (unwrap_or e (top z))
+
+  steps_found : (e : Option Entry) (σ : Stream) → need (with_found s e) σ ≡ need (with_found (with_workers s w k) e) σ
+  steps_found None σ = refl
+  steps_found (Some e) σ = refl
+
+  steps_alike : (σ : Stream) (m : ℕ) → steps_of s σ m ≡ steps_of (with_workers s w k) σ m
+  unfolding settings_in
+  steps_alike σ m = steps_found (find (λ e. nat_le e.after (m / 272)) (reverse (entries_of s.plan))) σ
+
+  before_alike : (σ : Stream) (m : ℕ) → steps_before s σ m ≡ steps_before (with_workers s w k) σ m
+  unfolding steps_before
+  before_alike σ m = λ i. sum_by (λ n. steps_alike σ n i) (numbers m)
+
+  pairs_found : (e : Option Entry) (cells : List Cell) (weights : List ℕ) (l : ℕ) (σ : Stream)
+      → map (pair_of (with_found s e) cells weights l σ) (numbers (need (with_found s e) σ)) ≡ map (pair_of (with_found (with_workers s w k) e) cells weights l σ) (numbers (need (with_found (with_workers s w k) e) σ))
+  pairs_found None cells weights l σ = pairs_alike (with_entry s (top s)) w (with_found (with_workers s w k) None).kept cells weights l σ
+  pairs_found (Some e) cells weights l σ = pairs_alike (with_entry s e) w (with_found (with_workers s w k) (Some e)).kept cells weights l σ
+
   symbol_alike : (bytes : List ℕ) (σ : Stream) (m : ℕ) → symbol_costs s bytes σ m ≡ symbol_costs (with_workers s w k) bytes σ m
   unfolding symbol_costs symbol_cells symbol_weights bytes_of_symbol settings_in
-  symbol_alike bytes σ m = λ i. map (λ t. pair_alike (symbol_cells s bytes m) (symbol_weights s bytes m) (m % 68) σ t i) (numbers (steps_of s σ m))
+  symbol_alike bytes σ m = pairs_found (find (λ e. nat_le e.after (m / 272)) (reverse (entries_of s.plan))) (symbol_cells s bytes m) (symbol_weights s bytes m) (m % 68) σ
 
   costs_alike : (bytes : List ℕ) (σ : Stream) → costs s bytes σ ≡ costs (with_workers s w k) bytes σ
   unfolding costs
@@ -87,9 +120,15 @@ module _ (s : Settings) (w : ℕ) (k : IsKept s.shape s.hierarchy s.rate_lp w s.
     frames = subst (λ (cells : ℕ → List Cell). CountsWords (frame_bits cells) (symbols s bytes / 68) r.read r.bad) (λ i m. cells_alike bytes m i) h.frames;
   }
 
+  events_alike : (n : ℕ) (reports : Stream → List ℕ) → events (with_workers s w k) n reports ≡ events s n reports
+  unfolding events
+  events_alike n reports = sym (λ i. flat_map (λ m.
+      map (event_at Hp) (filter (λ at. nat_lt (before_alike Hp m i) at && nat_le at (before_alike Hp (m + 1) i)) (reports Hp))
+      ++ map (event_at Lp) (filter (λ at. nat_lt (before_alike Lp m i) at && nat_le at (before_alike Lp (m + 1) i)) (reports Lp))) (numbers n))
+
   lines : (bytes : List ℕ) (r : Reception) → (event_lines (with_workers s w k) bytes r ≡ event_lines s bytes r) × (closing_lines (with_workers s w k) bytes r ≡ closing_lines s bytes r)
-  unfolding events settings_in steps_before
-  lines bytes r = (refl, refl)
+  unfolding exists_in
+  lines bytes r = (ap (λ (es : List Event). flat_map event_line es) (events_alike (symbols s bytes) r.reports), refl)
 
 pub same_live : SameLive
 same_live s t bytes r d h = over (λ z. Receives so_far z bytes r) s t d (λ k. received s t.workers k so_far bytes r h)

@@ -77,8 +77,8 @@ returns-clause-fed g c = λ b.
       ends = λ _. record {
         ends = ends;
         costs_are = elim [
-          | Hp ↦ c.costs.ensures.next s b (take n piece) Hp ends ∙ ap (λ z. costs s b Hp ++ z) (sym (c.put_pairs.ensures.pairs ∙ ended_costs c.settings.ensures.same c.symbols.ensures.ended s b (take n piece) _ _ new x.taken k Hp ends all c.cells-cells.ensures.cells c.weights-weights.ensures.weights e h.taken))
-          | Lp ↦ c.costs.ensures.next s b (take n piece) Lp ends ∙ ap (λ z. costs s b Lp ++ z) (sym (c.put_pairs-2.ensures.pairs ∙ ended_costs c.settings.ensures.same c.symbols.ensures.ended s b (take n piece) _ _ new x.taken k Lp ends all c.cells-cells.ensures.cells c.weights-weights.ensures.weights e h.taken))
+          | Hp ↦ c.costs.ensures.next s b (take n piece) Hp ends ∙ ap (λ z. costs s b Hp ++ z) (sym (c.put_pairs.ensures.pairs ∙ ended_costs c.symbols.ensures.ended s b (take n piece) _ _ new x.taken k Hp ends all c.cells-cells.ensures.cells c.weights-weights.ensures.weights e h.taken))
+          | Lp ↦ c.costs.ensures.next s b (take n piece) Lp ends ∙ ap (λ z. costs s b Lp ++ z) (sym (c.put_pairs-2.ensures.pairs ∙ ended_costs c.symbols.ensures.ended s b (take n piece) _ _ new x.taken k Lp ends all c.cells-cells.ensures.cells c.weights-weights.ensures.weights e h.taken))
         ];
         tps_are = ended_tps c.symbols.ensures.ended s b (take n piece) (cells_from new k) new k ends all refl e;
       };

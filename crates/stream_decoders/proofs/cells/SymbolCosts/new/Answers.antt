@@ -9,8 +9,8 @@ invariant_of-result g c = record {
   inner_is = c.in_ok-new-2.ensures;
   unfinished = λ _. omega (arith, ap length c.in_ok-new.ensures, some_carriers _ _ _ _ _ g.M.Carriers.row);
   ended = λ e. absurd (true≢false (sym e));
-  hp_room = omega (arith, c.in_ok-with_capacity.ensures.capacity, c.need-hp_steps.ensures.need);
-  lp_room = omega (arith, c.in_ok-with_capacity-2.ensures.capacity, c.need-lp_steps.ensures.need);
+  hp_room = omega (arith, c.in_ok-with_capacity.ensures.capacity, c.most_pairs-hp_pairs.ensures.most);
+  lp_room = omega (arith, c.in_ok-with_capacity-2.ensures.capacity, c.most_pairs-lp_pairs.ensures.most);
   hp_few = omega (arith, ap length c.in_ok-with_capacity.ensures.items);
   lp_few = omega (arith, ap length c.in_ok-with_capacity-2.ensures.items);
 }
