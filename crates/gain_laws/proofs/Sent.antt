@@ -18,13 +18,14 @@ use Rattle.pilots.specs.declared.carrier_kind.CarrierKind.TheVariants.{Continual
 use Rattle.pilots.specs.Carriers.{kind}
 use Rattle.pilots.specs.Reference.{reference}
 use Rattle.qam_map.specs.Points.{map_cell, value_of, real_bits, imaginary_bits, tolerance}
+use Rattle.frame_build.specs.Announcing.{announcing_cell, settings_for}
 use Rattle.frame_build.specs.Symbol.{real, tps_sign, frame_of, cell_of_kind, cell_at}
 use Rattle.tps_word.specs.Tps.{tps_word, signalled}
 use Rattle.pilots.specs.Around.{is_for_pilots, is_pilot}
 use Rattle.cell_equal.specs.Equal.{unturned}
 use Rattle.symbol_spans.specs.Spans.{settings_at}
 use Rattle.symbol_spans.specs.Laws.{ModeStays}
-use Rattle.transmission.specs.Transmission.{Inputs, tx_label, tx_cell}
+use Rattle.transmission.specs.Transmission.{Inputs, announced_at, tx_label, tx_cell}
 use Rattle.gain_laws.specs.Flat.{IsCell, IsSent, FlatGainIsRemoved}
 use Rattle.gain_laws.specs.Symbols.{SymbolsComeBack, TransmissionsComeBack, IsTolerated}
 
@@ -109,9 +110,17 @@ sent s n labels = record {
 pub come_back : FlatGainIsRemoved → SymbolsComeBack
 come_back law s n labels a b received weights flat come = law s.mode (n % 68) a b (cell_at s n labels) received weights flat (sent s n labels) come
 
+-- whatever settings are announced
+sent_announcing : (s next : Settings) (n : ℕ) (labels : ℕ → ℕ → Bool) → IsSent s.mode (n % 68) (announcing_cell s next n labels)
+unfolding announcing_cell is_pilot
+sent_announcing s next n labels = record {
+  cells = λ k lt. let kd : CarrierKind = kind s.mode (n % 68) k in kind_fits (settings_for s next kd) n labels k kd;
+  pilots = λ k lt e. let kd : CarrierKind = kind s.mode (n % 68) k in kind_is_pilot (settings_for s next kd) n labels k kd e;
+}
+
 tx_sent : ModeStays → (s : Settings) (inputs : Inputs) (m : ℕ) → IsSent s.mode (m % 68) (tx_cell s inputs m)
 unfolding tx_cell
-tx_sent stays s inputs m = subst (λ (z : Mode). IsSent z (m % 68) (tx_cell s inputs m)) (stays s (m / 272)) (sent (settings_at s m) m (tx_label s inputs m))
+tx_sent stays s inputs m = subst (λ (z : Mode). IsSent z (m % 68) (tx_cell s inputs m)) (stays s (m / 272)) (sent_announcing (settings_at s m) (announced_at s m) m (tx_label s inputs m))
 
 pub all_come_back : FlatGainIsRemoved → ModeStays → TransmissionsComeBack
 all_come_back law stays s inputs a b received weights flat come m lt = law s.mode (m % 68) a b (tx_cell s inputs m) (received m) (weights m) flat (tx_sent stays s inputs m) (come m lt)

@@ -16,7 +16,7 @@ use Rattle.run_clauses.specs.declared.work.Refusal.{Refusal}
 use Rattle.run_clauses.specs.declared.work.Refusal.TheVariants.{Usage, Settings, ReadFault, WriteFault, NotSync, Memory, Limit, Cells}
 use Rattle.run_clauses.specs.Command.{named}
 use Rattle.run_clauses.specs.StreamForm.{fits_form}
-use Rattle.modulate_run.specs.ModulateCommand.{files_of, inputs_of, modulation_lines, modulation_refusal, transmission_counts, transmission_lines, file_of_symbols}
+use Rattle.modulate_run.specs.ModulateCommand.{files_of, inputs_of, modulation_lines, modulation_refusal, transmission_counts, transmission_lines}
 use Rattle.modulate_run.specs.Inputs.{Reads, left_of, lp_left}
 use Rattle.modulate_run.specs.Seen.{Seen}
 use Rattle.modulate_run.specs.Work.{Ends, IsAtWork, KeepsOthers, Modulates, TakeFew}

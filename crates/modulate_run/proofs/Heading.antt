@@ -1,5 +1,5 @@
 -- The header of the cell file is written before the first symbol.
-use Rattle.std.proofs.Common.{◌≡◌, ℕ, List, [], ◌++◌, length, take, Option, None, Some, Result, Ok, Err, ap, sym, subst, ◌∙◌, arith}
+use Rattle.std.proofs.Common.{◌≡◌, ℕ, List, [], ◌++◌, take, Option, None, Some, Ok, Err, ap, sym, subst, ◌∙◌}
 use Rattle.std.proofs.lemmas.List.{append-nil}
 use Rattle.station_core.specs.Meaning.{Meaning}
 use Rattle.mode_set.specs.declared.modes.Stream.{Stream}
@@ -11,7 +11,6 @@ use Rattle.transmission.specs.Agenda.{first_refusal, symbols_sent}
 use Rattle.transmission.specs.Agenda as agenda
 use Rattle.transmission.specs.Laws.{NoSymbol}
 use Rattle.run_clauses.specs.declared.work.Refusal.{Refusal}
-use Rattle.run_clauses.specs.declared.work.Refusal.TheVariants.{WriteFault}
 use Rattle.modulate_run.specs.ModulateCommand.{cells_sent, file_of_symbols, inputs_of, sent_by}
 use Rattle.modulate_run.specs.declared.inputs.PacketInputs.{PacketInputs}
 use Rattle.modulate_run.specs.Seen.{Seen}

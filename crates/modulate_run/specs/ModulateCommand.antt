@@ -1,6 +1,6 @@
 -- The commands `modulate SETTINGS HP CELLS` and `modulate SETTINGS HP LP CELLS`: what they come to, from the
 -- settings, the limit of packets and the files alone.
-use Rattle.std.specs.Prelude.{◌≡◌, ℕ, ◌+◌, ◌-◌, ◌/◌, ◌<◌, ◌≤◌, Bool, true, ⊤, if◌then◌else◌, List, [], ◌∷◌, ◌++◌, length, codes, decimal, Option, Some, None, is_some, option_and_then, false}
+use Rattle.std.specs.Prelude.{◌≡◌, ℕ, ◌+◌, ◌-◌, ◌/◌, ◌<◌, ◌≤◌, Bool, true, ⊤, if◌then◌else◌, List, [], ◌∷◌, ◌++◌, length, codes, decimal, Option, Some, None, is_some, option_and_then, unwrap_or, false}
 use Rattle.std.specs.Option.{option_map}
 use Rattle.station_core.specs.declared.ports.InPort.TheVariants as ins
 use Rattle.mode_set.specs.declared.modes.Stream.{Stream}
@@ -50,9 +50,9 @@ sent_by s limit inputs (Some refusal) = file_of_symbols s inputs (symbols_sent s
 abbrev pub cells_sent : TheSettings → ℕ → Inputs → List ℕ
 cells_sent s limit inputs = sent_by s limit inputs (first_refusal s limit inputs)
 
--- what is counted: the packets of the streams, and the super-frames
+-- what is counted: the packets of the streams, and the super-frames (a work that has none has no end, and is refused)
 abbrev pub transmission_counts : TheSettings → (Stream → List ℕ) → TransmissionCounts
-transmission_counts s files = record { hp = counts_of (files Hp); lp = counts_of (files Lp); super_frames = super_frames s (λ σ. length (inputs_of files σ)) }
+transmission_counts s files = record { hp = counts_of (files Hp); lp = counts_of (files Lp); super_frames = unwrap_or (super_frames s (λ σ. length (inputs_of files σ))) 0 }
 
 -- the closing line of the super-frames
 abbrev pub super_frames_line : ℕ → List ℕ

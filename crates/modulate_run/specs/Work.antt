@@ -135,9 +135,9 @@ Sends limit files m inputs t put (Err refusal) = Ends t.settings limit files m r
 abbrev pub CountsAt : Settings → PacketInputs → ℕ → Option TransmissionCounts → Type 0
 CountsAt s inputs symbols (Some counts) =
     (inputs.hp.tail ≡ Some counts.hp.tail) × (counts.hp.packets ≡ inputs.hp.taken) × (inputs.lp.tail ≡ Some counts.lp.tail) × (counts.lp.packets ≡ inputs.lp.taken)
-    × (counts.super_frames ≡ super_frames s (by_stream inputs.hp.taken inputs.lp.taken)) × (symbols ≡ 272 * counts.super_frames)
+    × (super_frames s (by_stream inputs.hp.taken inputs.lp.taken) ≡ Some counts.super_frames) × (symbols ≡ 272 * counts.super_frames)
 CountsAt s inputs symbols None =
-    (inputs.hp.tail ≡ None) ⊎ ((inputs.lp.tail ≡ None) ⊎ (symbols ≢ 272 * super_frames s (by_stream inputs.hp.taken inputs.lp.taken)))
+    (inputs.hp.tail ≡ None) ⊎ ((inputs.lp.tail ≡ None) ⊎ ((n : ℕ) → super_frames s (by_stream inputs.hp.taken inputs.lp.taken) ≡ Some n → symbols ≢ 272 * n))
 
 -- the whole work
 abbrev pub Modulates : Settings → ℕ → (Stream → List ℕ) → Meaning → Result TransmissionCounts Refusal → Type 0

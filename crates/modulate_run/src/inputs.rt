@@ -105,7 +105,7 @@ impl PacketInputs {
     {
         let hp_tail = self.hp.tail?;
         let lp_tail = self.lp.tail?;
-        let super_frames = T::super_frames(settings, self.hp.taken, self.lp.taken);
+        let super_frames = T::super_frames(settings, self.hp.taken, self.lp.taken)?;
         if symbols % 272 != 0 || symbols / 272 != super_frames {
             return None;
         }

@@ -30,7 +30,7 @@ impl<M: Carriers> Transmitter for Modulator<M> {
         self.symbol(to);
     }
 
-    fn super_frames(settings: &Settings, hp: u64, lp: u64) -> u64 {
+    fn super_frames(settings: &Settings, hp: u64, lp: u64) -> Option<u64> {
         Modulator::<M>::super_frames(settings, hp, lp)
     }
 }

@@ -121,7 +121,8 @@ fn next_symbol<'a, T: Transmitter, S: Station<'a>>(
 }
 
 // Sends all symbols of the transmission: it ends with the first super-frame at whose end all inputs
-// have ended and their packets, and eleven words more, were carried.
+// have ended and their packets, and eleven words more, were carried. Where there is no such super-frame
+// it goes on up to the limit.
 fn send_all<'a, T: Transmitter, S: Station<'a>>(
     limits: &Limits,
     settings: &Settings,

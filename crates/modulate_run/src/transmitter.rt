@@ -42,8 +42,8 @@ pub(crate) trait Transmitter {
             → to.new.items ≡ to.old.items ++ tx_symbol (seen self.old).settings inputs (seen self.old).made }
         ensures capacity { vec_capacity to.new ≡ vec_capacity to.old };
 
-    /// The super-frames of a transmission of so many packets.
-    fn super_frames(settings: &Settings, hp: u64, lp: u64) -> u64
+    /// The super-frames of a transmission of so many packets; none where no number carries them.
+    fn super_frames(settings: &Settings, hp: u64, lp: u64) -> Option<u64>
         requires hp { hp ≤ 100000000 }
         requires lp { lp ≤ 100000000 }
         ensures { result ≡ super_frames settings.now (by_stream hp lp) };

@@ -1,8 +1,8 @@
 // Receptions that rescue words, of a transmission's own cells with noise at the edge where words are lost. The expected
 // counts and packets are those of an independent program over the same cells.
-ghost use Rattle.std.specs.Prelude.{◌≡◌, ◌+◌, ◌<◌, ◌≤◌, ◌^◌, false, length};
+ghost use Rattle.std.specs.Prelude.{◌≡◌, ◌<◌, ◌≤◌, ◌^◌, false};
 
-use crate::sending::{SYMBOL, drawn_symbols, null_symbols, settings};
+use crate::sending::{SYMBOL, disturb, drawn_symbols, null_symbols, settings};
 use load_gen::Load;
 use mode_set::{Hierarchy, Mode, Mode2k, Rate, Settings, Shape, Start};
 use receiver_tools::Cut;
@@ -88,10 +88,10 @@ impl Reception {
 }
 
 /// What a reception gave: the bytes of each stream and their sums, the reports, and the counts.
-type Found = ((usize, u32), (usize, u32), usize, Counts);
+pub(crate) type Found = ((usize, u32), (usize, u32), usize, Counts);
 
 // The sum of the bytes, each time by 31.
-fn sum_of(bytes: &[u8]) -> u32 {
+pub(crate) fn sum_of(bytes: &[u8]) -> u32 {
     bytes.iter().fold(0u32, |sum, byte| {
         sum.wrapping_mul(31).wrapping_add(u32::from(*byte))
     })
@@ -104,7 +104,7 @@ fn found(reception: &Reception) -> Found {
 }
 
 // What the reception of these bytes gives, cut so.
-fn rescued<R: Threads + Sync>(
+pub(crate) fn rescued<R: Threads + Sync>(
     rt: &R,
     alloc: Global,
     settings: &Settings,
@@ -124,27 +124,6 @@ fn rescued<R: Threads + Sync>(
     }
     reception.finish()?;
     Ok(found(&reception))
-}
-
-// Moves both parts of each cell by at most `delta`, as drawn from 7.
-fn disturb(bytes: &mut [u8], delta: u16)
-    requires { delta ≤ 5792 }
-{
-    let mut load = Load::start(7);
-    for cell in 0..bytes.len() / 5 {
-        move_part(bytes, 5 * cell, delta, &mut load);
-        move_part(bytes, 5 * cell + 2, delta, &mut load);
-    }
-}
-
-// Moves the part of a cell that stands at a place.
-fn move_part(bytes: &mut [u8], at: usize, delta: u16, load: &mut Load)
-    requires delta { delta ≤ 5792 }
-    requires within { at + 2 ≤ length bytes.old }
-{
-    let number = i16::from_be_bytes([bytes[at], bytes[at + 1]]);
-    let moved = number.saturating_add(load.shift(delta));
-    bytes[at..at + 2].copy_from_slice(moved.to_be_bytes().as_slice());
 }
 
 // The counts of words without a report.

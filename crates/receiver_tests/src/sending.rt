@@ -1,5 +1,5 @@
-// The symbols of null packets, and of packets that are drawn.
-ghost use Rattle.std.specs.Prelude.{◌≡◌};
+// The symbols of null packets and of packets that are drawn, and noise on them.
+ghost use Rattle.std.specs.Prelude.{◌≡◌, ◌+◌, ◌≤◌, length};
 
 use load_gen::Load;
 use mode_set::{Carriers, Guard, Hierarchy, Mode, Mode2k, Plan, Rate, Settings, Shape, Start};
@@ -100,4 +100,25 @@ pub(crate) fn drawn_symbols(
         bytes.extend_from_slice(&symbol)?;
     }
     Ok(bytes)
+}
+
+/// Moves both parts of each cell by at most `delta`, as drawn from 7.
+pub(crate) fn disturb(bytes: &mut [u8], delta: u16)
+    requires { delta ≤ 5792 }
+{
+    let mut load = Load::start(7);
+    for cell in 0..bytes.len() / 5 {
+        move_part(bytes, 5 * cell, delta, &mut load);
+        move_part(bytes, 5 * cell + 2, delta, &mut load);
+    }
+}
+
+// Moves the part of a cell that stands at a place.
+fn move_part(bytes: &mut [u8], at: usize, delta: u16, load: &mut Load)
+    requires delta { delta ≤ 5792 }
+    requires within { at + 2 ≤ length bytes.old }
+{
+    let number = i16::from_be_bytes([bytes[at], bytes[at + 1]]);
+    let moved = number.saturating_add(load.shift(delta));
+    bytes[at..at + 2].copy_from_slice(moved.to_be_bytes().as_slice());
 }

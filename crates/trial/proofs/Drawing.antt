@@ -1,11 +1,12 @@
 -- The packets drawn are as many as their counts, and one super-frame carries them.
-use Rattle.std.proofs.Common.{◌≡◌, ℕ, ◌+◌, ◌-◌, ◌*◌, ◌/◌, ◌≤◌, ◌<◌, length, get_or, refl, sym, ap, ◌∙◌, subst, arith, Bool, true, false, cond, not}
-use Rattle.std.specs.Prelude.{min}
+use Rattle.std.proofs.Common.{◌≡◌, ℕ, ◌+◌, ◌-◌, ◌*◌, ◌/◌, ◌≤◌, ◌<◌, length, get_or, [], refl, sym, ap, ap₂, ◌∙◌, subst, arith, Bool, true, false, cond, not}
+use Rattle.std.specs.Prelude.{min, Option, Some, option_map, unwrap_or}
 use Rattle.std.proofs.lemmas.Bool.{false≢true}
 use Rattle.std.proofs.lemmas.List.{get_or_past}
 use Rattle.std.proofs.lemmas.List.FromFn.{length-map-range_with_len, get_or-map-range_with_len}
 use Rattle.spec_words.specs.Words.{numbers}
 use Rattle.mode_set.specs.Kept.{is_flat, is_qpsk}
+use Rattle.mode_set.specs.Plans.{entries_of}
 use Rattle.mode_set.specs.StreamTable.{payload, width, coded, need, rate, has_stream, steps_in_period, sent_in_period, words_per_super_frame}
 use Rattle.mode_set.specs.declared.modes.Mode.{Mode}
 use Rattle.mode_set.specs.declared.modes.Mode.TheVariants.{M2k, M8k}
@@ -22,10 +23,12 @@ use Rattle.ts_packet.specs.Packet.{null_packet}
 use Rattle.rand_pcg.specs.Lcg.{Lcg}
 use Rattle.load_gen.specs.Draws.{after, generator, count_of, packet_of, packet_words}
 use Rattle.symbol_spans.specs.Spans.{exists_in, words_before}
-use Rattle.transmission.specs.SuperFrames.{packets_for, counts_of, super_frames, symbols_of, Suffices}
-use Rattle.transmission.specs.Laws.{TheFormulaIsLeast, Enough, NoPackets, PacketsGrow, PacketsOfSuperFrames}
-use Rattle.trial.specs.Drawn.{drawn, drawn_count, drawn_before, drawn_for, packets_from, packets_of_symbol, hp_count}
-use Rattle.trial.specs.Laws.{OneSuperFrame, AllAreDrawn, DrawnInOrder, NullsBehind}
+use Rattle.symbol_spans.specs.Laws.{HpExists}
+use Rattle.transmission.specs.Transmission.{by_stream}
+use Rattle.transmission.specs.SuperFrames.{AreSuperFrames, IsLength, packets_for, counts_of, super_frames, symbols_of, Suffices}
+use Rattle.transmission.specs.Laws.{TheNumberIsFound, Enough, NoPackets, PacketsGrow, PacketsOfSuperFrames}
+use Rattle.trial.specs.Drawn.{drawn, drawn_count, drawn_before, drawn_for, packets_from, packets_of_symbol, trial_frames, trial_symbols}
+use Rattle.trial.specs.Laws.{OneSuperFrame, FramesOfDrawn, SymbolsOfDrawn, AllAreDrawn, DrawnInOrder, NullsBehind}
 use Rattle.symbol_spans.proofs.Parts.{parts_long, part_is}
 
 -- ---- a super-frame carries at least 252 words of a stream
@@ -80,32 +83,44 @@ many_words s σ has = words_of_need (need s σ) (half_needed (rate s σ) (coded 
 few_counted : (g : Lcg) → count_of g ≤ 199
 few_counted g = omega arith
 
-few_where : (b : Bool) (x : ℕ) → x ≤ 199 → cond b 0 x ≤ 199
-few_where true x l = omega arith
-few_where false x l = l
+few_where : (b : Bool) (x : ℕ) → x ≤ 199 → cond b x 0 ≤ 199
+few_where true x l = l
+few_where false x l = omega arith
 
 few : (s : Settings) (number : ℕ) (σ : Stream) → drawn_count s number σ ≤ 199
 few s number Hp = few_counted (generator number)
-few s number Lp = few_where (is_flat s.hierarchy) (count_of (after 1 (generator number))) (few_counted (after 1 (generator number)))
+few s number Lp = few_where (exists_in s Lp) (count_of (after 1 (generator number))) (few_counted (after 1 (generator number)))
 
--- the 272 symbols of a super-frame want more packets than are counted
-within_words : (a p w : ℕ) → p ≡ 1 * w → 252 ≤ w → a ≤ 199 → a ≤ p
-within_words a p w e l k = omega (arith, e, l, k)
+-- the symbols of the trial want as many packets as are counted
+symbols_are : (s : Settings) (number n : ℕ) → trial_frames s number ≡ Some n → trial_symbols s number ≡ 272 * n
+symbols_are s number n e = ap (λ (o : Option ℕ). 272 * unwrap_or o 0) e
 
-none_where : (b : Bool) (x p : ℕ) → (not b ≡ true → x ≤ p) → cond b 0 x ≤ p
-none_where true x p h = omega arith
-none_where false x p h = h refl
+none_where : (b : Bool) (x p : ℕ) → (b ≡ true → x ≤ p) → cond b x 0 ≤ p
+none_where true x p h = h refl
+none_where false x p h = omega arith
 
--- all super-frames are alike
-pub record AreAlike : Type 0 where
-  pub words : (s : Settings) (σ : Stream) (n : ℕ) → words_before s σ n ≡ n * words_per_super_frame s σ
-  pub streams : (s : Settings) (σ : Stream) → exists_in s σ ≡ has_stream s.hierarchy σ
+some_where : (b : Bool) (x p : ℕ) → b ≡ true → cond b x 0 + 11 ≤ p → x ≤ p
+some_where b x p e l = let f = ap (λ (z : Bool). cond z x 0) e in omega (arith, l, f)
 
-within : AreAlike → PacketsOfSuperFrames → (s : Settings) (number : ℕ) (σ : Stream) → drawn_count s number σ ≤ packets_for s σ 272
-within alike frames s number Hp = within_words (hp_count number) (packets_for s Hp 272) (words_per_super_frame s Hp) (frames s Hp 1 ∙ alike.words s Hp 1) (many_words s Hp refl) (few s number Hp)
-within alike frames s number Lp =
-    none_where (is_flat s.hierarchy) (count_of (after 1 (generator number))) (packets_for s Lp 272)
-    (λ has. within_words (count_of (after 1 (generator number))) (packets_for s Lp 272) (words_per_super_frame s Lp) (frames s Lp 1 ∙ alike.words s Lp 1) (many_words s Lp has) (few_counted (after 1 (generator number))))
+-- what is known of super-frames
+pub record AreFramed : Type 0 where
+  pub found : TheNumberIsFound
+  pub hp : HpExists
+  pub frames : PacketsOfSuperFrames
+
+least_is : TheNumberIsFound → (s : Settings) (number n : ℕ) → trial_frames s number ≡ Some n → AreSuperFrames s (drawn_count s number) n
+least_is found s number n e = subst (IsLength s (drawn_count s number)) e (found s (drawn_count s number))
+
+within : AreFramed → (s : Settings) (number n : ℕ) (σ : Stream) → trial_frames s number ≡ Some n → drawn_count s number σ ≤ packets_for s σ (trial_symbols s number)
+within known s number n Hp e =
+    let enough = (least_is known.found s number n e).suffices Hp (known.hp s) in
+    let wants = ap (packets_for s Hp) (symbols_are s number n e) ∙ known.frames s Hp n in
+    omega (arith, enough, wants)
+within known s number n Lp e =
+    none_where (exists_in s Lp) (count_of (after 1 (generator number))) (packets_for s Lp (trial_symbols s number)) (λ there.
+    let enough = some_where (exists_in s Lp) (count_of (after 1 (generator number))) (words_before s Lp n) there ((least_is known.found s number n e).suffices Lp there) in
+    let wants = ap (packets_for s Lp) (symbols_are s number n e) ∙ known.frames s Lp n in
+    omega (arith, enough, wants))
 
 -- ---- symbol after symbol
 least_grows : (c a b : ℕ) → a ≤ b → min c a ≤ min c b
@@ -133,34 +148,60 @@ none_before none s number σ = least_of_none (drawn_count s number σ) (packets_
 more_before : PacketsGrow → (s : Settings) (number : ℕ) (σ : Stream) (i j : ℕ) → i ≤ j → drawn_before s number σ i ≤ drawn_before s number σ j
 more_before grow s number σ i j l = least_grows (drawn_count s number σ) (packets_for s σ i) (packets_for s σ j) (grow s σ i j l)
 
-pub all_are_drawn : AreAlike → NoPackets → PacketsGrow → PacketsOfSuperFrames → AllAreDrawn
+pub all_are_drawn : AreFramed → NoPackets → PacketsGrow → AllAreDrawn
 unfolding drawn
-all_are_drawn alike none grow frames s number σ =
-    parts_long (packets_of_symbol s number σ) (drawn_before s number σ) (symbol_long s number σ) (more_before grow s number σ) 272 (none_before none s number σ)
-    ∙ least_of_more (drawn_count s number σ) (packets_for s σ 272) (within alike frames s number σ)
+all_are_drawn known none grow s number n σ e =
+    parts_long (packets_of_symbol s number σ) (drawn_before s number σ) (symbol_long s number σ) (more_before grow s number σ) (trial_symbols s number) (none_before none s number σ)
+    ∙ least_of_more (drawn_count s number σ) (packets_for s σ (trial_symbols s number)) (within known s number n σ e)
 
 pub drawn_in_order : NoPackets → PacketsGrow → DrawnInOrder
 unfolding drawn
 drawn_in_order none grow s number σ m i lm li =
-    part_is (packets_of_symbol s number σ) (drawn_before s number σ) (symbol_long s number σ) (more_before grow s number σ) null_packet 272 m i (none_before none s number σ) lm
+    part_is (packets_of_symbol s number σ) (drawn_before s number σ) (symbol_long s number σ) (more_before grow s number σ) null_packet (trial_symbols s number) m i (none_before none s number σ) lm
     (subst (λ (z : ℕ). i < z) (sym (symbol_long s number σ m)) li)
     ∙ symbol_packet s number σ m i li
 
 pub nulls_behind : AllAreDrawn → NullsBehind
-nulls_behind all s number σ p l = get_or_past (drawn s number σ) p null_packet (subst (λ (z : ℕ). z ≤ p) (sym (all s number σ)) l)
+nulls_behind all s number n σ p e l = get_or_past (drawn s number σ) p null_packet (subst (λ (z : ℕ). z ≤ p) (sym (all s number n σ e)) l)
 
--- ---- one super-frame
+-- ---- super-frames
+frames_by : Settings → ℕ → ℕ → Option ℕ
+frames_by s hp lp = super_frames s (by_stream hp lp)
+
+by_counts : (s : Settings) (counts : Stream → ℕ) → frames_by s (counts Hp) (counts Lp) ≡ super_frames s counts
+unfolding super_frames frames_by
+by_counts s counts = refl
+
+pub frames_of_drawn : AllAreDrawn → FramesOfDrawn
+frames_of_drawn all s number n e =
+    sym (by_counts s (counts_of (drawn s number)))
+    ∙ ap₂ (frames_by s) (all s number n Hp e) (all s number n Lp e)
+    ∙ by_counts s (drawn_count s number)
+    ∙ e
+
+pub symbols_of_drawn : FramesOfDrawn → SymbolsOfDrawn
+unfolding symbols_of
+symbols_of_drawn frames s number n e =
+    symbols_are s number n e ∙ sym (ap (λ (o : Option ℕ). unwrap_or (option_map (λ k. 272 * k) o) (s.max_symbols + 1)) (frames s number n e))
+
+-- ---- without a plan
+-- a super-frame carries all that can be counted
+fits : (d w : ℕ) → d ≤ 199 → 252 ≤ w → d + 11 ≤ 1 * w
+fits d w l k = omega (arith, l, k)
+
 one_of : (n : ℕ) → 1 ≤ n → n ≤ 1 → n ≡ 1
 one_of n a b = omega (arith, a, b)
 
-fits : (c d w : ℕ) → c ≡ d → d ≤ 199 → 252 ≤ w → c + 11 ≤ 1 * w
-fits c d w e l k = omega (arith, e, l, k)
+-- all super-frames of a transmission are alike
+pub record AreAlike (s : Settings) : Type 0 where
+  pub words : (σ : Stream) (n : ℕ) → words_before s σ n ≡ n * words_per_super_frame s σ
+  pub streams : (σ : Stream) → exists_in s σ ≡ has_stream s.hierarchy σ
 
-pub one_super_frame : AreAlike → TheFormulaIsLeast → Enough → AllAreDrawn → OneSuperFrame
-unfolding symbols_of
-one_super_frame alike least enough all s number =
-    let suffices : Suffices s (counts_of (drawn s number)) 1 =
-    λ σ exists. subst (λ (n : ℕ). length (drawn s number σ) + 11 ≤ n) (sym (alike.words s σ 1))
-    (fits (length (drawn s number σ)) (drawn_count s number σ) (words_per_super_frame s σ) (all s number σ) (few s number σ) (many_words s σ (sym (alike.streams s σ) ∙ exists))) in
-    ap (λ (n : ℕ). 272 * n)
-    (one_of (super_frames s (counts_of (drawn s number))) (least s (counts_of (drawn s number))).some (enough s (counts_of (drawn s number)) 1 (omega arith) suffices))
+pub one_super_frame : ((s : Settings) → entries_of s.plan ≡ [] → AreAlike s) → TheNumberIsFound → Enough → OneSuperFrame
+one_super_frame all_alike found enough s number none =
+    let alike : AreAlike s = all_alike s none in
+    let suffices : Suffices s (drawn_count s number) 1 =
+    λ σ exists. subst (λ (n : ℕ). drawn_count s number σ + 11 ≤ n) (sym (alike.words σ 1))
+    (fits (drawn_count s number σ) (words_per_super_frame s σ) (few s number σ) (many_words s σ (sym (alike.streams σ) ∙ exists))) in
+    let k = enough s (drawn_count s number) 1 (omega arith) suffices in
+    k.1 ∙ ap Some (one_of k.0 (least_is found s number k.0 k.1).some k.2)

@@ -23,9 +23,10 @@ use Rattle.pilots.specs.Carriers.{kind}
 use Rattle.pilots.specs.Reference.{reference}
 use Rattle.qam_map.specs.declared.cell.Cell.{Cell}
 use Rattle.qam_map.specs.Points.{value_of, real_bits, imaginary_bits}
-use Rattle.frame_build.specs.Symbol.{real, cell_of_kind, cell_at, cell_bytes, sent_bytes, cell_from}
+use Rattle.frame_build.specs.Announcing.{announcing_cell, settings_for}
+use Rattle.frame_build.specs.Symbol.{real, cell_of_kind, cell_bytes, sent_bytes, cell_from}
 use Rattle.symbol_spans.specs.Spans.{settings_at}
-use Rattle.transmission.specs.Transmission.{Inputs, tx_label, tx_cell, tx_symbol}
+use Rattle.transmission.specs.Transmission.{Inputs, announced_at, tx_label, tx_cell, tx_symbol}
 use Rattle.transmission.specs.Laws.{SymbolsAreCells}
 use Rattle.trial.specs.Fed.{fed_cell, fed_symbol}
 use Rattle.trial.specs.Laws.{IsSmall, CellsAreSmall, CellsAreRead, FedSymbolsAreLong}
@@ -106,8 +107,8 @@ kind_small s m labels k Tps = signal_small _
 kind_small s m labels k (Payload q) = made _ _ (real_small s.shape s.hierarchy (labels q)) (imaginary_small s.shape s.hierarchy (labels q))
 
 pub cells_are_small : CellsAreSmall
-unfolding tx_cell cell_at
-cells_are_small s inputs m k = kind_small (settings_at s m) m (tx_label s inputs m) k (kind (settings_at s m).mode (m % 68) k)
+unfolding tx_cell announcing_cell
+cells_are_small s inputs m k = let kd : CarrierKind = kind (settings_at s m).mode (m % 68) k in kind_small (settings_for (settings_at s m) (announced_at s m) kd) m (tx_label s inputs m) k kd
 
 -- ---- a part among parts of one length
 record BeginsWith (xs part : List ℕ) : Type 0 where

@@ -1,16 +1,16 @@
 -- The draws of a trial, in their order (this project's own): the counts of packets; then for each symbol the packets that it wants,
 -- a shift for each axis of its data cells, and the lengths of the pieces in which it is fed.
-use Rattle.std.specs.Prelude.{ℕ, zero, suc, ◌+◌, ◌-◌, ◌*◌, min, if◌then◌else◌, List, map, flat_map, sum, nat_le}
+use Rattle.std.specs.Prelude.{ℕ, zero, suc, ◌+◌, ◌-◌, ◌*◌, min, if◌then◌else◌, List, map, flat_map, sum, nat_le, Option, unwrap_or}
 use Rattle.spec_words.specs.Words.{numbers, first_below}
-use Rattle.mode_set.specs.Kept.{is_flat}
 use Rattle.mode_set.specs.StreamTable.{payload}
 use Rattle.mode_set.specs.declared.modes.Stream.{Stream}
 use Rattle.mode_set.specs.declared.modes.Stream.TheVariants.{Hp, Lp}
 use Rattle.mode_set.specs.declared.settings.Settings.{Settings}
 use Rattle.rand_pcg.specs.Lcg.{Lcg}
 use Rattle.load_gen.specs.Draws.{generator, after, count_of, length_of, packet_of, packet_words}
+use Rattle.symbol_spans.specs.Spans.{exists_in}
 use Rattle.transmission.specs.Transmission.{Inputs, by_stream}
-use Rattle.transmission.specs.SuperFrames.{packets_for}
+use Rattle.transmission.specs.SuperFrames.{packets_for, super_frames}
 use Rattle.reception.specs.Cells.{symbol_length}
 
 -- the packets of each stream that are drawn: the first word tells those of HP, the second those of LP where it exists
@@ -18,13 +18,20 @@ abbrev pub hp_count : ℕ → ℕ
 hp_count number = count_of (generator number)
 
 abbrev pub lp_count : Settings → ℕ → ℕ
-lp_count s number = if is_flat s.hierarchy then 0 else count_of (after 1 (generator number))
+lp_count s number = if exists_in s Lp then count_of (after 1 (generator number)) else 0
 
 abbrev pub drawn_count : Settings → ℕ → Stream → ℕ
 drawn_count s number = by_stream (hp_count number) (lp_count s number)
 
 abbrev pub count_words : Settings → ℕ
-count_words s = if is_flat s.hierarchy then 1 else 2
+count_words s = if exists_in s Lp then 2 else 1
+
+-- the super-frames that carry these counts, and their symbols: none where no number of super-frames does
+abbrev pub trial_frames : Settings → ℕ → Option ℕ
+trial_frames s number = super_frames s (drawn_count s number)
+
+abbrev pub trial_symbols : Settings → ℕ → ℕ
+trial_symbols s number = 272 * unwrap_or (trial_frames s number) 0
 
 -- the packets of a stream that were drawn for the symbols before m: those that they want, up to the count; and those drawn for symbol m
 abbrev pub drawn_before : Settings → ℕ → Stream → ℕ → ℕ
@@ -62,6 +69,6 @@ packets_from s number m = by_stream (before s number m) (lp_from s number m (bef
 unfoldable pub packets_of_symbol : Settings → ℕ → Stream → ℕ → List (List ℕ)
 packets_of_symbol s number σ m = map (λ i. packet_of (after (packet_words * i) (packets_from s number m σ))) (numbers (drawn_for s number σ m))
 
--- all packets that are drawn: those of the 272 symbols of a super-frame, which wants more than any count
+-- all packets that are drawn: those of the trial's symbols, which want more than the counts
 unfoldable pub drawn : Settings → ℕ → Inputs
-drawn s number σ = flat_map (packets_of_symbol s number σ) (numbers 272)
+drawn s number σ = flat_map (packets_of_symbol s number σ) (numbers (trial_symbols s number))

@@ -12,8 +12,7 @@ use Rattle.frame_build.specs.Symbol.{sent_bytes}
 use Rattle.load_gen.specs.Draws.{after, shift_of}
 use Rattle.symbol_spans.specs.Spans.{settings_at}
 use Rattle.transmission.specs.Transmission.{tx_cell}
-use Rattle.transmission.specs.SuperFrames.{symbols_of}
-use Rattle.trial.specs.Drawn.{before, drawn, shifts_from}
+use Rattle.trial.specs.Drawn.{before, drawn, shifts_from, trial_symbols}
 
 -- word i of the shifts of symbol m, as a shift by at most the tolerance of the symbol's settings
 abbrev pub shift : Settings → ℕ → ℕ → ℕ → ℤ
@@ -41,9 +40,9 @@ fed_cell s number m k = disturbed s number m (tx_cell s (drawn s number) m k) (k
 unfoldable pub fed_symbol : Settings → ℕ → ℕ → List ℕ
 fed_symbol s number m = flat_map (λ k. sent_bytes (fed_cell s number m k)) (numbers (carriers s.mode))
 
--- those of all symbols of the transmission
+-- those of all symbols of the trial
 unfoldable pub fed : Settings → ℕ → List ℕ
-fed s number = flat_map (fed_symbol s number) (numbers (symbols_of s (drawn s number)))
+fed s number = flat_map (fed_symbol s number) (numbers (trial_symbols s number))
 
 -- the sum of bytes, as a number of 32 bits
 abbrev pub byte_sum : List ℕ → ℕ

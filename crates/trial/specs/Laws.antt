@@ -1,5 +1,6 @@
 -- The laws of a trial, each the clause of a public function of the module laws.
-use Rattle.std.specs.Prelude.{◌≡◌, ℕ, ◌+◌, ◌-◌, ◌*◌, ◌<◌, ◌≤◌, List, length, nat_abs}
+use Rattle.std.specs.Prelude.{◌≡◌, ℕ, ◌+◌, ◌-◌, ◌*◌, ◌<◌, ◌≤◌, List, [], length, nat_abs, Some}
+use Rattle.mode_set.specs.Plans.{entries_of}
 use Rattle.mode_set.specs.StreamTable.{carriers}
 use Rattle.mode_set.specs.declared.modes.Stream.{Stream}
 use Rattle.mode_set.specs.declared.settings.Settings.{Settings}
@@ -10,30 +11,37 @@ use Rattle.frame_build.specs.Symbol.{cell_from}
 use Rattle.outer_chain.specs.Sent.{packet_at}
 use Rattle.outer_chain.specs.Words.{Tally}
 use Rattle.transmission.specs.Transmission.{Inputs, tx_cell, tx_symbol}
-use Rattle.transmission.specs.SuperFrames.{symbols_of}
+use Rattle.transmission.specs.SuperFrames.{counts_of, super_frames, symbols_of}
 use Rattle.reception.specs.Cells.{symbol_length}
 use Rattle.reception.specs.Streams.{Reception, Final}
-use Rattle.trial.specs.Drawn.{drawn, drawn_count, drawn_before, drawn_for, packets_from}
+use Rattle.trial.specs.Drawn.{drawn, drawn_count, drawn_before, drawn_for, packets_from, trial_frames, trial_symbols}
 use Rattle.trial.specs.Fed.{fed_symbol}
 
 -- ---- packets
 
--- one super-frame is enough for the packets drawn
-abbrev pub OneSuperFrame : Type 0
-OneSuperFrame = (s : Settings) (number : ℕ) → symbols_of s (drawn s number) ≡ 272
-
--- as many packets of a stream are drawn as its count says
+-- where the counts have a number of super-frames, as many packets of a stream are drawn as its count says
 abbrev pub AllAreDrawn : Type 0
-AllAreDrawn = (s : Settings) (number : ℕ) (σ : Stream) → length (drawn s number σ) ≡ drawn_count s number σ
+AllAreDrawn = (s : Settings) (number n : ℕ) (σ : Stream) → trial_frames s number ≡ Some n → length (drawn s number σ) ≡ drawn_count s number σ
+
+-- so the super-frames of the counts are those of the packets drawn, and a trial's symbols are those of their transmission
+abbrev pub FramesOfDrawn : Type 0
+FramesOfDrawn = (s : Settings) (number n : ℕ) → trial_frames s number ≡ Some n → super_frames s (counts_of (drawn s number)) ≡ Some n
+
+abbrev pub SymbolsOfDrawn : Type 0
+SymbolsOfDrawn = (s : Settings) (number n : ℕ) → trial_frames s number ≡ Some n → trial_symbols s number ≡ symbols_of s (drawn s number)
+
+-- without a plan one super-frame is enough
+abbrev pub OneSuperFrame : Type 0
+OneSuperFrame = (s : Settings) (number : ℕ) → entries_of s.plan ≡ [] → trial_frames s number ≡ Some 1
 
 -- the packets that are drawn for a symbol stand behind those of the symbols before it
 abbrev pub DrawnInOrder : Type 0
-DrawnInOrder = (s : Settings) (number : ℕ) (σ : Stream) (m i : ℕ) → m < 272 → i < drawn_for s number σ m
+DrawnInOrder = (s : Settings) (number : ℕ) (σ : Stream) (m i : ℕ) → m < trial_symbols s number → i < drawn_for s number σ m
     → packet_at (drawn s number σ) (drawn_before s number σ m + i) ≡ packet_of (after (packet_words * i) (packets_from s number m σ))
 
 -- behind them come null packets
 abbrev pub NullsBehind : Type 0
-NullsBehind = (s : Settings) (number : ℕ) (σ : Stream) (p : ℕ) → drawn_count s number σ ≤ p → packet_at (drawn s number σ) p ≡ null_packet
+NullsBehind = (s : Settings) (number n : ℕ) (σ : Stream) (p : ℕ) → trial_frames s number ≡ Some n → drawn_count s number σ ≤ p → packet_at (drawn s number σ) p ≡ null_packet
 
 -- ---- cells
 

@@ -1,10 +1,10 @@
 -- What a trial comes to.
 use Rattle.std.specs.Prelude.{ℕ, ◌/◌, if◌then◌else◌, length, Some, None}
-use Rattle.mode_set.specs.Kept.{is_flat}
 use Rattle.mode_set.specs.declared.modes.Start.TheVariants.{Zero}
 use Rattle.mode_set.specs.declared.modes.Stream.{Stream}
 use Rattle.mode_set.specs.declared.modes.Stream.TheVariants.{Hp, Lp}
 use Rattle.mode_set.specs.declared.settings.Settings.{Settings}
+use Rattle.symbol_spans.specs.Spans.{exists_in}
 use Rattle.reception.specs.Streams.{Reception, Final}
 use Rattle.trial.specs.declared.counts.StreamReturn.{StreamReturn}
 use Rattle.trial.specs.declared.counts.TrialCounts.{TrialCounts}
@@ -28,5 +28,5 @@ abbrev pub trial_counts : Settings → ℕ → Reception → TrialCounts
 trial_counts s number r = record {
   cells = byte_sum (fed s number);
   hp = stream_return s number r Hp;
-  lp = if is_flat s.hierarchy then None else Some (stream_return s number r Lp);
+  lp = if exists_in s Lp then Some (stream_return s number r Lp) else None;
 }

@@ -18,6 +18,6 @@ pub struct TrialCounts {
     pub cells: u32,
     /// The high priority stream, or the only one.
     pub hp: StreamReturn,
-    /// The low priority stream, if there is a hierarchy.
+    /// The low priority stream, if it exists in the transmission.
     pub lp: Option<StreamReturn>,
 }

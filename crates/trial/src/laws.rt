@@ -1,11 +1,14 @@
 // The laws of a trial, as contracts of functions that do nothing.
-ghost use Rattle.trial.specs.Laws.{OneSuperFrame, AllAreDrawn, DrawnInOrder, NullsBehind, CellsAreSmall, CellsAreRead, FedSymbolsAreLong, PacketsAreCounted};
+ghost use Rattle.trial.specs.Laws.{AllAreDrawn, FramesOfDrawn, SymbolsOfDrawn, OneSuperFrame, DrawnInOrder, NullsBehind, CellsAreSmall, CellsAreRead, FedSymbolsAreLong, PacketsAreCounted};
 
-/// The packets drawn: as many as their counts, in the order of the symbols that want them, and null
-/// packets behind them. One super-frame carries them.
+/// The packets drawn, where their counts have a number of super-frames: as many as their counts, in the
+/// order of the symbols that want them, and null packets behind them. Without a plan one super-frame
+/// carries them.
 pub fn packets()
-    ensures one { OneSuperFrame }
     ensures all { AllAreDrawn }
+    ensures frames { FramesOfDrawn }
+    ensures symbols { SymbolsOfDrawn }
+    ensures one { OneSuperFrame }
     ensures order { DrawnInOrder }
     ensures nulls { NullsBehind }
 {

@@ -21,7 +21,7 @@ loop-symbol-init g c = record {
   opened = c.requires.inputs_open;
   within = c.requires.within;
   met = λ none. none;
-  works = λ t files w. (w, begins c.super_frames.ensures.least (g.T.Transmitter.seen c.args.tx.now).settings (inputs_of files));
+  works = λ t files w. (w, begins c.super_frames.ensures.found (g.T.Transmitter.seen c.args.tx.now).settings (inputs_of files));
 }
 
 pub returns-in_err-next_symbol-clause-modulates : goal.returns-in_err-next_symbol-clause-modulates
@@ -85,7 +85,7 @@ loop-symbol-preserved g c =
           let due = due_at files seen seen' c.loop-symbol.symbol c.args.settings.now.max_symbols inv.settings inv.made (ap (λ (s : Settings). s.max_symbols) c.requires.same) works.1 c.loop-symbol-test.true in
           let written = e.sends (tells ∙ t) files due works.0 in (
             written,
-            more_again c.packets.ensures.super_frames c.super_frames.ensures.least c.settings.ensures.exist c.args.limits.now.packets files m'' c.next_symbol.new.inputs seen seen'' (g.T.Transmitter.stands c.next_symbol.new.tx)
+            more_again c.packets.ensures.super_frames c.super_frames.ensures.found c.settings.ensures.exist c.args.limits.now.packets files m'' c.next_symbol.new.inputs seen seen'' (g.T.Transmitter.stands c.next_symbol.new.tx)
                 written c.loop-symbol.symbol same made
                 (subst (λ (s : Settings). CountsAt s c.next_symbol.new.inputs (c.loop-symbol.symbol + 1) None) (sym (same ∙ c.requires.same)) c.in-None.ensures) works.1 (λ none. c.requires.two (inv.met (e.met none))),
           );

@@ -12,6 +12,7 @@ use Rattle.reception.specs.Streams.{so_far}
 use Rattle.rescue.specs.Kept.{seen, IsKeptStream}
 use Rattle.rescue.specs.Seen.{RescueState}
 use Rattle.rescue.specs.Standing.{StreamGave, StandsFor}
+use Rattle.stream_decoders.specs.Rooms.{most_pairs}
 use Rattle.rescue.proofs.Feeding.{state, feeds_within, feeds_whole}
 use Rattle.rescue.proofs.Keeping.{may_take, ran_from, keeps}
 use Rattle.rescue.proofs.feed.Rescue.feed.Goals as goal
