@@ -1,14 +1,19 @@
 // The command.
-ghost use Rattle.std.specs.Prelude.{◌≡◌};
+ghost use Rattle.std.specs.Prelude.{◌≡◌, [], length};
+ghost use Rattle.reception.specs.Cells.{symbol_length};
+ghost use Rattle.reception.specs.Streams.{so_far};
+ghost use Rattle.rescue_reception.specs.Streams.{nothing};
+ghost use Rattle.rescue.specs.Standing.{StandsFor};
 ghost use Rattle.std.specs.Option.{option_copied};
 ghost use Rattle.station_core.specs.Meaning.{IsFresh};
 ghost use Rattle.run_clauses.specs.Run.{Run};
 ghost use Rattle.symbol_runs.specs.Runs.{IsReady};
 ghost use Rattle.symbol_runs.specs.Outputs.{stream_names};
-ghost use Rattle.receive_run.specs.Runs.{RunsOrLacks};
+ghost use Rattle.receive_run.specs.Runs.{RunsOrLacks, RunsReceiving};
 ghost use Rattle.rescue_run.specs.Working.{rescue_work};
 ghost use Rattle.rescue_run.specs.RescueCommand.{rescue_command};
 
+use crate::mode_rescue::ModeRescue;
 use crate::work::RescueWork;
 use mode_set::{Carriers, Mode, Mode2k, Mode8k, Settings};
 use receive_run::ReceptionFiles;
@@ -18,6 +23,32 @@ use run_steps::{read_fitting, refuse};
 use station_core::Station;
 use std::alloc::Global;
 use std::thread::Threads;
+
+// Runs the reception by a receiver that has had no byte. `symbol` has the size of a symbol.
+fn rescue_by<'a, R: Threads + Sync, T: ModeRescue + Drop, S: Station<'a>>(
+    rt: &R,
+    receiver: T,
+    out: RescueOut,
+    settings: &Settings,
+    symbol: &mut [u8],
+    files: ReceptionFiles<'a>,
+    station: &mut S,
+) -> u8
+    requires start { StandsFor so_far (T.state receiver) [] nothing }
+    requires settings { (T.state receiver).settings ≡ settings.now }
+    requires size { length symbol.old ≡ symbol_length settings.now }
+    requires ready { IsReady (stream_names files.hp.now (option_copied files.lp)) (S.meaning station.old) }
+    ensures { RunsReceiving rescue_work settings.now files.entry.cells.now files.entry.hp.now (option_copied files.entry.lp) (S.meaning station.old) (S.meaning station.new) result }
+{
+    let two = files.lp.is_some();
+    let mut work = RescueWork {
+        rt,
+        receiver,
+        out,
+        two,
+    };
+    files.run_work(settings, &mut work, symbol, station)
+}
 
 // Takes the memory of a mode's receiver and of one symbol, and runs the reception.
 fn rescue_in<'a, M: Carriers, R: Threads + Sync, S: Station<'a>>(
@@ -40,14 +71,7 @@ fn rescue_in<'a, M: Carriers, R: Threads + Sync, S: Station<'a>>(
     let Ok(mut symbol) = vec![in alloc; 0u8; 5 * M::K as usize] else {
         return refuse(&Refusal::Memory, station);
     };
-    let two = files.lp.is_some();
-    let mut work = RescueWork {
-        rt,
-        receiver,
-        out,
-        two,
-    };
-    files.run_work(settings, &mut work, &mut symbol, station)
+    rescue_by(rt, receiver, out, settings, &mut symbol, files, station)
 }
 
 // The same in the mode that is set.

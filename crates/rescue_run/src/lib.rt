@@ -5,6 +5,7 @@
 #![tactic(auto)]
 
 mod command;
+mod mode_rescue;
 mod work;
 
 pub use command::rescue;

@@ -3,10 +3,10 @@ ghost use Rattle.std.specs.Prelude.{◌≡◌, ◌≤◌, ℕ, List};
 ghost use Rattle.rescue_report.specs.Text.{closing_lines};
 ghost use Rattle.rescue_run.specs.Closing.{few_lines};
 
-use mode_set::Carriers;
+use crate::mode_rescue::ModeRescue;
 use receive_run::{ClosingLines, write_lines, write_out};
 use report_line::Line;
-use rescue::{Rescue, RescueOut};
+use rescue::RescueOut;
 use rescue_report::Counts;
 use station_core::Station;
 use std::thread::Threads;
@@ -32,19 +32,19 @@ impl ClosingLines for LastCounts {
 /// A receiver that rescues words, whose packets and lines are written, with what its last call gave, the
 /// runtime whose threads it may use, and a flag that there are two streams.
 #[derive(Drop)]
-pub(crate) struct RescueWork<'r, R, M: Carriers> {
+pub(crate) struct RescueWork<'r, R, T> {
     /// The runtime.
     pub rt: &'r R,
     /// The receiver.
-    pub receiver: Rescue<M>,
+    pub receiver: T,
     /// What its last call gave.
     pub out: RescueOut,
     /// Whether LP is written too.
     pub two: bool,
 }
 
-impl<'a, 'r, S: Station<'a>, R: Threads + Sync, M: Carriers> SymbolWork<'a, S>
-    for RescueWork<'r, R, M> {
+impl<'a, 'r, S: Station<'a>, R: Threads + Sync, T: ModeRescue> SymbolWork<'a, S>
+    for RescueWork<'r, R, T> {
     ghost use Rattle.std.specs.Prelude.{[], Bool};
     ghost use Rattle.std.specs.Thread.{IsSync};
     ghost use Rattle.mode_set.specs.declared.settings.Settings.{Settings};
@@ -56,7 +56,7 @@ impl<'a, 'r, S: Station<'a>, R: Threads + Sync, M: Carriers> SymbolWork<'a, S>
 
     ghost Setup = { Settings × Bool };
 
-    ghost setup = { λ x. (x.receiver.settings, x.two) };
+    ghost setup = { λ x. ((T.state x.receiver).settings, x.two) };
 
     ghost work = { λ p. rescue_work p.0 p.1 };
 
@@ -64,9 +64,9 @@ impl<'a, 'r, S: Station<'a>, R: Threads + Sync, M: Carriers> SymbolWork<'a, S>
 
     ghost able = { IsSync R.row };
 
-    ghost is_new = { λ x. StandsFor so_far x.receiver [] nothing };
+    ghost is_new = { λ x. StandsFor so_far (T.state x.receiver) [] nothing };
 
-    ghost stands = { λ x. RescueStands (StandsFor so_far x.receiver) x.receiver.settings x.two };
+    ghost stands = { λ x. RescueStands (StandsFor so_far (T.state x.receiver)) (T.state x.receiver).settings x.two };
 
     fn begin(&mut self, _station: &mut S) -> Result<(), Stop> {
         rescue_laws::laws::nothing();
