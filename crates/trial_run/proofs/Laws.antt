@@ -1,12 +1,14 @@
 -- The law of what `trial` prints.
-use Rattle.std.proofs.Common.{ℕ, ◌<◌, ◌≤◌, List, Option, refl, ◌∙◌, sym, ap, subst}
+use Rattle.std.proofs.Common.{◌≡◌, ℕ, List, Option, refl, ◌∙◌, sym, ap}
 use Rattle.mode_set.specs.declared.settings.Settings.{Settings}
+use Rattle.trial.specs.Drawn.{trial_frames}
 use Rattle.trial.specs.Outcome.{at_zero}
-use Rattle.trial_laws.specs.TrialsAlike.{SameGiven, SameCounts}
+use Rattle.trial_laws.specs.TrialsAlike.{SameFrames, SameGiven, SameCounts}
 use Rattle.worker_laws.specs.Alike.{DifferInWorkers}
-use Rattle.trial_run.specs.TrialCommand.{TrialLaws, TrialPrints, trial_lines, trial_symbols}
+use Rattle.trial_run.specs.TrialCommand.{TrialLaws, TrialPrints, limit_of, trial_lines, trial_refusal}
 
 pub record Laws : Type 0 where
+  pub frames : SameFrames
   pub given : SameGiven
   pub counts : SameCounts
 
@@ -27,11 +29,13 @@ from_zero s t d = record {
 
 print_alike : Laws → (s t : Settings) (number : ℕ) → DifferInWorkers s t → (lines : List ℕ) → TrialPrints s number lines → TrialPrints t number lines
 print_alike laws s t number d lines p =
-    let z : DifferInWorkers (at_zero s) (at_zero t) = from_zero s t d in record {
+    let z : DifferInWorkers (at_zero s) (at_zero t) = from_zero s t d in
+    let same : trial_refusal t number ≡ trial_refusal s number =
+    ap (λ (n : ℕ). limit_of n (trial_frames t number)) d.max_symbols ∙ ap (limit_of s.max_symbols) (laws.frames s t number d) in record {
       enough = λ enough.
-          let are = p.enough (subst (λ (n : ℕ). trial_symbols ≤ n) d.max_symbols enough) in
+          let are = p.enough (sym same ∙ enough) in
           (are.0, laws.given (at_zero s) (at_zero t) number are.0 z are.1, are.2 ∙ ap trial_lines (sym (laws.counts (at_zero s) (at_zero t) number are.0 z)));
-      few = λ few. p.few (subst (λ (n : ℕ). n < trial_symbols) d.max_symbols few);
+      few = λ few. p.few (λ none. few (same ∙ none));
     }
 
 pub own_laws : Laws → (stated : Option Settings) (number : ℕ) → TrialLaws stated number

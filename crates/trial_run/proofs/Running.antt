@@ -1,5 +1,5 @@
 -- What a trial that was run leaves.
-use Rattle.std.proofs.Common.{◌≡◌, ℕ, ◌≤◌, Result, Ok, Err, sym, subst}
+use Rattle.std.proofs.Common.{◌≡◌, ℕ, None, Result, Ok, Err, sym, subst}
 use Rattle.station_core.specs.Meaning.{Meaning}
 use Rattle.mode_set.specs.declared.settings.Settings.{Settings}
 use Rattle.reception.specs.Streams.{Reception}
@@ -7,11 +7,11 @@ use Rattle.trial.specs.declared.counts.TrialCounts.{TrialCounts}
 use Rattle.trial.specs.Outcome.{TrialGives, trial_counts}
 use Rattle.run_clauses.specs.declared.work.Refusal.{Refusal}
 use Rattle.run_clauses.specs.declared.work.Refusal.TheVariants.{WriteFault}
-use Rattle.trial_run.specs.TrialCommand.{trial_lines, trial_symbols}
+use Rattle.trial_run.specs.TrialCommand.{trial_lines, trial_refusal}
 use Rattle.run_steps.specs.Lines.{IsWriting, WritesLines}
 use Rattle.trial_run.specs.Steps.{Prints, Ran}
 
-module _ (s : Settings) (number : ℕ) (old new : Meaning) (enough : trial_symbols ≤ s.max_symbols) (r : Reception) (gives : TrialGives s number r)
+module _ (s : Settings) (number : ℕ) (old new : Meaning) (enough : trial_refusal s number ≡ None) (r : Reception) (gives : TrialGives s number r)
     (counts : TrialCounts) (same : counts ≡ trial_counts s number r) where
   printed : (result : Result (Unit {0}) Refusal) → WritesLines (trial_lines counts) old new result → Prints s number old new result
   printed result writes = record {

@@ -25,7 +25,7 @@ use Rattle.run_steps.proofs.Early.{RefusedEarly, refused_early, early_ended}
 use Rattle.run_steps.proofs.Whole.{run_done, run_refused}
 use Rattle.trial_run.specs.Steps.{IsReady, Ran, ReportOnly, RunsOrLacks, Tells, outcome_status}
 use Rattle.trial_run.proofs.Laws.{Laws, own_laws}
-use Rattle.trial_run.specs.TrialCommand.{trial_command, trial_lines, trial_refusal, trial_symbols, TrialPrints, AreTrialLines}
+use Rattle.trial_run.specs.TrialCommand.{trial_command, trial_lines, trial_refusal, TrialPrints, AreTrialLines}
 
 -- why a run was refused, if it was
 abbrev refusal_in : Result (Unit {0}) Refusal → Option Refusal
@@ -73,10 +73,10 @@ module _ (limit : ℕ) (name : List ℕ) (number : ℕ) (start mid : Meaning) (l
     accepted : start.tells ≡ true → c.early_refusal start.file ≡ None
     accepted t = (accepts.3 t).1.1
 
-    refusal_is : start.tells ≡ true → refusal_of limit start.file c ≡ trial_refusal s
+    refusal_is : start.tells ≡ true → refusal_of limit start.file c ≡ trial_refusal s number
     refusal_is t =
-        ap (λ (o : Option Refusal). option_or o (option_and_then trial_refusal (settings_of (start.file name)))) (accepted t)
-        ∙ ap (λ (o : Option TheSettings). option_and_then trial_refusal o) (stated_is t)
+        ap (λ (o : Option Refusal). option_or o (option_and_then (λ z. trial_refusal z number) (settings_of (start.file name)))) (accepted t)
+        ∙ ap (λ (o : Option TheSettings). option_and_then (λ z. trial_refusal z number) o) (stated_is t)
 
     -- ---- after the work
     module _ (end : Meaning) (others : ReportOnly mid end) where
@@ -180,14 +180,19 @@ module _ (limit : ℕ) (name : List ℕ) (number : ℕ) (start mid : Meaning) (l
       empty : start.tells ≡ true → (l : List ℕ) → mid.report.written ++ l ≡ l
       empty t l = ap (λ (x : Meaning). x.report.written ++ l) asks.others ∙ ap (λ (w : List ℕ). w ++ l) (fresh.report_empty t)
 
-      prints : trial_symbols ≤ s.max_symbols → (lines : List ℕ) → AreTrialLines s number lines → TrialPrints s number lines
-      prints enough lines are = record { enough = λ e. are; few = λ few. absurd (omega (arith, enough, few)) }
+      -- where the receiver starts tells nothing of the super-frames
+      from_zero : trial_refusal (at_zero s) number ≡ trial_refusal s number
+      unfolding super_frames exists_in settings_in words_before
+      from_zero = refl
 
-      nothing_refused : trial_symbols ≤ s.max_symbols → start.tells ≡ true → refusal_of limit start.file c ≡ None
-      nothing_refused enough t = refusal_is t ∙ ap (λ (b : Bool). if b then Some (Limit s.max_symbols) else None) (le-ltb s.max_symbols trial_symbols enough)
+      prints : trial_refusal s number ≡ None → (lines : List ℕ) → AreTrialLines s number lines → TrialPrints s number lines
+      prints enough lines are = record { enough = λ e. are; few = λ few. absurd (few enough) }
 
-      limit_refused : s.max_symbols < trial_symbols → start.tells ≡ true → refusal_of limit start.file c ≡ Some (Limit s.max_symbols)
-      limit_refused few t = refusal_is t ∙ ap (λ (b : Bool). if b then Some (Limit s.max_symbols) else None) (lt-ltb s.max_symbols trial_symbols few)
+      nothing_refused : trial_refusal (at_zero s) number ≡ None → start.tells ≡ true → refusal_of limit start.file c ≡ None
+      nothing_refused enough t = refusal_is t ∙ sym from_zero ∙ enough
+
+      limit_refused : (n : ℕ) → trial_refusal (at_zero s) number ≡ Some (Limit n) → start.tells ≡ true → refusal_of limit start.file c ≡ Some (Limit n)
+      limit_refused n few t = refusal_is t ∙ sym from_zero ∙ few
 
       by_outcome : (o : Result (Unit {0}) Refusal) → HasCause mid end o → Ran (at_zero s) number mid end o → Ended c limit start end (refusal_in o)
       by_outcome (Ok u) cause ran = ended end others None refl (same_reads, cause.writes ∙ same_writes) (omega (arith, cause.writes, same_writes)) (omega (arith, ran.writes.later_report, same_reports))
@@ -198,7 +203,7 @@ module _ (limit : ℕ) (name : List ℕ) (number : ℕ) (start mid : Meaning) (l
             report = λ t. (
               s,
               stated_is t,
-              prints ran.enough end.report.written
+              prints (sym from_zero ∙ ran.enough) end.report.written
                   (ran.given, ran.gives, ran.writes.written (telling ∙ t) ∙ empty t (trial_lines (trial_counts (at_zero s) number ran.given))),
             );
           })
@@ -213,7 +218,7 @@ module _ (limit : ℕ) (name : List ℕ) (number : ℕ) (start mid : Meaning) (l
             report = λ t.
                 let lines : List ℕ = trial_lines (trial_counts (at_zero s) number ran.given) in
                 let w = ran.writes.written (telling ∙ t) in
-                (lines, (s, stated_is t, prints ran.enough lines (ran.given, ran.gives, refl)), (w.0, w.1 ∙ empty t (take w.0 lines)));
+                (lines, (s, stated_is t, prints (sym from_zero ∙ ran.enough) lines (ran.given, ran.gives, refl)), (w.0, w.1 ∙ empty t (take w.0 lines)));
           })
       by_outcome (Err (NotSync stream n)) cause ran = absurd ran
       by_outcome (Err Memory) cause ran = absurd ran

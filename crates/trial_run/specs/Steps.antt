@@ -1,6 +1,6 @@
 -- The steps of a trial behind its settings, each as a relation of what the station stood for before and
 -- after it. The clauses of the run as a whole follow from them.
-use Rattle.std.specs.Prelude.{◌≡◌, ◌⊎◌, ◌<◌, ◌≤◌, ℕ, true, false, Result, Ok, Err}
+use Rattle.std.specs.Prelude.{◌≡◌, ◌⊎◌, ℕ, true, false, None, Some, Result, Ok, Err}
 use Rattle.station_core.specs.Meaning.{Meaning}
 use Rattle.mode_set.specs.declared.settings.Settings.{Settings}
 use Rattle.reception.specs.Streams.{Reception}
@@ -8,7 +8,7 @@ use Rattle.trial.specs.Outcome.{TrialGives, trial_counts}
 use Rattle.run_clauses.specs.declared.work.Refusal.{Refusal}
 use Rattle.run_clauses.specs.declared.work.Refusal.TheVariants.{WriteFault, Memory, Limit}
 use Rattle.run_clauses.specs.Text.{refusal_status, refusal_text}
-use Rattle.trial_run.specs.TrialCommand.{trial_lines, trial_symbols}
+use Rattle.trial_run.specs.TrialCommand.{trial_lines, trial_refusal}
 use Rattle.run_steps.specs.Causes.{HasCause}
 use Rattle.run_steps.specs.Lines.{WritesLines}
 use Rattle.run_steps.specs.Report.{WritesText}
@@ -22,18 +22,18 @@ pub record IsReady (m : Meaning) : Type 0 where
 abbrev pub ReportOnly : Meaning → Meaning → Type 0
 ReportOnly old new = new ≡ record old { report = record old.report { written = new.report.written }; write_faults = new.write_faults; report_faults = new.report_faults }
 
--- the settings allow a trial's symbols, and the closing lines of the trial were written, or a front of them
+-- the trial is not refused, and the closing lines of the trial were written, or a front of them
 pub record Prints (s : Settings) (number : ℕ) (old new : Meaning) (result : Result (Unit {0}) Refusal) : Type 0 where
-  pub enough : trial_symbols ≤ s.max_symbols
+  pub enough : trial_refusal s number ≡ None
   pub given : Reception
   pub gives : TrialGives s number given
   pub writes : WritesLines (trial_lines (trial_counts s number given)) old new result
 
--- What a run leaves, by its outcome: where the settings allow too few symbols nothing was written.
+-- What a run leaves, by its outcome: where the trial is refused nothing was written.
 abbrev pub Ran : Settings → ℕ → Meaning → Meaning → Result (Unit {0}) Refusal → Type 0
 Ran s number old new (Ok u) = Prints s number old new (Ok u)
 Ran s number old new (Err WriteFault) = Prints s number old new (Err WriteFault)
-Ran s number old new (Err (Limit n)) = (n ≡ s.max_symbols) × (s.max_symbols < trial_symbols) × (new ≡ old)
+Ran s number old new (Err (Limit n)) = (trial_refusal s number ≡ Some (Limit n)) × (new ≡ old)
 Ran s number old new (Err refusal) = ⊥
 
 -- the status of an outcome

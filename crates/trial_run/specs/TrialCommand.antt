@@ -1,5 +1,5 @@
 -- The command `trial SETTINGS NUMBER`: what it comes to, from its settings and its number alone.
-use Rattle.std.specs.Prelude.{◌≡◌, ◌<◌, ◌≤◌, ◌+◌, ℕ, nat_lt, if◌then◌else◌, List, [], ◌∷◌, ◌++◌, codes, decimal, Option, Some, None, option_and_then, false}
+use Rattle.std.specs.Prelude.{◌≡◌, ◌≢◌, ◌+◌, ◌*◌, ℕ, nat_lt, if◌then◌else◌, List, [], ◌∷◌, ◌++◌, codes, decimal, Option, Some, None, option_and_then, false}
 use Rattle.mode_set.specs.declared.modes.Stream.{Stream}
 use Rattle.mode_set.specs.declared.modes.Stream.TheVariants.{Hp, Lp}
 use Rattle.mode_set.specs.declared.settings.Settings.{Settings}
@@ -7,6 +7,7 @@ use Rattle.reception.specs.Streams.{Reception}
 use Rattle.report_line.specs.Streams.{stream_text}
 use Rattle.trial.specs.declared.counts.StreamReturn.{StreamReturn}
 use Rattle.trial.specs.declared.counts.TrialCounts.{TrialCounts}
+use Rattle.trial.specs.Drawn.{trial_frames}
 use Rattle.trial.specs.Outcome.{TrialGives, at_zero, trial_counts}
 use Rattle.worker_laws.specs.Alike.{DifferInWorkers}
 use Rattle.run_clauses.specs.Command.{Command}
@@ -16,13 +17,13 @@ use Rattle.run_clauses.specs.StatedSettings.{settings_of}
 use Rattle.run_clauses.specs.declared.work.Refusal.{Refusal}
 use Rattle.run_clauses.specs.declared.work.Refusal.TheVariants.{Limit}
 
--- a trial sends one super-frame
-abbrev pub trial_symbols : ℕ
-trial_symbols = 272
+-- the limit of a trial: no number of super-frames carries its packets, or they have more symbols than the settings allow
+abbrev pub limit_of : ℕ → Option ℕ → Option Refusal
+limit_of most None = Some (Limit most)
+limit_of most (Some n) = if nat_lt most (272 * n) then Some (Limit most) else None
 
--- settings that allow fewer symbols are refused
-abbrev pub trial_refusal : Settings → Option Refusal
-trial_refusal s = if nat_lt s.max_symbols trial_symbols then Some (Limit s.max_symbols) else None
+abbrev pub trial_refusal : Settings → ℕ → Option Refusal
+trial_refusal s number = limit_of s.max_symbols (trial_frames s number)
 
 -- the line of the cells that were fed, and that of the packets of a stream
 abbrev pub cells_line : TrialCounts → List ℕ
@@ -43,10 +44,10 @@ trial_lines counts = cells_line counts ++ (return_line Hp counts.hp ++ lp_return
 abbrev pub AreTrialLines : Settings → ℕ → List ℕ → Type 0
 AreTrialLines s number lines = (r : Reception) × TrialGives (at_zero s) number r × (lines ≡ trial_lines (trial_counts (at_zero s) number r))
 
--- what a trial by these settings prints: nothing where they allow too few symbols
+-- what a trial by these settings prints: nothing where it is refused
 pub record TrialPrints (s : Settings) (number : ℕ) (lines : List ℕ) : Type 0 where
-  pub enough : trial_symbols ≤ s.max_symbols → AreTrialLines s number lines
-  pub few : s.max_symbols < trial_symbols → lines ≡ []
+  pub enough : trial_refusal s number ≡ None → AreTrialLines s number lines
+  pub few : trial_refusal s number ≢ None → lines ≡ []
 
 -- The law of what `trial` prints, by the settings that are stated, if any are.
 pub record TrialLaws (stated : Option Settings) (number : ℕ) : Type 0 where
@@ -62,7 +63,7 @@ trial_command settings number = record {
   memory_at_work = false;
   early_refusal = λ file. settings_refusal (file settings);
   header = λ file. None;
-  work_refusal = λ limit file. option_and_then trial_refusal (settings_of (file settings));
+  work_refusal = λ limit file. option_and_then (λ s. trial_refusal s number) (settings_of (file settings));
   most_taken = λ limit file. by_input (most_settings + 1) 0 0 0;
   Comes = λ limit file port bytes. bytes ≡ [];
   Prints = λ limit file lines. (s : Settings) × (settings_of (file settings) ≡ Some s) × TrialPrints s number lines;

@@ -65,9 +65,10 @@ fn trial_accepted<'a, R: Threads + Sync, G: Gate, S: Station<'a>>(
 
 /// Runs `trial SETTINGS NUMBER` and gives its status.
 ///
-/// The settings are read and checked, and then all memory is taken. Settings that allow fewer than 272
-/// symbols, which is one super-frame, are refused. No port but Settings is asked. The limits of packets do
-/// not bound a trial. The workers of its receiver enter the gate.
+/// The settings are read and checked, and then all memory is taken. A trial is refused whose packets no
+/// number of super-frames carries, or whose settings allow fewer symbols than these super-frames have. No
+/// port but Settings is asked. The limits of packets do not bound a trial. The workers of its receiver
+/// enter the gate.
 pub fn trial<'a, R: Threads + Sync, G: Gate, S: Station<'a>>(
     rt: &R,
     alloc: Global,

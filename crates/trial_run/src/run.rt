@@ -1,6 +1,8 @@
 // A whole run behind its settings.
-ghost use Rattle.std.specs.Prelude.{◌≡◌, ℕ};
+ghost use Rattle.std.specs.Prelude.{◌≡◌, ◌*◌, ◌≤◌, ℕ, Some, None, IfSome, IfNone, IsTrue, is_some};
+ghost use Rattle.run_clauses.specs.declared.work.Refusal.TheVariants as AnyRefusal;
 ghost use Rattle.run_steps.specs.Causes.{HasCause};
+ghost use Rattle.trial_run.specs.TrialCommand.{limit_of};
 ghost use Rattle.trial_run.specs.Steps.{IsReady, Ran, ReportOnly, RunsTrial};
 
 use crate::lines::write_lines;
@@ -12,10 +14,21 @@ use std::thread::Threads;
 use trial_work::Trial;
 use word_workers::Gate;
 
-// The symbols of a trial: those of one super-frame.
-const SYMBOLS: u32 = 272;
+// The super-frames of a trial, where there are some whose symbols are within the limit.
+fn frames_within(frames: Option<u64>, max_symbols: u32) -> Option<u64>
+    ensures some { IfSome result (λ n. (frames ≡ Some n) × (272 * n ≤ max_symbols)) }
+    ensures allowed { IsTrue (is_some result) → limit_of max_symbols frames ≡ None }
+    ensures none { IfNone result (limit_of max_symbols frames ≡ Some (AnyRefusal.Limit max_symbols)) }
+{
+    let count = frames?;
+    if count > u64::from(max_symbols / 272) {
+        return None;
+    }
+    Some(count)
+}
 
-// Runs a trial and writes its closing lines, where its settings allow as many symbols as it has.
+// Runs a trial and writes its closing lines, where it has super-frames and its settings allow their
+// symbols.
 fn run_and_report<'a, M: Carriers, R: Threads + Sync, G: Gate, S: Station<'a>>(
     rt: &R,
     gate: &G,
@@ -29,11 +42,13 @@ fn run_and_report<'a, M: Carriers, R: Threads + Sync, G: Gate, S: Station<'a>>(
     ensures cause { HasCause (S.meaning station.old) (S.meaning station.new) result }
     ensures ran { Ran trial.settings trial.number (S.meaning station.old) (S.meaning station.new) result }
 {
-    if max_symbols < SYMBOLS {
-        return Err(Refusal::Limit(u64::from(max_symbols)));
+    match frames_within(trial.super_frames(), max_symbols) {
+        Some(super_frames) => {
+            let counts = trial.run(rt, gate, super_frames);
+            write_lines(&counts, station)
+        }
+        None => Err(Refusal::Limit(u64::from(max_symbols))),
     }
-    let counts = trial.run(rt, gate);
-    write_lines(&counts, station)
 }
 
 /// Runs a trial that has taken its memory, and gives its status.

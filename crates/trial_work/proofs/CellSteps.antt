@@ -24,7 +24,6 @@ use Rattle.rand_pcg.specs.Lcg.{Lcg}
 use Rattle.load_gen.specs.Draws.{after, shift_of}
 use Rattle.load_gen.specs.Laws.{DrawsAdd}
 use Rattle.symbol_spans.specs.Spans.{settings_at}
-use Rattle.symbol_spans.specs.Laws.{SettingsStay}
 use Rattle.transmission.specs.Transmission.{tx_cell}
 use Rattle.trial.specs.Drawn.{before, drawn, shifts_from}
 use Rattle.trial.specs.Fed.{disturbed, fed_cell, fed_symbol, negated}
@@ -117,11 +116,10 @@ module _ (add : DrawsAdd) (s : Settings) (number m : ℕ) (below : ℕ) (g : Lcg
 
 -- the cell of carrier k, and the generator behind it
 module _ (add : DrawsAdd) (s : Settings) (number m k : ℕ) (mode : Mode) (is : s.mode ≡ mode) (g : Lcg) (at : g ≡ after (2 * payload_below mode (m % 68) k) (shifts_from s number m (before s number m))) where
-  pub next_cell_is : SettingsStay → (c : Cell) → c ≡ tx_cell s (drawn s number) m k → disturbed_by (tolerance s.shape s.hierarchy) (m % 17 == 16) g c (kind mode (m % 68) k) ≡ fed_cell s number m k
+  pub next_cell_is : (c : Cell) → c ≡ tx_cell s (drawn s number) m k → disturbed_by (tolerance (settings_at s m).shape (settings_at s m).hierarchy) (m % 17 == 16) g c (kind mode (m % 68) k) ≡ fed_cell s number m k
   unfolding fed_cell
-  next_cell_is stay c e =
-      ap (λ (z : Settings). disturbed_by (tolerance z.shape z.hierarchy) (m % 17 == 16) g c (kind mode (m % 68) k)) (sym (stay s (m / 272)))
-      ∙ cell_is add s number m (payload_below mode (m % 68) k) g at c (kind mode (m % 68) k) (is_payload mode (m % 68) k) (says mode (m % 68) k)
+  next_cell_is c e =
+      cell_is add s number m (payload_below mode (m % 68) k) g at c (kind mode (m % 68) k) (is_payload mode (m % 68) k) (says mode (m % 68) k)
       ∙ ap (λ (z : Cell). disturbed s number m z (kind mode (m % 68) k)) e
       ∙ ap (λ (z : Mode). disturbed s number m (tx_cell s (drawn s number) m k) (kind z (m % 68) k)) (sym is)
 

@@ -1,6 +1,6 @@
 -- The packets of a symbol are drawn and put one after another.
 use Rattle.std.proofs.Common.{◌≡◌, ◌⊎◌, inl, inr, ℕ, ◌+◌, ◌-◌, ◌*◌, ◌≤◌, ◌<◌, List, refl, sym, ap, ap₂, ◌∙◌, subst, arith, Bool, true, false, cond, Option, Some, None}
-use Rattle.std.specs.Prelude.{min, nat_lt, ◌==◌, IfSome}
+use Rattle.std.specs.Prelude.{min, nat_lt, ◌==◌, IfSome, unwrap_or}
 use Rattle.std.proofs.lemmas.Bool.{cases_lt, ltb-true, ltb-false, ne_eqb, eq-eqb}
 use Rattle.mode_set.specs.declared.modes.Stream.{Stream}
 use Rattle.mode_set.specs.declared.modes.Stream.TheVariants.{Hp, Lp}
@@ -14,7 +14,7 @@ use Rattle.transmission.specs.Transmission.{by_stream}
 use Rattle.transmission.specs.SuperFrames.{packets_for}
 use Rattle.transmission.specs.Agenda.{next_stream}
 use Rattle.modulator.specs.State.{Transmitter, HasPut, HasOneMore, IsNext, wanted}
-use Rattle.trial.specs.Drawn.{hp_count, lp_count, drawn, drawn_count, drawn_before, packets_from, shifts_from, before}
+use Rattle.trial.specs.Drawn.{hp_count, lp_count, drawn, drawn_count, drawn_before, packets_from, shifts_from, before, trial_frames, trial_symbols}
 use Rattle.trial.specs.Laws.{DrawnInOrder, NullsBehind}
 use Rattle.trial_work.specs.declared.draws.Draws.{Draws}
 use Rattle.trial_work.specs.Putting.{IsPutting, next_of, behind_next, drawn_since}
@@ -24,9 +24,17 @@ unfolding after state_after
 after_none g = refl
 
 -- ---- the counts
-pub counted : DrawsAdd → (b : Bool) (g : Lcg) → cond b (after 1 g) (after 1 (after 1 g)) ≡ after (cond b 1 2) g
-counted add true g = refl
-counted add false g = add 1 1 g
+pub counted : DrawsAdd → (b : Bool) (g : Lcg) → cond b (after 1 (after 1 g)) (after 1 g) ≡ after (cond b 2 1) g
+counted add true g = add 1 1 g
+counted add false g = refl
+
+-- where a trial has a symbol its counts have a number of super-frames
+has_frames : (m : ℕ) (o : Option ℕ) → m < 272 * unwrap_or o 0 → (n : ℕ) × (o ≡ Some n)
+has_frames m None l = absurd (omega (arith, l))
+has_frames m (Some n) l = (n, refl)
+
+pub frames_there : (s : Settings) (number m : ℕ) → m < trial_symbols s number → (n : ℕ) × (trial_frames s number ≡ Some n)
+frames_there s number m l = has_frames m (trial_frames s number) l
 
 -- ---- which stream is wanted
 hp_only : (b c : Bool) → cond b (Some Hp) (cond c (Some Lp) None) ≡ Some Hp → b ≡ true
@@ -98,7 +106,7 @@ none_below : (a l l' h b : ℕ) → l ≡ a → l' ≡ l → a < l' → h ≡ b
 none_below a l l' h b e f k = absurd (omega (arith, e, f, k))
 
 -- ---- a packet, and the generator behind it
-next_is : DrawnInOrder → NullsBehind → (s : Settings) (number : ℕ) (σ : Stream) (m put left : ℕ) (now : Lcg) → m < 272 → packets_for s σ m ≤ put → put < packets_for s σ (m + 1)
+next_is : DrawnInOrder → NullsBehind → (s : Settings) (number : ℕ) (σ : Stream) (m put left : ℕ) (now : Lcg) → m < trial_symbols s number → packets_for s σ m ≤ put → put < packets_for s σ (m + 1)
     → left ≡ drawn_count s number σ - put → now ≡ after (packet_words * drawn_since s number σ m put) (packets_from s number m σ) → next_of left now ≡ packet_at (drawn s number σ) put
 next_is order nulls s number σ m put left now few least less is at = go (cases_lt put (drawn_count s number σ))
   where
@@ -108,7 +116,7 @@ next_is order nulls s number σ m put left now few least less is at = go (cases_
         ∙ ap packet_of at
         ∙ sym (order s number σ m (drawn_since s number σ m put) few (inside (drawn_count s number σ) (packets_for s σ m) put (packets_for s σ (m + 1)) least less l))
         ∙ ap (λ (z : ℕ). packet_at (drawn s number σ) z) (place (drawn_count s number σ) (packets_for s σ m) put least l)
-    go (inr l) = ap (λ (b : Bool). cond b null_packet (packet_of now)) (is_zero (drawn_count s number σ) put left is l) ∙ sym (nulls s number σ put l)
+    go (inr l) = ap (λ (b : Bool). cond b null_packet (packet_of now)) (is_zero (drawn_count s number σ) put left is l) ∙ (let f = frames_there s number m few in sym (nulls s number f.0 σ put f.1 l))
 
 behind : DrawsAdd → (c a put left : ℕ) (g now now' : Lcg) → left ≡ c - put → a ≤ put → now ≡ after (packet_words * (min c put - min c a)) g → now' ≡ behind_next left now
     → now' ≡ after (packet_words * (min c (put + 1) - min c a)) g
@@ -133,7 +141,7 @@ pub seen_again : (s s' : Settings) (m m' : ℕ) (d : Draws) (t : Transmitter) �
 seen_again s s' m m' d t e f i = subst (λ (z : Settings). IsPutting z m' d t) (sym e) (subst (λ (n : ℕ). IsPutting s n d t) (sym f) i)
 
 -- ---- between the packets of a symbol
-module _ (add : DrawsAdd) (order : DrawnInOrder) (nulls : NullsBehind) (s : Settings) (m : ℕ) (few : m < 272) (d : Draws) (t : Transmitter) (i : IsPutting s m d t) where
+module _ (add : DrawsAdd) (order : DrawnInOrder) (nulls : NullsBehind) (s : Settings) (m : ℕ) (d : Draws) (t : Transmitter) (few : m < trial_symbols s d.number) (i : IsPutting s m d t) where
   abbrev g : Lcg
   g = before s d.number m
 

@@ -1,5 +1,5 @@
 -- A symbol is fed in pieces, and what comes back is summed.
-use Rattle.std.proofs.Common.{◌≡◌, ℕ, zero, suc, ◌+◌, ◌-◌, ◌*◌, ◌%◌, ◌^◌, ◌≤◌, ◌<◌, ◌⊎◌, inl, inr, List, [], ◌++◌, length, take, drop, length-append, length-drop, length-take-le, refl, sym, ap, ◌∙◌, subst, arith, append_assoc}
+use Rattle.std.proofs.Common.{◌≡◌, ℕ, zero, suc, ◌+◌, ◌-◌, ◌*◌, ◌/◌, ◌%◌, ◌^◌, ◌≤◌, ◌<◌, ◌⊎◌, inl, inr, List, [], ◌++◌, length, take, drop, length-append, length-drop, length-take-le, refl, sym, ap, ◌∙◌, subst, arith, append_assoc}
 use Rattle.std.specs.Prelude.{min, sum, map, nat_le}
 use Rattle.std.proofs.lemmas.Bool.{cases_lt, le-leb, lt-leb}
 use Rattle.std.proofs.lemmas.List.{map_push, take_all}
@@ -15,7 +15,7 @@ use Rattle.mode_set.specs.declared.settings.Settings.{Settings}
 use Rattle.rand_pcg.specs.Lcg.{Lcg}
 use Rattle.load_gen.specs.Draws.{after, length_of, piece_of}
 use Rattle.load_gen.specs.Laws.{DrawsAdd}
-use Rattle.reception.specs.Cells.{symbol_length, tail}
+use Rattle.reception.specs.Cells.{symbol_length, symbols, tail}
 use Rattle.reception.specs.Streams.{Final, so_far, at_end}
 use Rattle.reception.specs.Feeds.{Output, Feeds, Finishes}
 use Rattle.reception.specs.Laws.{nothing}
@@ -163,3 +163,11 @@ all_given x x' bytes hp lp hp' lp' out h same f e e' = record {
   hp_sum = summed (h.given.packets Hp) out.hp (f.after.packets Hp) hp hp' h.hp_sum e (f.packets Hp);
   lp_sum = summed (h.given.packets Lp) out.lp (f.after.packets Lp) lp lp' h.lp_sum e' (f.packets Lp);
 }
+
+-- a part of a symbol behind whole symbols is no whole symbol
+part_of : (m : Mode) (n f : ℕ) → n % (5 * carriers m) ≡ 0 → f < 5 * carriers m → (n + f) / (5 * carriers m) ≡ n / (5 * carriers m)
+part_of M2k n f e l = omega (arith, e, l)
+part_of M8k n f e l = omega (arith, e, l)
+
+pub part_of_a_symbol : (s : Settings) (bytes part : List ℕ) → tail s bytes ≡ 0 → length part < symbol_length s → symbols s (bytes ++ part) ≡ symbols s bytes
+part_of_a_symbol s bytes part whole l = ap (λ (n : ℕ). n / symbol_length s) (length-append bytes part) ∙ part_of s.mode (length bytes) (length part) whole l

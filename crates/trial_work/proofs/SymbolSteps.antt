@@ -6,7 +6,6 @@ use Rattle.std.specs.Option.{option_map}
 use Rattle.std.proofs.lemmas.List.Concat.{flat_map-append}
 use Rattle.spec_words.specs.Words.{numbers}
 use Rattle.spec_words.proofs.Counting.{numbers_end}
-use Rattle.mode_set.specs.Kept.{is_flat}
 use Rattle.mode_set.specs.StreamTable.{carriers}
 use Rattle.mode_set.specs.declared.modes.Mode.{Mode}
 use Rattle.mode_set.specs.declared.modes.Mode.TheVariants.{M2k, M8k}
@@ -14,6 +13,7 @@ use Rattle.mode_set.specs.declared.modes.Stream.{Stream}
 use Rattle.mode_set.specs.declared.modes.Stream.TheVariants.{Hp, Lp}
 use Rattle.mode_set.specs.declared.settings.Settings.{Settings}
 use Rattle.load_gen.specs.Draws.{after, packet_words}
+use Rattle.symbol_spans.specs.Spans.{exists_in}
 use Rattle.transmission.specs.Transmission.{Inputs}
 use Rattle.transmission.specs.SuperFrames.{packets_for}
 use Rattle.transmission.specs.Laws.{NoPackets, PacketsGrow}
@@ -26,10 +26,10 @@ use Rattle.reception.specs.Lines.{counts_of, counts_of_stream}
 use Rattle.receiver.specs.Seen.{ReceiverState}
 use Rattle.trial.specs.declared.counts.StreamReturn.{StreamReturn}
 use Rattle.trial.specs.declared.counts.TrialCounts.{TrialCounts}
-use Rattle.trial.specs.Drawn.{hp_count, lp_count, drawn, drawn_count, before, symbol_from}
+use Rattle.trial.specs.Drawn.{hp_count, lp_count, drawn, drawn_count, before, symbol_from, trial_symbols}
 use Rattle.trial.specs.Fed.{fed, fed_symbol, byte_sum}
 use Rattle.trial.specs.Outcome.{TrialGives, stream_return, trial_counts}
-use Rattle.trial.specs.Laws.{OneSuperFrame, FedSymbolsAreLong, AreCounted, PacketsAreCounted}
+use Rattle.trial.specs.Laws.{FedSymbolsAreLong, AreCounted, PacketsAreCounted}
 use Rattle.trial_work.specs.declared.draws.Draws.{Draws}
 use Rattle.trial_work.specs.Putting.{IsStarted, IsPutting, drawn_since}
 use Rattle.trial_work.specs.Feeding.{HasGiven, HasEnded}
@@ -50,9 +50,9 @@ one_fed s number m =
     ∙ flat_map-append (fed_symbol s number) (numbers m) (m ∷ [])
     ∙ ap (λ (z : List ℕ). flat_map (fed_symbol s number) (numbers m) ++ z) (append-nil (fed_symbol s number m))
 
-all_fed : OneSuperFrame → (s : Settings) (number : ℕ) → first_fed s number 272 ≡ fed s number
+all_fed : (s : Settings) (number : ℕ) → first_fed s number (trial_symbols s number) ≡ fed s number
 unfolding first_fed fed
-all_fed one s number = ap (λ (n : ℕ). flat_map (fed_symbol s number) (numbers n)) (sym (one s number))
+all_fed s number = refl
 
 long_from : FedSymbolsAreLong → (s : Settings) (number a n : ℕ) → length (flat_map (fed_symbol s number) (range_with_len a n)) ≡ n * symbol_length s
 long_from long s number a zero = omega arith
@@ -195,28 +195,28 @@ stream_is : (s : Settings) (number : ℕ) (r : Reception) (σ : Stream) (packets
 stream_is s number r σ packets sum_of counted e f =
     returned packets (drawn_count s number σ) ((r.tally σ).words - (r.tally σ).unphased) (length (r.packets σ) / 188) sum_of (byte_sum (r.packets σ)) e (whole_packets (length (r.packets σ)) ((r.tally σ).words - (r.tally σ).unphased) counted.long) f
 
-where_layered : (f : StreamCounts → StreamReturn) (flat : Bool) (counts : StreamCounts) (y : StreamReturn) → f counts ≡ y → option_map f (cond flat None (Some counts)) ≡ cond flat None (Some y)
-where_layered f true counts y e = refl
-where_layered f false counts y e = ap Some e
+where_there : (f : StreamCounts → StreamReturn) (there : Bool) (counts : StreamCounts) (y : StreamReturn) → f counts ≡ y → option_map f (cond there (Some counts) None) ≡ cond there (Some y) None
+where_there f true counts y e = ap Some e
+where_there f false counts y e = refl
 
-pub ended : OneSuperFrame → PacketsAreCounted → (s : Settings) (d : Draws) (x : ReceiverState) (hp lp cells : ℕ) (counts : Counts) (y : StreamReturn) (z : Option StreamReturn) → d.hp_packets ≡ hp_count d.number → d.lp_packets ≡ lp_count s d.number
-    → x.settings ≡ s → cells ≡ byte_sum (first_fed s d.number 272) → (h : HasEnded x (first_fed s d.number 272) hp lp) → counts ≡ counts_of x.settings (first_fed s d.number 272) h.given
+pub ended : PacketsAreCounted → (s : Settings) (d : Draws) (x : ReceiverState) (hp lp cells : ℕ) (counts : Counts) (y : StreamReturn) (z : Option StreamReturn) → d.hp_packets ≡ hp_count d.number → d.lp_packets ≡ lp_count s d.number
+    → x.settings ≡ s → cells ≡ byte_sum (first_fed s d.number (trial_symbols s d.number)) → (h : HasEnded x (first_fed s d.number (trial_symbols s d.number)) hp lp) → counts ≡ counts_of x.settings (first_fed s d.number (trial_symbols s d.number)) h.given
     → y ≡ return_of d.hp_packets counts.hp hp → z ≡ option_map (λ (c : StreamCounts). return_of d.lp_packets c lp) counts.lp
     → (r : Reception) × TrialGives s d.number r × (◌≡◌ {A = TrialCounts} (record { cells = cells; hp = y; lp = z }) (trial_counts s d.number r))
-ended one back s d x hp lp cells counts y z hp_packets lp_packets same cells_are h counted y_is z_is =
-    let bytes : List ℕ = first_fed s d.number 272 in
+ended back s d x hp lp cells counts y z hp_packets lp_packets same cells_are h counted y_is z_is =
+    let bytes : List ℕ = first_fed s d.number (trial_symbols s d.number) in
     let r : Reception = h.given in
     let final : Final s bytes r = subst (λ (q : Settings). Final q bytes r) same h.final in
     let hp_is : y ≡ stream_return s d.number r Hp =
     y_is ∙ ap (λ (q : Counts). return_of d.hp_packets q.hp hp) counted ∙ stream_is s d.number r Hp d.hp_packets hp (back s bytes r Hp final) hp_packets h.hp_sum in
-    let lp_is : z ≡ cond (is_flat s.hierarchy) None (Some (stream_return s d.number r Lp)) =
+    let lp_is : z ≡ cond (exists_in s Lp) (Some (stream_return s d.number r Lp)) None =
     z_is
     ∙ ap (λ (q : Counts). option_map (λ (c : StreamCounts). return_of d.lp_packets c lp) q.lp) counted
-    ∙ ap (λ (q : Settings). option_map (λ (c : StreamCounts). return_of d.lp_packets c lp) (cond (is_flat q.hierarchy) None (Some (counts_of_stream r Lp)))) same
-    ∙ where_layered (λ (c : StreamCounts). return_of d.lp_packets c lp) (is_flat s.hierarchy) (counts_of_stream r Lp) (stream_return s d.number r Lp) (stream_is s d.number r Lp d.lp_packets lp (back s bytes r Lp final) lp_packets h.lp_sum) in (
+    ∙ ap (λ (q : Settings). option_map (λ (c : StreamCounts). return_of d.lp_packets c lp) (cond (exists_in q Lp) (Some (counts_of_stream r Lp)) None)) same
+    ∙ where_there (λ (c : StreamCounts). return_of d.lp_packets c lp) (exists_in s Lp) (counts_of_stream r Lp) (stream_return s d.number r Lp) (stream_is s d.number r Lp d.lp_packets lp (back s bytes r Lp final) lp_packets h.lp_sum) in (
       r,
-      subst (λ (q : List ℕ). Final s q r) (all_fed one s d.number) final,
-      ap (λ (n : ℕ). made n y z) (cells_are ∙ ap byte_sum (all_fed one s d.number)) ∙ ap₂ (λ (p : StreamReturn) (q : Option StreamReturn). made (byte_sum (fed s d.number)) p q) hp_is lp_is,
+      subst (λ (q : List ℕ). Final s q r) (all_fed s d.number) final,
+      ap (λ (n : ℕ). made n y z) (cells_are ∙ ap byte_sum (all_fed s d.number)) ∙ ap₂ (λ (p : StreamReturn) (q : Option StreamReturn). made (byte_sum (fed s d.number)) p q) hp_is lp_is,
     )
   where
     made : ℕ → StreamReturn → Option StreamReturn → TrialCounts

@@ -1,6 +1,7 @@
 -- A receiver that is fed, and the sums of what it gave.
 use Rattle.std.specs.Prelude.{◌≡◌, ℕ, List}
 use Rattle.mode_set.specs.declared.modes.Stream.TheVariants.{Hp, Lp}
+use Rattle.reception.specs.Cells.{tail}
 use Rattle.reception.specs.Streams.{Reception, Final, so_far, at_end}
 use Rattle.receiver.specs.Seen.{ReceiverState}
 use Rattle.receiver.specs.Standing.{StandsFor}
@@ -12,6 +13,12 @@ pub record HasGiven (x : ReceiverState) (bytes : List ℕ) (hp lp : ℕ) : Type 
   pub stands : StandsFor so_far x bytes given
   pub hp_sum : hp ≡ byte_sum (given.packets Hp)
   pub lp_sum : lp ≡ byte_sum (given.packets Lp)
+
+-- it has had whole symbols alone
+pub record HasWhole (x : ReceiverState) (hp lp : ℕ) : Type 0 where
+  pub bytes : List ℕ
+  pub whole : tail x.settings bytes ≡ 0
+  pub given : HasGiven x bytes hp lp
 
 -- it has ended behind these bytes
 pub record HasEnded (x : ReceiverState) (bytes : List ℕ) (hp lp : ℕ) : Type 0 where

@@ -3,6 +3,7 @@ ghost use Rattle.std.specs.Prelude.{◌≡◌, ◌+◌, ◌*◌, ◌%◌, ◌<�
 ghost use Rattle.load_gen.specs.Draws.{after, shift_of};
 ghost use Rattle.qam_map.specs.Points.{tolerance as tolerance_of};
 ghost use Rattle.frame_build.specs.Symbol.{cell_from, sent_bytes};
+ghost use Rattle.symbol_spans.specs.Spans.{settings_at};
 ghost use Rattle.transmission.specs.Transmission.{tx_symbol};
 ghost use Rattle.trial.specs.Drawn.{before, drawn, pieces_from, shifts_from};
 ghost use Rattle.trial.specs.Fed.{fed_cell, fed_symbol, negated};
@@ -16,6 +17,7 @@ use load_gen::laws::draws_add;
 use mode_set::{Carriers, Settings};
 use pilots::{CarrierKind, kind, symbols_have_as_many_payload_carriers};
 use qam_map::{Cell, tolerance};
+use symbol_spans::parameters_of_symbol;
 use transmission::laws::symbols;
 use trial::laws::cells;
 
@@ -103,13 +105,15 @@ fn disturb_cell(cell: Cell, kind: CarrierKind, delta: u16, negate: bool, load: &
 // The cell of carrier `k` of the symbol, disturbed.
 fn next_cell<M: Carriers>(
     settings: &Settings,
-    symbol: u16,
+    symbol: u32,
     k: u32,
+    delta: u16,
     sent: &[u8],
     draws: &mut Draws,
 ) -> Cell
     requires mode { settings.now.mode ≡ M.MODE }
     requires carrier { k < M.K }
+    requires delta { delta ≡ tolerance_of (settings_at settings.now symbol).shape (settings_at settings.now symbol).hierarchy }
     requires sent { sent.now ≡ tx_symbol settings.now (drawn settings.now draws.old.number) symbol }
     requires load { draws.old.load ≡ after (2 * payload_below M.MODE (symbol % 68) k) (shifts_from settings.now draws.old.number symbol (before settings.now draws.old.number symbol)) }
     ensures cell { result ≡ fed_cell settings.now draws.old.number symbol k }
@@ -117,11 +121,9 @@ fn next_cell<M: Carriers>(
 {
     cells();
     symbols();
-    symbol_spans::laws::settings();
     draws_add();
     let cell = read_cell(sent, k as usize);
     let kind = kind(M::MODE, (symbol % 68) as u8, k);
-    let delta = tolerance(settings.shape, settings.hierarchy);
     disturb_cell(cell, kind, delta, symbol % 17 == 16, &mut draws.load)
 }
 
@@ -129,7 +131,7 @@ fn next_cell<M: Carriers>(
 /// in `fed`.
 pub(crate) fn disturb<M: Carriers>(
     settings: &Settings,
-    symbol: u16,
+    symbol: u32,
     sent: &[u8],
     draws: &mut Draws,
     fed: &mut Vec<u8>,
@@ -143,8 +145,10 @@ pub(crate) fn disturb<M: Carriers>(
     ensures draws { draws.new ≡ record draws.old { load = pieces_from settings.now draws.old.number symbol (before settings.now draws.old.number symbol) } }
 {
     symbols_have_as_many_payload_carriers(M::MODE, (symbol % 68) as u8);
+    let entry = parameters_of_symbol(settings, symbol as u64);
+    let delta = tolerance(entry.shape, entry.hierarchy);
     fed.clear();
     for k in 0..M::K {
-        push_cell(next_cell::<M>(settings, symbol, k, sent, draws), fed);
+        push_cell(next_cell::<M>(settings, symbol, k, delta, sent, draws), fed);
     }
 }

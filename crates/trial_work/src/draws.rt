@@ -1,8 +1,9 @@
 // What is drawn from a number, and the packets of it that are put.
 ghost use Rattle.std.specs.Prelude.{◌≡◌, ◌-◌, ◌<◌, ◌==◌, Some, None, if◌then◌else◌};
-ghost use Rattle.mode_set.specs.Kept.{is_flat};
 ghost use Rattle.mode_set.specs.declared.modes.Stream.TheVariants as streams;
 ghost use Rattle.load_gen.specs.Draws.{after, count_of};
+ghost use Rattle.symbol_spans.specs.Spans.{exists_in};
+ghost use Rattle.trial.specs.Drawn.{trial_symbols};
 ghost use Rattle.modulator.specs.State.{HasOneMore, wanted};
 ghost use Rattle.trial_work.specs.Putting.{IsPutting, IsStarted, KeepsCounts, behind_next, next_of};
 
@@ -10,6 +11,7 @@ use load_gen::Load;
 use load_gen::laws::draws_add;
 use mode_set::{Carriers, Settings, Stream};
 use modulator::{Modulator, Want};
+use symbol_spans::laws::settings as super_frame_settings;
 use ts_packet::Packet;
 
 /// What is drawn from a number: how many packets of each stream, and how many of them are still to be
@@ -24,12 +26,13 @@ pub(crate) struct Draws {
     pub lp_left: u32,
 }
 
-// The count of LP, where there is a hierarchy.
+// The count of LP, where it exists in the transmission.
 fn lp_packets(settings: &Settings, load: &mut Load) -> u32
-    ensures count { result ≡ (if is_flat settings.now.hierarchy then 0 else count_of load.old) }
-    ensures next { load.new ≡ (if is_flat settings.now.hierarchy then load.old else after 1 load.old) }
+    ensures count { result ≡ (if exists_in settings.now streams.Lp then count_of load.old else 0) }
+    ensures next { load.new ≡ (if exists_in settings.now streams.Lp then after 1 load.old else load.old) }
 {
-    if settings.hierarchy.is_flat() {
+    super_frame_settings();
+    if !settings.has_lp() {
         return 0;
     }
     load.count()
@@ -70,7 +73,7 @@ fn next_packet(left: &mut u32, load: &mut Load) -> Packet
 
 fn put_hp<M: Carriers>(draws: &mut Draws, tx: &mut Modulator<M>)
     requires wanted { wanted tx.old ≡ Some streams.Hp }
-    requires within { tx.old.made < 272 }
+    requires within { tx.old.made < trial_symbols tx.old.settings draws.old.number }
     requires putting { IsPutting tx.old.settings tx.old.made draws.old tx.old }
     ensures kept { KeepsCounts draws.old draws.new }
     ensures settings { tx.new.settings ≡ tx.old.settings }
@@ -86,7 +89,7 @@ fn put_hp<M: Carriers>(draws: &mut Draws, tx: &mut Modulator<M>)
 
 fn put_lp<M: Carriers>(draws: &mut Draws, tx: &mut Modulator<M>)
     requires wanted { wanted tx.old ≡ Some streams.Lp }
-    requires within { tx.old.made < 272 }
+    requires within { tx.old.made < trial_symbols tx.old.settings draws.old.number }
     requires putting { IsPutting tx.old.settings tx.old.made draws.old tx.old }
     ensures kept { KeepsCounts draws.old draws.new }
     ensures settings { tx.new.settings ≡ tx.old.settings }
@@ -103,7 +106,7 @@ fn put_lp<M: Carriers>(draws: &mut Draws, tx: &mut Modulator<M>)
 // Puts the next packet of the stream that is wanted.
 fn put_next<M: Carriers>(stream: Stream, draws: &mut Draws, tx: &mut Modulator<M>)
     requires wanted { wanted tx.old ≡ Some stream }
-    requires within { tx.old.made < 272 }
+    requires within { tx.old.made < trial_symbols tx.old.settings draws.old.number }
     requires putting { IsPutting tx.old.settings tx.old.made draws.old tx.old }
     ensures kept { KeepsCounts draws.old draws.new }
     ensures settings { tx.new.settings ≡ tx.old.settings }
@@ -130,7 +133,7 @@ fn wanted_stream<M: Carriers>(tx: &Modulator<M>) -> Option<Stream>
 
 /// Draws and puts the packets that the next symbol wants.
 pub(crate) fn put_wanted<M: Carriers>(draws: &mut Draws, tx: &mut Modulator<M>)
-    requires within { tx.old.made < 272 }
+    requires within { tx.old.made < trial_symbols tx.old.settings draws.old.number }
     requires putting { IsPutting tx.old.settings tx.old.made draws.old tx.old }
     ensures kept { KeepsCounts draws.old draws.new }
     ensures settings { tx.new.settings ≡ tx.old.settings }

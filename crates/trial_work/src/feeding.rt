@@ -3,7 +3,7 @@ ghost use Rattle.std.specs.Prelude.{◌≡◌, ◌+◌, ◌*◌, ◌%◌, ◌^�
 ghost use Rattle.load_gen.specs.Draws.{after};
 ghost use Rattle.reception.specs.Cells.{symbol_length, tail};
 ghost use Rattle.trial.specs.Drawn.{pieces};
-ghost use Rattle.trial_work.specs.Feeding.{HasEnded, HasGiven};
+ghost use Rattle.trial_work.specs.Feeding.{HasEnded, HasGiven, HasWhole};
 
 use crate::sums::sum_onto;
 use load_gen::Load;
@@ -72,10 +72,12 @@ impl<M: Carriers> SummedReceiver<M> {
     )
         requires going { self.old.receiver.ended ≡ false }
         requires long { length symbol.now ≤ 34085 }
-        requires few { self.old.receiver.taken < 2 ^ 31 }
+        requires whole { length symbol.now ≡ symbol_length self.old.receiver.settings }
+        requires before { HasWhole self.old.receiver self.old.hp self.old.lp }
+        requires few { self.old.receiver.taken < 2 ^ 32 }
         ensures settings { self.new.receiver.settings ≡ self.old.receiver.settings }
         ensures load { load.new ≡ after (pieces load.old (length symbol.now)) load.old }
-        ensures given { (bytes : List ℕ) → tail self.old.receiver.settings bytes ≡ 0 → length symbol.now ≡ symbol_length self.old.receiver.settings
+        ensures given { (bytes : List ℕ) → tail self.old.receiver.settings bytes ≡ 0
             → HasGiven self.old.receiver bytes self.old.hp self.old.lp → HasGiven self.new.receiver (bytes ++ symbol.now) self.new.hp self.new.lp }
     {
         draws_add();

@@ -1,6 +1,7 @@
 // A trial.
-ghost use Rattle.std.specs.Prelude.{◌≡◌, IfOk};
+ghost use Rattle.std.specs.Prelude.{◌≡◌, ◌*◌, ◌<◌, ◌^◌, Some, IfOk};
 ghost use Rattle.reception.specs.Streams.{Reception};
+ghost use Rattle.trial.specs.Drawn.{trial_frames};
 ghost use Rattle.trial.specs.Outcome.{TrialGives, trial_counts};
 
 use crate::work::Work;
@@ -12,7 +13,8 @@ use trial::TrialCounts;
 use word_workers::Gate;
 
 /// A trial of settings and a number: packets are drawn from the number and modulated, the cells are
-/// disturbed and received in pieces, and what comes back is counted. One super-frame carries all packets.
+/// disturbed and received in pieces, and what comes back is counted. As many super-frames are sent as the
+/// counts of packets need.
 ///
 /// It is seen as the settings and the number. No call but `new` takes memory.
 #[derive(Drop)]
@@ -46,13 +48,23 @@ impl<M: Carriers> Trial<M> {
         })
     }
 
-    /// Runs the trial and answers what was counted. The workers of its receiver enter the gate.
-    pub fn run<R: Threads + Sync, G: Gate>(self, rt: &R, gate: &G) -> TrialCounts
+    /// The super-frames that carry the packets counted; none where no number does.
+    pub fn super_frames(&self) -> Option<u64>
+        ensures { result ≡ trial_frames self.now.settings self.now.number }
+    {
+        self.work.super_frames(&self.settings)
+    }
+
+    /// Runs the trial over its super-frames, of which there are so many, and answers what was counted. The
+    /// workers of its receiver enter the gate.
+    pub fn run<R: Threads + Sync, G: Gate>(self, rt: &R, gate: &G, super_frames: u64) -> TrialCounts
+        requires frames { trial_frames self.settings self.number ≡ Some super_frames }
+        requires few { 272 * super_frames < 2 ^ 32 }
         ensures counts { (r : Reception) × TrialGives self.settings self.number r × (result ≡ trial_counts self.settings self.number r) }
     {
         let settings = self.settings;
         let mut work = self.work;
-        work.all_symbols(rt, gate, &settings);
+        work.all_symbols(rt, gate, &settings, 272 * super_frames as u32);
         work.finish(rt, &settings)
     }
 }

@@ -3,6 +3,7 @@ ghost use Rattle.std.specs.Prelude.{◌≡◌, ◌+◌, ◌*◌, ◌<◌, ◌≤
 ghost use Rattle.std.specs.Option.{option_map};
 ghost use Rattle.reception.specs.Streams.{Reception};
 ghost use Rattle.rx_report.specs.declared.counts.StreamCounts.{StreamCounts as CountsOf};
+ghost use Rattle.trial.specs.Drawn.{hp_count, lp_count, trial_frames, trial_symbols};
 ghost use Rattle.trial.specs.Outcome.{TrialGives, trial_counts};
 ghost use Rattle.trial_work.specs.Counting.{return_of};
 ghost use Rattle.trial_work.specs.State.{IsBefore};
@@ -16,12 +17,9 @@ use modulator::Modulator;
 use rx_report::StreamCounts;
 use std::alloc::{AllocError, Global};
 use std::thread::Threads;
-use trial::laws::{cells, packets, packets_back};
+use trial::laws::{cells, packets_back};
 use trial::{StreamReturn, TrialCounts};
 use word_workers::Gate;
-
-/// The symbols of a super-frame, in which a trial is over.
-const SYMBOLS: u16 = 272;
 
 // What came back of a stream: a packet for each word that has a phase.
 fn stream_return(packets: u32, counts: &StreamCounts, sum: u32) -> StreamReturn
@@ -82,10 +80,10 @@ impl<M: Carriers> Work<M> {
         rt: &R,
         gate: &G,
         settings: &Settings,
-        symbol: u16,
+        symbol: u32,
     )
         requires mode { settings.now.mode ≡ M.MODE }
-        requires within { symbol < 272 }
+        requires within { symbol < trial_symbols settings.now self.old.draws.number }
         requires sent { 5 * M.K ≤ vec_capacity self.old.sent }
         requires fed { 5 * M.K ≤ vec_capacity self.old.fed }
         requires before { IsBefore settings.now symbol self.old.draws self.old.tx self.old.rx.receiver self.old.rx.hp self.old.rx.lp self.old.cells }
@@ -105,26 +103,45 @@ impl<M: Carriers> Work<M> {
             .feed_symbol(rt, gate, &self.fed, &mut self.draws.load);
     }
 
-    /// All symbols of the transmission.
-    pub fn all_symbols<R: Threads + Sync, G: Gate>(&mut self, rt: &R, gate: &G, settings: &Settings)
+    /// The super-frames that carry the packets counted; none where no number does.
+    pub fn super_frames(&self, settings: &Settings) -> Option<u64>
+        requires hp { self.now.draws.hp_packets ≡ hp_count self.now.draws.number }
+        requires lp { self.now.draws.lp_packets ≡ lp_count settings.now self.now.draws.number }
+        ensures { result ≡ trial_frames settings.now self.now.draws.number }
+    {
+        Modulator::<M>::super_frames(
+            settings,
+            self.draws.hp_packets as u64,
+            self.draws.lp_packets as u64,
+        )
+    }
+
+    /// All symbols of the transmission, of which there are so many.
+    pub fn all_symbols<R: Threads + Sync, G: Gate>(
+        &mut self,
+        rt: &R,
+        gate: &G,
+        settings: &Settings,
+        symbols: u32,
+    )
         requires mode { settings.now.mode ≡ M.MODE }
+        requires all { symbols ≡ trial_symbols settings.now self.old.draws.number }
         requires sent { 5 * M.K ≤ vec_capacity self.old.sent }
         requires fed { 5 * M.K ≤ vec_capacity self.old.fed }
         requires first { IsBefore settings.now 0 self.old.draws self.old.tx self.old.rx.receiver self.old.rx.hp self.old.rx.lp self.old.cells }
         ensures number { self.new.draws.number ≡ self.old.draws.number }
-        ensures last { IsBefore settings.now 272 self.new.draws self.new.tx self.new.rx.receiver self.new.rx.hp self.new.rx.lp self.new.cells }
+        ensures last { IsBefore settings.now symbols self.new.draws self.new.tx self.new.rx.receiver self.new.rx.hp self.new.rx.lp self.new.cells }
     {
-        for symbol in 0..SYMBOLS {
+        for symbol in 0..symbols {
             self.next_symbol(rt, gate, settings, symbol);
         }
     }
 
     /// Ends the reception and counts.
     pub fn finish<R: Threads + Sync>(&mut self, rt: &R, settings: &Settings) -> TrialCounts
-        requires last { IsBefore settings.now 272 self.old.draws self.old.tx self.old.rx.receiver self.old.rx.hp self.old.rx.lp self.old.cells }
+        requires last { IsBefore settings.now (trial_symbols settings.now self.old.draws.number) self.old.draws self.old.tx self.old.rx.receiver self.old.rx.hp self.old.rx.lp self.old.cells }
         ensures counts { (r : Reception) × TrialGives settings.now self.old.draws.number r × (result ≡ trial_counts settings.now self.old.draws.number r) }
     {
-        packets();
         packets_back();
         self.rx.finish(rt);
         let counts = self.rx.receiver.counts();

@@ -5,6 +5,7 @@ use Rattle.mode_set.specs.declared.modes.Mode.{Mode}
 use Rattle.mode_set.specs.declared.settings.Settings.{Settings}
 use Rattle.pilots.specs.Carriers.{payload_carriers}
 use Rattle.qam_map.specs.declared.cell.Cell.{Cell}
+use Rattle.qam_map.specs.Points.{tolerance}
 use Rattle.frame_build.specs.Symbol.{sent_bytes}
 use Rattle.rand_pcg.specs.Lcg.{Lcg}
 use Rattle.load_gen.specs.Draws.{after}
@@ -15,6 +16,10 @@ use Rattle.trial_work.specs.Disturbing.{fed_carriers, payload_below}
 use Rattle.trial_work.proofs.PacketSteps.{after_none}
 use Rattle.trial_work.proofs.CellSteps.{all_carriers, all_payload, no_carriers, no_payload, one_carrier}
 use Rattle.trial_work.proofs.disturbing.disturb.Goals as goal
+
+pub next_cell-requires-clause-delta : goal.next_cell-requires-clause-delta
+next_cell-requires-clause-delta g c =
+    c.tolerance-delta.ensures ∙ ap (λ (z : Settings). tolerance z.shape z.hierarchy) c.parameters_of_symbol-entry.ensures
 
 pub loop-k-init : goal.loop-k-init
 loop-k-init g c =

@@ -8,6 +8,7 @@ use Rattle.pilots.specs.Carriers.{kind}
 use Rattle.qam_map.specs.Points.{tolerance}
 use Rattle.frame_build.specs.Symbol.{cell_from}
 use Rattle.rand_pcg.specs.Lcg.{Lcg}
+use Rattle.symbol_spans.specs.Spans.{settings_at}
 use Rattle.transmission.specs.Transmission.{Inputs, tx_cell}
 use Rattle.trial.specs.Drawn.{drawn}
 use Rattle.trial.specs.Laws.{IsSmall}
@@ -34,7 +35,9 @@ disturb_cell-requires-clause-small g c =
     subst IsSmall (sym cell) (c.cells.ensures.small s inputs c.args.symbol c.args.k)
 
 pub disturb_cell-requires-clause-most : goal.disturb_cell-requires-clause-most
-disturb_cell-requires-clause-most g c = let few = few_shifts c.args.settings.now.shape c.args.settings.now.hierarchy in omega (arith, few, c.tolerance-delta.ensures)
+disturb_cell-requires-clause-most g c =
+    let z : Settings = settings_at c.args.settings.now c.args.symbol in
+    let few = few_shifts z.shape z.hierarchy in omega (arith, few, c.requires.delta)
 
 pub returns-clause-cell : goal.returns-clause-cell
 returns-clause-cell g c =
@@ -46,9 +49,9 @@ returns-clause-cell g c =
     let cell : c.read_cell-cell.result ≡ tx_cell s inputs m c.args.k =
     c.read_cell-cell.ensures ∙ ap (λ (z : List ℕ). cell_from z c.args.k) c.requires.sent ∙ c.cells.ensures.read s inputs m c.args.k within in
     c.disturb_cell.ensures.cell
-    ∙ ap (λ (n : ℕ). disturbed_by n (m % 17 == 16) d.load c.read_cell-cell.result c.kind-kind.result) c.tolerance-delta.ensures
-    ∙ ap (λ (kd : CarrierKind). disturbed_by (tolerance s.shape s.hierarchy) (m % 17 == 16) d.load c.read_cell-cell.result kd) (c.kind-kind.ensures.kind ∙ ap (λ (z : Mode). kind z (m % 68) c.args.k) c.MODE.ensures)
-    ∙ next_cell_is c.draws_add.ensures s d.number m c.args.k g.M.Carriers.MODE c.requires.mode d.load c.requires.load c.settings.ensures.same c.read_cell-cell.result cell
+    ∙ ap (λ (n : ℕ). disturbed_by n (m % 17 == 16) d.load c.read_cell-cell.result c.kind-kind.result) c.requires.delta
+    ∙ ap (λ (kd : CarrierKind). disturbed_by (tolerance (settings_at s m).shape (settings_at s m).hierarchy) (m % 17 == 16) d.load c.read_cell-cell.result kd) (c.kind-kind.ensures.kind ∙ ap (λ (z : Mode). kind z (m % 68) c.args.k) c.MODE.ensures)
+    ∙ next_cell_is c.draws_add.ensures s d.number m c.args.k g.M.Carriers.MODE c.requires.mode d.load c.requires.load c.read_cell-cell.result cell
 
 pub returns-clause-draws : goal.returns-clause-draws
 returns-clause-draws g c =

@@ -1,6 +1,7 @@
-use Rattle.std.proofs.Common.{◌≡◌, ◌+◌, ◌-◌}
+use Rattle.std.proofs.Common.{◌≡◌, ◌<◌, ◌+◌, ◌-◌}
 use Rattle.mode_set.specs.declared.modes.Stream.TheVariants.{Hp, Lp}
 use Rattle.transmission.specs.SuperFrames.{packets_for}
+use Rattle.trial.specs.Drawn.{trial_symbols}
 use Rattle.trial_work.specs.Putting.{IsPutting, KeepsCounts}
 use Rattle.trial_work.proofs.draws.put_wanted.Given as goal
 
@@ -10,6 +11,7 @@ invariant-loop-stream g l = record {
   kept : KeepsCounts l.initial.draws l.draws;
   settings : l.tx.settings ≡ l.initial.tx.settings;
   made : l.tx.made ≡ l.initial.tx.made;
+  within : l.tx.made < trial_symbols l.tx.settings l.draws.number;
   putting : IsPutting l.tx.settings l.tx.made l.draws l.tx;
 }
 

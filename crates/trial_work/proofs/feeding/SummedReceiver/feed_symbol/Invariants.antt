@@ -1,6 +1,6 @@
 -- Pieces of the symbol were fed.
 use Rattle.std.proofs.Common.{◌≡◌, ◌≤◌, ◌+◌, ◌-◌, ◌++◌, ℕ, List, length, take, false}
-use Rattle.reception.specs.Cells.{symbol_length, tail}
+use Rattle.reception.specs.Cells.{tail}
 use Rattle.trial_work.specs.Feeding.{HasGiven}
 use Rattle.trial_work.proofs.PieceSteps.{IsFeeding}
 use Rattle.trial_work.proofs.feeding.SummedReceiver.feed_symbol.Given as goal
@@ -10,9 +10,8 @@ invariant-loop-fed g l = record {
   within : l.fed ≤ length l.symbol;
   settings : l.self.receiver.settings ≡ l.initial.self.receiver.settings;
   going : l.self.receiver.ended ≡ false;
-  taken : l.self.receiver.taken ≤ l.initial.self.receiver.taken + l.fed;
   feeding : IsFeeding l.initial.load l.load l.fed (length l.symbol);
-  given : (bytes : List ℕ) → tail l.initial.self.receiver.settings bytes ≡ 0 → length l.symbol ≡ symbol_length l.initial.self.receiver.settings
+  given : (bytes : List ℕ) → tail l.initial.self.receiver.settings bytes ≡ 0
       → HasGiven l.initial.self.receiver bytes l.initial.self.hp l.initial.self.lp → HasGiven l.self.receiver (bytes ++ take l.fed l.symbol) l.self.hp l.self.lp;
 }
 

@@ -2,6 +2,7 @@ use Rattle.std.proofs.Common.{◌∙◌}
 use Rattle.mode_set.specs.declared.settings.Settings.{Settings}
 use Rattle.reception.specs.Streams.{at_end}
 use Rattle.receiver.specs.Seen.{ReceiverState}
+use Rattle.trial.specs.Drawn.{trial_symbols}
 use Rattle.trial_work.specs.declared.draws.Draws.{Draws}
 use Rattle.trial_work.specs.State.{first_fed}
 use Rattle.trial_work.proofs.SymbolSteps.{ended}
@@ -14,8 +15,8 @@ returns g c =
     let d : Draws = w.draws in
     let x : ReceiverState = c.finish.new.self.receiver in
     let b = c.requires.last in
-    let h = c.finish.ensures.ended (first_fed s d.number 272) b.given in
+    let h = c.finish.ensures.ended (first_fed s d.number (trial_symbols s d.number)) b.given in
     record {
-      counts = ended c.packets.ensures.one c.packets_back.ensures s d x c.finish.new.self.hp c.finish.new.self.lp w.cells c.counts-counts.result c.stream_return.result c.lp_return.result b.hp_packets b.lp_packets
-          (c.finish.ensures.settings ∙ b.receives) b.cells_are h (c.counts-counts.ensures at_end (first_fed s d.number 272) h.given h.stands) c.stream_return.ensures c.lp_return.ensures;
+      counts = ended c.packets_back.ensures s d x c.finish.new.self.hp c.finish.new.self.lp w.cells c.counts-counts.result c.stream_return.result c.lp_return.result b.hp_packets b.lp_packets
+          (c.finish.ensures.settings ∙ b.receives) b.cells_are h (c.counts-counts.ensures at_end (first_fed s d.number (trial_symbols s d.number)) h.given h.stands) c.stream_return.ensures c.lp_return.ensures;
     }

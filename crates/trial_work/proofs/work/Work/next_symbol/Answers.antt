@@ -1,4 +1,4 @@
-use Rattle.std.proofs.Common.{◌≡◌, ◌+◌, ◌-◌, ◌∙◌, ℕ, List, ◌++◌, length, sym, ap, ap₂, subst, arith}
+use Rattle.std.proofs.Common.{◌≡◌, ◌<◌, ◌+◌, ◌-◌, ◌∙◌, ℕ, List, ◌++◌, length, sym, ap, ap₂, subst, arith}
 use Rattle.std.specs.Prelude.{sum, ◌%◌, ◌^◌}
 use Rattle.mode_set.specs.StreamTable.{carriers}
 use Rattle.mode_set.specs.declared.settings.Settings.{Settings}
@@ -8,18 +8,20 @@ use Rattle.transmission.specs.Transmission.{Inputs, tx_symbol}
 use Rattle.modulator.specs.State.{Transmitter, HasPut}
 use Rattle.reception.specs.Cells.{symbol_length, tail}
 use Rattle.receiver.specs.Seen.{ReceiverState}
-use Rattle.trial.specs.Drawn.{hp_count, lp_count, drawn, pieces, pieces_from, before}
+use Rattle.trial.specs.Drawn.{hp_count, lp_count, drawn, pieces, pieces_from, before, trial_symbols}
 use Rattle.trial.specs.Fed.{fed_symbol}
 use Rattle.trial_work.specs.declared.draws.Draws.{Draws}
 use Rattle.trial_work.specs.Putting.{IsPutting}
-use Rattle.trial_work.specs.Feeding.{HasGiven}
+use Rattle.trial_work.specs.Feeding.{HasGiven, HasWhole}
 use Rattle.trial_work.specs.State.{first_fed}
 use Rattle.trial_work.proofs.PacketSteps.{are_put, seen_again}
 use Rattle.trial_work.proofs.SymbolSteps.{begins, next_before, no_tail}
 use Rattle.trial_work.proofs.work.Work.next_symbol.Goals as goal
 
 pub put_wanted-requires-clause-within : goal.put_wanted-requires-clause-within
-put_wanted-requires-clause-within g c = let made = c.requires.before.made in omega (arith, made, c.requires.within)
+put_wanted-requires-clause-within g c =
+    let b = c.requires.before in
+    subst (λ (z : Settings). c.args.self.now.tx.made < trial_symbols z c.args.self.now.draws.number) (sym b.settings) (subst (λ (n : ℕ). n < trial_symbols c.args.settings.now c.args.self.now.draws.number) (sym b.made) c.requires.within)
 
 pub put_wanted-requires-clause-putting : goal.put_wanted-requires-clause-putting
 put_wanted-requires-clause-putting g c =
@@ -27,7 +29,7 @@ put_wanted-requires-clause-putting g c =
     begins c.args.settings.now c.args.symbol w.draws w.tx w.rx.receiver w.rx.hp w.rx.lp w.cells c.requires.before c.packets.ensures.grow
 
 pub symbol-requires-clause-few : goal.symbol-requires-clause-few
-symbol-requires-clause-few g c = let made = c.requires.before.made in omega (arith, made, c.put_wanted.ensures.made, c.requires.within)
+symbol-requires-clause-few g c = let made = c.requires.before.made in omega (arith, made, c.put_wanted.ensures.made, c.ranges.symbol.fits)
 
 pub disturb-requires-clause-sent : goal.disturb-requires-clause-sent
 disturb-requires-clause-sent g c =
@@ -52,6 +54,22 @@ pub feed_symbol-requires-clause-long : goal.feed_symbol-requires-clause-long
 feed_symbol-requires-clause-long g c =
     let s : Settings = c.args.settings.now in
     omega (arith, ap length c.deref-3.ensures.value, ap length c.disturb.ensures.fed, c.cells.ensures.long s c.put_wanted.new.draws.number c.args.symbol, ap carriers c.requires.mode, g.M.Carriers.k_of, g.M.Carriers.row)
+
+pub feed_symbol-requires-clause-whole : goal.feed_symbol-requires-clause-whole
+feed_symbol-requires-clause-whole g c = λ bounds lives.
+    let s : Settings = c.args.settings.now in
+    ap (λ (z : List ℕ). length z) c.deref-3.ensures.value ∙ ap (λ (z : List ℕ). length z) c.disturb.ensures.fed ∙ c.cells.ensures.long s c.put_wanted.new.draws.number c.args.symbol ∙ ap (λ (z : Settings). symbol_length z) (sym c.requires.before.receives)
+
+pub feed_symbol-requires-clause-before : goal.feed_symbol-requires-clause-before
+feed_symbol-requires-clause-before g c = λ bounds lives.
+    let s : Settings = c.args.settings.now in
+    let n : ℕ = c.args.self.now.draws.number in
+    let b = c.requires.before in
+    let whole : HasWhole c.args.self.now.rx.receiver c.args.self.now.rx.hp c.args.self.now.rx.lp = record { bytes = first_fed s n c.args.symbol; whole = ap (λ (z : Settings). tail z (first_fed s n c.args.symbol)) b.receives ∙ no_tail c.cells.ensures.long s n c.args.symbol; given = b.given } in
+    whole
+
+pub feed_symbol-requires-clause-few : goal.feed_symbol-requires-clause-few
+feed_symbol-requires-clause-few g c = let taken = c.requires.before.taken in omega (arith, taken, c.ranges.symbol.fits)
 
 pub returns-clause-number : goal.returns-clause-number
 returns-clause-number g c = ap (λ (z : Draws). z.number) c.disturb.ensures.draws ∙ ap (λ (z : Draws). z.number) c.put_wanted.ensures.kept
@@ -81,8 +99,7 @@ returns-clause-next g c =
     let summed : c.deref-2.result.now ≡ fed_symbol s d.number m = c.deref-2.ensures.value ∙ disturbed in
     let long : length fed ≡ symbol_length s = ap length is_fed ∙ c.cells.ensures.long s d.number m in
     let load : d''.load ≡ pieces_from s d.number m (before s d.number m) = ap (λ (z : Draws). z.load) c.disturb.ensures.draws ∙ ap (λ (n : ℕ). pieces_from s n m (before s n m)) number in
-    let given = c.feed_symbol.ensures.given (first_fed s d.number m) (ap (λ (z : Settings). tail z (first_fed s d.number m)) b.receives ∙ no_tail c.cells.ensures.long s d.number m)
-    (long ∙ ap (λ (z : Settings). symbol_length z) (sym b.receives)) b.given in
+    let given = c.feed_symbol.ensures.given (first_fed s d.number m) (ap (λ (z : Settings). tail z (first_fed s d.number m)) b.receives ∙ no_tail c.cells.ensures.long s d.number m) b.given in
     let x' : ReceiverState = c.feed_symbol.new.self.receiver in
     next_before s m d w.tx x w.rx.hp w.rx.lp w.cells b c.cells.ensures.long (record d'' { load = c.feed_symbol.new.load }) t' x' c.feed_symbol.new.self.hp c.feed_symbol.new.self.lp c.sum_onto-self.result
     (ap (λ (z : Draws). z.number) c.disturb.ensures.draws ∙ number)
