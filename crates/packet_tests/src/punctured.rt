@@ -62,10 +62,16 @@ fn expect_refusal<R: Abort + Threads + Sync>(
 fn refused_settings(rt: HostRuntime) -> Result<(), Fail> {
     let alloc = rt.alloc();
     let no_guard = "mode = \"2k\"\nconstellation = \"qpsk\"\nrate_hp = \"1/2\"\n";
+    let twice =
+        "plan = [{ after = 3, constellation = \"qpsk\", rate_hp = \"1/2\" }, { after = 3, constellation = \"qpsk\", rate_hp = \"1/2\" }]\n";
+    let clash =
+        "plan = [{ after = 3, constellation = \"qpsk\", hierarchy = \"2\", rate_hp = \"1/2\" }]\n";
     for (settings, more, text) in [
         (BASE, "hierarchy = \"2\"\n", "settings clash hierarchy\n"),
         (BASE, "colour = \"red\"\n", "settings unknown 0\n"),
         (BASE, "workers = 0\n", "settings value workers\n"),
+        (BASE, twice, "settings value plan\n"),
+        (BASE, clash, "settings value plan\n"),
         (BASE, "rate_lp = \"1/2\"\n", "settings clash rate_lp\n"),
         (no_guard, "", "settings missing guard\n"),
         ("mode =", "", "settings not toml\n"),
