@@ -1,5 +1,5 @@
 -- What a receiver stands for when it is fed, and at its end.
-use Rattle.std.proofs.Common.{◌≡◌, ℕ, ◌+◌, ◌-◌, ◌*◌, ◌/◌, ◌%◌, ◌<◌, ◌≤◌, Bool, true, false, List, [], ◌++◌, length, take, map, refl, sym, ap, ap₂, ◌∙◌, subst, arith, append-nil}
+use Rattle.std.proofs.Common.{◌≡◌, ℕ, ◌+◌, ◌-◌, ◌*◌, ◌/◌, ◌<◌, Bool, true, false, List, [], ◌++◌, take, map, refl, sym, ap, ap₂, ◌∙◌, subst, arith, append-nil}
 use Rattle.std.specs.Prelude.{Option, ◌↔◌, IsTrue}
 use Rattle.code_paths.specs.declared.costs.CostPair.{CostPair}
 use Rattle.code_paths.specs.Streams.{Reports}
@@ -19,7 +19,7 @@ use Rattle.outer_chain.specs.Words.{Tally}
 use Rattle.reception.specs.Cells.{symbols}
 use Rattle.reception.specs.Costs.{costs}
 use Rattle.reception.specs.Frames.{tps_cells, frame_bits, IsReadable, CountsWords}
-use Rattle.reception.specs.Streams.{memory, start_of, Moment, so_far, at_end, Reception, Receives}
+use Rattle.reception.specs.Streams.{memory, start_of, Moment, so_far, at_end, Reception}
 use Rattle.reception.specs.Lines.{event_at, events}
 use Rattle.reception.specs.Feeds.{Output, packets_of, Feeds, Finishes}
 use Rattle.reception.specs.Laws.{IsWithin, unfinished, SameSymbols, OneSymbolMore, TpsCellsStay, BitsOfCells, SameCosts, NextEvents, NoCosts, NothingLive, nothing}

@@ -188,8 +188,9 @@ impl<M: Carriers> Receiver<M> {
         }
     }
 
-    /// The inner decoder of a stream that exists in the transmission. It stands for the costs of the whole symbols and the bits given of them, and
-    /// after `finish` for the bits at the end: no bit waits then, and one state is alive, the last six bits of the path.
+    /// The inner decoder of a stream that exists in the transmission. It stands for the costs of the whole symbols and the bits
+    /// given of them, and after `finish` for the bits at the end: no bit waits then, and one state is alive, the last six bits of
+    /// the path.
     pub fn branch(&self, stream: Stream) -> &Branch<LaneAcs, RingSurvivors<2048>>
         requires exists { IsTrue (exists_in self.now.settings stream) }
         ensures branch { result.now ≡ (stream_of self.now stream).branch }

@@ -4,8 +4,8 @@
 ghost use Rattle.std.specs.Prelude.{◌≡◌};
 
 use crate::rescuing::{Found, rescued, sum_of};
-use crate::sending::{SYMBOL, disturb, drawn_symbols};
-use mode_set::{Entry, Hierarchy, Mode, Plan, Rate, Settings, Shape, Stream};
+use crate::sending::{SYMBOL, disturb, drawn_symbols, settings};
+use mode_set::{Entry, Hierarchy, Mode, Plan, Rate, Settings, Shape, Start, Stream};
 use receiver_tools::{Cut, Received};
 use rescue_report::Counts as RescueCounts;
 use rescue_words::RescueCounts as WordCounts;
@@ -15,46 +15,6 @@ use std::process::Abort;
 use std::rt::HostRuntime;
 use std::test::Fail;
 use test_tools::{flat, hierarchical};
-
-// The parameters of the super-frames from 0 on.
-fn qpsk() -> Settings
-    ensures { result.mode ≡ Mode.M2k }
-{
-    flat(Mode::M2k, Shape::Qpsk, Rate::R1of2)
-}
-
-// Those from super-frame 1 on: LP comes.
-fn qam16_with_lp() -> Settings
-    ensures { result.mode ≡ Mode.M2k }
-{
-    hierarchical(
-        Mode::M2k,
-        Shape::Qam16,
-        Hierarchy::Alpha4,
-        Rate::R1of2,
-        Rate::R3of4,
-    )
-}
-
-// Those from super-frame 2 on: LP goes.
-fn faster_qpsk() -> Settings
-    ensures { result.mode ≡ Mode.M2k }
-{
-    flat(Mode::M2k, Shape::Qpsk, Rate::R2of3)
-}
-
-// Those from super-frame 3 on: LP comes again.
-fn qam64_with_lp() -> Settings
-    ensures { result.mode ≡ Mode.M2k }
-{
-    hierarchical(
-        Mode::M2k,
-        Shape::Qam64,
-        Hierarchy::Alpha1,
-        Rate::R2of3,
-        Rate::R1of2,
-    )
-}
 
 // Puts parameters behind the others of a plan.
 fn push(plan: &mut Plan, after: u32, settings: &Settings) {
@@ -67,28 +27,32 @@ fn push(plan: &mut Plan, after: u32, settings: &Settings) {
     });
 }
 
-// The settings with all four.
+// One stream in super-frames 0 and 2, two in super-frames 1 and 3, each time with other rates.
 fn planned() -> Settings
     ensures { result.mode ≡ Mode.M2k }
 {
+    let mode = Mode::M2k;
+    let second = hierarchical(
+        mode,
+        Shape::Qam16,
+        Hierarchy::Alpha4,
+        Rate::R1of2,
+        Rate::R3of4,
+    );
+    let fourth = hierarchical(
+        mode,
+        Shape::Qam64,
+        Hierarchy::Alpha1,
+        Rate::R2of3,
+        Rate::R1of2,
+    );
     let mut plan = Plan::none();
-    push(&mut plan, 1, &qam16_with_lp());
-    push(&mut plan, 2, &faster_qpsk());
-    push(&mut plan, 3, &qam64_with_lp());
-    let first = qpsk();
-    Settings {
-        mode: first.mode,
-        shape: first.shape,
-        hierarchy: first.hierarchy,
-        rate_hp: first.rate_hp,
-        rate_lp: first.rate_lp,
-        guard: first.guard,
-        cell_id: first.cell_id,
-        start: first.start,
-        workers: first.workers,
-        max_symbols: first.max_symbols,
-        plan,
-    }
+    push(&mut plan, 1, &second);
+    push(&mut plan, 2, &flat(mode, Shape::Qpsk, Rate::R2of3));
+    push(&mut plan, 3, &fourth);
+    let mut all = settings(Start::Zero);
+    all.plan = plan;
+    all
 }
 
 // Makes the cells of the last three symbols of super-frame 1 such that no paths merge there: all are (0, 11585).

@@ -88,6 +88,7 @@ impl Reception {
 
     /// How many steps the decoder of HP has loaded, and whether it has ended.
     pub fn decoder(&self) -> (u32, bool) {
+        symbol_spans::laws::settings();
         let branch = self.receiver.branch(Stream::Hp);
         (branch.loaded(), branch.ended())
     }

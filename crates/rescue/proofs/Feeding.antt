@@ -1,5 +1,5 @@
 -- What a receiver that rescues words stands for when it is fed, and at its end.
-use Rattle.std.proofs.Common.{◌≡◌, ℕ, ◌+◌, ◌*◌, ◌/◌, Bool, true, false, List, [], ◌++◌, length, take, map, refl, sym, ap, ap₂, ◌∙◌, subst, arith, append-nil}
+use Rattle.std.proofs.Common.{◌≡◌, ℕ, Bool, true, false, List, [], ◌++◌, take, map, refl, sym, ap, ◌∙◌, subst, append-nil}
 use Rattle.std.specs.Prelude.{Option}
 use Rattle.code_paths.specs.declared.costs.CostPair.{CostPair}
 use Rattle.code_paths.specs.Streams.{Reports}
@@ -21,7 +21,7 @@ use Rattle.rescue_reception.specs.Feeds.{Feeds, Finishes}
 use Rattle.stream_decoders.specs.Seen.{CostsState}
 use Rattle.stream_decoders.specs.Fed.{HasHad, Ends, Fed}
 use Rattle.rescue.specs.Seen.{StreamState, RescueState, stream_of}
-use Rattle.rescue.specs.Standing.{is_end, MarginsStand, StreamStands, StreamGave, StandsFor}
+use Rattle.rescue.specs.Standing.{is_end, StreamStands, StreamGave, StandsFor}
 use Rattle.rescue.proofs.Rooms.{settled}
 use Rattle.rescue.proofs.Giving.{rescued}
 

@@ -1,5 +1,5 @@
 -- Bytes and margins that are moved, in loops.
-use Rattle.std.proofs.Common.{◌≡◌, ℕ, ◌+◌, ◌*◌, ◌/◌, ◌<◌, ◌≤◌, ◌%◌, ◌⊎◌, inl, inr, Bool, false, List, [], ◌∷◌, ◌++◌, length, take, drop, get_or, refl, sym, ap, ap₂, ◌∙◌, subst, arith, length-append, append_assoc, append-nil}
+use Rattle.std.proofs.Common.{◌≡◌, ℕ, ◌+◌, ◌*◌, ◌<◌, ◌≤◌, ◌%◌, ◌⊎◌, inl, inr, Bool, false, List, [], ◌∷◌, ◌++◌, length, take, get_or, refl, sym, ap, ap₂, ◌∙◌, subst, arith, length-append, append_assoc, append-nil}
 use Rattle.std.specs.Prelude.{Option, All}
 use Rattle.std.proofs.lemmas.List.{take_more}
 use Rattle.std.proofs.lemmas.List.Elements.{All-nil, All-push, All-append}
@@ -14,7 +14,7 @@ use Rattle.rescue_words.specs.Laws.{MoreByteMargins}
 use Rattle.rescue_words.specs.Rescued.{RescueTally}
 use Rattle.rescue_words.specs.Running.{WordsState}
 use Rattle.rescue_words.specs.Running as words
-use Rattle.rescue.specs.Moves.{Passes, Appends, HasPushed, Pushes, HasEndedMargins, EndsMargins, FinishesWords}
+use Rattle.rescue.specs.Moves.{Passes, HasPushed, Pushes, EndsMargins, FinishesWords}
 
 -- ---- bytes of the bits that wait
 

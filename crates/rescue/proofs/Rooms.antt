@@ -1,5 +1,5 @@
 -- How much waits, so that there is room for what a symbol brings.
-use Rattle.std.proofs.Common.{◌≡◌, ℕ, zero, suc, ◌+◌, ◌-◌, ◌*◌, ◌/◌, ◌%◌, ◌<◌, ◌≤◌, Bool, inl, inr, ◌⊎◌, List, [], ◌∷◌, ◌++◌, length, map, refl, sym, ap, ◌∙◌, subst, arith, length-append, length-drop, append-nil}
+use Rattle.std.proofs.Common.{◌≡◌, ℕ, zero, suc, ◌+◌, ◌-◌, ◌*◌, ◌/◌, ◌%◌, ◌<◌, ◌≤◌, Bool, inl, inr, ◌⊎◌, List, [], ◌∷◌, length, refl, ap, ◌∙◌, subst, arith, length-append, length-drop, append-nil}
 use Rattle.std.specs.Prelude.{Option, slice_index}
 use Rattle.bit_pack.specs.Queue.{bits_of_bytes}
 use Rattle.code_paths.specs.declared.costs.CostPair.{CostPair}

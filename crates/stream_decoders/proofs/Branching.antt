@@ -1,9 +1,9 @@
 -- What a decoder stands for, when a symbol's pairs were run and at its end.
-use Rattle.std.proofs.Common.{◌≡◌, ℕ, suc, ◌+◌, ◌<◌, ◌≤◌, ◌^◌, Bool, true, false, List, [], ◌∷◌, ◌++◌, length, take, get_or, map, refl, sym, ap, ◌∙◌, subst, arith, length-append}
+use Rattle.std.proofs.Common.{◌≡◌, ℕ, ◌+◌, ◌<◌, Bool, true, false, List, [], ◌∷◌, ◌++◌, length, take, get_or, map, sym, ap, ◌∙◌, subst, arith, length-append}
 use Rattle.std.specs.Prelude.{Option}
 use Rattle.std.proofs.lemmas.List.{take_more, map-append}
 use Rattle.code_paths.specs.declared.costs.CostPair.{CostPair}
-use Rattle.code_paths.specs.Streams.{Reports, Given}
+use Rattle.code_paths.specs.Streams.{Reports}
 use Rattle.mode_set.specs.declared.modes.Start.{Start}
 use Rattle.mode_set.specs.declared.modes.Stream.{Stream}
 use Rattle.inner_decoder.specs.Events.{ats}
@@ -11,10 +11,10 @@ use Rattle.inner_decoder.specs.declared.decoder.Unmerged.{Unmerged}
 use Rattle.inner_decoder.specs.Seen.{DecoderState}
 use Rattle.inner_decoder.specs.Tracking.{Stands}
 use Rattle.inner_decoder.specs.Tracking as tracking
-use Rattle.inner_decoder.specs.Running.{BranchState, RanSymbol}
+use Rattle.inner_decoder.specs.Running.{BranchState}
 use Rattle.reception.specs.Laws.{NothingGiven}
 use Rattle.reception.specs.Lines.{event_at}
-use Rattle.reception.specs.Streams.{memory, start_of, so_far, at_end}
+use Rattle.reception.specs.Streams.{memory, start_of, so_far}
 use Rattle.word_workers.specs.Symbols.{MayRun, HasRun}
 use Rattle.stream_decoders.specs.Branches.{HasGiven, GaveMore, MayTake, HasTaken, HasEnded}
 

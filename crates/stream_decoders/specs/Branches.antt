@@ -7,7 +7,6 @@ use Rattle.inner_decoder.specs.Seen.{DecoderState}
 use Rattle.inner_decoder.specs.Running.{BranchState}
 use Rattle.inner_decoder.specs.Tracking.{Stands, StandsEnded}
 use Rattle.reception.specs.Streams.{memory, Moment, so_far, at_end, IsDecoded}
-use Rattle.word_workers.specs.Symbols.{HasRun}
 
 -- A decoder that goes on stands for the costs and the bits given. One that has ended stands for the costs and the bits at the
 -- end: no bit waits, and the one state that is alive is the last six bits of the path.

@@ -1,5 +1,5 @@
 -- What bytes of cells make of the costs of symbols.
-use Rattle.std.specs.Prelude.{◌≡◌, ℕ, Bool, true, false, List, ◌++◌, take, map}
+use Rattle.std.specs.Prelude.{◌≡◌, ℕ, true, false, List, ◌++◌, take, map}
 use Rattle.mode_set.specs.declared.modes.Stream.{Stream}
 use Rattle.pilots.specs.Carriers.{tps_carriers}
 use Rattle.qam_map.specs.Cells.{cell_of}

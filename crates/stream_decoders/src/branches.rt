@@ -92,7 +92,8 @@ fn push_events(stream: Stream, reports: &[Unmerged], to: &mut Vec<Event>)
 }
 
 /// Makes a step of each decoder for each pair of its stream in a symbol, side by side where there are two streams, and appends
-/// the reports, those of HP before those of LP. The bits that are decided by then wait in the decoders.
+/// the reports, those of HP before those of LP. The bits that are decided by then wait in the decoders. A stream that the symbol
+/// does not have has no pair: its decoder makes no step and reports nothing.
 ///
 /// Fewer than eight bits wait in each, and there is room for 32 reports.
 pub fn take_symbol<R: Threads + Sync, G: Gate>(

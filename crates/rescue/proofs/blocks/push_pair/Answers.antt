@@ -1,5 +1,3 @@
-use Rattle.std.proofs.Common.{[], ◌∷◌, ◌++◌, ap, ◌∙◌, refl, subst, sym, length, arith, append-nil}
-use Rattle.rescue.specs.Moves.{Pushes}
 use Rattle.rescue.proofs.Moving.{pushed_none, pushed_whole}
 use Rattle.rescue.proofs.blocks.push_pair.Goals as goal
 

@@ -1,4 +1,4 @@
-use Rattle.std.proofs.Common.{[], ◌++◌, ap, ◌∙◌, subst, arith}
+use Rattle.std.proofs.Common.{◌++◌, ap, ◌∙◌}
 use Rattle.rescue_words.specs.ByteMargins.{byte_margins}
 use Rattle.rescue.proofs.Moving.{took_block}
 use Rattle.rescue.proofs.blocks.take_block.Goals as goal

@@ -1,4 +1,4 @@
-use Rattle.std.proofs.Common.{take, refl, ◌≡◌, ◌∙◌, subst, arith}
+use Rattle.std.proofs.Common.{take, subst, arith}
 use Rattle.rescue.specs.Moves.{FinishesWords}
 use Rattle.rescue.proofs.queues.give_words.Goals as goal
 

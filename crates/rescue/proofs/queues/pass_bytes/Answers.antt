@@ -1,4 +1,4 @@
-use Rattle.std.proofs.Common.{◌/◌, ◌+◌, ◌≡◌, length, refl, ap, ◌∙◌, subst, arith, length-append}
+use Rattle.std.proofs.Common.{◌/◌, ◌≡◌, length, refl, ap, ◌∙◌, subst, arith, length-append}
 use Rattle.rescue.specs.Moves.{Passes}
 use Rattle.rescue.proofs.Moving.{passes_none, passes_more}
 use Rattle.rescue.proofs.queues.pass_bytes.Goals as goal

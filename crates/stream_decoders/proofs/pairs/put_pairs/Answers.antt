@@ -1,4 +1,4 @@
-use Rattle.std.proofs.Common.{◌≡◌, ◌+◌, ◌≤◌, ◌%◌, List, ◌++◌, length, map, ◌∙◌, sym, ap, subst, arith}
+use Rattle.std.proofs.Common.{◌%◌, List, ◌++◌, length, map, ◌∙◌, ap, subst, arith}
 use Rattle.spec_words.specs.Words.{numbers}
 use Rattle.code_paths.specs.declared.costs.CostPair.{CostPair}
 use Rattle.mode_set.specs.StreamTable.{need}

@@ -1,5 +1,4 @@
-use Rattle.std.proofs.Common.{ℕ, ◌+◌, ◌^◌, List, ◌++◌, length, sym, ap, ◌∙◌, subst, arith}
-use Rattle.code_paths.specs.declared.costs.CostPair.{CostPair}
+use Rattle.std.proofs.Common.{ℕ, ◌+◌, ◌^◌, ◌++◌, length, sym, ap, ◌∙◌, subst, arith}
 use Rattle.inner_decoder.specs.Events.{ats}
 use Rattle.inner_decoder.specs.Running.{BranchState}
 use Rattle.reception.specs.Streams.{so_far}

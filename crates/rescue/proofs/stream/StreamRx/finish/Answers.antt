@@ -1,5 +1,4 @@
-use Rattle.std.proofs.Common.{ℕ, ◌+◌, ◌/◌, ◌≤◌, ◌≡◌, List, ◌++◌, length, refl, sym, ap, ◌∙◌, subst, arith, length-append}
-use Rattle.inner_decoder.specs.Running.{BranchState}
+use Rattle.std.proofs.Common.{length, refl, ap, arith, length-append}
 use Rattle.rescue.specs.Kept.{seen}
 use Rattle.rescue.specs.Seen.{StreamState}
 use Rattle.rescue.proofs.Rooms.{little}

@@ -1,4 +1,4 @@
-use Rattle.std.proofs.Common.{ℕ, ◌+◌, ◌*◌, ◌/◌, ◌≤◌, ◌≡◌, List, ◌++◌, length, refl, sym, ap, ◌∙◌, subst, arith, length-append}
+use Rattle.std.proofs.Common.{◌+◌, ◌++◌, length, sym, ap, ◌∙◌, subst, arith, length-append}
 use Rattle.inner_decoder.specs.Events.{ats}
 use Rattle.inner_decoder.specs.Running.{BranchState}
 use Rattle.reception.specs.Streams.{so_far}

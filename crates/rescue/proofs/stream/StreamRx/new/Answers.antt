@@ -1,4 +1,4 @@
-use Rattle.std.proofs.Common.{[], length, ap, refl, ◌∙◌, arith}
+use Rattle.std.proofs.Common.{[], refl, arith}
 use Rattle.reception.specs.Streams.{start_of}
 use Rattle.rescue_reception.specs.Streams.{no_words}
 use Rattle.rescue.proofs.Giving.{nothing_stands}

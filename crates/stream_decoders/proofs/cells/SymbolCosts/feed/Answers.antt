@@ -1,15 +1,12 @@
-use Rattle.std.proofs.Common.{◌≡◌, ℕ, ◌+◌, ◌-◌, ◌*◌, ◌%◌, ◌<◌, Bool, true, false, cond, List, [], ◌++◌, length, take, map, refl, sym, ap, ◌∙◌, subst, arith}
+use Rattle.std.proofs.Common.{◌≡◌, ℕ, ◌+◌, ◌-◌, ◌*◌, ◌<◌, Bool, true, cond, List, [], ◌++◌, length, take, refl, sym, ap, ◌∙◌, subst}
 use Rattle.std.specs.Prelude.{min}
 use Rattle.std.proofs.lemmas.Bool.{true≢false}
-use Rattle.code_paths.specs.declared.costs.CostPair.{CostPair}
 use Rattle.mode_set.specs.StreamTable.{carriers}
-use Rattle.mode_set.specs.declared.modes.Stream.{Stream}
 use Rattle.mode_set.specs.declared.modes.Stream.TheVariants.{Hp, Lp}
 use Rattle.mode_set.specs.declared.settings.Settings.{Settings}
-use Rattle.frame_build.specs.Symbol.{cells_from, weights_from}
-use Rattle.reception.specs.Cells.{symbols}
+use Rattle.frame_build.specs.Symbol.{cells_from}
 use Rattle.reception.specs.Costs.{costs}
-use Rattle.stream_decoders.specs.Seen.{CostsState, pairs_of}
+use Rattle.stream_decoders.specs.Seen.{CostsState}
 use Rattle.stream_decoders.specs.Fed.{HasHad, Fed}
 use Rattle.stream_decoders.proofs.Feeding.{rest_is_short, some_carriers, still_unfinished, within_is, ends_is, taken_is, ended_costs, ended_tps}
 use Rattle.stream_decoders.proofs.cells.SymbolCosts.feed.Goals as goal

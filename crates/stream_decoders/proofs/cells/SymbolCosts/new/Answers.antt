@@ -1,4 +1,4 @@
-use Rattle.std.proofs.Common.{sym, ◌∙◌, ap, length, true, false, arith}
+use Rattle.std.proofs.Common.{sym, ◌∙◌, ap, length, arith}
 use Rattle.std.proofs.lemmas.Bool.{true≢false}
 use Rattle.stream_decoders.proofs.Feeding.{some_carriers, no_symbols, nothing_unfinished}
 use Rattle.stream_decoders.proofs.cells.SymbolCosts.new.Goals as goal
