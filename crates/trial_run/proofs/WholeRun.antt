@@ -1,14 +1,16 @@
 -- What a run of `trial` leaves, and the promise of the whole run.
-use Rattle.std.proofs.Common.{◌≡◌, ◌≢◌, ◌⊎◌, inl, inr, true, ℕ, ◌<◌, ◌≤◌, Bool, List, [], ◌++◌, take, drop, Option, Some, None, Result, Ok, Err, refl, ◌∙◌, sym, ap, subst, arith, if◌then◌else◌}
+use Rattle.std.proofs.Common.{◌≡◌, ◌≢◌, ◌⊎◌, inl, inr, true, ℕ, ◌≤◌, List, [], ◌++◌, take, drop, Option, Some, None, Result, Ok, Err, refl, ◌∙◌, sym, ap, subst, arith}
 use Rattle.std.specs.Prelude.{option_and_then}
 use Rattle.std.specs.Option.{option_or}
-use Rattle.std.proofs.lemmas.Bool.{le-ltb, lt-ltb, true≢false}
+use Rattle.std.proofs.lemmas.Bool.{true≢false}
 use Rattle.station_core.specs.Meaning.{Meaning, Source, IsFresh, source_at, sink_at}
 use Rattle.station_core.specs.declared.ports.InPort.{InPort}
 use Rattle.station_core.specs.declared.ports.InPort.TheVariants as ins
 use Rattle.station_core.specs.declared.ports.OutPort.{OutPort}
 use Rattle.station_core.specs.declared.ports.OutPort.TheVariants as outs
 use Rattle.mode_set.specs.declared.settings.Settings.{Settings as TheSettings}
+use Rattle.symbol_spans.specs.Spans.{exists_in, settings_in, words_before}
+use Rattle.transmission.specs.SuperFrames.{super_frames}
 use Rattle.trial.specs.Outcome.{at_zero, trial_counts}
 use Rattle.run_clauses.specs.declared.work.Refusal.{Refusal}
 use Rattle.run_clauses.specs.declared.work.Refusal.TheVariants.{Usage, Settings, ReadFault, WriteFault, NotSync, Memory, Limit, Cells}
@@ -31,6 +33,9 @@ use Rattle.trial_run.specs.TrialCommand.{trial_command, trial_lines, trial_refus
 abbrev refusal_in : Result (Unit {0}) Refusal → Option Refusal
 refusal_in (Ok u) = None
 refusal_in (Err r) = Some r
+
+refused_twice : (n : ℕ) → ◌≡◌ {A = Option Refusal} (Some (Limit n)) None → ⊥
+refused_twice n e = cc
 
 module _ (limit : ℕ) (name : List ℕ) (number : ℕ) (start mid : Meaning) (laws : Laws) (fresh : IsFresh start) (asks : AsksSettings name start mid) where
   abbrev c : Command
@@ -223,8 +228,8 @@ module _ (limit : ℕ) (name : List ℕ) (number : ℕ) (start mid : Meaning) (l
       by_outcome (Err (NotSync stream n)) cause ran = absurd ran
       by_outcome (Err Memory) cause ran = absurd ran
       by_outcome (Err (Limit n)) cause ran = ended end others (Some (Limit n)) refl same_reads
-          (omega (arith, ap (λ (x : Meaning). x.write_faults) ran.2, same_writes)) (omega (arith, ap (λ (x : Meaning). x.report_faults) ran.2, same_reports))
-          (λ t. limit_refused ran.1 t ∙ ap (λ (k : ℕ). Some (Limit k)) (sym ran.0))
+          (omega (arith, ap (λ (x : Meaning). x.write_faults) ran.1, same_writes)) (omega (arith, ap (λ (x : Meaning). x.report_faults) ran.1, same_reports))
+          (limit_refused n ran.0)
           (record {
             made = λ out is. absurd (true≢false (sym is));
             outputs = λ t out is. absurd (true≢false (sym is));
@@ -232,8 +237,8 @@ module _ (limit : ℕ) (name : List ℕ) (number : ℕ) (start mid : Meaning) (l
               s,
               stated_is t,
               record {
-                enough = λ enough. absurd (omega (arith, enough, ran.1));
-                few = λ few. ap (λ (x : Meaning). x.report.written) ran.2 ∙ ap (λ (x : Meaning). x.report.written) asks.others ∙ fresh.report_empty t;
+                enough = λ enough. absurd (refused_twice n (sym ran.0 ∙ from_zero ∙ enough));
+                few = λ few. ap (λ (x : Meaning). x.report.written) ran.1 ∙ ap (λ (x : Meaning). x.report.written) asks.others ∙ fresh.report_empty t;
               },
             );
           })

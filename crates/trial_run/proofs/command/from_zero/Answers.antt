@@ -1,28 +1,9 @@
 -- The two differ in how it is shown what the type keeps, at most.
-use Rattle.std.proofs.Common.{◌≡◌, ℕ, ◌≤◌, Option, ap}
-use Rattle.std.specs.Prelude.{is_some, not, true}
-use Rattle.mode_set.specs.Kept.{IsKept, is_flat, is_qpsk}
-use Rattle.mode_set.specs.declared.modes.Hierarchy.{Hierarchy}
-use Rattle.mode_set.specs.declared.modes.Rate.{Rate}
-use Rattle.mode_set.specs.declared.modes.Shape.{Shape}
+use Rattle.std.proofs.Common.{ap}
+use Rattle.mode_set.specs.Kept.{IsKept}
 use Rattle.trial.specs.Outcome.{at_zero}
+use Rattle.trial_laws.proofs.Keeping.{kept_prop}
 use Rattle.trial_run.proofs.command.from_zero.Goals as goal
-use denote.Struct.Props.{props}
-
-kept_prop : (shape : Shape) (hierarchy : Hierarchy) (rate_lp : Option Rate) (workers most : ℕ) → IsProp (IsKept shape hierarchy rate_lp workers most)
-kept_prop shape hierarchy rate_lp workers most x y =
-    let qpsk_prop : IsProp (is_qpsk shape ≡ true → is_flat hierarchy ≡ true) = hlevel props in
-    let lp_prop : IsProp (is_some rate_lp ≡ not (is_flat hierarchy)) = hlevel props in
-    let some_prop : IsProp (1 ≤ workers) = hlevel props in
-    let few_prop : IsProp (workers ≤ 16) = hlevel props in
-    let symbol_prop : IsProp (1 ≤ most) = hlevel props in
-    λ i. record {
-      qpsk = qpsk_prop x.qpsk y.qpsk i;
-      lp = lp_prop x.lp y.lp i;
-      some_worker = some_prop x.some_worker y.some_worker i;
-      few_workers = few_prop x.few_workers y.few_workers i;
-      some_symbol = symbol_prop x.some_symbol y.some_symbol i;
-    }
 
 pub returns : goal.returns
 returns c =
