@@ -4,6 +4,8 @@
 #![tactic(auto)]
 
 #[cfg(test)]
+mod plans;
+#[cfg(test)]
 mod super_frames;
 #[cfg(test)]
 mod trials;

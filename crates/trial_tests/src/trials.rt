@@ -10,16 +10,20 @@ use trial::{StreamReturn, TrialCounts};
 use trial_work::Trial;
 use word_workers::OpenGate;
 
+// What is counted, where the trial has super-frames.
 fn counts_of<M: Carriers, R: Threads + Sync>(
     rt: &R,
     alloc: Global,
     settings: &Settings,
     number: u32,
-) -> Result<TrialCounts, AllocError>
+) -> Result<Option<TrialCounts>, AllocError>
     requires { settings.now.mode ≡ M.MODE }
 {
     let trial = Trial::<M>::new(alloc, settings, number)?;
-    Ok(trial.run(rt, &OpenGate))
+    match trial.super_frames() {
+        Some(frames) if frames < 1000 => Ok(Some(trial.run(rt, &OpenGate, frames))),
+        _ => Ok(None),
+    }
 }
 
 fn check<R: Abort + Threads + Sync>(
@@ -34,7 +38,7 @@ fn check<R: Abort + Threads + Sync>(
         Mode::M2k => counts_of::<Mode2k, R>(rt, alloc, &settings, number),
         Mode::M8k => counts_of::<Mode8k, R>(rt, alloc, &settings, number),
     };
-    assert!(rt; found.expect(rt, "memory") == expected);
+    assert!(rt; found.expect(rt, "memory") == Some(expected));
 }
 
 fn returned(packets: u32, back: u64, sum: u32) -> StreamReturn {
