@@ -13,6 +13,8 @@ mod drawn;
 #[cfg(test)]
 mod modulated;
 #[cfg(test)]
+mod planned;
+#[cfg(test)]
 mod received;
 #[cfg(test)]
 mod returned;

@@ -4,11 +4,11 @@ use Rattle.std.specs.Prelude.{is_some, IsTrue, not}
 use Rattle.std.proofs.lemmas.List.{append-nil, take_all}
 use Rattle.std.specs.Bool.{beq}
 use Rattle.station_core.specs.Meaning.{Meaning, Source, Sink}
-use Rattle.mode_set.specs.Kept.{is_flat}
-use Rattle.mode_set.specs.StreamTable.{has_stream}
+use Rattle.mode_set.specs.Entries.{has_lp}
 use Rattle.mode_set.specs.declared.modes.Stream.{Stream}
 use Rattle.mode_set.specs.declared.modes.Stream.TheVariants.{Lp}
 use Rattle.mode_set.specs.declared.settings.Settings.{Settings as TheSettings}
+use Rattle.symbol_spans.specs.Spans.{exists_in}
 use Rattle.transmission.specs.Transmission.{Inputs}
 use Rattle.transmission.specs.AgendaLaws.{IsAt, WorkBegins}
 use Rattle.modulate_run.specs.declared.counts.TransmissionCounts.{TransmissionCounts}
@@ -19,7 +19,7 @@ use Rattle.run_clauses.specs.StreamForm.{fits_form}
 use Rattle.modulate_run.specs.ModulateCommand.{files_of, inputs_of, modulation_lines, modulation_refusal, transmission_counts, transmission_lines}
 use Rattle.modulate_run.specs.Inputs.{Reads, left_of, lp_left}
 use Rattle.modulate_run.specs.Seen.{Seen}
-use Rattle.modulate_run.specs.Work.{Ends, IsAtWork, KeepsOthers, Modulates, TakeFew}
+use Rattle.modulate_run.specs.Work.{AreOpen, AreWithin, Ends, IsAtWork, KeepsOthers, Modulates, TakeFew}
 use Rattle.modulate_run.specs.Reporting.{Finishes, IsFinish}
 use Rattle.modulate_run.specs.Steps.{ClosesRefused, HasPrinted, IsClosed, IsNew, OpensAll, Ran, first_inputs, lp_source}
 
@@ -182,11 +182,21 @@ module _ (s : TheSettings) (limit : ℕ) (hp : List ℕ) (lp : Option (List ℕ)
         whole l = sym (take_all (length l) l (omega arith))
 
 -- ---- what the work asks of the form
--- where LP is read the stream exists
-pub lp_exists : (s : TheSettings) (lp : Option (List ℕ)) → fits_form s lp ≡ true → (first_inputs (is_some lp)).lp.tail ≡ None → IsTrue (has_stream s.hierarchy Lp)
+-- where LP is read it exists in the transmission
+pub lp_exists : (s : TheSettings) (lp : Option (List ℕ)) → fits_form s lp ≡ true → (first_inputs (is_some lp)).lp.tail ≡ None → IsTrue (exists_in s Lp)
+unfolding exists_in
 lp_exists s None fits none = absurd (let e : Some 0 ≡ None = none in cc)
-lp_exists s (Some name) fits none = go (is_flat s.hierarchy) fits
+lp_exists s (Some name) fits none = go (has_lp s) fits
   where
-    go : (b : Bool) → beq true (not b) ≡ true → not b ≡ true
-    go true e = e
-    go false e = refl
+    go : (b : Bool) → beq true b ≡ true → b ≡ true
+    go true e = refl
+    go false e = e
+
+-- before the first packet the inputs that are read are open, and nothing was taken of them
+pub first_open : (hp : List ℕ) (lp : Option (List ℕ)) (cells : List ℕ) (old mid : Meaning) → OpensAll hp lp cells old mid (Ok tt) → AreOpen (first_inputs (is_some lp)) mid
+first_open hp None cells old mid opened = record { hp = λ e. ap (λ (x : Meaning). x.hp.attached) opened; lp = λ none. absurd (let e : Some 0 ≡ None = none in cc) }
+first_open hp (Some name) cells old mid opened = record { hp = λ e. ap (λ (x : Meaning). x.hp.attached) opened; lp = λ e. ap (λ (x : Meaning). x.lp.attached) opened }
+
+pub first_within : (limit : ℕ) (two : Bool) → AreWithin limit (first_inputs two)
+first_within limit true = record { hp = omega arith; lp = omega arith }
+first_within limit false = record { hp = omega arith; lp = omega arith }

@@ -4,11 +4,10 @@ use Rattle.std.specs.Prelude.{IsTrue, unwrap_or}
 use Rattle.std.specs.Option.{option_map}
 use Rattle.std.proofs.lemmas.Bool.{cases_lt}
 use Rattle.station_core.specs.Meaning.{Meaning}
-use Rattle.mode_set.specs.StreamTable.{has_stream}
 use Rattle.mode_set.specs.declared.modes.Stream.{Stream}
 use Rattle.mode_set.specs.declared.modes.Stream.TheVariants.{Hp, Lp}
 use Rattle.mode_set.specs.declared.settings.Settings.{Settings as TheSettings}
-use Rattle.symbol_spans.specs.Spans.{words_before}
+use Rattle.symbol_spans.specs.Spans.{exists_in, words_before}
 use Rattle.symbol_spans.specs.Laws.{StreamsExist}
 use Rattle.transmission.specs.Transmission.{Inputs, by_stream}
 use Rattle.transmission.specs.SuperFrames.{AreSuperFrames, IsLength, counts_of, packets_for, super_frames, symbols_of}
@@ -62,11 +61,11 @@ pub begins : TheNumberIsFound → (s : TheSettings) (inputs : Inputs) → 0 < sy
 begins found s inputs = begins_with s inputs (super_frames s (counts_of inputs)) refl (found s (counts_of inputs))
 
 -- the packets of all its symbols are eleven more than its inputs have, at least
-carried : PacketsOfSuperFrames → TheNumberIsFound → StreamsExist → (s : TheSettings) (inputs : Inputs) (n : ℕ) (σ : Stream) → super_frames s (counts_of inputs) ≡ Some n → IsTrue (has_stream s.hierarchy σ)
+carried : PacketsOfSuperFrames → TheNumberIsFound → (s : TheSettings) (inputs : Inputs) (n : ℕ) (σ : Stream) → super_frames s (counts_of inputs) ≡ Some n → IsTrue (exists_in s σ)
     → length (inputs σ) + 11 ≤ packets_for s σ (symbols_of s inputs)
-carried packets found exist s inputs n σ e has =
+carried packets found s inputs n σ e has =
     let are : AreSuperFrames s (counts_of inputs) n = subst (IsLength s (counts_of inputs)) e (found s (counts_of inputs)) in
-    let enough : length (inputs σ) + 11 ≤ words_before s σ n = are.suffices σ (exist s σ has) in
+    let enough : length (inputs σ) + 11 ≤ words_before s σ n = are.suffices σ has in
     subst (λ (k : ℕ). length (inputs σ) + 11 ≤ k) (sym (ap (packets_for s σ) (symbols_are s inputs (Some n) e) ∙ packets s σ n)) enough
 
 -- the super-frames of so many packets
@@ -119,7 +118,7 @@ module _ (limit : ℕ) (files : Stream → List ℕ) (m : Meaning) (inputs : Pac
       )
 
   -- the transmission goes on
-  module _ (packets : PacketsOfSuperFrames) (found : TheNumberIsFound) (exist : StreamsExist) (two : inputs.lp.tail ≡ None → IsTrue (has_stream t.settings.hierarchy Lp)) where
+  module _ (packets : PacketsOfSuperFrames) (found : TheNumberIsFound) (exist : StreamsExist) (two : inputs.lp.tail ≡ None → IsTrue (exists_in t.settings Lp)) where
     apart : (a b c d e : ℕ) → a + 11 ≤ b → b ≤ c → c ≡ d → d ≤ e → e ≡ a → ⊥
     apart a b c d e l l' p l'' q = omega (arith, l, l', p, l'', q)
 
@@ -131,14 +130,14 @@ module _ (limit : ℕ) (files : Stream → List ℕ) (m : Meaning) (inputs : Pac
       hp_ended : inputs.hp.tail ≡ None → ⊥
       hp_ended none =
           apart (length (packets_of (files Hp))) (packets_for t.settings Hp (symbols_of t.settings (inputs_of files))) t.hp inputs.hp.taken (whole_packets (files Hp))
-          (carried packets found exist t.settings (inputs_of files) n Hp number refl) (put_at Hp w.work.at.hp_least)
+          (carried packets found t.settings (inputs_of files) n Hp number (exist t.settings Hp refl)) (put_at Hp w.work.at.hp_least)
           (all_put (files Hp) (left_of m Hp) inputs.hp.taken t.hp inputs.hp.tail none w.work.read.hp.rest)
           (within_file (files Hp) inputs.hp.taken w.work.read.hp.within) (sym (count_is (whole_packets (files Hp)) (files Hp)))
 
       lp_ended : inputs.lp.tail ≡ None → ⊥
       lp_ended none =
           apart (length (packets_of (files Lp))) (packets_for t.settings Lp (symbols_of t.settings (inputs_of files))) t.lp inputs.lp.taken (whole_packets (files Lp))
-          (carried packets found exist t.settings (inputs_of files) n Lp number (two none)) (put_at Lp w.work.at.lp_least)
+          (carried packets found t.settings (inputs_of files) n Lp number (two none)) (put_at Lp w.work.at.lp_least)
           (all_put (files Lp) (left_of m Lp) inputs.lp.taken t.lp inputs.lp.tail none w.work.read.lp.rest)
           (within_file (files Lp) inputs.lp.taken w.work.read.lp.within) (sym (count_is (whole_packets (files Lp)) (files Lp)))
 
@@ -183,9 +182,9 @@ at_most a b c e l = omega (arith, e, l)
 -- the next symbol is one of the transmission again
 pub more_again : PacketsOfSuperFrames → TheNumberIsFound → StreamsExist → (limit : ℕ) (files : Stream → List ℕ) (m : Meaning) (inputs : PacketInputs) (t t' : Seen) (put : Inputs → Type 0)
     → IsWritten limit files m inputs t' put → (n : ℕ) → t'.settings ≡ t.settings → t'.made ≡ n + 1 → CountsAt t'.settings inputs (n + 1) None → n < symbols_of t.settings (inputs_of files)
-    → (inputs.lp.tail ≡ None → IsTrue (has_stream t.settings.hierarchy Lp)) → n + 1 < symbols_of t.settings (inputs_of files)
+    → (inputs.lp.tail ≡ None → IsTrue (exists_in t.settings Lp)) → n + 1 < symbols_of t.settings (inputs_of files)
 more_again packets found exist limit files m inputs t t' put w n settings made counts more two =
-    let two' : inputs.lp.tail ≡ None → IsTrue (has_stream t'.settings.hierarchy Lp) = λ none. subst (λ (s : TheSettings). IsTrue (has_stream s.hierarchy Lp)) (sym settings) (two none) in
+    let two' : inputs.lp.tail ≡ None → IsTrue (exists_in t'.settings Lp) = λ none. subst (λ (s : TheSettings). IsTrue (exists_in s Lp)) (sym settings) (two none) in
     let more' : n < symbols_of t'.settings (inputs_of files) = subst (λ (s : TheSettings). n < symbols_of s (inputs_of files)) (sym settings) more in
     let le : t'.made ≤ symbols_of t'.settings (inputs_of files) = at_most t'.made n (symbols_of t'.settings (inputs_of files)) made more' in
     let on : t'.made < symbols_of t'.settings (inputs_of files) = goes_further limit files m inputs t' put w packets found exist two' (n + 1) made counts le in

@@ -1,9 +1,9 @@
 // The work: symbol after symbol.
 ghost use Rattle.std.specs.Prelude.{◌≡◌, ◌≤◌, ◌<◌, ◌*◌, ◌+◌, ◌^◌, ℕ, List, [], Some, None, true, false, IsTrue, OnOk, OnErr, vec_capacity};
-ghost use Rattle.mode_set.specs.StreamTable.{has_stream};
 ghost use Rattle.mode_set.specs.declared.modes.Stream.TheVariants.{Lp};
 ghost use Rattle.mode_set.specs.declared.modes.Stream.{Stream as AnyStream};
 ghost use Rattle.frame_build.specs.CellFile.{header as header_of};
+ghost use Rattle.symbol_spans.specs.Spans.{exists_in};
 ghost use Rattle.transmission.specs.Transmission.{Inputs, tx_symbol};
 ghost use Rattle.run_steps.specs.Causes.{HasCause};
 ghost use Rattle.modulate_run.specs.Seen.{wanted};
@@ -133,7 +133,7 @@ fn send_all<'a, T: Transmitter, S: Station<'a>>(
 ) -> Result<TransmissionCounts, Refusal>
     requires few { limits.now.packets ≤ 100000000 }
     requires same { (T.seen tx.old).settings ≡ settings.now }
-    requires two { inputs.lp.tail ≡ None → IsTrue (has_stream (T.seen tx.old).settings.hierarchy Lp) }
+    requires two { inputs.lp.tail ≡ None → IsTrue (exists_in (T.seen tx.old).settings Lp) }
     requires none_made { (T.seen tx.old).made ≡ 0 }
     requires room { T.symbol_len ≤ vec_capacity bytes.old }
     requires created { (S.meaning station.old).cells_out.created ≡ true }
@@ -175,7 +175,7 @@ pub(crate) fn send_file<'a, T: Transmitter, S: Station<'a>>(
 ) -> Result<TransmissionCounts, Refusal>
     requires few { limits.now.packets ≤ 100000000 }
     requires same { (T.seen tx.old).settings ≡ settings.now }
-    requires two { inputs.lp.tail ≡ None → IsTrue (has_stream (T.seen tx.old).settings.hierarchy Lp) }
+    requires two { inputs.lp.tail ≡ None → IsTrue (exists_in (T.seen tx.old).settings Lp) }
     requires none_made { (T.seen tx.old).made ≡ 0 }
     requires room { T.symbol_len ≤ vec_capacity bytes.old }
     requires created { (S.meaning station.old).cells_out.created ≡ true }

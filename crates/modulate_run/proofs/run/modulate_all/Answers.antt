@@ -1,18 +1,47 @@
-use Rattle.std.proofs.Common.{◌≡◌, ◌∙◌, inl, ℕ, Bool, List, Option, ap, sym, subst}
-use Rattle.std.specs.Prelude.{is_some}
+use Rattle.std.proofs.Common.{◌≡◌, ◌∙◌, inl, ℕ, Bool, List, Option, None, Ok, refl, ap, sym, subst}
+use Rattle.std.specs.Prelude.{is_some, IsTrue}
 use Rattle.std.specs.Option.{option_copied}
 use Rattle.station_core.specs.Meaning.{Meaning}
 use Rattle.mode_set.specs.declared.modes.Stream.{Stream}
+use Rattle.mode_set.specs.declared.modes.Stream.TheVariants.{Lp}
+use Rattle.symbol_spans.specs.Spans.{exists_in}
 use Rattle.modulate_run.specs.ModulateCommand.{files_of, inputs_of}
 use Rattle.modulate_run.specs.declared.inputs.PacketInputs.{PacketInputs}
 use Rattle.modulate_run.specs.Seen.{Seen}
-use Rattle.modulate_run.specs.Work.{IsAtWork}
+use Rattle.modulate_run.specs.Work.{AreOpen, AreWithin, IsAtWork}
 use Rattle.modulate_run.specs.Reporting.{Finishes}
-use Rattle.modulate_run.specs.Steps.{Ran, first_inputs}
+use Rattle.modulate_run.specs.Steps.{OpensAll, Ran, first_inputs}
 use Rattle.run_steps.proofs.Fitting.{copied_some}
 use Rattle.run_steps.proofs.HandedOn.{handed_on}
-use Rattle.modulate_run.proofs.Endings.{starts, unwritten, refused_with, finished}
+use Rattle.modulate_run.proofs.Endings.{starts, unwritten, refused_with, finished, lp_exists, first_open, first_within}
 use Rattle.modulate_run.proofs.run.modulate_all.Goals as goal
+
+pub send_file-requires : goal.send_file-requires
+send_file-requires g c κs =
+    let old : Meaning = g.S.Station.meaning c.args.station.now in
+    let mid : Meaning = g.S.Station.meaning c.open.new.station in
+    let lp : Option (List ℕ) = option_copied c.args.names.lp in
+    let s = (g.T.Transmitter.seen c.args.tx.now).settings in
+    let first : c.first.result ≡ first_inputs (is_some lp) = c.first.ensures ∙ ap first_inputs (c.is_some-two.ensures ∙ copied_some c.args.names.lp) in
+    let opened : OpensAll c.args.names.hp.now lp c.args.names.cells.now old mid (Ok tt) = c.in_ok-open.ensures.opened in
+    let two : c.first.result.lp.tail ≡ None → IsTrue (exists_in s Lp) = λ none. lp_exists s lp c.requires.form (subst (λ (x : PacketInputs). x.lp.tail ≡ None) first none) in
+    let inputs_open : AreOpen c.first.result mid = subst (λ (x : PacketInputs). AreOpen x mid) (sym first) (first_open c.args.names.hp.now lp c.args.names.cells.now old mid opened) in
+    let within : AreWithin c.args.limits.now.packets c.first.result = subst (λ (x : PacketInputs). AreWithin c.args.limits.now.packets x) (sym first) (first_within c.args.limits.now.packets (is_some lp)) in (
+      (refl, tt),
+      (
+        c.requires.few,
+        (
+          c.requires.same,
+          (
+            two,
+            (
+              c.requires.new.made,
+              (c.requires.room, (ap (λ (x : Meaning). x.cells_out.created) opened, (ap (λ (x : Meaning). x.cells_out.closed) opened, (inputs_open, within)))),
+            ),
+          ),
+        ),
+      ),
+    )
 
 pub returns-in_err-open-clause-ran : goal.returns-in_err-open-clause-ran
 returns-in_err-open-clause-ran g c =

@@ -1,0 +1,92 @@
+// Transmissions with a plan. The expected reports, lengths and sums are those of an independent program.
+use run_tools::{
+    BASE, File, Found, LAYERED, NONE, SUPER_FRAME, ample, checksum, run_files, stands, text_bytes,
+};
+use std::alloc::{AllocError, Global};
+use std::test::Fail;
+use std::thread::Threads;
+
+/// LP comes with the second super-frame.
+const LP_COMES: &str =
+    "plan = [{ after = 1, constellation = \"16qam\", hierarchy = \"4\", rate_hp = \"1/2\", rate_lp = \"3/4\" }]\n";
+
+/// LP goes with it, for good.
+const LP_GOES: &str =
+    "max_symbols = 1000\nplan = [{ after = 1, constellation = \"qpsk\", rate_hp = \"1/2\" }]\n";
+
+/// Two super-frames with their header.
+const TWO_SUPER_FRAMES: u32 = 4_637_608;
+
+/// A thousand symbols with their header.
+const THOUSAND_SYMBOLS: u32 = 8_525_008;
+
+const SENT: &str = "hp packets 300 tail 0\nlp packets 100 tail 0\nsuperframes 2\n";
+
+const RECEIVED: &str =
+    "symbols 544 tail 0\ntps read 8 bad 0\nhp words 493 clean 493 corrected 0 bad 0 unphased 0 unmerged 0\nlp words 367 clean 367 corrected 0 bad 0 unphased 0 unmerged 0\n";
+
+const RESCUED: &str =
+    "symbols 544 tail 0\nhp words 493 clean 493 corrected 0 rescued 0 bad 0 unphased 0 unmerged 0\nlp words 367 clean 367 corrected 0 rescued 0 bad 0 unphased 0 unmerged 0\n";
+
+const HP: (usize, u32) = (92_684, 260_642_531);
+
+const LP: (usize, u32) = (68_996, 1_482_550_705);
+
+// The cells of these two files, the status and the report.
+fn sent<R: Threads + Sync>(
+    rt: &R,
+    alloc: Global,
+    settings: (&str, &str),
+    packets: (u32, u32),
+    room: u32,
+) -> Result<(u8, Vec<u8>, Vec<u8>), AllocError> {
+    let hp = File::Counted(packets.0, 0).bytes(alloc)?;
+    let lp = File::Counted(packets.1, 0).bytes(alloc)?;
+    let settings = text_bytes(alloc, settings.0, settings.1)?;
+    let words = "modulate s a b cells";
+    let ran = run_files(rt, alloc, words, settings, (hp, lp), 1000, ample(room))?;
+    Ok((ran.status, ran.report, ran.cells))
+}
+
+// What the command makes of cells of the transmission in which LP comes.
+fn comes_back<R: Threads + Sync>(
+    rt: &R,
+    alloc: Global,
+    words: &str,
+    cells: &[u8],
+    found: Found<'_>,
+) -> Result<bool, AllocError> {
+    let settings = text_bytes(alloc, BASE, LP_COMES)?;
+    let inputs = (Vec::from_slice(alloc, cells)?, Vec::new(alloc));
+    let ran = run_files(rt, alloc, words, settings, inputs, 1, ample(SUPER_FRAME))?;
+    Ok(stands(&ran, found))
+}
+
+// A transmission that becomes one of two streams, and what comes back of it.
+#[test]
+fn lp_comes(rt: HostRuntime) -> Result<(), Fail> {
+    let alloc = rt.alloc();
+    let (status, report, cells) = sent(&rt, alloc, (BASE, LP_COMES), (300, 100), TWO_SUPER_FRAMES)?;
+    assert!(rt; status == 0 && report.as_slice() == SENT.as_bytes());
+    assert_eq!(rt; (cells.len(), checksum(&cells)), (4_637_608, 2_307_751_837));
+    let cases = [
+        ("receive s a hp lp", (0, RECEIVED, HP, LP)),
+        ("rescue s a hp lp", (0, RESCUED, HP, LP)),
+        ("receive s a hp", (3, "settings form\n", NONE, NONE)),
+        ("rescue s a hp", (3, "settings form\n", NONE, NONE)),
+    ];
+    for (words, found) in cases {
+        assert!(rt; comes_back(&rt, alloc, words, &cells, found)?, "{}", words);
+    }
+    Ok(())
+}
+
+// LP goes before all its packets are sent: the transmission goes on up to its limit.
+#[test]
+fn lp_goes(rt: HostRuntime) -> Result<(), Fail> {
+    let alloc = rt.alloc();
+    let (status, report, cells) = sent(&rt, alloc, (LAYERED, LP_GOES), (0, 400), THOUSAND_SYMBOLS)?;
+    assert!(rt; status == 8 && report.as_slice() == b"limit 1000\n".as_slice());
+    assert_eq!(rt; (cells.len(), checksum(&cells)), (8_525_008, 884_072_588));
+    Ok(())
+}
