@@ -61,10 +61,11 @@ def built(top, level, is_quiet=False):
 
 
 def prove(top, is_quiet):
-    """Proves the crates that the program stands on, as many at a time as processors and memory allow."""
+    """Proves the crates that the program stands on, side by side, as processors and memory allow."""
     total = len(program.crates_of(top))
     processors = len(os.sched_getaffinity(0))
-    at_once = max(1, min(processors, free_memory() // EACH))
+    # a check that waits for those below it holds a place: with twice as many places as processors none is idle
+    at_once = max(1, min(2 * processors, free_memory() // EACH))
     if not is_quiet:
         say(f"proving and building the program from its sources, {total} crates. {last_time(top, processors)}")
     began, done, current, sections = time.monotonic(), 0, None, {}
