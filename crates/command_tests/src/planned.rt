@@ -1,6 +1,7 @@
 // Transmissions with a plan. The expected reports, lengths and sums are those of an independent program.
 use run_tools::{
-    BASE, File, Found, LAYERED, NONE, SUPER_FRAME, ample, checksum, run_files, stands, text_bytes,
+    BASE, File, Found, LAYERED, NONE, SUPER_FRAME, SYMBOL, ample, checksum, noisy, run_files, stands,
+    text_bytes,
 };
 use std::alloc::{AllocError, Global};
 use std::test::Fail;
@@ -14,8 +15,18 @@ const LP_COMES: &str =
 const LP_GOES: &str =
     "max_symbols = 1000\nplan = [{ after = 1, constellation = \"qpsk\", rate_hp = \"1/2\" }]\n";
 
+/// One stream in super-frames 0 and 2, two in super-frames 1 and 3, each time with other rates.
+const LP_COMES_AGAIN: &str =
+    "plan = [{ after = 1, constellation = \"16qam\", hierarchy = \"4\", rate_hp = \"1/2\", rate_lp = \"3/4\" }, { after = 2, constellation = \"qpsk\", rate_hp = \"2/3\" }, { after = 3, constellation = \"64qam\", hierarchy = \"1\", rate_hp = \"2/3\", rate_lp = \"1/2\" }]\n";
+
 /// Two super-frames with their header.
 const TWO_SUPER_FRAMES: u32 = 4_637_608;
+
+/// Four super-frames with their header.
+const FOUR_SUPER_FRAMES: u32 = 9_275_208;
+
+/// Three super-frames and forty symbols, with their header.
+const FRONT: usize = 8 + 856 * SYMBOL;
 
 /// A thousand symbols with their header.
 const THOUSAND_SYMBOLS: u32 = 8_525_008;
@@ -48,15 +59,16 @@ fn sent<R: Threads + Sync>(
     Ok((ran.status, ran.report, ran.cells))
 }
 
-// What the command makes of cells of the transmission in which LP comes.
+// Whether the command leaves this of cells of a transmission with this plan.
 fn comes_back<R: Threads + Sync>(
     rt: &R,
     alloc: Global,
+    plan: &str,
     words: &str,
     cells: &[u8],
     found: Found<'_>,
 ) -> Result<bool, AllocError> {
-    let settings = text_bytes(alloc, BASE, LP_COMES)?;
+    let settings = text_bytes(alloc, BASE, plan)?;
     let inputs = (Vec::from_slice(alloc, cells)?, Vec::new(alloc));
     let ran = run_files(rt, alloc, words, settings, inputs, 1, ample(SUPER_FRAME))?;
     Ok(stands(&ran, found))
@@ -76,7 +88,7 @@ fn lp_comes(rt: HostRuntime) -> Result<(), Fail> {
         ("rescue s a hp", (3, "settings form\n", NONE, NONE)),
     ];
     for (words, found) in cases {
-        assert!(rt; comes_back(&rt, alloc, words, &cells, found)?, "{}", words);
+        assert!(rt; comes_back(&rt, alloc, LP_COMES, words, &cells, found)?, "{}", words);
     }
     Ok(())
 }
@@ -88,5 +100,43 @@ fn lp_goes(rt: HostRuntime) -> Result<(), Fail> {
     let (status, report, cells) = sent(&rt, alloc, (LAYERED, LP_GOES), (0, 400), THOUSAND_SYMBOLS)?;
     assert!(rt; status == 8 && report.as_slice() == b"limit 1000\n".as_slice());
     assert_eq!(rt; (cells.len(), checksum(&cells)), (8_525_008, 884_072_588));
+    Ok(())
+}
+
+const RECEIVED_OUT_OF_NOISE: &str =
+    "lp unmerged at 612164\nhp unmerged at 820042\nlp unmerged at 614213\nhp unmerged at 822091\nlp unmerged at 616262\nsymbols 856 tail 0\ntps read 12 bad 0\nhp words 878 clean 864 corrected 0 bad 14 unphased 0 unmerged 2\nlp words 441 clean 63 corrected 281 bad 97 unphased 0 unmerged 3\n";
+
+const RESCUED_OUT_OF_NOISE: &str =
+    "lp unmerged at 612164\nhp unmerged at 820042\nlp unmerged at 614213\nhp unmerged at 822091\nlp unmerged at 616262\nsymbols 856 tail 0\nhp words 878 clean 864 corrected 0 rescued 0 bad 14 unphased 0 unmerged 2\nlp words 441 clean 63 corrected 281 rescued 15 bad 82 unphased 0 unmerged 3\n";
+
+// Makes the cells of the last three symbols of super-frame 1 such that no paths merge there: all are (0, 11585).
+fn spoil(file: &mut [u8]) {
+    for place in 8 + 541 * SYMBOL..8 + 544 * SYMBOL {
+        if place < file.len() {
+            file[place] = [0x00, 0x00, 0x2D, 0x41, 0x0F][(place - 8) % 5];
+        }
+    }
+}
+
+// LP comes, goes and comes again, with noise on all cells: the reports of its last symbol come once, and it goes on where
+// it stopped. Of 97 words of LP without a nearest codeword 15 are rescued.
+#[test]
+fn lp_comes_again(rt: HostRuntime) -> Result<(), Fail> {
+    let alloc = rt.alloc();
+    let settings = (BASE, LP_COMES_AGAIN);
+    let (status, _, cells) = sent(&rt, alloc, settings, (700, 400), FOUR_SUPER_FRAMES)?;
+    assert_eq!(rt; (status, cells.len(), checksum(&cells)), (0, 9_275_208, 3_812_368_347));
+    let mut file = noisy(alloc, &cells[..FRONT.min(cells.len())], 2_680)?;
+    spoil(&mut file);
+    let hp = (165_064, 1_009_138_521);
+    let received = (0, RECEIVED_OUT_OF_NOISE, hp, (82_908, 2_747_265_385));
+    let rescued = (0, RESCUED_OUT_OF_NOISE, hp, (82_908, 3_297_524_247));
+    for (words, found) in [("receive s a hp lp", received), ("rescue s a hp lp", rescued)] {
+        assert!(rt;
+            comes_back(&rt, alloc, LP_COMES_AGAIN, words, &file, found)?,
+            "{}",
+            words
+        );
+    }
     Ok(())
 }

@@ -14,6 +14,14 @@ use std::thread::Threads;
 /// QPSK at 7/8.
 const QPSK: &str = "mode = \"2k\"\nconstellation = \"qpsk\"\nrate_hp = \"7/8\"\nguard = \"1/32\"\n";
 
+/// 64-QAM at 7/8, and what 14 symbols of it give from any register where noise moves each part by at most 2,875: 3 words of 5 come
+/// back.
+const SIXTY_FOUR: &str =
+    "mode = \"2k\"\nconstellation = \"64qam\"\nrate_hp = \"7/8\"\nguard = \"1/32\"\n";
+
+const THREE_OF_FIVE: &str =
+    "symbols 14 tail 0\nhp words 57 clean 0 corrected 52 rescued 3 bad 2 unphased 0 unmerged 0\n";
+
 /// 16-QAM at 2/3, and what 20 symbols of it give where noise moves each part by at most 7,380: 4 words of 18 come back.
 const SIXTEEN: &str =
     "mode = \"2k\"\nconstellation = \"16qam\"\nrate_hp = \"2/3\"\nguard = \"1/32\"\n";
@@ -86,7 +94,7 @@ fn leaves<R: Threads + Sync>(
     Ok(stands(&ran, found))
 }
 
-// QPSK from any register, 16-QAM from the register zero, and two streams; whole reads, and reads of few bytes.
+// QPSK and 64-QAM from any register, 16-QAM from the register zero, and two streams; whole reads, and reads of few bytes.
 #[test]
 fn words_come_back(rt: HostRuntime) -> Result<(), Fail> {
     let alloc = rt.alloc();
@@ -100,6 +108,11 @@ fn words_come_back(rt: HostRuntime) -> Result<(), Fail> {
             (QPSK, 20, 12_460),
             any,
             (0, ALL_THREE, (3_948, 1_716_182_877), NONE),
+        ),
+        (
+            (SIXTY_FOUR, 14, 2_875),
+            any,
+            (0, THREE_OF_FIVE, (10_716, 3_641_308_779), NONE),
         ),
         ((SIXTEEN, 20, 7_380), "", (0, FOUR_OF_18, ALL, NONE)),
         (
