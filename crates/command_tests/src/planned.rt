@@ -1,7 +1,7 @@
 // Transmissions with a plan. The expected reports, lengths and sums are those of an independent program.
 use run_tools::{
-    BASE, File, Found, LAYERED, NONE, SUPER_FRAME, SYMBOL, ample, checksum, noisy, run_files, stands,
-    text_bytes,
+    BASE, File, Found, LAYERED, NONE, SUPER_FRAME, SYMBOL, ample, checksum, noisy, run_files,
+    stands, text_bytes,
 };
 use std::alloc::{AllocError, Global};
 use std::test::Fail;
@@ -88,7 +88,11 @@ fn lp_comes(rt: HostRuntime) -> Result<(), Fail> {
         ("rescue s a hp", (3, "settings form\n", NONE, NONE)),
     ];
     for (words, found) in cases {
-        assert!(rt; comes_back(&rt, alloc, LP_COMES, words, &cells, found)?, "{}", words);
+        assert!(rt;
+            comes_back(&rt, alloc, LP_COMES, words, &cells, found)?,
+            "{}",
+            words
+        );
     }
     Ok(())
 }
@@ -125,13 +129,19 @@ fn lp_comes_again(rt: HostRuntime) -> Result<(), Fail> {
     let alloc = rt.alloc();
     let settings = (BASE, LP_COMES_AGAIN);
     let (status, _, cells) = sent(&rt, alloc, settings, (700, 400), FOUR_SUPER_FRAMES)?;
-    assert_eq!(rt; (status, cells.len(), checksum(&cells)), (0, 9_275_208, 3_812_368_347));
+    assert_eq!(rt;
+        (status, cells.len(), checksum(&cells)),
+        (0, 9_275_208, 3_812_368_347)
+    );
     let mut file = noisy(alloc, &cells[..FRONT.min(cells.len())], 2_680)?;
     spoil(&mut file);
     let hp = (165_064, 1_009_138_521);
     let received = (0, RECEIVED_OUT_OF_NOISE, hp, (82_908, 2_747_265_385));
     let rescued = (0, RESCUED_OUT_OF_NOISE, hp, (82_908, 3_297_524_247));
-    for (words, found) in [("receive s a hp lp", received), ("rescue s a hp lp", rescued)] {
+    for (words, found) in [
+        ("receive s a hp lp", received),
+        ("rescue s a hp lp", rescued),
+    ] {
         assert!(rt;
             comes_back(&rt, alloc, LP_COMES_AGAIN, words, &file, found)?,
             "{}",

@@ -15,7 +15,13 @@ pub fn form_of<'a>(words: &'a [String]) -> Option<Form<'a>>
         [name, a, b] => of_two(name.as_str(), a.as_str(), b.as_str()),
         [name, a, b, c] => of_three(name.as_str(), a.as_str(), b.as_str(), c.as_str()),
         [name, a, b, c, d] => {
-            of_four(name.as_str(), a.as_str(), b.as_str(), c.as_str(), d.as_str())
+            of_four(
+                name.as_str(),
+                a.as_str(),
+                b.as_str(),
+                c.as_str(),
+                d.as_str(),
+            )
         }
         _ => None,
     }
