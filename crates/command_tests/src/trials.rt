@@ -37,10 +37,40 @@ fn one_stream_and_its_refusals(rt: HostRuntime) -> Result<(), Fail> {
         ("trial s 0000000007", from_any, 0, lines),
         ("trial s 7", "max_symbols = 271\n", 8, "limit 271\n"),
         ("trial s 7", "colour = \"red\"\n", 3, "settings unknown 0\n"),
-        ("trial s 4294967296", "", 2, "usage\n"),
         ("trial gone 7", "", 5, "read fault\n"),
     ] {
         expect(&rt, alloc, words, (BASE, more), None, (status, report))?;
+    }
+    Ok(())
+}
+
+// A number has one to ten digits and is at most 4294967295: then the settings are looked at, which are refused. Other words are
+// of no form.
+#[test]
+fn numbers_among_the_words(rt: HostRuntime) -> Result<(), Fail> {
+    let alloc = rt.alloc();
+    let refused = (BASE, "colour = \"red\"\n");
+    for words in ["trial s 0", "trial s 4294967295"] {
+        expect(
+            &rt,
+            alloc,
+            words,
+            refused,
+            None,
+            (3, "settings unknown 0\n"),
+        )?;
+    }
+    for words in [
+        "trial s 4294967296",
+        "trial s 9999999999",
+        "trial s 00000000007",
+        "trial s +7",
+        "trial s -1",
+        "trial s 7_0",
+        "trial s 1e3",
+        "trial s １",
+    ] {
+        expect(&rt, alloc, words, refused, None, (2, "usage\n"))?;
     }
     Ok(())
 }

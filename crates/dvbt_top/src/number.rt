@@ -24,33 +24,3 @@ fn has_plus(word: &str) -> bool
 {
     word.as_bytes().first() == Some(&b'+')
 }
-
-#[cfg(test)]
-mod tests {
-    use super::*;
-
-    #[test]
-    fn numbers_of_words(rt: HostRuntime) {
-        for (word, number) in [
-            ("", None),
-            ("0", Some(0u32)),
-            ("7", Some(7)),
-            ("0000000007", Some(7)),
-            ("00000000007", None),
-            ("4294967295", Some(4294967295)),
-            ("4294967296", None),
-            ("9999999999", None),
-            ("+7", None),
-            ("+", None),
-            ("-1", None),
-            ("7 ", None),
-            (" 7", None),
-            ("7_0", None),
-            ("a", None),
-            ("1e3", None),
-            ("１", None),
-        ] {
-            assert_eq!(rt; number_of(word), number);
-        }
-    }
-}

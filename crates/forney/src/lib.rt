@@ -99,6 +99,3 @@ pub fn beginnings()
     ensures interleaved { FirstInterleaved }
     ensures deinterleaved { FirstDeinterleaved }
 {}
-
-#[cfg(test)]
-mod tests;

@@ -8,6 +8,3 @@ pub mod laws;
 mod load;
 
 pub use load::{Burst, Load};
-
-#[cfg(test)]
-mod tests;

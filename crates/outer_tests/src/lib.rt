@@ -1,10 +1,17 @@
-//! The outer code: words of the Reed-Solomon code, words with erased bytes, and the words of a stream.
+//! The outer code: transport packets, elements of the field, words of the Reed-Solomon code, words with erased bytes, the
+//! interleavers, and the words of a stream.
 //!
 //! The crate has tests alone.
 #![tactic(auto)]
 
 #[cfg(test)]
+mod elements;
+#[cfg(test)]
 mod erasures;
+#[cfg(test)]
+mod interleavers;
+#[cfg(test)]
+mod packets;
 #[cfg(test)]
 mod streams;
 #[cfg(test)]

@@ -5,6 +5,3 @@ mod counts;
 mod text;
 
 pub use counts::{Counts, StreamCounts};
-
-#[cfg(test)]
-mod tests;

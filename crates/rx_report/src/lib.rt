@@ -6,6 +6,3 @@ mod text;
 
 pub use counts::{Counts, Event, StreamCounts};
 pub use report_line::Line;
-
-#[cfg(test)]
-mod tests;

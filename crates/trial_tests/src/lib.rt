@@ -1,8 +1,10 @@
-//! Whole transmissions and whole trials beside those of independent programs.
+//! What is drawn, whole transmissions and whole trials beside those of independent programs.
 //!
 //! The crate has tests alone.
 #![tactic(auto)]
 
+#[cfg(test)]
+mod draws;
 #[cfg(test)]
 mod plans;
 #[cfg(test)]

@@ -1,5 +1,5 @@
 // Expected draws come from the independent reference, a plain Rust program with a generator of its own.
-use super::*;
+use load_gen::{Burst, Load};
 use rand_core::utils::NextWord;
 use rand_pcg::Lcg64Xsh32;
 

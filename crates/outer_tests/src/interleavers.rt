@@ -1,6 +1,5 @@
 // Four thousand bytes through both interleavers, against the index formulas.
-
-use crate::{Deinterleaver, Interleaver};
+use forney::{Deinterleaver, Interleaver};
 use std::test::Fail;
 
 // Byte `place - delay` of the coded stream, and 0 before it.
