@@ -27,14 +27,14 @@ rate_hp = \"1/2\"\n\
 rate_lp = \"3/4\"\n\
 guard = \"1/32\"\n\
 == 16qam\n\
-# One stream on 16-QAM, with a cell identifier and two decoding workers.\n\
+# One stream on 16-QAM, with a cell identifier.\n\
 mode = \"8k\"\n\
 constellation = \"16qam\"\n\
 hierarchy = \"none\"\n\
 rate_hp = \"3/4\"\n\
 guard = \"1/8\"\n\
 cell_id = 4660\n\
-workers = 2\n\
+workers = 1\n\
 == 64qam-alpha-1\n\
 # Two streams on 64-QAM with evenly spaced points. The receiver may begin in their midst.\n\
 mode = \"8k\"\n\
@@ -52,7 +52,7 @@ hierarchy = \"2\"\n\
 rate_hp = \"2/3\"\n\
 rate_lp = \"3/4\"\n\
 guard = \"1/32\"\n\
-workers = 16\n\
+workers = 1\n\
 == 64qam-alpha-4\n\
 # Two streams on 64-QAM, the quadrants four times as far apart as the points of one.\n\
 mode = \"2k\"\n\
