@@ -1,6 +1,7 @@
 // The station in memory, call by call.
-ghost use Rattle.std.specs.Prelude.{◌≡◌, true, false, OnOk};
+ghost use Rattle.std.specs.Prelude.{◌≡◌, true, false, IfOk, OnOk};
 ghost use Rattle.station_core.specs.Meaning.{IsFresh};
+ghost use Rattle.station_core.specs.Memory.{memory_meaning};
 
 use station_core::{Failed, Failing, InPort, MemoryStation, OutPort, Station};
 use std::alloc::{AllocError, Global};
@@ -14,6 +15,18 @@ fn files(alloc: Global) -> Result<Vec<(String, Vec<u8>)>, AllocError> {
     files.push((String::from_str(alloc, "a")?, first))?;
     files.push((String::from_str(alloc, "a")?, second))?;
     Ok(files)
+}
+
+// A station with these files, whose reads give at most two bytes.
+fn station<'a>(
+    alloc: Global,
+    room: u32,
+    failing: &[Failing],
+) -> Result<MemoryStation<'a>, AllocError>
+    ensures { IfOk result (λ s. IsFresh (memory_meaning s)) }
+{
+    let failing = Vec::from_slice(alloc, failing)?;
+    MemoryStation::new(alloc, files(alloc)?, 2, room, failing)
 }
 
 // Reads at HP, and gives how many bytes, if it does not fail.
@@ -60,9 +73,7 @@ fn read_file<'a, S: Station<'a>>(station: &mut S) -> Result<Reads, Failed>
 
 #[test]
 fn reads_of_at_most_two_bytes(rt: HostRuntime) -> Result<(), Fail> {
-    let alloc = rt.alloc();
-    let failing = vec![in alloc; Failing::Read(InPort::Hp, 2)]?;
-    let mut station = MemoryStation::new(alloc, files(alloc)?, 2, 10, failing)?;
+    let mut station = station(rt.alloc(), 10, &[Failing::Read(InPort::Hp, 2)])?;
     let first = (Some(2), [1, 2]);
     let third = (Some(2), [3, 4]);
     let want = (false, first, None, third, [Some(1), Some(0)]);
@@ -93,12 +104,11 @@ fn write_and_close<'a, S: Station<'a>>(station: &mut S) -> [bool; 3]
 
 #[test]
 fn half_a_write_and_no_room(rt: HostRuntime) -> Result<(), Fail> {
-    let alloc = rt.alloc();
-    let failing = vec![in alloc;
+    let failing = [
         Failing::Write(OutPort::Hp, 2),
         Failing::Close(OutPort::Hp, 1),
-    ]?;
-    let mut station = MemoryStation::new(alloc, files(alloc)?, 2, 6, failing)?;
+    ];
+    let mut station = station(rt.alloc(), 6, &failing)?;
     let half = write_twice(&mut station)?;
     assert_eq!(rt; station.written(OutPort::Hp), [1u8, 2, 3].as_slice());
     let no_room = write_and_close(&mut station);
