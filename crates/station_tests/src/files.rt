@@ -1,175 +1,117 @@
 // The station over files, in an empty folder.
-ghost use Rattle.std.specs.Prelude.{◌≡◌, ◌<◌, length, true, false};
+ghost use Rattle.station_core.specs.Meaning.{IsFresh};
 
-use crate::watched::Watched;
+use crate::calls::Answer::{All, Bytes, Done, Failed};
+use crate::calls::Call::{Attach, Close, Create, Length, Line, Printed, Read, ReadAll, Write};
+use crate::calls::{buffered, unbuffered};
 use station_core::{InPort, OutPort, Station};
-use station_files::{Buffers, FileStation};
-use std::fs;
+use station_files::FileStation;
 use std::test::Fail;
 
-// Writes to Bytes, and tells whether it did not fail.
-fn put<'a, S: Station<'a>>(station: &mut S, bytes: &[u8]) -> bool
-    requires created { (S.meaning station.old).bytes_out.created ≡ true }
-    requires open { (S.meaning station.old).bytes_out.closed ≡ false }
-    ensures created { (S.meaning station.new).bytes_out.created ≡ true }
-    ensures open { (S.meaning station.new).bytes_out.closed ≡ false }
-    ensures hp { (S.meaning station.new).hp ≡ (S.meaning station.old).hp }
-    ensures report { (S.meaning station.new).report ≡ (S.meaning station.old).report }
-{
-    match station.write(OutPort::Bytes, bytes) {
-        Ok(()) => true,
-        Err(_) => false,
-    }
-}
-
-// Writes a small piece to Bytes, one larger than a buffer, and a small one, and closes it.
-fn put_pieces<'a, S: Station<'a>>(station: &mut S) -> bool
-    requires created { (S.meaning station.old).bytes_out.created ≡ true }
-    requires open { (S.meaning station.old).bytes_out.closed ≡ false }
-    ensures hp { (S.meaning station.new).hp ≡ (S.meaning station.old).hp }
-{
-    let first = put(station, &[1, 2, 3]);
-    let long = put(station, &[7u8; 40_000]);
-    let last = put(station, &[4, 5]);
-    match station.close(OutPort::Bytes) {
-        Ok(()) => first && long && last,
-        Err(_) => false,
-    }
-}
-
-// Writes a line to Report, and tells whether it did not fail.
-fn report<'a, S: Station<'a>>(station: &mut S) -> bool
-    requires created { (S.meaning station.old).report.created ≡ true }
-    requires open { (S.meaning station.old).report.closed ≡ false }
-    ensures created { (S.meaning station.new).report.created ≡ true }
-    ensures open { (S.meaning station.new).report.closed ≡ false }
-    ensures bytes { (S.meaning station.new).bytes_out ≡ (S.meaning station.old).bytes_out }
-{
-    match station.write(OutPort::Report, b"line\n") {
-        Ok(()) => true,
-        Err(_) => false,
-    }
-}
-
-// Reads so many bytes of HP at most, and gives their number.
-fn read_some<'a, S: Station<'a>>(station: &mut S, most: usize) -> usize
-    requires { (S.meaning station.old).hp.attached ≡ true }
-    ensures hp { (S.meaning station.new).hp.attached ≡ true }
-    ensures bytes { (S.meaning station.new).bytes_out ≡ (S.meaning station.old).bytes_out }
-    ensures report { (S.meaning station.new).report ≡ (S.meaning station.old).report }
-{
-    let mut buf = [0u8; 1000];
-    match station.read(InPort::Hp, &mut buf[..most.clamp(1, 1000)]) {
-        Ok(count) => count,
-        Err(_) => 0,
-    }
-}
-
-// Reads HP to its end in pieces, and gives the number of bytes, their sum and the last one.
-fn read_all<'a, S: Station<'a>>(station: &mut S) -> (usize, u32, u8)
-    requires { (S.meaning station.old).hp.attached ≡ true }
-{
-    let mut read = 0usize;
-    let mut sum = 0u32;
-    let mut last = 0;
-    let mut buf = [0u8; 1000];
-    for _ in 0..100u8 {
-        let count = station.read(InPort::Hp, &mut buf).unwrap_or(0);
-        for byte in buf.iter().take(count) {
-            sum = sum.wrapping_add(u32::from(*byte));
-            last = *byte;
-        }
-        read = read.saturating_add(count);
-    }
-    (read, sum, last)
-}
-
+// A small piece, one larger than a buffer, and a small one.
 #[test]
 fn files_written_and_read_back(rt: HostRuntime) -> Result<(), Fail> {
-    let mut station = FileStation::with_buffers(&rt, Buffers::new(rt.alloc())?);
-    assert!(rt; station.create(OutPort::Bytes, "out.ts").is_ok());
-    assert!(rt; put_pieces(&mut station));
-    assert!(rt; station.attach(InPort::Hp, "out.ts").is_ok());
-    assert_eq!(rt; read_all(&mut station), (40_005, 280_015, 5));
-    let mut unbuffered = FileStation::new(&rt);
-    assert!(rt; unbuffered.attach(InPort::Hp, "out.ts").is_ok());
-    assert_eq!(rt; read_all(&mut unbuffered), (40_005, 280_015, 5));
+    let whole = All(40_005, 280_015, 5);
+    let calls = [
+        Create("out.ts"),
+        Write(&[1, 2, 3]),
+        Write(&[7; 40_000]),
+        Write(&[4, 5]),
+        Close,
+        Attach("out.ts"),
+        ReadAll,
+    ];
+    let want = [Done, Done, Done, Done, Done, Done, whole];
+    assert_eq!(rt; buffered(&rt, &calls)?.as_slice(), want.as_slice());
+    let read = unbuffered(&rt, 0, &[Attach("out.ts"), ReadAll])?;
+    assert_eq!(rt; read.as_slice(), [Done, whole].as_slice());
     Ok(())
 }
 
+// Attaches LP and creates Cells, and tells whether each did not fail.
+fn open_missing<'a, S: Station<'a>>(station: &mut S) -> [bool; 2]
+    requires { IsFresh (S.meaning station.old) }
+{
+    let attached = station.attach(InPort::Lp, "no such file").is_ok();
+    let created = station.create(OutPort::Cells, "no such folder/out");
+    [attached, created.is_ok()]
+}
+
 #[test]
-fn files_that_are_not_there(rt: HostRuntime) -> Result<(), Fail> {
-    let mut station = FileStation::new(&rt);
-    assert!(rt; station.attach(InPort::Lp, "no such file").is_err());
-    assert!(rt;
-        station
-            .create(OutPort::Cells, "no such folder/out")
-            .is_err()
-    );
-    Ok(())
+fn files_that_are_not_there(rt: HostRuntime) {
+    assert_eq!(rt; open_missing(&mut FileStation::new(&rt)), [false, false]);
 }
 
 // A full device takes bytes into the station's buffer, and no further.
 #[test]
 fn a_fault_of_the_file_is_answered_at_close(rt: HostRuntime) -> Result<(), Fail> {
-    let mut station = FileStation::with_buffers(&rt, Buffers::new(rt.alloc())?);
-    assert!(rt; station.create(OutPort::Bytes, "/dev/full").is_ok());
-    assert!(rt; put(&mut station, &[1, 2, 3]));
-    assert!(rt; station.close(OutPort::Bytes).is_err());
+    let answers = buffered(&rt, &[Create("/dev/full"), Write(&[1, 2, 3]), Close])?;
+    assert_eq!(rt; answers.as_slice(), [Done, Done, Failed].as_slice());
     Ok(())
 }
 
 // The bytes of a piece that is larger than the buffer are written at once.
 #[test]
 fn a_fault_of_the_file_is_answered_at_the_write(rt: HostRuntime) -> Result<(), Fail> {
-    let long = [7u8; 40_000];
-    let mut station = FileStation::with_buffers(&rt, Buffers::new(rt.alloc())?);
-    assert!(rt; station.create(OutPort::Bytes, "/dev/full").is_ok());
-    assert!(rt; !put(&mut station, &long));
-    assert!(rt; !put(&mut station, &[1, 2, 3]));
-    let mut unbuffered = FileStation::new(&rt);
-    assert!(rt; unbuffered.create(OutPort::Bytes, "/dev/full").is_ok());
-    assert!(rt; !put(&mut unbuffered, &[1, 2, 3]));
+    let small = Write(&[1, 2, 3]);
+    let answers = buffered(&rt, &[Create("/dev/full"), Write(&[7; 40_000]), small])?;
+    assert_eq!(rt; answers.as_slice(), [Done, Failed, Failed].as_slice());
+    let answers = unbuffered(&rt, 0, &[Create("/dev/full"), small])?;
+    assert_eq!(rt; answers.as_slice(), [Done, Failed].as_slice());
     Ok(())
 }
 
 // A folder can be opened, and not be read.
 #[test]
 fn a_fault_of_the_file_is_not_its_end(rt: HostRuntime) -> Result<(), Fail> {
-    let mut buf = [0u8; 1000];
-    let mut station = FileStation::new(&rt);
-    assert!(rt; station.attach(InPort::Hp, ".").is_ok());
-    assert!(rt; station.read(InPort::Hp, &mut buf).is_err());
+    let answers = unbuffered(&rt, 0, &[Attach("."), Read(1000)])?;
+    assert_eq!(rt; answers.as_slice(), [Done, Failed].as_slice());
     Ok(())
 }
 
-// One file is written and read: what stands in it as it is read was written before.
+// One file is written and read: what stands in it as it is read was written before. The second
+// byte was in the station's buffer, so nothing had to be written for it.
 #[test]
 fn a_read_of_the_file_comes_behind_the_writes(rt: HostRuntime) -> Result<(), Fail> {
-    let mut station = FileStation::with_buffers(&rt, Buffers::new(rt.alloc())?);
-    assert!(rt; station.create(OutPort::Bytes, "out.ts").is_ok());
-    assert!(rt; station.attach(InPort::Hp, "out.ts").is_ok());
-    assert!(rt; put(&mut station, &[1, 2, 3]));
-    assert_eq!(rt; read_some(&mut station, 1), 1);
-    assert!(rt; put(&mut station, &[4]));
-    assert_eq!(rt; read_some(&mut station, 1), 1);
-    // that byte was in the station's buffer, so nothing had to be written
-    assert_eq!(rt; fs::metadata(&rt, "out.ts")?.len(), 3);
-    assert_eq!(rt; read_some(&mut station, 1), 1);
-    assert_eq!(rt; read_some(&mut station, 1), 1);
-    assert_eq!(rt; fs::metadata(&rt, "out.ts")?.len(), 4);
+    let calls = [
+        Create("out.ts"),
+        Attach("out.ts"),
+        Write(&[1, 2, 3]),
+        Read(1),
+        Write(&[4]),
+        Read(1),
+        Length("out.ts"),
+        Read(1),
+        Read(1),
+        Length("out.ts"),
+    ];
+    let want = [
+        Done,
+        Done,
+        Done,
+        Bytes(1),
+        Done,
+        Bytes(1),
+        Bytes(3),
+        Bytes(1),
+        Bytes(1),
+        Bytes(4),
+    ];
+    assert_eq!(rt; buffered(&rt, &calls)?.as_slice(), want.as_slice());
     Ok(())
 }
 
 #[test]
 fn a_line_comes_behind_the_writes(rt: HostRuntime) -> Result<(), Fail> {
-    let watched = Watched::new(&rt, 0);
-    let mut station = FileStation::with_buffers(&watched, Buffers::new(rt.alloc())?);
-    assert!(rt; station.create(OutPort::Bytes, "out.ts").is_ok());
-    assert!(rt; put(&mut station, &[1, 2, 3]));
-    assert!(rt; report(&mut station));
-    assert_eq!(rt; fs::metadata(&rt, "out.ts")?.len(), 3);
-    assert_eq!(rt; watched.printed.get(), 5);
+    let calls = [
+        Create("out.ts"),
+        Write(&[1, 2, 3]),
+        Line,
+        Length("out.ts"),
+        Printed,
+    ];
+    let want = [Done, Done, Done, Bytes(3), Bytes(5)];
+    assert_eq!(rt; buffered(&rt, &calls)?.as_slice(), want.as_slice());
     Ok(())
 }
 
@@ -177,48 +119,49 @@ fn a_line_comes_behind_the_writes(rt: HostRuntime) -> Result<(), Fail> {
 // it again.
 #[test]
 fn a_line_tells_the_fault_of_a_file_once(rt: HostRuntime) -> Result<(), Fail> {
-    let watched = Watched::new(&rt, 0);
-    let mut station = FileStation::with_buffers(&watched, Buffers::new(rt.alloc())?);
-    assert!(rt; station.create(OutPort::Bytes, "/dev/full").is_ok());
-    assert!(rt; put(&mut station, &[1, 2, 3]));
-    assert!(rt; !report(&mut station));
-    assert_eq!(rt; watched.printed.get(), 0);
-    assert!(rt; report(&mut station));
-    assert_eq!(rt; watched.printed.get(), 5);
-    assert!(rt; station.close(OutPort::Bytes).is_ok());
+    let calls = [
+        Create("/dev/full"),
+        Write(&[1, 2, 3]),
+        Line,
+        Printed,
+        Line,
+        Printed,
+        Close,
+    ];
+    let want = [Done, Done, Failed, Bytes(0), Done, Bytes(5), Done];
+    assert_eq!(rt; buffered(&rt, &calls)?.as_slice(), want.as_slice());
     Ok(())
 }
 
 // A read can't tell it: the next write does, once for all.
 #[test]
 fn a_write_tells_the_fault_that_a_read_met(rt: HostRuntime) -> Result<(), Fail> {
-    let mut station = FileStation::with_buffers(&rt, Buffers::new(rt.alloc())?);
-    assert!(rt; station.create(OutPort::Bytes, "/dev/full").is_ok());
-    assert!(rt; station.attach(InPort::Hp, "/dev/null").is_ok());
-    assert!(rt; put(&mut station, &[1, 2, 3]));
-    assert_eq!(rt; read_some(&mut station, 1), 0);
-    assert!(rt; !put(&mut station, &[4]));
-    assert!(rt; station.close(OutPort::Bytes).is_ok());
+    let calls = [
+        Create("/dev/full"),
+        Attach("/dev/null"),
+        Write(&[1, 2, 3]),
+        Read(1),
+        Write(&[4]),
+        Close,
+    ];
+    let want = [Done, Done, Done, Bytes(0), Failed, Done];
+    assert_eq!(rt; buffered(&rt, &calls)?.as_slice(), want.as_slice());
     Ok(())
 }
 
 // A call that signals interrupt is tried a thousand times: a read of a file, and a line.
 #[test]
 fn calls_that_signals_interrupt_are_tried_again(rt: HostRuntime) -> Result<(), Fail> {
-    let mut sevens = FileStation::new(&rt);
-    assert!(rt; sevens.create(OutPort::Bytes, "sevens").is_ok());
-    assert!(rt; put(&mut sevens, &[7; 10]));
-    let mut buf = [0u8; 10];
-    for (signals, read, printed) in [(999, 10, 5), (1000, 0, 0)] {
-        let watched = Watched::new(&rt, signals);
-        let mut station = FileStation::new(&watched);
-        assert!(rt; station.attach(InPort::Hp, "sevens").is_ok());
-        let answer = station.read(InPort::Hp, &mut buf);
-        assert_eq!(rt; answer.is_ok(), read > 0);
-        assert_eq!(rt; answer.unwrap_or(0), read);
-        let mut station = FileStation::new(&watched);
-        assert_eq!(rt; report(&mut station), printed > 0);
-        assert_eq!(rt; watched.printed.get(), printed);
+    let calls = [Create("sevens"), Write(&[7; 10]), Length("sevens")];
+    let want = [Done, Done, Bytes(10)];
+    assert_eq!(rt; unbuffered(&rt, 0, &calls)?.as_slice(), want.as_slice());
+    let calls = [Attach("sevens"), Read(10), Line, Printed];
+    for (signals, want) in [
+        (999, [Done, Bytes(10), Done, Bytes(5)]),
+        (1000, [Done, Failed, Failed, Bytes(0)]),
+    ] {
+        let answers = unbuffered(&rt, signals, &calls)?;
+        assert_eq!(rt; answers.as_slice(), want.as_slice(), "{signals} signals");
     }
     Ok(())
 }

@@ -1,7 +1,9 @@
 // The station in memory, call by call.
-ghost use Rattle.std.specs.Prelude.{◌≡◌, true, false};
+ghost use Rattle.std.specs.Prelude.{◌≡◌, true, false, IfOk, OnOk};
+ghost use Rattle.station_core.specs.Meaning.{IsFresh};
+ghost use Rattle.station_core.specs.Memory.{memory_meaning};
 
-use station_core::{Failing, InPort, MemoryStation, OutPort, Station};
+use station_core::{Failed, Failing, InPort, MemoryStation, OutPort, Station};
 use std::alloc::{AllocError, Global};
 use std::test::Fail;
 
@@ -13,6 +15,18 @@ fn files(alloc: Global) -> Result<Vec<(String, Vec<u8>)>, AllocError> {
     files.push((String::from_str(alloc, "a")?, first))?;
     files.push((String::from_str(alloc, "a")?, second))?;
     Ok(files)
+}
+
+// A station with these files, whose reads give at most two bytes.
+fn station<'a>(
+    alloc: Global,
+    room: u32,
+    failing: &[Failing],
+) -> Result<MemoryStation<'a>, AllocError>
+    ensures { IfOk result (λ s. IsFresh (memory_meaning s)) }
+{
+    let failing = Vec::from_slice(alloc, failing)?;
+    MemoryStation::new(alloc, files(alloc)?, 2, room, failing)
 }
 
 // Reads at HP, and gives how many bytes, if it does not fail.
@@ -30,48 +44,78 @@ fn put<'a, S: Station<'a>>(station: &mut S, bytes: &[u8]) -> bool
     ensures created { (S.meaning station.new).hp_out.created ≡ true }
     ensures open { (S.meaning station.new).hp_out.closed ≡ false }
 {
-    match station.write(OutPort::Hp, bytes) {
-        Ok(()) => true,
-        Err(_) => false,
-    }
+    station.write(OutPort::Hp, bytes).is_ok()
+}
+
+// What the calls of a reader gave: whether a missing file is there, how many bytes each read gave,
+// and behind two of them what stands in front of the buffer.
+type Reads = (
+    bool,
+    (Option<usize>, [u8; 2]),
+    Option<usize>,
+    (Option<usize>, [u8; 2]),
+    [Option<usize>; 2],
+);
+
+// Asks for a file that is not there, and reads one that is.
+fn read_file<'a, S: Station<'a>>(station: &mut S) -> Result<Reads, Failed>
+    requires { IsFresh (S.meaning station.old) }
+{
+    let missing = station.attach(InPort::Lp, "b").is_ok();
+    station.attach(InPort::Hp, "a")?;
+    let mut buf = [0u8; 4];
+    let first = (next(station, &mut buf), [buf[0], buf[1]]);
+    let second = next(station, &mut buf);
+    let third = (next(station, &mut buf), [buf[0], buf[1]]);
+    let rest = [next(station, &mut buf), next(station, &mut buf)];
+    Ok((missing, first, second, third, rest))
 }
 
 #[test]
 fn reads_of_at_most_two_bytes(rt: HostRuntime) -> Result<(), Fail> {
-    let alloc = rt.alloc();
-    let failing = vec![in alloc; Failing::Read(InPort::Hp, 2)]?;
-    let mut station = MemoryStation::new(alloc, files(alloc)?, 2, 10, failing)?;
-    assert!(rt; station.attach(InPort::Lp, "b").is_err());
-    assert!(rt; station.attach(InPort::Hp, "a").is_ok());
-    let mut buf = [0u8; 4];
-    assert_eq!(rt; next(&mut station, &mut buf), Some(2));
-    assert_eq!(rt; &buf[..2], [1u8, 2].as_slice());
-    assert_eq!(rt; next(&mut station, &mut buf), None);
-    assert_eq!(rt; next(&mut station, &mut buf), Some(2));
-    assert_eq!(rt; &buf[..2], [3u8, 4].as_slice());
-    assert_eq!(rt; next(&mut station, &mut buf), Some(1));
-    assert_eq!(rt; next(&mut station, &mut buf), Some(0));
+    let mut station = station(rt.alloc(), 10, &[Failing::Read(InPort::Hp, 2)])?;
+    let first = (Some(2), [1, 2]);
+    let third = (Some(2), [3, 4]);
+    let want = (false, first, None, third, [Some(1), Some(0)]);
+    assert_eq!(rt; read_file(&mut station), Ok(want));
     Ok(())
+}
+
+// Makes a file, and writes two pieces.
+fn write_twice<'a, S: Station<'a>>(station: &mut S) -> Result<[bool; 2], Failed>
+    requires { IsFresh (S.meaning station.old) }
+    ensures created { OnOk result ((S.meaning station.new).hp_out.created ≡ true) }
+    ensures open { OnOk result ((S.meaning station.new).hp_out.closed ≡ false) }
+{
+    station.create(OutPort::Hp, "out")?;
+    let first = put(station, &[1, 2]);
+    Ok([first, put(station, &[3, 4, 5])])
+}
+
+// Writes a piece of four bytes and one of three, and closes the file.
+fn write_and_close<'a, S: Station<'a>>(station: &mut S) -> [bool; 3]
+    requires created { (S.meaning station.old).hp_out.created ≡ true }
+    requires open { (S.meaning station.old).hp_out.closed ≡ false }
+{
+    let four = put(station, &[6, 7, 8, 9]);
+    let three = put(station, &[6, 7, 8]);
+    [four, three, station.close(OutPort::Hp).is_ok()]
 }
 
 #[test]
 fn half_a_write_and_no_room(rt: HostRuntime) -> Result<(), Fail> {
-    let alloc = rt.alloc();
-    let failing = vec![in alloc;
+    let failing = [
         Failing::Write(OutPort::Hp, 2),
         Failing::Close(OutPort::Hp, 1),
-    ]?;
-    let mut station = MemoryStation::new(alloc, files(alloc)?, 2, 6, failing)?;
-    assert!(rt; station.create(OutPort::Hp, "out").is_ok());
-    assert!(rt; put(&mut station, &[1, 2]));
-    assert!(rt; !put(&mut station, &[3, 4, 5]));
+    ];
+    let mut station = station(rt.alloc(), 6, &failing)?;
+    let half = write_twice(&mut station)?;
     assert_eq!(rt; station.written(OutPort::Hp), [1u8, 2, 3].as_slice());
-    assert!(rt; !put(&mut station, &[6, 7, 8, 9]));
-    assert!(rt; put(&mut station, &[6, 7, 8]));
+    let no_room = write_and_close(&mut station);
     assert_eq!(rt;
         station.written(OutPort::Hp),
         [1u8, 2, 3, 6, 7, 8].as_slice()
     );
-    assert!(rt; station.close(OutPort::Hp).is_err());
+    assert_eq!(rt; (half, no_room), ([true, false], [false, true, false]));
     Ok(())
 }
