@@ -1,7 +1,12 @@
 // Margins beside independent programs.
+ghost use Rattle.std.specs.Prelude.{◌<◌, ◌≤◌, length};
+
 use bit_margin::{Margins, least_eight, margin_of};
 use code_paths::CostPair;
 use inner_decoder::StartState;
+use std::alloc::{AllocError, Global};
+use std::process::Abort;
+use std::rt::HostRuntime;
 use std::test::Fail;
 use test_tools::next_number;
 
@@ -13,41 +18,43 @@ fn register_of(start: StartState) -> Option<[bool; 6]> {
     }
 }
 
-/// A drawn pair of costs, 0 to 2 each where they are small, and where to go on drawing.
-fn drawn(seed: u32, small: bool) -> (CostPair, u32) {
-    let mut x = seed;
-    let mut costs = [0u16; 4];
-    for k in 0..4usize {
-        let number = next_number(&mut x) >> 16;
-        costs[k] = if small {
-            (number % 3) as u16
-        } else {
-            (number % 4096) as u16
-        };
-    }
-    (
-        CostPair {
-            x0: costs[0] % 4096,
-            x1: costs[1] % 4096,
-            y0: costs[2] % 4096,
-            y1: costs[3] % 4096,
-        },
-        x,
-    )
+/// A drawn cost, 0 to 2 where it is small.
+fn drawn_cost(seed: &mut u32, small: bool) -> u16
+    ensures { result < 4096 }
+{
+    let number = next_number(seed) >> 16;
+    let range = if small { 3 } else { 4096 };
+    (number % range) as u16
 }
 
-/// The margins of ten pairs, by windows.
-fn margins_of(
-    rt: &HostRuntime,
-    start: StartState,
-    pairs: &[CostPair; 10],
-) -> Result<Vec<u32>, Fail> {
-    let mut margins = Margins::new(rt.alloc(), start)?;
-    let mut to = Vec::with_capacity(rt.alloc(), 1279)?;
-    for k in 0..10usize {
-        margins.push(pairs[k]);
+/// A drawn pair of costs, 0 to 2 each where they are small.
+fn drawn(seed: &mut u32, small: bool) -> CostPair {
+    CostPair {
+        x0: drawn_cost(seed, small),
+        x1: drawn_cost(seed, small),
+        y0: drawn_cost(seed, small),
+        y1: drawn_cost(seed, small),
     }
+}
+
+/// The margins of a few pairs, by windows. They settle with the end.
+fn margins_of(
+    rt: &impl Abort,
+    alloc: Global,
+    start: StartState,
+    pairs: &[CostPair],
+) -> Result<Vec<u32>, AllocError>
+    requires { length pairs.now ≤ 10 }
+{
+    let mut margins = Margins::new(alloc, start)?;
+    let mut to = Vec::with_capacity(alloc, 1279)?;
+    let mut settled = false;
+    for k in 0..pairs.len() {
+        settled |= margins.push(pairs[k]);
+    }
+    assert!(rt; !settled && !margins.full() && !margins.ended());
     margins.finish(&mut to);
+    assert!(rt; margins.ended());
     Ok(to)
 }
 
@@ -62,13 +69,10 @@ fn tried(start: StartState, pairs: &[CostPair; 10]) -> [u32; 10] {
 
 /// Ten drawn pairs.
 fn ten_drawn(small: bool) -> [CostPair; 10] {
-    let (first, _seed) = drawn(99, small);
-    let mut pairs = [first; 10];
-    let mut next = 99;
-    for k in 0..10usize {
-        let (pair, seed) = drawn(next, small);
-        pairs[k] = pair;
-        next = seed;
+    let mut seed = 99;
+    let mut pairs = [drawn(&mut seed, small); 10];
+    for k in 1..10usize {
+        pairs[k] = drawn(&mut seed, small);
     }
     pairs
 }
@@ -76,19 +80,15 @@ fn ten_drawn(small: bool) -> [CostPair; 10] {
 #[test]
 fn one_pair(rt: HostRuntime) -> Result<(), Fail> {
     // from 000000 the step on 1 costs 5 and 7; from 000001 it costs nothing
+    let pair = CostPair {
+        x0: 0,
+        x1: 5,
+        y0: 0,
+        y1: 7,
+    };
     for (start, margin) in [(StartState::Zero, 12u32), (StartState::Any, 0)] {
-        let mut margins = Margins::new(rt.alloc(), start)?;
-        let mut to = Vec::with_capacity(rt.alloc(), 1279)?;
-        let pair = CostPair {
-            x0: 0,
-            x1: 5,
-            y0: 0,
-            y1: 7,
-        };
-        let settled = margins.push(pair);
-        assert!(rt; !settled && !margins.full() && !margins.ended());
-        margins.finish(&mut to);
-        assert!(rt; margins.ended() && to.as_slice() == [margin].as_slice());
+        let margins = margins_of(&rt, rt.alloc(), start, &[pair])?;
+        assert_eq!(rt; margins.as_slice(), [margin].as_slice());
     }
     Ok(())
 }
@@ -99,7 +99,7 @@ fn all_paths_tried(rt: HostRuntime) -> Result<(), Fail> {
     for small in [false, true] {
         let pairs = ten_drawn(small);
         for start in [StartState::Zero, StartState::Any] {
-            let margins = margins_of(&rt, start, &pairs)?;
+            let margins = margins_of(&rt, rt.alloc(), start, &pairs)?;
             assert_eq!(rt; margins.as_slice(), tried(start, &pairs).as_slice());
         }
     }
@@ -116,15 +116,13 @@ fn hashed(sum: u64, numbers: &[u32]) -> u64 {
 }
 
 /// The hash of the margins of drawn pairs.
-fn hash_of_drawn(rt: &HostRuntime, start: StartState, pairs: u32) -> Result<u64, Fail> {
-    let mut margins = Margins::new(rt.alloc(), start)?;
-    let mut to = Vec::with_capacity(rt.alloc(), 1279)?;
+fn hash_of_drawn(alloc: Global, start: StartState, pairs: u32) -> Result<u64, AllocError> {
+    let mut margins = Margins::new(alloc, start)?;
+    let mut to = Vec::with_capacity(alloc, 1279)?;
     let mut seed = 12345;
     let mut sum = 0;
     for _k in 0..pairs {
-        let (pair, next) = drawn(seed, false);
-        seed = next;
-        if margins.push(pair) {
+        if margins.push(drawn(&mut seed, false)) {
             margins.take(&mut to);
             sum = hashed(sum, &to);
             to.clear();
@@ -145,7 +143,8 @@ fn long_streams(rt: HostRuntime) -> Result<(), Fail> {
         (StartState::Any, 1025, 3676650741690303072),
     ];
     for (start, pairs, hash) in table {
-        assert_eq!(rt; hash_of_drawn(&rt, start, pairs)?, hash);
+        let found = hash_of_drawn(rt.alloc(), start, pairs)?;
+        assert_eq!(rt; found, hash);
     }
     Ok(())
 }
