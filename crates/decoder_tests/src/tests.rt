@@ -72,7 +72,7 @@ fn make(
 
 /// Starts, the most steps, digits of costs and what decoders make of them. The texts on the right come from an
 /// independent program.
-const CASES: [(StartState, usize, &str, &str); 29] = [
+static CASES: [(StartState, usize, &str, &str); 29] = [
     (
         StartState::Zero,
         1,
@@ -268,17 +268,10 @@ fn is_decoded(
     )
 }
 
-fn case(number: usize) -> (StartState, usize, &'static str, &'static str)
-    requires { number < 29 }
-{
-    CASES[number]
-}
-
 #[test]
 fn small_cost_lists(rt: HostRuntime) -> Result<(), Fail> {
-    for number in 0..29usize {
-        let (start, most, digits, want) = case(number);
-        let decoded = is_decoded(&rt, rt.alloc(), start, most, digits, want)?;
+    for (start, most, digits, want) in &CASES {
+        let decoded = is_decoded(&rt, rt.alloc(), *start, *most, digits, want)?;
         assert!(rt; decoded, "at {digits}");
     }
     Ok(())
