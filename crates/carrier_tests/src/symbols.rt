@@ -1,5 +1,5 @@
 // The cells of the first symbols of a transmission.
-ghost use Rattle.std.specs.Prelude.{◌≡◌, ℕ, ◌<◌, ◌^◌, get_or, length};
+ghost use Rattle.std.specs.Prelude.{◌≡◌, ℕ, ◌<◌, ◌^◌, get_or};
 ghost use Rattle.mode_set.specs.StreamTable.{label_bits};
 ghost use Rattle.mode_set.specs.declared.modes.Shape.{Shape as AnyShape};
 
@@ -88,54 +88,49 @@ fn weighted_bytes() -> [u8; 8530] {
     bytes
 }
 
-// Takes a symbol in pieces of 1, 3, 1 and 8525 bytes, of which five are those of the next one: the second
-// cut lies between a cell and its weight.
-fn take_in_pieces(rt: &impl Abort, symbol: &mut SymbolIn<Mode2k>)
-    ensures { length symbol.new ≡ 8525 }
-{
+// A symbol in pieces of 1, 3, 1 and 8525 bytes, of which five are those of the next one: the second cut lies
+// between a cell and its weight. A byte above 15 is the weight 15.
+#[test]
+fn a_symbol_in_pieces(rt: HostRuntime) {
     let bytes = weighted_bytes();
+    let mut symbol = SymbolIn::<Mode2k>::new(rt.alloc()).expect(&rt, "memory");
     for (from, end, taken) in [(0, 1, 1), (1, 4, 3), (4, 5, 1), (5, 8530, 8520usize)] {
         let whole = symbol.whole();
-        assert!(rt; !whole);
-        assert!(rt; symbol.take(&bytes[from..end]) == taken);
+        assert!(&rt; !whole);
+        assert!(&rt; symbol.take(&bytes[from..end]) == taken);
     }
     let whole = symbol.whole();
-    assert!(rt; whole);
-}
-
-// A byte above 15 is the weight 15.
-const WEIGHTS: [(usize, u8); 9] = [
-    (0, 0),
-    (1, 1),
-    (14, 14),
-    (15, 15),
-    (16, 15),
-    (255, 15),
-    (256, 0),
-    (1543, 7),
-    (1704, 15),
-];
-
-#[test]
-fn a_symbol_in_pieces(rt: HostRuntime) -> Result<(), Fail> {
-    let mut symbol = SymbolIn::<Mode2k>::new(rt.alloc())?;
-    take_in_pieces(&rt, &mut symbol);
-    let last = Cell {
-        re: 0x1212,
-        im: 0x1212,
-    };
-    assert!(rt; symbol.cells()[1704] == last);
-    for (carrier, weight) in WEIGHTS {
-        assert!(rt; carrier < 1705);
-        assert!(rt; symbol.weights()[carrier] == weight, "carrier {carrier}");
+    assert!(&rt; whole);
+    let cell = symbol.cells()[1704];
+    assert!(&rt;
+        cell == Cell {
+            re: 0x1212,
+            im: 0x1212
+        }
+    );
+    for (carrier, weight) in [
+        (0, 0),
+        (1, 1),
+        (14, 14),
+        (15, 15),
+        (16, 15),
+        (255, 15),
+        (256, 0),
+        (1543, 7),
+        (1704, 15u8),
+    ] {
+        assert!(&rt; symbol.weights()[carrier] == weight);
     }
     symbol.next();
-    assert!(rt; symbol.waiting() == 0);
-    Ok(())
+    assert!(&rt; symbol.waiting() == 0);
 }
 
 #[test]
 fn headers_of_both_modes(rt: HostRuntime) {
-    assert_eq!(&rt; header(Mode::M2k), [0x44, 0x56, 0x54, 0x43, 2, 0, 0, 0]);
-    assert_eq!(&rt; header(Mode::M8k), [0x44, 0x56, 0x54, 0x43, 2, 1, 0, 0]);
+    let headers = [header(Mode::M2k), header(Mode::M8k)];
+    let expected = [
+        [0x44, 0x56, 0x54, 0x43, 2, 0, 0, 0],
+        [0x44, 0x56, 0x54, 0x43, 2, 1, 0, 0],
+    ];
+    assert_eq!(rt; headers, expected);
 }

@@ -88,7 +88,7 @@ fn one_pair(rt: HostRuntime) -> Result<(), Fail> {
     };
     for (start, margin) in [(StartState::Zero, 12u32), (StartState::Any, 0)] {
         let margins = margins_of(&rt, rt.alloc(), start, &[pair])?;
-        assert_eq!(rt; margins.as_slice(), [margin].as_slice());
+        assert!(rt; margins.as_slice() == [margin].as_slice());
     }
     Ok(())
 }
@@ -156,9 +156,17 @@ fn least_margins(rt: HostRuntime) {
     for place in 0..204u32 {
         margins[place as usize] = (place * 37 + 11) % 30 + 3;
     }
-    assert_eq!(rt; least_eight(&margins), [7, 20, 37, 67, 97, 127, 157, 187]);
-    assert_eq!(rt; least_eight(&[9; 204]), [0, 1, 2, 3, 4, 5, 6, 7]);
-    margins = [9; 204];
-    margins[203] = 8;
-    assert_eq!(rt; least_eight(&margins), [0, 1, 2, 3, 4, 5, 6, 203]);
+    let mut last = [9; 204];
+    last[203] = 8;
+    let found = [
+        least_eight(&margins),
+        least_eight(&[9; 204]),
+        least_eight(&last),
+    ];
+    let expected = [
+        [7, 20, 37, 67, 97, 127, 157, 187],
+        [0, 1, 2, 3, 4, 5, 6, 7],
+        [0, 1, 2, 3, 4, 5, 6, 203],
+    ];
+    assert_eq!(rt; found, expected);
 }
