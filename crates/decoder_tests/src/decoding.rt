@@ -201,23 +201,23 @@ fn ones_taken<A: Acs, V: Survivors<2048>>(branch: &mut Branch<A, V>, before: u32
     ones
 }
 
-/// What a branch makes of two symbols of 1,512 steps whose 64 paths never agree: how many reports there are and the step
-/// of the last, the bits that wait after each symbol and, where all whole bytes were taken in between, at the end, and how
+/// What a branch makes of two symbols of 1,512 steps whose 64 paths never agree: how many reports each has and the step of
+/// the last, the bits that wait after each symbol and, where all whole bytes were taken in between, at the end, and how
 /// many bits are set.
 pub fn unmerged<A: Acs, V: Survivors<2048>>(
     rt: &impl Abort,
     alloc: Global,
-) -> Result<(u32, u64, [u32; 3], u32), AllocError> {
+) -> Result<([usize; 2], u64, [u32; 3], u32), AllocError> {
     let mut branch: Branch<A, V> = Branch::new(alloc, StartState::Any, 1512)?;
-    let mut reports = 0u32;
+    let mut reports = [0usize; 2];
     let mut last = 0u64;
     let mut waiting = [0u32; 3];
     let mut ones = 0u32;
     for k in 0..2usize {
         load(&mut branch, UNKNOWN, 1512);
         branch.run_symbol();
+        reports[k] = branch.events().len();
         for report in branch.events() {
-            reports = reports.saturating_add(1);
             last = report.at;
         }
         waiting[k] = branch.waiting();

@@ -1,11 +1,10 @@
 // Margins beside independent programs.
-ghost use Rattle.std.specs.Prelude.{◌<◌, ◌≤◌, length};
+ghost use Rattle.std.specs.Prelude.{◌<◌};
 
 use bit_margin::{Margins, least_eight, margin_of};
 use code_paths::CostPair;
 use inner_decoder::StartState;
 use std::alloc::{AllocError, Global};
-use std::process::Abort;
 use std::rt::HostRuntime;
 use std::test::Fail;
 use test_tools::next_number;
@@ -37,24 +36,18 @@ fn drawn(seed: &mut u32, small: bool) -> CostPair {
     }
 }
 
-/// The margins of a few pairs, by windows. They settle with the end.
+/// The margins of ten pairs, by windows.
 fn margins_of(
-    rt: &impl Abort,
     alloc: Global,
     start: StartState,
-    pairs: &[CostPair],
-) -> Result<Vec<u32>, AllocError>
-    requires { length pairs.now ≤ 10 }
-{
+    pairs: &[CostPair; 10],
+) -> Result<Vec<u32>, AllocError> {
     let mut margins = Margins::new(alloc, start)?;
     let mut to = Vec::with_capacity(alloc, 1279)?;
-    let mut settled = false;
-    for k in 0..pairs.len() {
-        settled |= margins.push(pairs[k]);
+    for k in 0..10usize {
+        margins.push(pairs[k]);
     }
-    assert!(rt; !settled && !margins.full() && !margins.ended());
     margins.finish(&mut to);
-    assert!(rt; margins.ended());
     Ok(to)
 }
 
@@ -80,15 +73,19 @@ fn ten_drawn(small: bool) -> [CostPair; 10] {
 #[test]
 fn one_pair(rt: HostRuntime) -> Result<(), Fail> {
     // from 000000 the step on 1 costs 5 and 7; from 000001 it costs nothing
-    let pair = CostPair {
-        x0: 0,
-        x1: 5,
-        y0: 0,
-        y1: 7,
-    };
     for (start, margin) in [(StartState::Zero, 12u32), (StartState::Any, 0)] {
-        let margins = margins_of(&rt, rt.alloc(), start, &[pair])?;
-        assert!(rt; margins.as_slice() == [margin].as_slice());
+        let mut margins = Margins::new(rt.alloc(), start)?;
+        let mut to = Vec::with_capacity(rt.alloc(), 1279)?;
+        let pair = CostPair {
+            x0: 0,
+            x1: 5,
+            y0: 0,
+            y1: 7,
+        };
+        let settled = margins.push(pair);
+        assert!(rt; !settled && !margins.full() && !margins.ended());
+        margins.finish(&mut to);
+        assert!(rt; margins.ended() && to.as_slice() == [margin].as_slice());
     }
     Ok(())
 }
@@ -99,7 +96,7 @@ fn all_paths_tried(rt: HostRuntime) -> Result<(), Fail> {
     for small in [false, true] {
         let pairs = ten_drawn(small);
         for start in [StartState::Zero, StartState::Any] {
-            let margins = margins_of(&rt, rt.alloc(), start, &pairs)?;
+            let margins = margins_of(rt.alloc(), start, &pairs)?;
             assert_eq!(rt; margins.as_slice(), tried(start, &pairs).as_slice());
         }
     }

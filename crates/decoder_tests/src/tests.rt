@@ -279,7 +279,7 @@ fn small_cost_lists(rt: HostRuntime) -> Result<(), Fail> {
 
 // Of 3,024 steps 2,961 are given by the second symbol, all zeros: the whole first part, and of the second one, which begins
 // from one register, all but 63.
-const UNMERGED: (u32, u64, [u32; 3], u32) = (1, 2049, [0, 2961, 64], 0);
+const UNMERGED: ([usize; 2], u64, [u32; 3], u32) = ([0, 1], 2049, [0, 2961, 64], 0);
 
 #[test]
 fn unmerged_over_lists(rt: HostRuntime) -> Result<(), Fail> {

@@ -3,7 +3,7 @@ use Rattle.std.specs.Prelude.{false}
 use Rattle.decoder_tests.proofs.margins.margins_of.Given as goal
 
 abbrev pub invariant-loop-k : goal.invariant-loop-k
-invariant-loop-k g l = record {
+invariant-loop-k l = record {
   going : l.margins.ended ≡ false;
   waiting : length l.margins.waiting ≡ l.k;
 }
