@@ -24,9 +24,10 @@ fn agrees(rt: &impl Abort, shape: Shape, hierarchy: Hierarchy, stream: Stream, o
                 let index = 126 * block + (w + OFFSETS[*e as usize]) % 126;
                 let bit = order.len() as u32 * index + turn as u32;
                 let (label_place, word) = place(shape, hierarchy, stream, bit);
-                assert!(rt; label_place as u32 == *e && word == 126 * block + w);
-                let (back_stream, back) = bit_at(shape, hierarchy, label_place, word);
-                assert!(rt; back_stream == stream && back == bit);
+                let back = bit_at(shape, hierarchy, label_place, word);
+                assert!(rt;
+                    (label_place as u32, word, back) == (*e, 126 * block + w, (stream, bit))
+                );
             }
         }
     }

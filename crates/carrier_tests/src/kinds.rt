@@ -1,26 +1,33 @@
 // What each carrier is for, and the reference sequence.
 use mode_set::Mode;
 use pilots::CarrierKind::{Continual, Payload, Scattered, Tps};
-use pilots::{carrier, kind, reference, tps_carriers};
+use pilots::{CarrierKind, carrier, kind, reference, tps_carriers};
 use std::rt::HostRuntime;
 
-// Carriers of EN 300 744, 4.5.3, 4.5.4 and 4.6, and the ends of both modes.
+// Carriers of EN 300 744, 4.5.3, 4.5.4 and 4.6, and the ends of both modes: the mode, the symbol, the
+// carrier and its kind.
+const KINDS: [(Mode, u8, u32, CarrierKind); 11] = [
+    (Mode::M2k, 0, 0, Continual),
+    (Mode::M2k, 0, 1, Payload(0)),
+    (Mode::M2k, 0, 12, Scattered),
+    (Mode::M2k, 0, 13, Payload(11)),
+    (Mode::M2k, 0, 34, Tps),
+    (Mode::M2k, 0, 48, Continual),
+    (Mode::M2k, 67, 1703, Payload(1511)),
+    (Mode::M2k, 3, 1704, Continual),
+    (Mode::M8k, 2, 1704, Continual),
+    (Mode::M8k, 65, 6815, Payload(6047)),
+    (Mode::M8k, 66, 6799, Tps),
+];
+
 #[test]
 fn carriers_of_the_standard(rt: HostRuntime) {
-    assert!(&rt; kind(Mode::M2k, 0, 0) == Continual);
-    assert!(&rt; kind(Mode::M2k, 0, 1) == Payload(0));
-    assert!(&rt; kind(Mode::M2k, 0, 12) == Scattered);
-    assert!(&rt; kind(Mode::M2k, 0, 13) == Payload(11));
-    assert!(&rt; kind(Mode::M2k, 0, 34) == Tps);
-    assert!(&rt; kind(Mode::M2k, 0, 48) == Continual);
-    assert!(&rt; kind(Mode::M2k, 67, 1703) == Payload(1511));
-    assert!(&rt; kind(Mode::M2k, 3, 1704) == Continual);
-    assert!(&rt; kind(Mode::M8k, 2, 1704) == Continual);
-    assert!(&rt; kind(Mode::M8k, 65, 6815) == Payload(6047));
-    assert!(&rt; kind(Mode::M8k, 66, 6799) == Tps);
-    assert!(&rt; carrier(Mode::M2k, 0, 11) == 13);
-    assert!(&rt; carrier(Mode::M8k, 67, 6047) == 6815);
-    assert!(&rt; tps_carriers(Mode::M8k).len() == 68);
+    for (mode, l, k, want) in KINDS {
+        assert!(rt; l < 68 && k < mode.carriers());
+        assert!(rt; kind(mode, l, k) == want, "carrier {k} of symbol {l}");
+    }
+    let carriers = (carrier(Mode::M2k, 0, 11), carrier(Mode::M8k, 67, 6047));
+    assert!(rt; carriers == (13, 6815) && tps_carriers(Mode::M8k).len() == 68);
 }
 
 // Along all symbols of a frame the payload carriers are numbered on without a gap.
@@ -30,8 +37,7 @@ fn payload_carriers_of_a_frame(rt: HostRuntime) {
         let mut next = 0;
         for k in 0..1705u32 {
             if let Payload(q) = kind(Mode::M2k, l, k) {
-                assert!(&rt; q == next);
-                assert!(&rt; carrier(Mode::M2k, l, q) == k);
+                assert!(&rt; q == next && carrier(Mode::M2k, l, q) == k);
                 next = q + 1;
             }
         }
@@ -39,16 +45,22 @@ fn payload_carriers_of_a_frame(rt: HostRuntime) {
     }
 }
 
-// Eleven ones, nine zeros, two ones, and two bits further on.
+// The sequence from one place until before another: eleven ones, nine zeros, two ones, and bits further on.
+const RUNS: [(u32, u32, bool); 7] = [
+    (0, 11, true),
+    (11, 20, false),
+    (20, 22, true),
+    (22, 23, false),
+    (34, 35, false),
+    (2057, 2058, true),
+    (2058, 2059, false),
+];
+
 #[test]
 fn head_of_the_sequence(rt: HostRuntime) {
-    for k in 0..11u32 {
-        assert!(&rt; reference(k));
+    for (from, end, bit) in RUNS {
+        for k in from..end {
+            assert!(rt; reference(k) == bit, "bit {k}");
+        }
     }
-    for k in 11..20u32 {
-        assert!(&rt; !reference(k));
-    }
-    assert!(&rt; reference(20) && reference(21) && !reference(22));
-    assert!(&rt; !reference(12) && !reference(34));
-    assert!(&rt; reference(2047 + 10) && !reference(2047 + 11));
 }

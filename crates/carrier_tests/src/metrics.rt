@@ -8,20 +8,22 @@ use soft_metric::{costs, costs_lanes, weighted};
 use std::process::Abort;
 use std::rt::HostRuntime;
 
+// The constellation without a hierarchy, both parts of the cell, the place and the costs of 0 and of 1.
+const SINGLE_VALUES: [(Shape, i16, i16, u8, (u16, u16)); 6] = [
+    (Shape::Qpsk, 0, 7, 0, (511, 511)),
+    (Shape::Qpsk, 7, 11585, 1, (0, 2047)),
+    (Shape::Qpsk, -32768, 7, 0, (4095, 1711)),
+    (Shape::Qam64, 0, 7, 0, (24, 24)),
+    (Shape::Qam64, 0, 7, 2, (609, 24)),
+    (Shape::Qam64, 0, 7, 4, (24, 219)),
+];
+
 #[test]
 fn costs_at_single_values(rt: HostRuntime) {
-    let qpsk = Shape::Qpsk;
-    let qam64 = Shape::Qam64;
-    let flat = Hierarchy::Flat;
-    assert_eq!(rt; costs(qpsk, flat, Cell { re: 0, im: 7 }, 0), (511, 511));
-    assert_eq!(rt; costs(qpsk, flat, Cell { re: 7, im: 11585 }, 1), (0, 2047));
-    assert_eq!(rt;
-        costs(qpsk, flat, Cell { re: -32768, im: 7 }, 0),
-        (4095, 1711)
-    );
-    assert_eq!(rt; costs(qam64, flat, Cell { re: 0, im: 7 }, 0), (24, 24));
-    assert_eq!(rt; costs(qam64, flat, Cell { re: 0, im: 7 }, 2), (609, 24));
-    assert_eq!(rt; costs(qam64, flat, Cell { re: 0, im: 7 }, 4), (24, 219));
+    for (shape, re, im, place, pair) in SINGLE_VALUES {
+        assert!(rt; place < shape.label_bits());
+        assert_eq!(rt; costs(shape, Hierarchy::Flat, Cell { re, im }, place), pair);
+    }
 }
 
 // The least cost of the values 0 and 1 over the points of all labels.
@@ -35,8 +37,8 @@ fn plain(rt: &impl Abort, shape: Shape, hierarchy: Hierarchy, cell: Cell, place:
             } else {
                 (cell.im, point.im)
             };
-            let gap = (x as i64 - value as i64).unsigned_abs();
-            assert!(rt; place < 8 && gap < 65536);
+            let gap = u64::from(x.abs_diff(value));
+            assert!(rt; place < 8);
             let bit = (label >> place & 1) as usize;
             least[bit] = least[bit].min(gap * gap);
         }
@@ -140,27 +142,30 @@ fn lanes_are_single_costs(rt: HostRuntime) {
                 assert!(rt; place < shape.label_bits());
                 let lanes = costs_lanes(shape, hierarchy, &cells, place);
                 for (cell, pair) in cells.into_iter().zip(lanes) {
-                    assert!(rt; pair == costs(shape, hierarchy, cell, place));
-                    assert!(rt; pair == plain(&rt, shape, hierarchy, cell, place));
+                    let single = costs(shape, hierarchy, cell, place);
+                    let least = plain(&rt, shape, hierarchy, cell, place);
+                    assert!(rt; [single, least] == [pair; 2]);
                 }
             }
         }
     }
 }
 
+// A pair of costs, a weight and the pair by this weight.
+const WEIGHTED: [((u16, u16), u8, (u16, u16)); 7] = [
+    ((511, 2047), 0, (0, 0)),
+    ((511, 2047), 1, (34, 136)),
+    ((511, 2047), 7, (238, 955)),
+    ((511, 2047), 14, (476, 1910)),
+    ((511, 2047), 15, (511, 2047)),
+    ((4095, 14), 15, (4095, 14)),
+    ((4095, 14), 1, (273, 0)),
+];
+
 #[test]
 fn costs_by_weights(rt: HostRuntime) {
-    let weights = [
-        (0, (0, 0)),
-        (1, (34, 136)),
-        (7, (238, 955)),
-        (14, (476, 1910)),
-        (15, (511, 2047)),
-    ];
-    for (weight, pair) in weights {
-        assert!(rt; weight <= 15);
-        assert_eq!(rt; weighted((511, 2047), weight), pair);
+    for (pair, weight, want) in WEIGHTED {
+        assert!(rt; weight <= 15 && pair.0 < 4096 && pair.1 < 4096);
+        assert_eq!(rt; weighted(pair, weight), want);
     }
-    assert_eq!(rt; weighted((4095, 14), 15), (4095, 14));
-    assert_eq!(rt; weighted((4095, 14), 1), (273, 0));
 }

@@ -1,58 +1,81 @@
 // The cells of the first symbols of a transmission.
-ghost use Rattle.std.specs.Prelude.{ℕ, ◌<◌, get_or};
+ghost use Rattle.std.specs.Prelude.{◌≡◌, ℕ, ◌<◌, ◌^◌, get_or};
+ghost use Rattle.mode_set.specs.StreamTable.{label_bits};
+ghost use Rattle.mode_set.specs.declared.modes.Shape.{Shape as AnyShape};
 
 use frame_build::{SymbolIn, SymbolOut, header};
-use mode_set::{Mode, Mode2k, Rate, Shape};
+use mode_set::{Entry, Mode, Mode2k, Rate, Shape};
 use qam_map::Cell;
+use std::alloc::{AllocError, Global};
+use std::process::Abort;
 use std::rt::HostRuntime;
+use std::test::Fail;
 use test_tools::flat;
 
-// Every label has y0 = 1 and y1 = 0.
+// Every label has y0 = 1, and each other bit of it is 0.
 fn labels() -> [u8; 1512]
-    ensures { (q : ℕ) → q < 1512 → get_or result q 0 < 4 }
+    ensures { (shape : AnyShape) (q : ℕ) → q < 1512 → get_or result q 0 < 2 ^ label_bits shape }
 {
     [1; 1512]
+}
+
+// The bytes of four symbols of a builder: the parameters of each, and those that it announces.
+fn four_symbols(alloc: Global, symbols: &[(Entry, Entry); 4]) -> Result<Vec<u8>, AllocError> {
+    let labels = labels();
+    let mut bytes = Vec::with_capacity(alloc, 34100)?;
+    let mut out = SymbolOut::<Mode2k>::new(&flat(Mode::M2k, Shape::Qpsk, Rate::R1of2));
+    for k in 0..4usize {
+        let (now, next) = &symbols[k];
+        out.write(now, next, &labels, &mut bytes);
+    }
+    Ok(bytes)
+}
+
+// Each of these cells, of which the symbol and the carrier are given, stands among the bytes of symbols.
+fn stand(rt: &impl Abort, bytes: &[u8], cells: &[(u8, u16, [u8; 5])]) {
+    for (symbol, carrier, cell) in cells {
+        let from = 5 * (1705 * *symbol as usize + *carrier as usize);
+        assert!(rt; from < bytes.len());
+        assert!(rt;
+            bytes[from..].starts_with(cell),
+            "carrier {carrier} of symbol {symbol}"
+        );
+    }
 }
 
 // Carriers 0 and 1, 12 and 34 of symbol 0, and carrier 34 of symbol 3, as another modulator sends them:
 // each cell with the weight 15.
 #[test]
-fn first_cells(rt: HostRuntime) {
-    let alloc = rt.alloc();
-    let settings = flat(Mode::M2k, Shape::Qpsk, Rate::R1of2);
-    let one = settings.top();
-    let labels = labels();
-    let mut bytes = Vec::with_capacity(alloc, 34100).expect(&rt, "memory");
-    let mut out = SymbolOut::<Mode2k>::new(&settings);
-    out.write(&one, &one, &labels, &mut bytes);
-    out.write(&one, &one, &labels, &mut bytes);
-    out.write(&one, &one, &labels, &mut bytes);
-    out.write(&one, &one, &labels, &mut bytes);
-    assert!(&rt; &bytes[..10] == [0xAA, 0xAB, 0, 0, 15, 0xD2, 0xBF, 0x2D, 0x41, 15u8].as_slice());
-    assert!(&rt; &bytes[60..65] == [0x55, 0x55, 0, 0, 15u8].as_slice());
-    assert!(&rt; &bytes[170..175] == [0x40, 0, 0, 0, 15u8].as_slice());
-    assert!(&rt; &bytes[25745..25750] == [0xC0, 0, 0, 0, 15u8].as_slice());
+fn first_cells(rt: HostRuntime) -> Result<(), Fail> {
+    let one = flat(Mode::M2k, Shape::Qpsk, Rate::R1of2).top();
+    let bytes = four_symbols(rt.alloc(), &[(one, one); 4])?;
+    let cells = [
+        (0, 0, [0xAA, 0xAB, 0, 0, 15]),
+        (0, 1, [0xD2, 0xBF, 0x2D, 0x41, 15]),
+        (0, 12, [0x55, 0x55, 0, 0, 15]),
+        (0, 34, [0x40, 0, 0, 0, 15]),
+        (3, 34, [0xC0, 0, 0, 0, 15]),
+    ];
+    stand(&rt, &bytes, &cells);
+    Ok(())
 }
 
 // The label 1 on carrier 1 by one builder, where the constellation changes and changes back: the level is
 // that of the symbol's own parameters, whatever the next super-frame has.
 #[test]
-fn cells_of_changing_parameters(rt: HostRuntime) {
-    let alloc = rt.alloc();
-    let settings = flat(Mode::M2k, Shape::Qpsk, Rate::R1of2);
-    let one = settings.top();
+fn cells_of_changing_parameters(rt: HostRuntime) -> Result<(), Fail> {
+    let one = flat(Mode::M2k, Shape::Qpsk, Rate::R1of2).top();
     let two = flat(Mode::M2k, Shape::Qam16, Rate::R1of2).top();
-    let labels = labels();
-    let mut bytes = Vec::with_capacity(alloc, 34100).expect(&rt, "memory");
-    let mut out = SymbolOut::<Mode2k>::new(&settings);
-    out.write(&one, &two, &labels, &mut bytes);
-    out.write(&two, &one, &labels, &mut bytes);
-    out.write(&two, &two, &labels, &mut bytes);
-    out.write(&one, &one, &labels, &mut bytes);
-    assert!(&rt; &bytes[5..10] == [0xD2, 0xBF, 0x2D, 0x41, 15u8].as_slice());
-    assert!(&rt; &bytes[8530..8535] == [0xC3, 0x49, 0x3C, 0xB7, 15u8].as_slice());
-    assert!(&rt; &bytes[17055..17060] == [0xC3, 0x49, 0x3C, 0xB7, 15u8].as_slice());
-    assert!(&rt; &bytes[25580..25585] == [0xD2, 0xBF, 0x2D, 0x41, 15u8].as_slice());
+    let symbols = [(one, two), (two, one), (two, two), (one, one)];
+    let bytes = four_symbols(rt.alloc(), &symbols)?;
+    let cells = [
+        (0, 1, [0xD2, 0xBF, 0x2D, 0x41, 15]),
+        (1, 1, [0xC3, 0x49, 0x3C, 0xB7, 15]),
+        (2, 1, [0xC3, 0x49, 0x3C, 0xB7, 15]),
+        (3, 1, [0xD2, 0xBF, 0x2D, 0x41, 15]),
+    ];
+    stand(&rt, &bytes, &cells);
+    Ok(())
 }
 
 // The bytes of a symbol of another modulator, of which carrier k has the weight byte k mod 256, and five of
@@ -104,6 +127,10 @@ fn a_symbol_in_pieces(rt: HostRuntime) {
 
 #[test]
 fn headers_of_both_modes(rt: HostRuntime) {
-    assert_eq!(&rt; header(Mode::M2k), [0x44, 0x56, 0x54, 0x43, 2, 0, 0, 0]);
-    assert_eq!(&rt; header(Mode::M8k), [0x44, 0x56, 0x54, 0x43, 2, 1, 0, 0]);
+    let headers = [header(Mode::M2k), header(Mode::M8k)];
+    let expected = [
+        [0x44, 0x56, 0x54, 0x43, 2, 0, 0, 0],
+        [0x44, 0x56, 0x54, 0x43, 2, 1, 0, 0],
+    ];
+    assert_eq!(rt; headers, expected);
 }

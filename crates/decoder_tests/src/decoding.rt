@@ -101,6 +101,25 @@ fn shared(start: Option<[bool; 6]>, costs: &[CostPair]) -> usize
     number
 }
 
+/// Appends bits to a text.
+fn push_bits(text: &mut String, bits: &[bool]) -> Result<(), AllocError> {
+    for bit in bits {
+        text.push(bit_letter(*bit))?;
+    }
+    Ok(())
+}
+
+/// The last six bits of a path of so many steps.
+fn end_of(path: &[bool; 16], steps: usize) -> [bool; 6]
+    requires { steps ≤ 10 }
+{
+    let mut end = [false; 6];
+    for k in 0..6usize {
+        end[k] = path[steps + k];
+    }
+    end
+}
+
 /// What the definition makes of a list of at most ten costs.
 pub fn defined(
     alloc: Global,
@@ -121,43 +140,43 @@ pub fn defined(
     for t in 0..costs.len() {
         if from <= t {
             let part = &costs[from..t + 1];
-            let number = shared(register, part);
-            if part.len() > number && part.len() - number > most {
-                let len = part.len();
-                least_path(register, part, &mut path[..len + 6]);
-                for k in 0..len {
-                    given.push(bit_letter(path[k + 6]))?;
-                }
-                let mut end = [false; 6];
-                for k in 0..6usize {
-                    end[k] = path[len + k];
-                }
-                register = Some(end);
+            let steps = part.len();
+            let mut number = shared(register, part);
+            if steps > number && steps - number > most {
+                least_path(register, part, &mut path[..steps + 6]);
+                push_bits(&mut given, &path[6..steps + 6])?;
+                register = Some(end_of(&path, steps));
                 from = t + 1;
+                number = 0;
                 text.push('!')?;
-                text.push(letter(given.len()))?;
-            } else {
-                text.push(letter(given.len().saturating_add(number)))?;
             }
+            text.push(letter(given.len().saturating_add(number)))?;
         }
     }
     if from <= costs.len() {
         let part = &costs[from..];
-        let len = part.len();
-        least_path(register, part, &mut path[..len + 6]);
-        for k in 0..len {
-            given.push(bit_letter(path[k + 6]))?;
-        }
+        let steps = part.len();
+        least_path(register, part, &mut path[..steps + 6]);
+        push_bits(&mut given, &path[6..steps + 6])?;
     }
     text.push('=')?;
     text.push_str(given.as_str())?;
     Ok(text)
 }
 
+/// The costs of a QPSK cell of which the real part is 0: nothing is known of X, and Y is 0.
+const UNKNOWN: CostPair = CostPair {
+    x0: 511,
+    x1: 511,
+    y0: 0,
+    y1: 2047,
+};
+
 /// Loads a pair again and again.
 fn load<A: Acs, V: Survivors<2048>>(branch: &mut Branch<A, V>, pair: CostPair, count: u32)
     requires going { branch.old.decoder.ended ≡ false }
     requires room { length branch.old.loaded + count ≤ branch.old.most }
+    ensures loaded { length branch.new.loaded ≡ length branch.old.loaded + count }
     ensures decoder { branch.new.decoder ≡ branch.old.decoder }
     ensures most { branch.new.most ≡ branch.old.most }
     ensures wait { branch.new.wait ≡ branch.old.wait }
@@ -167,12 +186,13 @@ fn load<A: Acs, V: Survivors<2048>>(branch: &mut Branch<A, V>, pair: CostPair, c
     }
 }
 
-/// Takes the whole bytes that wait, at most 400, and answers the bits that are set in them.
-fn ones_taken<A: Acs, V: Survivors<2048>>(branch: &mut Branch<A, V>) -> u32
+/// Takes the whole bytes that wait, at most 400, and adds the bits that are set in them.
+fn ones_taken<A: Acs, V: Survivors<2048>>(branch: &mut Branch<A, V>, before: u32) -> u32
     ensures decoder { branch.new.decoder ≡ branch.old.decoder }
     ensures loaded { branch.new.loaded ≡ branch.old.loaded }
+    ensures most { branch.new.most ≡ branch.old.most }
 {
-    let mut ones = 0u32;
+    let mut ones = before;
     for _k in 0..400u32 {
         if let Some(byte) = branch.take_byte() {
             ones = ones.saturating_add(byte.count_ones());
@@ -181,41 +201,38 @@ fn ones_taken<A: Acs, V: Survivors<2048>>(branch: &mut Branch<A, V>) -> u32
     ones
 }
 
-/// What a branch makes of two symbols of 1,512 steps whose 64 paths never agree: the first report, the bits that wait after
-/// each symbol and, where all whole bytes were taken in between, at the end. No bit may be set.
+/// What a branch makes of two symbols of 1,512 steps whose 64 paths never agree: how many reports each has and the step of
+/// the last, the bits that wait after each symbol and, where all whole bytes were taken in between, at the end, and how
+/// many bits are set.
 pub fn unmerged<A: Acs, V: Survivors<2048>>(
     rt: &impl Abort,
     alloc: Global,
-) -> Result<(u64, u32, u32, u32), AllocError> {
-    // QPSK cells of which the real part is 0: nothing is known of X, and Y is 0
-    let pair = CostPair {
-        x0: 511,
-        x1: 511,
-        y0: 0,
-        y1: 2047,
-    };
+) -> Result<([usize; 2], u64, [u32; 3], u32), AllocError> {
     let mut branch: Branch<A, V> = Branch::new(alloc, StartState::Any, 1512)?;
-    load(&mut branch, pair, 1512);
-    branch.run_symbol();
-    assert!(rt; branch.events().is_empty());
-    let first = branch.waiting();
-    assert!(rt; first < 8);
-    load(&mut branch, pair, 1512);
-    branch.run_symbol();
-    assert!(rt; branch.events().len() == 1);
-    let at = branch.events()[0].at;
-    let second = branch.waiting();
-    let ones = ones_taken(&mut branch);
-    assert!(rt; ones == 0 && branch.waiting() < 8);
+    let mut reports = [0usize; 2];
+    let mut last = 0u64;
+    let mut waiting = [0u32; 3];
+    let mut ones = 0u32;
+    for k in 0..2usize {
+        load(&mut branch, UNKNOWN, 1512);
+        branch.run_symbol();
+        reports[k] = branch.events().len();
+        for report in branch.events() {
+            last = report.at;
+        }
+        waiting[k] = branch.waiting();
+        ones = ones_taken(&mut branch, ones);
+        assert!(rt; branch.waiting() < 8);
+    }
     branch.finish();
-    let last = branch.waiting();
-    let ones = ones_taken(&mut branch);
-    assert!(rt; ones == 0 && branch.ended());
-    Ok((at, first, second, last))
+    waiting[2] = branch.waiting();
+    ones = ones_taken(&mut branch, ones);
+    assert!(rt; branch.ended());
+    Ok((reports, last, waiting, ones))
 }
 
 /// What a stream of 6,000 costs comes to.
-#[derive(Clone, Copy, Debug, Default, Drop, PartialEq, Eq)]
+#[derive(Clone, Copy, Debug, Drop, PartialEq, Eq)]
 pub struct Outcome {
     /// The number of reports.
     pub reports: u32,
@@ -235,12 +252,7 @@ fn next(x: u64) -> u64 {
 /// The costs of a step: random ones, or those of a step of which X is not known and Y is 0.
 fn costs_at(step: u32, x: u64) -> CostPair {
     if step >= 1400 && step < 4300 {
-        CostPair {
-            x0: 511,
-            x1: 511,
-            y0: 0,
-            y1: 2047,
-        }
+        UNKNOWN
     } else {
         CostPair {
             x0: (x & 4095) as u16,

@@ -1,7 +1,11 @@
 // Margins beside independent programs.
+ghost use Rattle.std.specs.Prelude.{◌<◌};
+
 use bit_margin::{Margins, least_eight, margin_of};
 use code_paths::CostPair;
 use inner_decoder::StartState;
+use std::alloc::{AllocError, Global};
+use std::rt::HostRuntime;
 use std::test::Fail;
 use test_tools::next_number;
 
@@ -13,37 +17,33 @@ fn register_of(start: StartState) -> Option<[bool; 6]> {
     }
 }
 
-/// A drawn pair of costs, 0 to 2 each where they are small, and where to go on drawing.
-fn drawn(seed: u32, small: bool) -> (CostPair, u32) {
-    let mut x = seed;
-    let mut costs = [0u16; 4];
-    for k in 0..4usize {
-        let number = next_number(&mut x) >> 16;
-        costs[k] = if small {
-            (number % 3) as u16
-        } else {
-            (number % 4096) as u16
-        };
+/// A drawn cost, 0 to 2 where it is small.
+fn drawn_cost(seed: &mut u32, small: bool) -> u16
+    ensures { result < 4096 }
+{
+    let number = next_number(seed) >> 16;
+    let range = if small { 3 } else { 4096 };
+    (number % range) as u16
+}
+
+/// A drawn pair of costs, 0 to 2 each where they are small.
+fn drawn(seed: &mut u32, small: bool) -> CostPair {
+    CostPair {
+        x0: drawn_cost(seed, small),
+        x1: drawn_cost(seed, small),
+        y0: drawn_cost(seed, small),
+        y1: drawn_cost(seed, small),
     }
-    (
-        CostPair {
-            x0: costs[0] % 4096,
-            x1: costs[1] % 4096,
-            y0: costs[2] % 4096,
-            y1: costs[3] % 4096,
-        },
-        x,
-    )
 }
 
 /// The margins of ten pairs, by windows.
 fn margins_of(
-    rt: &HostRuntime,
+    alloc: Global,
     start: StartState,
     pairs: &[CostPair; 10],
-) -> Result<Vec<u32>, Fail> {
-    let mut margins = Margins::new(rt.alloc(), start)?;
-    let mut to = Vec::with_capacity(rt.alloc(), 1279)?;
+) -> Result<Vec<u32>, AllocError> {
+    let mut margins = Margins::new(alloc, start)?;
+    let mut to = Vec::with_capacity(alloc, 1279)?;
     for k in 0..10usize {
         margins.push(pairs[k]);
     }
@@ -62,13 +62,10 @@ fn tried(start: StartState, pairs: &[CostPair; 10]) -> [u32; 10] {
 
 /// Ten drawn pairs.
 fn ten_drawn(small: bool) -> [CostPair; 10] {
-    let (first, _seed) = drawn(99, small);
-    let mut pairs = [first; 10];
-    let mut next = 99;
-    for k in 0..10usize {
-        let (pair, seed) = drawn(next, small);
-        pairs[k] = pair;
-        next = seed;
+    let mut seed = 99;
+    let mut pairs = [drawn(&mut seed, small); 10];
+    for k in 1..10usize {
+        pairs[k] = drawn(&mut seed, small);
     }
     pairs
 }
@@ -99,7 +96,7 @@ fn all_paths_tried(rt: HostRuntime) -> Result<(), Fail> {
     for small in [false, true] {
         let pairs = ten_drawn(small);
         for start in [StartState::Zero, StartState::Any] {
-            let margins = margins_of(&rt, start, &pairs)?;
+            let margins = margins_of(rt.alloc(), start, &pairs)?;
             assert_eq!(rt; margins.as_slice(), tried(start, &pairs).as_slice());
         }
     }
@@ -116,15 +113,13 @@ fn hashed(sum: u64, numbers: &[u32]) -> u64 {
 }
 
 /// The hash of the margins of drawn pairs.
-fn hash_of_drawn(rt: &HostRuntime, start: StartState, pairs: u32) -> Result<u64, Fail> {
-    let mut margins = Margins::new(rt.alloc(), start)?;
-    let mut to = Vec::with_capacity(rt.alloc(), 1279)?;
+fn hash_of_drawn(alloc: Global, start: StartState, pairs: u32) -> Result<u64, AllocError> {
+    let mut margins = Margins::new(alloc, start)?;
+    let mut to = Vec::with_capacity(alloc, 1279)?;
     let mut seed = 12345;
     let mut sum = 0;
     for _k in 0..pairs {
-        let (pair, next) = drawn(seed, false);
-        seed = next;
-        if margins.push(pair) {
+        if margins.push(drawn(&mut seed, false)) {
             margins.take(&mut to);
             sum = hashed(sum, &to);
             to.clear();
@@ -145,7 +140,8 @@ fn long_streams(rt: HostRuntime) -> Result<(), Fail> {
         (StartState::Any, 1025, 3676650741690303072),
     ];
     for (start, pairs, hash) in table {
-        assert_eq!(rt; hash_of_drawn(&rt, start, pairs)?, hash);
+        let found = hash_of_drawn(rt.alloc(), start, pairs)?;
+        assert_eq!(rt; found, hash);
     }
     Ok(())
 }
@@ -157,9 +153,17 @@ fn least_margins(rt: HostRuntime) {
     for place in 0..204u32 {
         margins[place as usize] = (place * 37 + 11) % 30 + 3;
     }
-    assert_eq!(rt; least_eight(&margins), [7, 20, 37, 67, 97, 127, 157, 187]);
-    assert_eq!(rt; least_eight(&[9; 204]), [0, 1, 2, 3, 4, 5, 6, 7]);
-    margins = [9; 204];
-    margins[203] = 8;
-    assert_eq!(rt; least_eight(&margins), [0, 1, 2, 3, 4, 5, 6, 203]);
+    let mut last = [9; 204];
+    last[203] = 8;
+    let found = [
+        least_eight(&margins),
+        least_eight(&[9; 204]),
+        least_eight(&last),
+    ];
+    let expected = [
+        [7, 20, 37, 67, 97, 127, 157, 187],
+        [0, 1, 2, 3, 4, 5, 6, 7],
+        [0, 1, 2, 3, 4, 5, 6, 203],
+    ];
+    assert_eq!(rt; found, expected);
 }

@@ -1,6 +1,6 @@
 // The plain program that tries all paths.
 use code_paths::{CostPair, least_path, least_path_to, path_cost};
-use std::test::Fail;
+use std::rt::HostRuntime;
 
 fn sent(x: bool, y: bool) -> CostPair {
     CostPair {
@@ -11,30 +11,30 @@ fn sent(x: bool, y: bool) -> CostPair {
     }
 }
 
+const NONE: CostPair = CostPair {
+    x0: 0,
+    x1: 0,
+    y0: 0,
+    y1: 0,
+};
+
 #[test]
-fn least_of_all_paths(rt: HostRuntime) -> Result<(), Fail> {
+fn least_of_all_paths(rt: HostRuntime) {
     // X of the path 000000 1 0 1 is 1 1 0, its Y is 1 0 0: the only path that costs nothing
     let costs = [sent(true, true), sent(true, false), sent(false, false)];
     let mut path = [true; 9];
-    assert!(rt; least_path(Some([false; 6]), &costs, &mut path));
-    assert_eq!(rt;
-        path,
-        [false, false, false, false, false, false, true, false, true]
-    );
-    assert_eq!(rt; path_cost(&costs, &path), 0);
+    let found = least_path(Some([false; 6]), &costs, &mut path);
+    let sent = [false, false, false, false, false, false, true, false, true];
+    assert!(rt; (found, path, path_cost(&costs, &path)) == (true, sent, 0));
+}
+
+#[test]
+fn least_path_of_ties(rt: HostRuntime) {
     // where all costs tie the earliest path to an end has zeros before it
-    let none = CostPair {
-        x0: 0,
-        x1: 0,
-        y0: 0,
-        y1: 0,
-    };
     let end = [false, true, false, false, true, true];
-    assert!(rt; least_path_to(None, end, &[none, none, none], &mut path));
-    assert_eq!(rt;
-        path,
-        [false, false, false, false, true, false, false, true, true]
-    );
-    assert!(rt; !least_path_to(Some([true; 6]), end, &[none, none, none], &mut path));
-    Ok(())
+    let mut path = [true; 9];
+    let found = least_path_to(None, end, &[NONE; 3], &mut path);
+    let earliest = [false, false, false, false, true, false, false, true, true];
+    assert!(rt; (found, path) == (true, earliest));
+    assert!(rt; !least_path_to(Some([true; 6]), end, &[NONE; 3], &mut path));
 }

@@ -3,17 +3,16 @@ use acs_plain::PlainAcs;
 use bit_pack::WaitBuf;
 use code_paths::CostPair;
 use inner_decoder::{Branch, Decoder, StartState};
+use std::rt::HostRuntime;
 use std::test::Fail;
 use survivor_ring::{ListSurvivors, RingSurvivors};
 
-fn tied() -> CostPair {
-    CostPair {
-        x0: 0,
-        x1: 0,
-        y0: 0,
-        y1: 9,
-    }
-}
+const TIED: CostPair = CostPair {
+    x0: 0,
+    x1: 0,
+    y0: 0,
+    y1: 9,
+};
 
 #[test]
 fn first_report(rt: HostRuntime) -> Result<(), Fail> {
@@ -24,16 +23,14 @@ fn first_report(rt: HostRuntime) -> Result<(), Fail> {
     let mut to = WaitBuf::new();
     let mut first = 0u64;
     for _k in 0..40u8 {
-        if let Some(report) = decoder.step(tied(), &mut to) {
+        if let Some(report) = decoder.step(TIED, &mut to) {
             if first == 0 {
                 first = report.at;
             }
         }
     }
-    assert_eq!(rt; first, 9);
     decoder.finish(&mut to);
-    assert_eq!(rt; to.waiting(), 40);
-    assert!(rt; decoder.ended());
+    assert!(rt; (first, to.waiting(), decoder.ended()) == (9, 40, true));
     Ok(())
 }
 
@@ -44,15 +41,13 @@ fn branch_of_one_symbol(rt: HostRuntime) -> Result<(), Fail> {
         StartState::Zero,
         3,
     )?;
-    branch.load_all(&[tied()]);
-    branch.load(tied());
-    assert_eq!(rt; branch.loaded(), 2);
+    branch.load_all(&[TIED]);
+    branch.load(TIED);
+    let loaded = branch.loaded();
     branch.run_symbol();
-    assert_eq!(rt; (branch.loaded(), branch.events().len()), (0, 0));
-    assert!(rt; branch.waiting() < 8);
-    assert!(rt; !branch.ended());
+    let run = (branch.loaded(), branch.events().len(), branch.ended());
     branch.finish();
-    assert_eq!(rt; branch.waiting(), 2);
-    assert_eq!(rt; branch.take_byte(), None);
+    let bits = (branch.waiting(), branch.take_byte());
+    assert!(rt; (loaded, run, bits) == (2, (0, 0, false), (2, None)));
     Ok(())
 }

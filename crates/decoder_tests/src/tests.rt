@@ -5,7 +5,7 @@ use crate::decoding::{
     Outcome, by_steps, by_symbols, decoded, defined, long_stream, pairs_of, unmerged,
 };
 use acs_lanes::LaneAcs;
-use acs_plain::PlainAcs;
+use acs_plain::{Acs, PlainAcs};
 use code_paths::CostPair;
 use inner_decoder::StartState;
 use std::alloc::{AllocError, Global};
@@ -14,56 +14,65 @@ use std::rt::HostRuntime;
 use std::test::Fail;
 use survivor_ring::{ListSurvivors, RingSurvivors, Survivors};
 
-/// What all four decoders make of a list of costs, or a text that says which of them differs.
-fn all_four<const L: usize>(
+/// Does a decoder make this of a list of costs?
+fn makes<A: Acs, V: Survivors<L>, const L: usize>(
     alloc: Global,
     start: StartState,
     costs: &[CostPair],
-) -> Result<String, AllocError>
+    want: &str,
+) -> Result<bool, AllocError>
     requires some { 0 < L }
     requires few { L ≤ 2048 }
     requires short { length costs.now ≤ 1000 }
 {
-    let plain = decoded::<PlainAcs, ListSurvivors<L>, L>(alloc, start, costs)?;
-    let ring = decoded::<PlainAcs, RingSurvivors<L>, L>(alloc, start, costs)?;
-    let lanes = decoded::<LaneAcs, ListSurvivors<L>, L>(alloc, start, costs)?;
-    let both = decoded::<LaneAcs, RingSurvivors<L>, L>(alloc, start, costs)?;
-    if ring.as_str() != plain.as_str() {
-        return String::from_str(alloc, "the ring differs");
-    }
-    if lanes.as_str() != plain.as_str() {
-        return String::from_str(alloc, "the lanes differ");
-    }
-    if both.as_str() != plain.as_str() {
-        return String::from_str(alloc, "the ring with lanes differs");
-    }
-    Ok(plain)
+    let text = decoded::<A, V, L>(alloc, start, costs)?;
+    Ok(text.as_str() == want)
 }
 
-fn with_memory(
+/// Do all four decoders make this of a list of costs?
+fn all_make<const L: usize>(
+    alloc: Global,
+    start: StartState,
+    costs: &[CostPair],
+    want: &str,
+) -> Result<bool, AllocError>
+    requires some { 0 < L }
+    requires few { L ≤ 2048 }
+    requires short { length costs.now ≤ 1000 }
+{
+    let plain = makes::<PlainAcs, ListSurvivors<L>, L>(alloc, start, costs, want)?;
+    let ring = makes::<PlainAcs, RingSurvivors<L>, L>(alloc, start, costs, want)?;
+    let lanes = makes::<LaneAcs, ListSurvivors<L>, L>(alloc, start, costs, want)?;
+    let both = makes::<LaneAcs, RingSurvivors<L>, L>(alloc, start, costs, want)?;
+    Ok(plain && ring && lanes && both)
+}
+
+/// Do all four decoders of a path memory of so many steps make this of a list of costs?
+fn make(
     alloc: Global,
     most: usize,
     start: StartState,
     costs: &[CostPair],
-) -> Result<String, AllocError>
+    want: &str,
+) -> Result<bool, AllocError>
     requires short { length costs.now ≤ 1000 }
 {
     match most {
-        1 => all_four::<1>(alloc, start, costs),
-        2 => all_four::<2>(alloc, start, costs),
-        3 => all_four::<3>(alloc, start, costs),
-        4 => all_four::<4>(alloc, start, costs),
-        5 => all_four::<5>(alloc, start, costs),
-        6 => all_four::<6>(alloc, start, costs),
-        7 => all_four::<7>(alloc, start, costs),
-        8 => all_four::<8>(alloc, start, costs),
-        _ => all_four::<21>(alloc, start, costs),
+        1 => all_make::<1>(alloc, start, costs, want),
+        2 => all_make::<2>(alloc, start, costs, want),
+        3 => all_make::<3>(alloc, start, costs, want),
+        4 => all_make::<4>(alloc, start, costs, want),
+        5 => all_make::<5>(alloc, start, costs, want),
+        6 => all_make::<6>(alloc, start, costs, want),
+        7 => all_make::<7>(alloc, start, costs, want),
+        8 => all_make::<8>(alloc, start, costs, want),
+        _ => all_make::<21>(alloc, start, costs, want),
     }
 }
 
 /// Starts, the most steps, digits of costs and what decoders make of them. The texts on the right come from an
 /// independent program.
-const CASES: [(StartState, usize, &str, &str); 29] = [
+static CASES: [(StartState, usize, &str, &str); 29] = [
     (
         StartState::Zero,
         1,
@@ -244,53 +253,51 @@ const CASES: [(StartState, usize, &str, &str); 29] = [
 fn is_decoded(
     rt: &impl Abort,
     alloc: Global,
-    (start, most, digits, want): (StartState, usize, &str, &str),
+    start: StartState,
+    most: usize,
+    digits: &str,
+    want: &str,
 ) -> Result<bool, AllocError> {
     let costs = pairs_of(alloc, digits)?;
     assert!(rt; costs.len() <= 1000);
-    let text = with_memory(alloc, most, start, &costs)?;
     let few = &costs[..7.min(costs.len())];
-    let by_decoder = with_memory(alloc, most, start, few)?;
     let by_definition = defined(alloc, start, most, few)?;
-    Ok(text.as_str() == want && by_decoder.as_str() == by_definition.as_str())
+    Ok(
+        make(alloc, most, start, &costs, want)?
+            && make(alloc, most, start, few, by_definition.as_str())?,
+    )
 }
 
 #[test]
 fn small_cost_lists(rt: HostRuntime) -> Result<(), Fail> {
-    for case in CASES {
-        let decoded = is_decoded(&rt, rt.alloc(), case)?;
-        assert!(rt; decoded, "at {}", case.2);
+    for (start, most, digits, want) in &CASES {
+        let decoded = is_decoded(&rt, rt.alloc(), *start, *most, digits, want)?;
+        assert!(rt; decoded, "at {digits}");
     }
     Ok(())
 }
 
 // Of 3,024 steps 2,961 are given by the second symbol, all zeros: the whole first part, and of the second one, which begins
 // from one register, all but 63.
-const UNMERGED: (u64, u32, u32, u32) = (2049, 0, 2961, 64);
-
-// What a branch makes of the two symbols by the plain step and in lanes, over these survivors.
-fn both_unmerged<V: Survivors<2048>>(
-    rt: &impl Abort,
-    alloc: Global,
-) -> Result<[(u64, u32, u32, u32); 2], AllocError> {
-    let plain = unmerged::<PlainAcs, V>(rt, alloc)?;
-    let lanes = unmerged::<LaneAcs, V>(rt, alloc)?;
-    Ok([plain, lanes])
-}
+const UNMERGED: ([usize; 2], u64, [u32; 3], u32) = ([0, 1], 2049, [0, 2961, 64], 0);
 
 #[test]
 fn unmerged_over_lists(rt: HostRuntime) -> Result<(), Fail> {
     let survivors: ListSurvivors<2048> = ListSurvivors::new(rt.alloc(), u64::MAX)?;
-    let found = both_unmerged::<ListSurvivors<2048>>(&rt, rt.alloc())?;
-    assert!(rt; survivors.waiting() == 0 && found == [UNMERGED; 2]);
+    let plain = unmerged::<PlainAcs, ListSurvivors<2048>>(&rt, rt.alloc())?;
+    let lanes = unmerged::<LaneAcs, ListSurvivors<2048>>(&rt, rt.alloc())?;
+    assert!(rt; survivors.waiting() == 0 && [plain, lanes] == [UNMERGED; 2]);
     Ok(())
 }
 
 #[test]
 fn unmerged_over_words(rt: HostRuntime) -> Result<(), Fail> {
     let survivors: RingSurvivors<2048> = RingSurvivors::new(rt.alloc(), u64::MAX)?;
-    let found = both_unmerged::<RingSurvivors<2048>>(&rt, rt.alloc())?;
-    assert!(rt; survivors.waiting() == 0 && survivors.words().is_empty() && found == [UNMERGED; 2]);
+    let plain = unmerged::<PlainAcs, RingSurvivors<2048>>(&rt, rt.alloc())?;
+    let lanes = unmerged::<LaneAcs, RingSurvivors<2048>>(&rt, rt.alloc())?;
+    assert!(rt;
+        survivors.waiting() == 0 && survivors.words().is_empty() && [plain, lanes] == [UNMERGED; 2]
+    );
     Ok(())
 }
 
@@ -309,7 +316,7 @@ fn slices_of_a_long_stream(rt: HostRuntime) -> Result<(), Fail> {
             sum,
         };
         let found = four_outcomes(&rt, rt.alloc(), start, &costs)?;
-        assert_eq!(rt; found, [want; 4]);
+        assert!(rt; found == [want; 4], "found {found:?}");
     }
     Ok(())
 }
