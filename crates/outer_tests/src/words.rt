@@ -1,5 +1,5 @@
 // Words against values from outside, and the fast decoder against the plain one.
-ghost use Rattle.std.specs.Prelude.{◌≤◌};
+ghost use Rattle.std.specs.Prelude.{◌≤◌, length};
 
 use gf256::Elem;
 use rs204::{Outcome, decode, encode, plain};
@@ -14,13 +14,22 @@ const PARITY_OF_ONE: [u8; 16] = [
 // The coefficients of the product of x + λ^i for i below 8, which as errors are near no codeword.
 pub(super) const NEAR_NONE: [u8; 9] = [0x01, 0xFF, 0x0B, 0x51, 0x36, 0xEF, 0xAD, 0xC8, 0x18];
 
+// Zeros, and these bytes at the end.
+fn ends_with(last: &[u8]) -> [u8; 204]
+    requires few { length last.now ≤ 204 }
+{
+    let mut word = [0u8; 204];
+    word[204 - last.len()..].copy_from_slice(last);
+    word
+}
+
 #[test]
 fn parity_of_a_single_one(rt: HostRuntime) {
     let mut message = [0u8; 188];
     message[187] = 1;
-    let word = encode(&message);
-    assert_eq!(rt; &word[..188], message.as_slice());
-    assert_eq!(rt; &word[188..], PARITY_OF_ONE.as_slice());
+    let mut word = ends_with(&PARITY_OF_ONE);
+    word[187] = 1;
+    assert!(rt; encode(&message) == word);
 }
 
 // Is this the outcome for the word, and is this what stands behind it?
@@ -64,14 +73,10 @@ pub(super) fn product_of(factors: u8) -> [u8; 204]
 fn outcomes_of_words(rt: HostRuntime) {
     let zeros = [0u8; 204];
     assert!(rt; comes_out(&zeros, Outcome::Clean, &zeros));
-    for (first, apart, value) in [(0usize, 1usize, 1u8), (7, 20, 91)] {
-        assert!(rt; first <= 7 && apart <= 20);
-        let word = eight_errors(first, apart, value);
-        assert!(rt; comes_out(&word, Outcome::Corrected(8), &zeros));
-    }
-    let product = product_of(8);
-    assert_eq!(rt; &product[195..], NEAR_NONE.as_slice());
-    assert!(rt; comes_out(&product, Outcome::Bad, &product));
+    assert!(rt; comes_out(&eight_errors(0, 1, 1), Outcome::Corrected(8), &zeros));
+    assert!(rt; comes_out(&eight_errors(7, 20, 91), Outcome::Corrected(8), &zeros));
+    let product = ends_with(&NEAR_NONE);
+    assert!(rt; product_of(8) == product && comes_out(&product, Outcome::Bad, &product));
 }
 
 // A codeword of a drawn message, and the same with so many drawn errors.

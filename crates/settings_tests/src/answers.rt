@@ -65,11 +65,16 @@ fn answer_of_case(alloc: Global, case: &str) -> Result<String, AllocError> {
     answer(alloc, &text)
 }
 
-// The document of each case has the answer that stands before it.
+// The document of a case has the answer that stands before it.
+fn has_its_answer(rt: &impl Abort, alloc: Global, case: &str) {
+    let got = answer_of_case(alloc, case).expect(rt, "memory");
+    assert_eq!(rt; got.as_str(), parts(case).0, "at {case}");
+}
+
+// The same of each case.
 fn have_their_answers(rt: &impl Abort, alloc: Global, cases: &str) {
     for case in cases.split("== ").skip(1) {
-        let got = answer_of_case(alloc, case).expect(rt, "memory");
-        assert_eq!(rt; got.as_str(), parts(case).0, "at {case}");
+        has_its_answer(rt, alloc, case);
     }
 }
 
@@ -83,13 +88,18 @@ fn plans_have_their_answers(rt: HostRuntime) {
     have_their_answers(&rt, rt.alloc(), PLANS);
 }
 
+// A name and an answer as a line.
+fn line(alloc: Global, name: &str, answer: &str) -> Result<String, AllocError> {
+    format!(in alloc; "{name} {answer}\n")
+}
+
 // The name of an example and the answer to it.
 fn named_answer(alloc: Global, case: &str) -> Result<String, AllocError> {
     let got = answer_of_case(alloc, case)?;
-    format!(in alloc; "{} {got}\n", parts(case).0)
+    line(alloc, parts(case).0, &got)
 }
 
-// Those of all examples, each on a line.
+// Those of all examples.
 fn named_answers(alloc: Global) -> Result<String, AllocError> {
     let mut lines = String::new(alloc);
     for case in EXAMPLES.split("== ").skip(1) {
@@ -157,26 +167,19 @@ fn a_document_has_1_to_16_entries(rt: HostRuntime) {
     }
 }
 
-// The base, spaces behind it, and a last byte as the 65,536th.
-fn long_document(alloc: Global, last: u8) -> Result<Vec<u8>, AllocError> {
-    let mut bytes = Vec::new(alloc);
-    bytes.extend_from_slice(BASE.as_bytes())?;
-    bytes.resize(65_535, b' ')?;
-    bytes.push(last)?;
-    Ok(bytes)
-}
-
-// Why a document that ends so is refused, if it is.
-fn refusal(alloc: Global, last: u8) -> Result<Option<SettingsError>, AllocError> {
-    let bytes = long_document(alloc, last)?;
-    Ok(Settings::read(alloc, &bytes).err())
+// Why the base is refused, if it is, with spaces behind it and this as the last of 65,536 bytes.
+fn refusal(alloc: Global, last: u8) -> Option<SettingsError> {
+    let mut bytes = [b' '; 65_536];
+    bytes[..BASE.len()].copy_from_slice(BASE.as_bytes());
+    bytes[65_535] = last;
+    Settings::read(alloc, &bytes).err()
 }
 
 // The largest settings file that the program takes, and bytes that are no text.
 #[test]
 fn long_and_broken_documents(rt: HostRuntime) {
     for (last, expected) in [(b' ', None), (0xFF, Some(SettingsError::NotToml))] {
-        assert_eq!(rt; refusal(rt.alloc(), last), Ok(expected));
+        assert_eq!(rt; refusal(rt.alloc(), last), expected);
     }
 }
 
