@@ -5,10 +5,9 @@ ghost use Rattle.std.specs.Prelude.{◌<◌, ◌≤◌, IsTrue};
 ghost use Rattle.std.specs.List.{All};
 ghost use Rattle.std.specs.List.Sorted.{IsStrictlyIncreasing};
 
-use gf256::Elem;
+use crate::words::product_of;
 use rs_erasure::{Erased, decode_erased, laws};
 use rs204::encode;
-use std::test::Fail;
 use test_tools::next_number;
 
 // Whether places may be erased.
@@ -40,7 +39,7 @@ fn finds(received: &[u8; 204], places: &[u8; 8], answer: Erased, left: &[u8; 204
 }
 
 #[test]
-fn erased_and_wrong_bytes(rt: HostRuntime) -> Result<(), Fail> {
+fn erased_and_wrong_bytes(rt: HostRuntime) {
     laws::one_outside();
     let mut word = [0u8; 204];
     for k in 0..12usize {
@@ -48,23 +47,6 @@ fn erased_and_wrong_bytes(rt: HostRuntime) -> Result<(), Fail> {
     }
     let places = [0, 1, 2, 3, 4, 5, 6, 7];
     assert!(rt; finds(&word, &places, Erased::Found(4), &[0; 204]));
-    Ok(())
-}
-
-// Zeros and the coefficients of the product of x + λ^i for i below 12.
-fn product_of_twelve() -> [u8; 204] {
-    let mut product = [0u8; 13];
-    product[0] = 1;
-    for i in 0..12u8 {
-        for k in (0..12usize).rev() {
-            product[k + 1] ^= Elem(product[k]).times_power(i).0;
-        }
-    }
-    let mut word = [0u8; 204];
-    for k in 0..13usize {
-        word[191 + k] = product[k];
-    }
-    word
 }
 
 // Those of the last thirteen places, eight at the most, that the bits of a number choose.
@@ -82,8 +64,8 @@ fn of_the_last(choice: u32) -> [u8; 8] {
 
 // Each choice of eight of the thirteen places that are not 0, and others.
 #[test]
-fn no_word_for_any_places(rt: HostRuntime) -> Result<(), Fail> {
-    let received = product_of_twelve();
+fn no_word_for_any_places(rt: HostRuntime) {
+    let received = product_of(12);
     let mut choices = 0u32;
     for choice in 0..8192u32 {
         if choice.count_ones() == 8 {
@@ -97,7 +79,6 @@ fn no_word_for_any_places(rt: HostRuntime) -> Result<(), Fail> {
         let places = drawn_places(&mut seed, 1 + case % 24);
         assert!(rt; finds(&received, &places, Erased::NoWord, &received));
     }
-    Ok(())
 }
 
 // The next number below n, of a plain congruential sequence.
@@ -212,12 +193,11 @@ fn drawn_is_found(seed: &mut u32, case: u32) -> bool {
 }
 
 #[test]
-fn drawn_codewords(rt: HostRuntime) -> Result<(), Fail> {
+fn drawn_codewords(rt: HostRuntime) {
     let mut seed = 1u32;
     for case in 0..1080u32 {
         assert!(rt; drawn_is_found(&mut seed, case), "word {case}");
     }
-    Ok(())
 }
 
 // A word of drawn bytes.
@@ -231,12 +211,11 @@ fn random_is_found(seed: &mut u32, case: u32) -> bool {
 }
 
 #[test]
-fn random_bytes(rt: HostRuntime) -> Result<(), Fail> {
+fn random_bytes(rt: HostRuntime) {
     let mut seed = 2u32;
     for case in 0..300u32 {
         assert!(rt; random_is_found(&mut seed, case), "word {case}");
     }
-    Ok(())
 }
 
 // Every second one of the sixteen bytes behind a message.
@@ -311,12 +290,11 @@ fn finds_as_searched(word: &[u8; 204]) -> bool {
 
 // The search finds each codeword that is near these words.
 #[test]
-fn words_by_a_plain_search(rt: HostRuntime) -> Result<(), Fail> {
+fn words_by_a_plain_search(rt: HostRuntime) {
     let mut seed = 3u32;
     for (in_message, behind) in [(0, 0), (0, 4), (1, 0), (1, 3), (1, 4), (0, 5), (0, 8usize)] {
         assert!(rt; behind <= 8);
         let word = word_with(&mut seed, in_message, behind);
         assert!(rt; finds_as_searched(&word), "{in_message} and {behind}");
     }
-    Ok(())
 }

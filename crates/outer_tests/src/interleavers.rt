@@ -11,14 +11,19 @@ fn coded(place: usize, delay: usize) -> u8 {
     }
 }
 
+// A byte behind the interleaver, and what comes behind both.
+fn steps(interleaver: &mut Interleaver, deinterleaver: &mut Deinterleaver, byte: u8) -> (u8, u8) {
+    let sent = interleaver.step(byte);
+    (sent, deinterleaver.step(sent))
+}
+
 #[test]
 fn four_thousand_bytes(rt: HostRuntime) -> Result<(), Fail> {
     let mut interleaver = Interleaver::new(rt.alloc())?;
     let mut deinterleaver = Deinterleaver::new(rt.alloc())?;
     for place in 0..4000usize {
-        let sent = interleaver.step(coded(place, 0));
-        assert_eq!(rt; sent, coded(place, 204 * (place % 12)));
-        assert_eq!(rt; deinterleaver.step(sent), coded(place, 2244));
+        let got = steps(&mut interleaver, &mut deinterleaver, coded(place, 0));
+        assert_eq!(rt; got, (coded(place, 204 * (place % 12)), coded(place, 2244)));
     }
     Ok(())
 }

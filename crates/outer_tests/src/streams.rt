@@ -1,18 +1,79 @@
 // The outer code of a stream, against values from outside.
 
+use crate::words::NEAR_NONE;
 use dispersal::Dispersal;
 use outer_chain::{OuterRx, OuterTx, WordSlot};
 use rs204::{Outcome, encode};
+use std::alloc::{AllocError, Global};
 use std::test::Fail;
 use ts_packet::Packet;
 
-// The first word of a stream: every twelfth byte is its own, the others are zeros of the start.
+// The first thirteen bytes of a stream of null packets.
+fn first_bytes(alloc: Global) -> Result<[u8; 13], AllocError> {
+    let mut tx = OuterTx::new(alloc)?;
+    let word = tx.take(&Packet::null());
+    let mut bytes = [0u8; 13];
+    bytes.copy_from_slice(&word[..13]);
+    Ok(bytes)
+}
+
+// Every twelfth byte of the first word is its own, the others are zeros of the start.
 #[test]
 fn first_word_of_a_null_packet(rt: HostRuntime) -> Result<(), Fail> {
-    let mut tx = OuterTx::new(rt.alloc())?;
-    let word = tx.take(&Packet::null());
-    let begins = [0xB8u8, 0, 0, 0, 0, 0, 0, 0, 0, 0, 0, 0, 0x8C];
-    assert_eq!(rt; &word[..13], begins.as_slice());
+    let bytes = first_bytes(rt.alloc())?;
+    assert!(rt; bytes == [0xB8, 0, 0, 0, 0, 0, 0, 0, 0, 0, 0, 0, 0x8C]);
+    Ok(())
+}
+
+// The bytes of the packet of a decoded word, if it has one.
+fn packet_of(rx: &mut OuterRx, slot: &WordSlot) -> Option<[u8; 188]> {
+    match rx.finish_word(slot) {
+        Some(packet) => Some(*packet.bytes()),
+        None => None,
+    }
+}
+
+// The word of the next packet of a stream of null packets.
+fn null_word(dispersal: &mut Dispersal) -> [u8; 204] {
+    encode(&dispersal.apply(&Packet::null()))
+}
+
+// What becomes of a codeword with nine errors that no codeword is near to.
+fn with_nine_errors(codeword: [u8; 204]) -> WordSlot {
+    let mut slot = WordSlot {
+        word: codeword,
+        outcome: Outcome::Clean,
+    };
+    for k in 0..9usize {
+        slot.word[195 + k] ^= NEAR_NONE[k];
+    }
+    slot.decode();
+    slot
+}
+
+// A null packet that is marked.
+fn marked() -> [u8; 188] {
+    let mut bytes = [0xFFu8; 188];
+    bytes[0] = 0x47;
+    bytes[1] = 0x9F;
+    bytes[3] = 0x10;
+    bytes
+}
+
+// A word with nine errors that no codeword is near to comes after a word of phase 0: its null packet
+// comes back marked, and the phase goes on.
+#[test]
+fn bad_word_after_phase_zero(rt: HostRuntime) -> Result<(), Fail> {
+    let mut rx = OuterRx::new(rt.alloc())?;
+    let mut dispersal = Dispersal::start();
+    let first = WordSlot {
+        word: null_word(&mut dispersal),
+        outcome: Outcome::Clean,
+    };
+    assert!(rt; packet_of(&mut rx, &first).is_some());
+    let second = with_nine_errors(null_word(&mut dispersal));
+    assert!(rt; second.outcome == Outcome::Bad);
+    assert!(rt; packet_of(&mut rx, &second) == Some(marked()));
     Ok(())
 }
 
@@ -26,48 +87,51 @@ fn numbered(number: u8) -> Packet {
     }
 }
 
-// The packet that comes back with this byte, if one does.
-fn back(rx: &mut OuterRx, byte: u8) -> Option<Packet> {
+// The bytes of the packet that comes back with this byte, if one does.
+fn back(rx: &mut OuterRx, byte: u8) -> Option<[u8; 188]> {
     match rx.take_byte(byte) {
         Some(slot) => {
             let mut slot = slot;
             slot.decode();
-            rx.finish_word(&slot)
+            packet_of(rx, &slot)
         }
         None => None,
     }
 }
 
-// A word with nine errors that no codeword is near to comes after a word of phase 0: its null packet
-// comes back marked, and the phase goes on.
-#[test]
-fn bad_word_after_phase_zero(rt: HostRuntime) -> Result<(), Fail> {
-    let pattern = [0x01u8, 0xFF, 0x0B, 0x51, 0x36, 0xEF, 0xAD, 0xC8, 0x18];
-    let mut rx = OuterRx::new(rt.alloc())?;
-    let mut dispersal = Dispersal::start();
-    let first = WordSlot {
-        word: encode(&dispersal.apply(&Packet::null())),
-        outcome: Outcome::Clean,
-    };
-    assert!(rt; rx.finish_word(&first).is_some());
-    let mut second = WordSlot {
-        word: encode(&dispersal.apply(&Packet::null())),
-        outcome: Outcome::Bad,
-    };
-    for k in 0..9usize {
-        second.word[195 + k] ^= pattern[k];
+// Does this come back with the last byte of a word, and nothing with those before?
+fn comes_back(rx: &mut OuterRx, word: &[u8; 204], expected: Option<[u8; 188]>) -> bool {
+    for k in 0..203usize {
+        if back(rx, word[k]).is_some() {
+            return false;
+        }
     }
-    second.decode();
-    assert!(rt; matches!(second.outcome, Outcome::Bad));
-    let mut marked = [0xFFu8; 188];
-    marked[0] = 0x47;
-    marked[1] = 0x9F;
-    marked[3] = 0x10;
-    match rx.finish_word(&second) {
-        Some(packet) => assert_eq!(rt; packet.bytes().as_slice(), marked.as_slice()),
-        None => assert!(rt; false),
+    back(rx, word[203]) == expected
+}
+
+// The bytes of the packet eleven before this one, if it is the first that comes back or behind it.
+fn eleven_before(number: u8, first: u8) -> Option<[u8; 188]> {
+    if number >= 11 && number - 11 >= first {
+        Some(*numbered(number - 11).bytes())
+    } else {
+        None
     }
-    Ok(())
+}
+
+// Does the receiver miss this word, or give what comes back with it?
+fn is_received(tx: &mut OuterTx, rx: &mut OuterRx, number: u8, missed: u8, first: u8) -> bool {
+    let word = tx.take(&numbered(number));
+    number < missed || comes_back(rx, &word, eleven_before(number, first))
+}
+
+// The first word with which something else comes back, where the receiver misses so many words.
+fn wrong_word(tx: &mut OuterTx, rx: &mut OuterRx, missed: u8, first: u8) -> Option<u8> {
+    for number in 0..40u8 {
+        if !is_received(tx, rx, number, missed, first) {
+            return Some(number);
+        }
+    }
+    None
 }
 
 // Each word behind the eleven of the start-up gives the sender's packet at its last byte, from the first packet on that has
@@ -77,21 +141,7 @@ fn own_bytes_after_eleven_words(rt: HostRuntime) -> Result<(), Fail> {
     for (missed, first) in [(0u8, 0u8), (3, 8)] {
         let mut tx = OuterTx::new(rt.alloc())?;
         let mut rx = OuterRx::new(rt.alloc())?;
-        let mut next = first;
-        for number in 0..40u8 {
-            let word = tx.take(&numbered(number));
-            if number >= missed {
-                for k in 0..204u8 {
-                    if let Some(packet) = back(&mut rx, word[k as usize]) {
-                        let sent = numbered(next);
-                        assert_eq!(rt; packet.bytes().as_slice(), sent.bytes().as_slice());
-                        assert!(rt; k == 203 && next < 40);
-                        next += 1;
-                    }
-                }
-                assert_eq!(rt; next, first.max((number + 1).saturating_sub(11)));
-            }
-        }
+        assert_eq!(rt; wrong_word(&mut tx, &mut rx, missed, first), None);
     }
     Ok(())
 }

@@ -1,9 +1,8 @@
 // Words against values from outside, and the fast decoder against the plain one.
-ghost use Rattle.std.specs.Prelude.{◌≤◌};
+ghost use Rattle.std.specs.Prelude.{◌≤◌, length};
 
 use gf256::Elem;
 use rs204::{Outcome, decode, encode, plain};
-use std::test::Fail;
 use test_tools::{next_byte, next_number};
 
 // The sixteen bytes behind 187 zeros and a one, which are the generator's coefficients behind its
@@ -13,16 +12,24 @@ const PARITY_OF_ONE: [u8; 16] = [
 ];
 
 // The coefficients of the product of x + λ^i for i below 8, which as errors are near no codeword.
-const NEAR_NONE: [u8; 9] = [0x01, 0xFF, 0x0B, 0x51, 0x36, 0xEF, 0xAD, 0xC8, 0x18];
+pub(super) const NEAR_NONE: [u8; 9] = [0x01, 0xFF, 0x0B, 0x51, 0x36, 0xEF, 0xAD, 0xC8, 0x18];
+
+// Zeros, and these bytes at the end.
+fn ends_with(last: &[u8]) -> [u8; 204]
+    requires few { length last.now ≤ 204 }
+{
+    let mut word = [0u8; 204];
+    word[204 - last.len()..].copy_from_slice(last);
+    word
+}
 
 #[test]
-fn parity_of_a_single_one(rt: HostRuntime) -> Result<(), Fail> {
+fn parity_of_a_single_one(rt: HostRuntime) {
     let mut message = [0u8; 188];
     message[187] = 1;
-    let word = encode(&message);
-    assert_eq!(rt; &word[..188], message.as_slice());
-    assert_eq!(rt; &word[188..], PARITY_OF_ONE.as_slice());
-    Ok(())
+    let mut word = ends_with(&PARITY_OF_ONE);
+    word[187] = 1;
+    assert!(rt; encode(&message) == word);
 }
 
 // Is this the outcome for the word, and is this what stands behind it?
@@ -43,35 +50,33 @@ fn eight_errors(first: usize, apart: usize, value: u8) -> [u8; 204]
     word
 }
 
-// Zeros, and the coefficients of the product of x + λ^i for i below 8.
-fn product_of_eight() -> [u8; 204] {
-    let mut product = [0u8; 9];
+// Zeros, and the coefficients of the product of x + λ^i for so many i from 0 on.
+pub(super) fn product_of(factors: u8) -> [u8; 204]
+    requires { factors ≤ 12 }
+{
+    let mut product = [0u8; 13];
     product[0] = 1;
-    for i in 0..8u8 {
-        for k in (0..8usize).rev() {
+    for i in 0..factors {
+        for k in (0..12usize).rev() {
             product[k + 1] ^= Elem(product[k]).times_power(i).0;
         }
     }
+    let degree = factors as usize;
     let mut word = [0u8; 204];
-    for k in 0..9usize {
-        word[195 + k] = product[k];
+    for k in 0..degree + 1 {
+        word[203 - degree + k] = product[k];
     }
     word
 }
 
 #[test]
-fn outcomes_of_words(rt: HostRuntime) -> Result<(), Fail> {
+fn outcomes_of_words(rt: HostRuntime) {
     let zeros = [0u8; 204];
     assert!(rt; comes_out(&zeros, Outcome::Clean, &zeros));
-    for (first, apart, value) in [(0usize, 1usize, 1u8), (7, 20, 91)] {
-        assert!(rt; first <= 7 && apart <= 20);
-        let word = eight_errors(first, apart, value);
-        assert!(rt; comes_out(&word, Outcome::Corrected(8), &zeros));
-    }
-    let product = product_of_eight();
-    assert_eq!(rt; &product[195..], NEAR_NONE.as_slice());
-    assert!(rt; comes_out(&product, Outcome::Bad, &product));
-    Ok(())
+    assert!(rt; comes_out(&eight_errors(0, 1, 1), Outcome::Corrected(8), &zeros));
+    assert!(rt; comes_out(&eight_errors(7, 20, 91), Outcome::Corrected(8), &zeros));
+    let product = ends_with(&NEAR_NONE);
+    assert!(rt; product_of(8) == product && comes_out(&product, Outcome::Bad, &product));
 }
 
 // A codeword of a drawn message, and the same with so many drawn errors.
@@ -105,11 +110,10 @@ fn both_agree(sent: &[u8; 204], received: &[u8; 204], errors: usize) -> bool {
 
 // Codewords of drawn messages with 0 to 12 drawn errors, by both decoders.
 #[test]
-fn drawn_errors_by_both_decoders(rt: HostRuntime) -> Result<(), Fail> {
+fn drawn_errors_by_both_decoders(rt: HostRuntime) {
     let mut seed = 1u32;
     for errors in 0..13usize {
         let (sent, word) = drawn_words(&mut seed, errors);
         assert!(rt; both_agree(&sent, &word, errors), "{errors} errors");
     }
-    Ok(())
 }

@@ -4,135 +4,135 @@ pub(super) const BASE: &str =
     "mode = \"2k\"\nconstellation = \"qpsk\"\nrate_hp = \"1/2\"\nguard = \"1/32\"\n";
 
 pub(super) const DOCUMENTS: &str = "\
-== M2k Qpsk Flat R1of2 None G1of32 None Zero 1 1000000\n\
+== (M2k, Qpsk, Flat, R1of2, None, G1of32, None, Zero, 1, 1000000)\n\
 @\n\
-== M8k Qpsk Flat R1of2 None G1of32 None Zero 1 1000000\n\
+== (M8k, Qpsk, Flat, R1of2, None, G1of32, None, Zero, 1, 1000000)\n\
 mode = \"8k\"\n\
 constellation = \"qpsk\"\n\
 rate_hp = \"1/2\"\n\
 guard = \"1/32\"\n\
-== M2k Qam16 Flat R1of2 None G1of32 None Zero 1 1000000\n\
+== (M2k, Qam16, Flat, R1of2, None, G1of32, None, Zero, 1, 1000000)\n\
 mode = \"2k\"\n\
 constellation = \"16qam\"\n\
 rate_hp = \"1/2\"\n\
 guard = \"1/32\"\n\
-== M2k Qam64 Flat R1of2 None G1of32 None Zero 1 1000000\n\
+== (M2k, Qam64, Flat, R1of2, None, G1of32, None, Zero, 1, 1000000)\n\
 mode = \"2k\"\n\
 constellation = \"64qam\"\n\
 rate_hp = \"1/2\"\n\
 guard = \"1/32\"\n\
-== M2k Qpsk Flat R2of3 None G1of32 None Zero 1 1000000\n\
+== (M2k, Qpsk, Flat, R2of3, None, G1of32, None, Zero, 1, 1000000)\n\
 mode = \"2k\"\n\
 constellation = \"qpsk\"\n\
 rate_hp = \"2/3\"\n\
 guard = \"1/32\"\n\
-== M2k Qpsk Flat R3of4 None G1of32 None Zero 1 1000000\n\
+== (M2k, Qpsk, Flat, R3of4, None, G1of32, None, Zero, 1, 1000000)\n\
 mode = \"2k\"\n\
 constellation = \"qpsk\"\n\
 rate_hp = \"3/4\"\n\
 guard = \"1/32\"\n\
-== M2k Qpsk Flat R5of6 None G1of32 None Zero 1 1000000\n\
+== (M2k, Qpsk, Flat, R5of6, None, G1of32, None, Zero, 1, 1000000)\n\
 mode = \"2k\"\n\
 constellation = \"qpsk\"\n\
 rate_hp = \"5/6\"\n\
 guard = \"1/32\"\n\
-== M2k Qpsk Flat R7of8 None G1of32 None Zero 1 1000000\n\
+== (M2k, Qpsk, Flat, R7of8, None, G1of32, None, Zero, 1, 1000000)\n\
 mode = \"2k\"\n\
 constellation = \"qpsk\"\n\
 rate_hp = \"7/8\"\n\
 guard = \"1/32\"\n\
-== M2k Qpsk Flat R1of2 None G1of16 None Zero 1 1000000\n\
+== (M2k, Qpsk, Flat, R1of2, None, G1of16, None, Zero, 1, 1000000)\n\
 mode = \"2k\"\n\
 constellation = \"qpsk\"\n\
 rate_hp = \"1/2\"\n\
 guard = \"1/16\"\n\
-== M2k Qpsk Flat R1of2 None G1of8 None Zero 1 1000000\n\
+== (M2k, Qpsk, Flat, R1of2, None, G1of8, None, Zero, 1, 1000000)\n\
 mode = \"2k\"\n\
 constellation = \"qpsk\"\n\
 rate_hp = \"1/2\"\n\
 guard = \"1/8\"\n\
-== M2k Qpsk Flat R1of2 None G1of4 None Zero 1 1000000\n\
+== (M2k, Qpsk, Flat, R1of2, None, G1of4, None, Zero, 1, 1000000)\n\
 mode = \"2k\"\n\
 constellation = \"qpsk\"\n\
 rate_hp = \"1/2\"\n\
 guard = \"1/4\"\n\
-== M8k Qam64 Alpha1 R2of3 Some(R3of4) G1of4 None Zero 1 1000000\n\
+== (M8k, Qam64, Alpha1, R2of3, Some(R3of4), G1of4, None, Zero, 1, 1000000)\n\
 mode = \"8k\"\n\
 constellation = \"64qam\"\n\
 hierarchy = \"1\"\n\
 rate_hp = \"2/3\"\n\
 rate_lp = \"3/4\"\n\
 guard = \"1/4\"\n\
-== M8k Qam64 Alpha2 R2of3 Some(R3of4) G1of4 None Zero 1 1000000\n\
+== (M8k, Qam64, Alpha2, R2of3, Some(R3of4), G1of4, None, Zero, 1, 1000000)\n\
 mode = \"8k\"\n\
 constellation = \"64qam\"\n\
 hierarchy = \"2\"\n\
 rate_hp = \"2/3\"\n\
 rate_lp = \"3/4\"\n\
 guard = \"1/4\"\n\
-== M8k Qam64 Alpha4 R2of3 Some(R3of4) G1of4 None Zero 1 1000000\n\
+== (M8k, Qam64, Alpha4, R2of3, Some(R3of4), G1of4, None, Zero, 1, 1000000)\n\
 mode = \"8k\"\n\
 constellation = \"64qam\"\n\
 hierarchy = \"4\"\n\
 rate_hp = \"2/3\"\n\
 rate_lp = \"3/4\"\n\
 guard = \"1/4\"\n\
-== M8k Qam64 Alpha2 R2of3 Some(R1of2) G1of4 None Zero 1 1000000\n\
+== (M8k, Qam64, Alpha2, R2of3, Some(R1of2), G1of4, None, Zero, 1, 1000000)\n\
 mode = \"8k\"\n\
 constellation = \"64qam\"\n\
 hierarchy = \"2\"\n\
 rate_hp = \"2/3\"\n\
 rate_lp = \"1/2\"\n\
 guard = \"1/4\"\n\
-== M8k Qam64 Alpha2 R2of3 Some(R2of3) G1of4 None Zero 1 1000000\n\
+== (M8k, Qam64, Alpha2, R2of3, Some(R2of3), G1of4, None, Zero, 1, 1000000)\n\
 mode = \"8k\"\n\
 constellation = \"64qam\"\n\
 hierarchy = \"2\"\n\
 rate_hp = \"2/3\"\n\
 rate_lp = \"2/3\"\n\
 guard = \"1/4\"\n\
-== M8k Qam64 Alpha2 R2of3 Some(R5of6) G1of4 None Zero 1 1000000\n\
+== (M8k, Qam64, Alpha2, R2of3, Some(R5of6), G1of4, None, Zero, 1, 1000000)\n\
 mode = \"8k\"\n\
 constellation = \"64qam\"\n\
 hierarchy = \"2\"\n\
 rate_hp = \"2/3\"\n\
 rate_lp = \"5/6\"\n\
 guard = \"1/4\"\n\
-== M8k Qam64 Alpha2 R2of3 Some(R7of8) G1of4 None Zero 1 1000000\n\
+== (M8k, Qam64, Alpha2, R2of3, Some(R7of8), G1of4, None, Zero, 1, 1000000)\n\
 mode = \"8k\"\n\
 constellation = \"64qam\"\n\
 hierarchy = \"2\"\n\
 rate_hp = \"2/3\"\n\
 rate_lp = \"7/8\"\n\
 guard = \"1/4\"\n\
-== M2k Qpsk Flat R1of2 None G1of32 None Zero 1 1000000\n\
+== (M2k, Qpsk, Flat, R1of2, None, G1of32, None, Zero, 1, 1000000)\n\
 @\n\
 hierarchy = \"none\"\n\
-== M2k Qpsk Flat R1of2 None G1of32 Some(0) Zero 1 1000000\n\
+== (M2k, Qpsk, Flat, R1of2, None, G1of32, Some(0), Zero, 1, 1000000)\n\
 @\n\
 cell_id = 0\n\
-== M2k Qpsk Flat R1of2 None G1of32 Some(65535) Zero 1 1000000\n\
+== (M2k, Qpsk, Flat, R1of2, None, G1of32, Some(65535), Zero, 1, 1000000)\n\
 @\n\
 cell_id = 65535\n\
-== M2k Qpsk Flat R1of2 None G1of32 None Any 1 1000000\n\
+== (M2k, Qpsk, Flat, R1of2, None, G1of32, None, Any, 1, 1000000)\n\
 @\n\
 start = \"any\"\n\
-== M2k Qpsk Flat R1of2 None G1of32 None Zero 1 1000000\n\
+== (M2k, Qpsk, Flat, R1of2, None, G1of32, None, Zero, 1, 1000000)\n\
 @\n\
 start = \"zero\"\n\
-== M2k Qpsk Flat R1of2 None G1of32 None Zero 1 1000000\n\
+== (M2k, Qpsk, Flat, R1of2, None, G1of32, None, Zero, 1, 1000000)\n\
 @\n\
 workers = 1\n\
-== M2k Qpsk Flat R1of2 None G1of32 None Zero 16 1000000\n\
+== (M2k, Qpsk, Flat, R1of2, None, G1of32, None, Zero, 16, 1000000)\n\
 @\n\
 workers = 16\n\
-== M2k Qpsk Flat R1of2 None G1of32 None Zero 1 1\n\
+== (M2k, Qpsk, Flat, R1of2, None, G1of32, None, Zero, 1, 1)\n\
 @\n\
 max_symbols = 1\n\
-== M2k Qpsk Flat R1of2 None G1of32 None Zero 1 4294967295\n\
+== (M2k, Qpsk, Flat, R1of2, None, G1of32, None, Zero, 1, 4294967295)\n\
 @\n\
 max_symbols = 4294967295\n\
-== M2k Qpsk Flat R1of2 None G1of32 None Zero 1 1000000\n\
+== (M2k, Qpsk, Flat, R1of2, None, G1of32, None, Zero, 1, 1000000)\n\
 # comment\n\
 \n\
 \x20 mode=\"2k\"# end\n\
@@ -140,7 +140,7 @@ max_symbols = 4294967295\n\
 \"rate_hp\" = \"1/2\"\n\
 'guard' = \"1\\u002F32\"\n\
 \n\
-== M2k Qpsk Flat R1of2 None G1of32 Some(15) Any 16 1000\n\
+== (M2k, Qpsk, Flat, R1of2, None, G1of32, Some(15), Any, 16, 1000)\n\
 workers = 0x10\n\
 mode = \"2k\"\n\
 guard = \"1/32\"\n\
@@ -149,7 +149,7 @@ constellation = \"qpsk\"\n\
 max_symbols = +1_000\n\
 cell_id = 0b1111\n\
 start = \"any\"\n\
-== M2k Qpsk Flat R1of2 None G1of32 None Any 1 1000000\n\
+== (M2k, Qpsk, Flat, R1of2, None, G1of32, None, Any, 1, 1000000)\n\
 @\n\
 start = \"\"\"\n\
 any\"\"\"\n\

@@ -1,15 +1,10 @@
-// Documents with a plan, each with its answer: a line `== ANSWER`, then the document; `@` stands for the base.
-use crate::documents::BASE;
-use crate::examples::EXAMPLES;
-use crate::tests::document;
-use mode_set::{Key, Settings, SettingsError};
-use std::alloc::{AllocError, Global};
+// Documents with a plan, as in `DOCUMENTS`: behind the settings in each answer stand the entries.
 
-const PLANS: &str = "\
-== 1 Qam16 Alpha4 R1of2 Some(R3of4)\n\
+pub(super) const PLANS: &str = "\
+== (M2k, Qpsk, Flat, R1of2, None, G1of32, None, Zero, 1, 1000000) (1, Qam16, Alpha4, R1of2, Some(R3of4))\n\
 @\n\
 plan = [{ after = 1, constellation = \"16qam\", hierarchy = \"4\", rate_hp = \"1/2\", rate_lp = \"3/4\" }]\n\
-== 3 Qam64 Flat R7of8 None, 4 Qam64 Flat R7of8 None\n\
+== (M2k, Qpsk, Flat, R1of2, None, G1of32, None, Zero, 1, 1000000) (3, Qam64, Flat, R7of8, None) (4, Qam64, Flat, R7of8, None)\n\
 @\n\
 [[plan]]\n\
 rate_hp = \"7/8\"\n\
@@ -21,7 +16,7 @@ after = 4\n\
 constellation = \"64qam\"\n\
 hierarchy = \"none\"\n\
 rate_hp = \"7/8\"\n\
-== 4294967294 Qpsk Flat R1of2 None, 4294967295 Qam64 Alpha2 R2of3 Some(R5of6)\n\
+== (M2k, Qpsk, Flat, R1of2, None, G1of32, None, Zero, 1, 1000000) (4294967294, Qpsk, Flat, R1of2, None) (4294967295, Qam64, Alpha2, R2of3, Some(R5of6))\n\
 plan = [\n\
 \x20 { after = 4294967294, constellation = \"qpsk\", rate_hp = \"1/2\" },\n\
 \x20 { rate_lp = \"5/6\", rate_hp = \"2/3\", hierarchy = \"2\", constellation = \"64qam\", after = 4294967295 },\n\
@@ -30,7 +25,7 @@ mode = \"2k\"\n\
 constellation = \"qpsk\"\n\
 rate_hp = \"1/2\"\n\
 guard = \"1/32\"\n\
-== 2 Qpsk Flat R3of4 None\n\
+== (M8k, Qam64, Alpha2, R2of3, Some(R3of4), G1of4, None, Zero, 1, 1000000) (2, Qpsk, Flat, R3of4, None)\n\
 mode = \"8k\"\n\
 constellation = \"64qam\"\n\
 hierarchy = \"2\"\n\
@@ -38,7 +33,7 @@ rate_hp = \"2/3\"\n\
 rate_lp = \"3/4\"\n\
 guard = \"1/4\"\n\
 plan = [{ after = 2, constellation = \"qpsk\", rate_hp = \"3/4\" }]\n\
-== 7 Qam16 Flat R2of3 None\n\
+== (M2k, Qpsk, Flat, R1of2, None, G1of32, None, Zero, 1, 1000000) (7, Qam16, Flat, R2of3, None)\n\
 @\n\
 plan = [{\n\
 \x20 after = 7,\n\
@@ -210,73 +205,3 @@ plan = [{ after = 1, constellation = \"qpsk\", rate_hp = \"1/2\" }]\n\
 rate_lp = \"1/2\"\n\
 plan = [{ after = 1, constellation = \"16qam\", hierarchy = \"2\", rate_hp = \"1/2\", rate_lp = \"1/2\" }]\n\
 ";
-
-// The plan of the settings as one line.
-fn plan_line(alloc: Global, settings: &Settings) -> Result<String, AllocError> {
-    let mut line = String::new(alloc);
-    for i in 0..settings.plan.len() {
-        let e = settings.plan.get(i);
-        let between = if i == 0 { "" } else { ", " };
-        let text = format!(in alloc;
-            "{between}{} {:?} {:?} {:?} {:?}",
-            e.after, e.shape, e.hierarchy, e.rate_hp, e.rate_lp
-        )?;
-        line.push_str(&text)?;
-    }
-    Ok(line)
-}
-
-#[test]
-fn plans_have_their_answers(rt: HostRuntime) {
-    for case in PLANS.split("== ").skip(1) {
-        let (want, rest) = case.split_once("\n").expect(&rt, "an answer");
-        let text = document(rt.alloc(), rest).expect(&rt, "memory");
-        let got = match Settings::read(rt.alloc(), text.as_bytes()) {
-            Ok(settings) => plan_line(rt.alloc(), &settings),
-            Err(error) => format!(in rt.alloc(); "{error:?}"),
-        };
-        assert_eq!(rt; got.expect(&rt, "memory").as_str(), want, "at {text}");
-    }
-}
-
-// The base with so many entries, of super-frames 5, 10 and so on.
-fn with_entries(alloc: Global, count: u32) -> Result<String, AllocError> {
-    let mut text = format!(in alloc; "{BASE}plan = [")?;
-    for number in 1..count.wrapping_add(1) {
-        let after = number.wrapping_mul(5);
-        let entry = format!(in alloc;
-            "{{ after = {after}, constellation = \"16qam\", rate_hp = \"5/6\" }},"
-        )?;
-        text.push_str(&entry)?;
-    }
-    text.push_str("]\n")?;
-    Ok(text)
-}
-
-#[test]
-fn a_document_has_1_to_16_entries(rt: HostRuntime) {
-    for count in 0..20u32 {
-        let text = with_entries(rt.alloc(), count).expect(&rt, "memory");
-        match Settings::read(rt.alloc(), text.as_bytes()) {
-            Ok(settings) => {
-                assert!(rt; (1..17).contains(&count) && settings.plan.len() == count as usize);
-                assert!(rt; settings.entry(4).after == 0 && settings.entry(5).after == 5);
-                assert_eq!(rt; settings.entry(4294967295).after, 5 * count);
-            }
-            Err(error) => {
-                assert!(rt; count == 0 || count > 16);
-                assert_eq!(rt; error, SettingsError::Value(Key::Plan));
-            }
-        }
-    }
-    assert_eq!(rt; Key::Plan.text(), "plan");
-}
-
-#[test]
-fn one_example_has_a_plan(rt: HostRuntime) {
-    for case in EXAMPLES.split("== ").skip(1) {
-        let (name, text) = case.split_once("\n").expect(&rt, "a name");
-        let settings = Settings::read(rt.alloc(), text.as_bytes()).expect(&rt, "settings");
-        assert_eq!(rt; settings.plan.len() > 0, name == "plan");
-    }
-}

@@ -24,12 +24,41 @@ fn layered(after: u32) -> Entry {
     }
 }
 
+// One stream on 64-QAM from the start on.
+fn top() -> Entry {
+    Entry {
+        after: 0,
+        shape: Shape::Qam64,
+        hierarchy: Hierarchy::Flat,
+        rate_hp: Rate::R5of6,
+        rate_lp: None,
+    }
+}
+
+// Which of these entries, and from which super-frame on.
+#[derive(Clone, Copy)]
+enum Given {
+    Top,
+    Plain(u32),
+    Layered(u32),
+}
+
+use Given::{Layered, Plain, Top};
+
+fn entry(given: Given) -> Entry {
+    match given {
+        Top => top(),
+        Plain(after) => plain(after),
+        Layered(after) => layered(after),
+    }
+}
+
 // The plan of entries, as far as they may follow one another, and their number.
-fn plan_of(entries: &[Entry]) -> (Plan, u32) {
+fn plan_of(entries: &[Given]) -> (Plan, u32) {
     let mut plan = Plan::none();
     let mut taken = 0u32;
-    for entry in entries {
-        if plan.push(*entry) {
+    for given in entries {
+        if plan.push(entry(*given)) {
             taken = taken.wrapping_add(1);
         }
     }
@@ -44,86 +73,120 @@ fn with_plan(plan: Plan) -> Settings {
 }
 
 // The same with these entries.
-fn planned(entries: &[Entry]) -> Settings {
+fn planned(entries: &[Given]) -> Settings {
     with_plan(plan_of(entries).0)
+}
+
+// How many of the entries the plan has, and how many it took.
+fn taken_of(entries: &[Given]) -> (usize, u32) {
+    let (plan, taken) = plan_of(entries);
+    (plan.len(), taken)
 }
 
 #[test]
 fn numbers_rise(rt: HostRuntime) {
     for (entries, taken) in [
         (&[][..], 0),
-        (&[plain(0)][..], 0),
-        (&[plain(1)][..], 1),
-        (&[plain(4294967295)][..], 1),
-        (&[plain(3), plain(3)][..], 1),
-        (&[plain(3), layered(3)][..], 1),
-        (&[plain(3), plain(2)][..], 1),
-        (&[plain(3), plain(0)][..], 1),
-        (&[plain(1), plain(3), plain(2)][..], 2),
-        (&[plain(1), plain(3), plain(3), plain(4)][..], 3),
-        (&[plain(1), plain(2), layered(3)][..], 3),
+        (&[Plain(0)][..], 0),
+        (&[Plain(1)][..], 1),
+        (&[Plain(4294967295)][..], 1),
+        (&[Plain(3), Plain(3)][..], 1),
+        (&[Plain(3), Layered(3)][..], 1),
+        (&[Plain(3), Plain(2)][..], 1),
+        (&[Plain(3), Plain(0)][..], 1),
+        (&[Plain(1), Plain(3), Plain(2)][..], 2),
+        (&[Plain(1), Plain(3), Plain(3), Plain(4)][..], 3),
+        (&[Plain(1), Plain(2), Layered(3)][..], 3),
     ] {
-        let (plan, pushed) = plan_of(entries);
-        assert_eq!(rt; (plan.len(), pushed), (taken as usize, taken));
+        assert_eq!(rt; taken_of(entries), (taken as usize, taken));
     }
+}
+
+// Does the plan refuse each of these entries, and is it then what it was?
+fn refuses(plan: &mut Plan, entries: &[Given]) -> bool {
+    let before = *plan;
+    for given in entries {
+        if plan.push(entry(*given)) {
+            return false;
+        }
+    }
+    *plan == before
+}
+
+// Are these the entries of the plan?
+fn has_entries(plan: &Plan, entries: &[Given]) -> bool {
+    for i in 0..plan.len() {
+        if i >= entries.len() || plan.get(i) != entry(entries[i]) {
+            return false;
+        }
+    }
+    plan.len() == entries.len()
 }
 
 #[test]
 fn refused_entries_leave_a_plan(rt: HostRuntime) {
-    let (mut plan, _) = plan_of(&[plain(1), layered(3)]);
+    let mut plan = plan_of(&[Plain(1), Layered(3)]).0;
+    assert!(rt; refuses(&mut plan, &[Layered(3), Plain(2), Plain(0)]));
     let before = plan;
-    assert!(rt; !plan.push(layered(3)) && !plan.push(plain(2)) && !plan.push(plain(0)));
-    assert!(rt; plan == before && plan.push(plain(4)) && plan != before);
-    assert!(rt; plan.len() == 3);
-    assert_eq!(rt;
-        (plan.get(0), plan.get(1), plan.get(2)),
-        (plain(1), layered(3), plain(4))
-    );
+    assert!(rt; plan.push(plain(4)) && plan != before);
+    assert!(rt; has_entries(&plan, &[Plain(1), Layered(3), Plain(4)]));
+}
+
+// The plan of two streams from each fifth super-frame up to the 80th on, if it takes them all.
+fn every_fifth() -> Option<Plan> {
+    let mut plan = Plan::none();
+    for number in 1..17u32 {
+        if !plan.push(layered(5 * number)) {
+            return None;
+        }
+    }
+    Some(plan)
+}
+
+// Does each super-frame before the 80th have the entry of the fifth at it or before it?
+fn changes_at_fifths(settings: &Settings) -> bool {
+    for super_frame in 0..80u32 {
+        if settings.entry(super_frame).after != super_frame / 5 * 5 {
+            return false;
+        }
+    }
+    true
 }
 
 #[test]
 fn sixteen_entries(rt: HostRuntime) {
-    let mut plan = Plan::none();
-    for number in 1..17u32 {
-        assert!(rt; plan.push(layered(5 * number)));
-    }
+    let mut plan = every_fifth().expect(&rt, "sixteen entries");
     assert!(rt; !plan.push(layered(81)) && plan.len() == 16);
     let settings = with_plan(plan);
-    for super_frame in 0..80u32 {
-        assert_eq!(rt; settings.entry(super_frame).after, super_frame / 5 * 5);
-    }
-    assert_eq!(rt; settings.entry(80), layered(80));
-    assert_eq!(rt; settings.entry(4294967295), layered(80));
+    assert!(rt; changes_at_fifths(&settings));
+    let last = layered(80);
+    assert!(rt; settings.entry(80) == last && settings.entry(4294967295) == last);
 }
 
 #[test]
 fn entries_of_super_frames(rt: HostRuntime) {
-    let top = Entry {
-        after: 0,
-        shape: Shape::Qam64,
-        hierarchy: Hierarchy::Flat,
-        rate_hp: Rate::R5of6,
-        rate_lp: None,
-    };
     let alone = planned(&[]);
-    let changing = planned(&[layered(2), plain(3), layered(4294967295)]);
-    for (super_frame, entry) in [
-        (0, top),
-        (1, top),
-        (2, layered(2)),
-        (3, plain(3)),
-        (4, plain(3)),
-        (4294967294, plain(3)),
-        (4294967295, layered(4294967295)),
+    let changing = planned(&[Layered(2), Plain(3), Layered(4294967295)]);
+    for (super_frame, expected) in [
+        (0, Top),
+        (1, Top),
+        (2, Layered(2)),
+        (3, Plain(3)),
+        (4, Plain(3)),
+        (4294967294, Plain(3)),
+        (4294967295, Layered(4294967295)),
     ] {
-        assert_eq!(rt; alone.entry(super_frame), top);
-        assert_eq!(rt; changing.entry(super_frame), entry);
+        assert!(rt; alone.entry(super_frame) == top(), "at {super_frame}");
+        assert!(rt;
+            changing.entry(super_frame) == entry(expected),
+            "at {super_frame}"
+        );
     }
 }
 
 #[test]
 fn settings_with_an_entry(rt: HostRuntime) {
-    let settings = planned(&[layered(2), plain(3)]);
+    let settings = planned(&[Layered(2), Plain(3)]);
     let mut expected = hierarchical(
         Mode::M8k,
         Shape::Qam16,
@@ -131,35 +194,37 @@ fn settings_with_an_entry(rt: HostRuntime) {
         Rate::R2of3,
         Rate::R3of4,
     );
-    assert!(rt; settings.with_entry(&layered(2)) != expected);
+    let layered = settings.with_entry(&layered(2));
+    assert!(rt; layered != expected);
     expected.plan = settings.plan;
-    assert!(rt; settings.with_entry(&layered(2)) == expected);
-    assert!(rt; settings.with_entry(&settings.entry(1)) == settings);
+    assert!(rt; layered == expected && settings.with_entry(&settings.entry(1)) == settings);
 }
 
-#[test]
-fn low_priority_of_a_plan(rt: HostRuntime) {
-    let two = hierarchical(
+// Whether settings of one stream and settings of two have an LP stream with these entries.
+fn have_lp(entries: &[Given]) -> (bool, bool) {
+    let one = planned(entries);
+    let mut two = hierarchical(
         Mode::M2k,
         Shape::Qam16,
         Hierarchy::Alpha1,
         Rate::R1of2,
         Rate::R1of2,
     );
-    assert!(rt; two.has_lp());
+    two.plan = one.plan;
+    (one.has_lp(), two.has_lp())
+}
+
+#[test]
+fn low_priority_of_a_plan(rt: HostRuntime) {
     for (entries, has_lp) in [
         (&[][..], false),
-        (&[plain(1)][..], false),
-        (&[layered(1)][..], true),
-        (&[plain(1), plain(2), layered(3)][..], true),
-        (&[plain(1), layered(2), plain(3)][..], true),
-        (&[plain(1), plain(2), plain(3)][..], false),
+        (&[Plain(1)][..], false),
+        (&[Layered(1)][..], true),
+        (&[Plain(1), Plain(2), Layered(3)][..], true),
+        (&[Plain(1), Layered(2), Plain(3)][..], true),
+        (&[Plain(1), Plain(2), Plain(3)][..], false),
     ] {
-        let mut settings = planned(entries);
-        assert_eq!(rt; settings.has_lp(), has_lp);
-        let plan = settings.plan;
-        settings = two;
-        settings.plan = plan;
-        assert!(rt; settings.has_lp());
+        let (one, two) = have_lp(entries);
+        assert!(rt; one == has_lp && two);
     }
 }
