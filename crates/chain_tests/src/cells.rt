@@ -9,14 +9,18 @@ use std::rt::HostRuntime;
 use ts_packet::Packet;
 
 // Byte j of packet i is 37 i + 11 j + (j² mod 7) (i + 1) + salt modulo 256, behind the sync byte.
+fn packet_byte(i: u8, j: u8, salt: u8) -> u8 {
+    let square = (j % 7).wrapping_mul(j % 7) % 7;
+    i.wrapping_mul(37)
+        .wrapping_add(j.wrapping_mul(11))
+        .wrapping_add(square.wrapping_mul(i.wrapping_add(1)))
+        .wrapping_add(salt)
+}
+
 fn packet_bytes(i: u8, salt: u8) -> [u8; 188] {
     let mut bytes = [0x47u8; 188];
-    for (j, byte) in bytes.iter_mut().enumerate() {
-        if j > 0 {
-            let j = j as u64;
-            let i = i as u64;
-            *byte = ((37 * i + 11 * j + j * j % 7 * (i + 1) + salt as u64) % 256) as u8;
-        }
+    for j in 1..188u8 {
+        bytes[j as usize] = packet_byte(i, j, salt);
     }
     bytes
 }

@@ -232,16 +232,24 @@ fn cost_nothing(pairs: &[CostPair]) -> bool {
     pairs.iter().all(|pair| (pair.x0, pair.x1, pair.y0, pair.y1) == (0, 0, 0, 0))
 }
 
+// The bytes of a symbol with the weight 0 for each cell.
+fn without_weights(rt: &impl Abort, alloc: Global, bytes: &[u8]) -> Vec<u8> {
+    let mut without = Vec::new(alloc);
+    for (i, byte) in bytes.iter().enumerate() {
+        let byte = if i % 5 == 4 { 0 } else { *byte };
+        without.push(byte).expect(rt, "memory");
+    }
+    without
+}
+
 // The costs of the first symbol where each cell has the weight 0.
 fn weightless(rt: &impl Abort, alloc: Global, settings: &Settings) -> Vec<Costs> {
     let streams = (drawn_bytes(rt, alloc, 1), drawn_bytes(rt, alloc, 2));
-    let mut symbols = first_symbols(rt, alloc, settings, &[false], (&streams.0, &streams.1));
-    for bytes in &mut symbols {
-        for (i, byte) in bytes.iter_mut().enumerate() {
-            if i % 5 == 4 {
-                *byte = 0;
-            }
-        }
+    let mut symbols = Vec::new(alloc);
+    for bytes in &first_symbols(rt, alloc, settings, &[false], (&streams.0, &streams.1)) {
+        symbols
+            .push(without_weights(rt, alloc, bytes))
+            .expect(rt, "memory");
     }
     costs_of(rt, alloc, settings, &symbols, 34085)
 }

@@ -289,48 +289,54 @@ fn words_of_another_modulator(rt: HostRuntime) {
     }
 }
 
-// Words of another modulator: fields with a cell identifier and a hierarchy, and without.
-const WORDS: [(TpsWord, &[u8; 67]); 2] = [
-    (
-        TpsWord {
-            frame: 1,
-            with_cell: true,
-            shape: Shape::Qam64,
-            hierarchy: Hierarchy::Alpha2,
-            rate_hp: Rate::R5of6,
-            rate_lp: Rate::R7of8,
-            guard: Guard::G1of4,
-            mode: Mode::M2k,
-            cell_byte: 0xAB,
-        },
-        b"0011010111101110011111001001001110011001010101100000000001100111101",
-    ),
-    (
-        TpsWord {
-            frame: 4,
-            with_cell: false,
-            shape: Shape::Qam16,
-            hierarchy: Hierarchy::Flat,
-            rate_hp: Rate::R2of3,
-            rate_lp: Rate::R1of2,
-            guard: Guard::G1of8,
-            mode: Mode::M8k,
-            cell_byte: 0,
-        },
-        b"1100101000010001010111110100000100010010000000000000000010001001100",
-    ),
-];
-
-#[test]
-fn words_of_two_transmissions(rt: HostRuntime) {
-    for (word, text) in WORDS {
-        let sent = bits_of(text);
-        assert!(&rt; 1 <= word.frame && word.frame <= 4 && (word.with_cell || word.cell_byte == 0));
-        assert!(&rt; (word.write(), TpsWord::read(&sent)) == (sent, Some(word)));
+// Two words, one with a cell identifier and a hierarchy, and one without.
+fn layered_word() -> TpsWord {
+    TpsWord {
+        frame: 1,
+        with_cell: true,
+        shape: Shape::Qam64,
+        hierarchy: Hierarchy::Alpha2,
+        rate_hp: Rate::R5of6,
+        rate_lp: Rate::R7of8,
+        guard: Guard::G1of4,
+        mode: Mode::M2k,
+        cell_byte: 0xAB,
     }
 }
 
-// The second of them with its last bit flipped, and with the sync word of another frame.
+fn flat_word() -> TpsWord {
+    TpsWord {
+        frame: 4,
+        with_cell: false,
+        shape: Shape::Qam16,
+        hierarchy: Hierarchy::Flat,
+        rate_hp: Rate::R2of3,
+        rate_lp: Rate::R1of2,
+        guard: Guard::G1of8,
+        mode: Mode::M8k,
+        cell_byte: 0,
+    }
+}
+
+// Whether the word is written as these bits, and read from them.
+fn is_sent_as(word: TpsWord, text: &[u8; 67]) -> bool {
+    let sent = bits_of(text);
+    1 <= word.frame
+        && word.frame <= 4
+        && (word.with_cell || word.cell_byte == 0)
+        && (word.write(), TpsWord::read(&sent)) == (sent, Some(word))
+}
+
+// Words of another modulator.
+#[test]
+fn words_of_two_transmissions(rt: HostRuntime) {
+    let layered = b"0011010111101110011111001001001110011001010101100000000001100111101";
+    assert!(&rt; is_sent_as(layered_word(), layered));
+    let flat = b"1100101000010001010111110100000100010010000000000000000010001001100";
+    assert!(&rt; is_sent_as(flat_word(), flat));
+}
+
+// The flat word with its last bit flipped, and with the sync word of another frame.
 #[test]
 fn words_that_are_not_read(rt: HostRuntime) {
     for text in [
