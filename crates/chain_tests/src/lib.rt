@@ -12,11 +12,11 @@ mod carriers;
 #[cfg(test)]
 mod cells;
 #[cfg(test)]
-mod labels;
-#[cfg(test)]
 mod rates;
 #[cfg(test)]
 mod receiving;
+#[cfg(test)]
+mod sending;
 #[cfg(test)]
 mod symbols;
 #[cfg(test)]

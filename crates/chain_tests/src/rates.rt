@@ -3,6 +3,8 @@ use bit_pack::BitBuf;
 use conv_code::Encoder;
 use mode_set::Rate;
 use puncture::{Depuncturer, PuncturedEncoder, Puncturer, Sent, sent};
+use std::alloc::Global;
+use std::process::Abort;
 
 const RATES: [Rate; 5] = [
     Rate::R1of2,
@@ -45,8 +47,7 @@ fn single_one_at_seven_eighths(rt: HostRuntime) {
             puncturer.push(coded, &mut bits);
         }
     }
-    assert_eq!(rt; bits.take_byte(), Some(0b1101_1011));
-    assert_eq!(rt; bits.waiting(), 0);
+    assert_eq!(rt; (bits.take_byte(), bits.waiting()), (Some(0b1101_1011), 0));
 }
 
 const BYTES: [u8; 24] = [
@@ -93,21 +94,30 @@ const CODED: [(&[u8], usize); 5] = [
     ),
 ];
 
+// How many bits become of the bytes, and their whole bytes.
+fn coded_at(rt: &impl Abort, alloc: Global, rate: Rate) -> (usize, Vec<u8>) {
+    let mut coder = PuncturedEncoder::start(rate);
+    let mut bits: BitBuf<48> = BitBuf::new();
+    for byte in BYTES {
+        if bits.waiting() <= 368 {
+            coder.push_byte(byte, &mut bits);
+        }
+    }
+    let number = bits.waiting();
+    let mut bytes = Vec::new(alloc);
+    for _ in 0..number / 8 {
+        if let Some(byte) = bits.take_byte() {
+            bytes.push(byte).expect(rt, "memory");
+        }
+    }
+    (number, bytes)
+}
+
 #[test]
 fn bytes_at_each_rate(rt: HostRuntime) {
     for (rate, (coded, number)) in RATES.into_iter().zip(CODED) {
-        let mut coder = PuncturedEncoder::start(rate);
-        let mut bits: BitBuf<48> = BitBuf::new();
-        for byte in BYTES {
-            if bits.waiting() <= 368 {
-                coder.push_byte(byte, &mut bits);
-            }
-        }
-        assert_eq!(rt; bits.waiting(), number);
-        for byte in coded {
-            assert_eq!(rt; bits.take_byte(), Some(*byte));
-        }
-        assert_eq!(rt; bits.take_byte(), None);
+        let (found, bytes) = coded_at(&rt, rt.alloc(), rate);
+        assert_eq!(rt; (found, bytes.as_slice()), (number, coded));
     }
 }
 
@@ -163,8 +173,11 @@ fn costs_at_three_quarters(rt: HostRuntime) {
     let mut depuncturer = Depuncturer::start(Rate::R3of4);
     let (a, b, none) = ((1, 2), (3, 4095), (0, 0));
     for (needs, first, x, y) in [(2, a, a, b), (1, b, none, b), (1, a, a, none), (2, b, b, b)] {
-        assert_eq!(rt; depuncturer.needs(), needs);
+        let needed = depuncturer.needs();
         let pair = depuncturer.pair(first, b);
-        assert_eq!(rt; ((pair.x0, pair.x1), (pair.y0, pair.y1)), (x, y));
+        assert_eq!(rt;
+            (needed, (pair.x0, pair.x1), (pair.y0, pair.y1)),
+            (needs, x, y)
+        );
     }
 }

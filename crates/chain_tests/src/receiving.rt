@@ -1,22 +1,124 @@
 // What is sent, read back: a symbol cut into pieces, and the costs of the modulator's own symbols.
-ghost use Rattle.std.specs.Prelude.{◌≡◌, ◌*◌, length, IfOk};
+ghost use Rattle.std.specs.Prelude.{◌≡◌, ◌*◌, length};
 
-use crate::cells::write;
-use crate::labels::drawn_labels;
-use bit_pack::WaitBuf;
+use crate::sending::{drawn_bytes, first_symbols};
 use conv_code::{CostPair, Encoder};
-use frame_build::{SymbolIn, SymbolOut};
-use inner_chain::{InnerRx, InnerTx};
+use frame_build::SymbolIn;
+use inner_chain::InnerRx;
 use mode_set::{Carriers, Hierarchy, Mode, Mode2k, Mode8k, Rate, Settings, Shape, Stream};
 use outer_chain::OuterTx;
 use puncture::{Sent, sent};
 use qam_map::Cell;
-use std::alloc::{AllocError, Global};
+use std::alloc::Global;
 use std::process::Abort;
 use std::rt::HostRuntime;
 use std::test::Fail;
 use test_tools::{flat, hierarchical, next_byte};
 use ts_packet::Packet;
+
+// A symbol taken in pieces of this size.
+fn take_in_pieces<M: Carriers>(rt: &impl Abort, symbol: &mut SymbolIn<M>, bytes: &[u8], size: usize)
+    ensures { length symbol.new ≡ 5 * M.K }
+{
+    assert!(rt; size > 0);
+    for piece in bytes.chunks(size) {
+        let ready = !symbol.whole();
+        assert!(rt; ready);
+        assert!(rt; symbol.take(piece) == piece.len());
+    }
+    let whole = symbol.whole();
+    assert!(rt; whole);
+}
+
+// The cost pairs of a stream in the whole symbol that was taken, none of a stream that does not exist.
+fn pairs_of<M: Carriers>(
+    rt: &impl Abort,
+    alloc: Global,
+    settings: &Settings,
+    rx: &mut InnerRx<M>,
+    symbol: &SymbolIn<M>,
+    l: u8,
+    stream: Stream,
+) -> Vec<CostPair>
+    requires mode { settings.now.mode ≡ M.MODE }
+    requires rx { rx.old.mode ≡ settings.now.mode }
+    requires whole { length symbol.now ≡ 5 * M.K }
+    ensures { rx.new.mode ≡ settings.now.mode }
+{
+    if !settings.has_stream(stream) {
+        return Vec::new(alloc);
+    }
+    let entry = settings.top();
+    let steps = rx.steps(&entry, stream) as usize;
+    let mut pairs = Vec::with_capacity(alloc, steps).expect(rt, "memory");
+    assert!(rt; l < 68);
+    rx.pairs(
+        &entry,
+        symbol.cells(),
+        symbol.weights(),
+        l,
+        stream,
+        &mut pairs,
+    );
+    assert!(rt; pairs.len() == steps);
+    pairs
+}
+
+// The costs of both streams in a symbol.
+type Costs = (Vec<CostPair>, Vec<CostPair>);
+
+// The costs of symbols from symbol 0 of a frame on, which are taken in pieces of this size.
+fn costs_by<M: Carriers>(
+    rt: &impl Abort,
+    alloc: Global,
+    settings: &Settings,
+    rx: &mut InnerRx<M>,
+    symbols: &[Vec<u8>],
+    size: usize,
+) -> Vec<Costs>
+    requires mode { settings.now.mode ≡ M.MODE }
+    requires rx { rx.old.mode ≡ settings.now.mode }
+    ensures { rx.new.mode ≡ settings.now.mode }
+{
+    let mut symbol = SymbolIn::<M>::new(alloc).expect(rt, "memory");
+    let mut costs = Vec::new(alloc);
+    for (l, bytes) in symbols.iter().enumerate() {
+        take_in_pieces(rt, &mut symbol, bytes, size);
+        let l = (l % 68) as u8;
+        let hp = pairs_of(rt, alloc, settings, rx, &symbol, l, Stream::Hp);
+        let lp = pairs_of(rt, alloc, settings, rx, &symbol, l, Stream::Lp);
+        costs.push((hp, lp)).expect(rt, "memory");
+        symbol.next();
+    }
+    costs
+}
+
+fn own_costs<M: Carriers>(
+    rt: &impl Abort,
+    alloc: Global,
+    settings: &Settings,
+    symbols: &[Vec<u8>],
+    size: usize,
+) -> Vec<Costs>
+    requires { settings.now.mode ≡ M.MODE }
+{
+    let mut rx = InnerRx::<M>::new(alloc, settings).expect(rt, "memory");
+    costs_by(rt, alloc, settings, &mut rx, symbols, size)
+}
+
+// The costs by a receiving side that is made for these settings.
+fn costs_of(
+    rt: &impl Abort,
+    alloc: Global,
+    settings: &Settings,
+    symbols: &[Vec<u8>],
+    size: usize,
+) -> Vec<Costs> {
+    match settings.mode {
+        Mode::M2k => own_costs::<Mode2k>(rt, alloc, settings, symbols, size),
+        Mode::M8k => own_costs::<Mode8k>(rt, alloc, settings, symbols, size),
+    }
+}
 
 // The bits of a stream once more, as they are coded.
 #[derive(Drop)]
@@ -53,6 +155,7 @@ fn fits(bit: bool, is_sent: bool, zero: u16, one: u16) -> bool {
     own == 0 && (other >= 1) == is_sent
 }
 
+// The cost pairs of a stream in a symbol fit what was sent.
 fn pairs_fit(rt: &impl Abort, pairs: &[CostPair], rate: Rate, coded: &mut Coded) {
     for (step, pair) in pairs.iter().enumerate() {
         let (x, y) = next_coded(coded);
@@ -67,133 +170,20 @@ fn pairs_fit(rt: &impl Abort, pairs: &[CostPair], rate: Rate, coded: &mut Coded)
     }
 }
 
-// The cost pairs of a stream in the whole symbol that was taken.
-fn pairs_of<M: Carriers>(
-    rt: &impl Abort,
-    alloc: Global,
-    settings: &Settings,
-    rx: &mut InnerRx<M>,
-    symbol: &SymbolIn<M>,
-    l: u8,
-    stream: Stream,
-) -> Result<Vec<CostPair>, AllocError>
-    requires mode { settings.now.mode ≡ M.MODE }
-    requires rx { rx.old.mode ≡ settings.now.mode }
-    requires whole { length symbol.now ≡ 5 * M.K }
-    ensures { rx.new.mode ≡ settings.now.mode }
-{
-    let entry = settings.top();
-    let steps = rx.steps(&entry, stream) as usize;
-    let mut pairs = Vec::with_capacity(alloc, steps)?;
-    let exists = settings.has_stream(stream);
-    assert!(rt; l < 68 && exists);
-    rx.pairs(
-        &entry,
-        symbol.cells(),
-        symbol.weights(),
-        l,
-        stream,
-        &mut pairs,
-    );
-    assert!(rt; pairs.len() == steps);
-    Ok(pairs)
-}
+// The bytes of the two streams.
+type Streams = (Vec<u8>, Vec<u8>);
 
-// The cost pairs of a stream in a symbol fit what was sent.
-fn stream_fits<M: Carriers>(
-    rt: &impl Abort,
-    alloc: Global,
-    settings: &Settings,
-    rx: &mut InnerRx<M>,
-    symbol: &SymbolIn<M>,
-    l: u8,
-    stream: Stream,
-    coded: &mut Coded,
-) -> Result<(), AllocError>
-    requires mode { settings.now.mode ≡ M.MODE }
-    requires rx { rx.old.mode ≡ settings.now.mode }
-    requires whole { length symbol.now ≡ 5 * M.K }
-    ensures { rx.new.mode ≡ settings.now.mode }
-{
-    if settings.has_stream(stream) {
-        let pairs = pairs_of(rt, alloc, settings, rx, symbol, l, stream)?;
-        pairs_fit(rt, &pairs, settings.rate(stream), coded);
+// The first four symbols of a transmission, with both its streams: carriers repeat after four.
+fn come_back(rt: &impl Abort, alloc: Global, settings: &Settings, (hp, lp): &Streams) {
+    let symbols = first_symbols(rt, alloc, settings, &[false, true, false, true], (hp, lp));
+    let costs = costs_of(rt, alloc, settings, &symbols, 34085);
+    let (mut hp, mut lp) = (coded_from(1), coded_from(2));
+    for (hp_pairs, lp_pairs) in &costs {
+        pairs_fit(rt, hp_pairs, settings.rate(Stream::Hp), &mut hp);
+        pairs_fit(rt, lp_pairs, settings.rate(Stream::Lp), &mut lp);
     }
-    Ok(())
-}
-
-// The next symbol as bytes, and taken as cells.
-fn send<M: Carriers>(
-    rt: &impl Abort,
-    alloc: Global,
-    settings: &Settings,
-    labels: &[u8],
-    out: &mut SymbolOut<M>,
-    symbol: &mut SymbolIn<M>,
-) -> Result<(), AllocError>
-    ensures { IfOk result (λ _. length symbol.new ≡ 5 * M.K) }
-{
-    let mut bytes = Vec::with_capacity(alloc, 110000)?;
-    write(rt, labels, out, settings, &mut bytes);
-    let ready = !symbol.whole();
-    assert!(rt; ready);
-    let taken = symbol.take(&bytes);
-    let whole = symbol.whole();
-    assert!(rt; whole && taken == bytes.len());
-    Ok(())
-}
-
-// The cost pairs of both streams of a symbol fit what was sent.
-fn both_fit<M: Carriers>(
-    rt: &impl Abort,
-    alloc: Global,
-    settings: &Settings,
-    rx: &mut InnerRx<M>,
-    symbol: &SymbolIn<M>,
-    l: u8,
-    coded: &mut (Coded, Coded),
-) -> Result<(), AllocError>
-    requires mode { settings.now.mode ≡ M.MODE }
-    requires rx { rx.old.mode ≡ settings.now.mode }
-    requires whole { length symbol.now ≡ 5 * M.K }
-    ensures { rx.new.mode ≡ settings.now.mode }
-{
-    let (hp, lp) = coded;
-    stream_fits(rt, alloc, settings, rx, symbol, l, Stream::Hp, hp)?;
-    stream_fits(rt, alloc, settings, rx, symbol, l, Stream::Lp, lp)
-}
-
-// The first four symbols of a transmission: carriers repeat after four.
-fn four_symbols<M: Carriers>(
-    rt: &impl Abort,
-    alloc: Global,
-    settings: &Settings,
-) -> Result<(), AllocError>
-    requires { settings.now.mode ≡ M.MODE }
-{
-    let mut tx = InnerTx::<M>::new(alloc, settings)?;
-    let mut rx = InnerRx::<M>::new(alloc, settings)?;
-    let mut out = SymbolOut::<M>::new(settings);
-    let mut symbol = SymbolIn::<M>::new(alloc)?;
-    let mut waiting = (WaitBuf::new(), WaitBuf::new());
-    let mut states = (1, 2);
-    let mut coded = (coded_from(1), coded_from(2));
-    for l in 0..4u8 {
-        let odd = l % 2 == 1;
-        let labels = drawn_labels(rt, alloc, settings, &mut tx, odd, &mut states, &mut waiting)?;
-        send(rt, alloc, settings, &labels, &mut out, &mut symbol)?;
-        both_fit(rt, alloc, settings, &mut rx, &symbol, l, &mut coded)?;
-        symbol.next();
-    }
-    Ok(())
-}
-
-fn check(rt: &impl Abort, alloc: Global, settings: &Settings) {
-    let done = match settings.mode {
-        Mode::M2k => four_symbols::<Mode2k>(rt, alloc, settings),
-        Mode::M8k => four_symbols::<Mode8k>(rt, alloc, settings),
-    };
-    done.expect(rt, "memory");
+    let has_lp = settings.has_stream(Stream::Lp);
+    assert!(rt; costs.len() == 4 && costs.iter().all(|(_, lp)| lp.is_empty() != has_lp));
 }
 
 const RATES: [Rate; 5] = [
@@ -204,15 +194,18 @@ const RATES: [Rate; 5] = [
     Rate::R7of8,
 ];
 
-fn with_hierarchy(rt: &impl Abort, alloc: Global, mode: Mode, rate_hp: Rate, rate_lp: Rate) {
+fn with_hierarchy(
+    rt: &impl Abort,
+    alloc: Global,
+    mode: Mode,
+    (rate_hp, rate_lp): (Rate, Rate),
+    streams: &Streams,
+) {
     for shape in [Shape::Qam16, Shape::Qam64] {
         for hierarchy in [Hierarchy::Alpha1, Hierarchy::Alpha2, Hierarchy::Alpha4] {
             if !shape.is_qpsk() && !hierarchy.is_flat() {
-                check(
-                    rt,
-                    alloc,
-                    &hierarchical(mode, shape, hierarchy, rate_hp, rate_lp),
-                );
+                let settings = hierarchical(mode, shape, hierarchy, rate_hp, rate_lp);
+                come_back(rt, alloc, &settings, streams);
             }
         }
     }
@@ -222,88 +215,105 @@ fn with_hierarchy(rt: &impl Abort, alloc: Global, mode: Mode, rate_hp: Rate, rat
 #[test]
 fn own_symbols_of_every_setting(rt: HostRuntime) {
     let alloc = rt.alloc();
+    let streams = (drawn_bytes(&rt, alloc, 1), drawn_bytes(&rt, alloc, 2));
     for mode in [Mode::M2k, Mode::M8k] {
         for rate_hp in RATES {
             for shape in [Shape::Qpsk, Shape::Qam16, Shape::Qam64] {
-                check(&rt, alloc, &flat(mode, shape, rate_hp));
+                come_back(&rt, alloc, &flat(mode, shape, rate_hp), &streams);
             }
             for rate_lp in RATES {
-                with_hierarchy(&rt, alloc, mode, rate_hp, rate_lp);
+                with_hierarchy(&rt, alloc, mode, (rate_hp, rate_lp), &streams);
             }
+        }
+    }
+}
+
+fn cost_nothing(pairs: &[CostPair]) -> bool {
+    pairs.iter().all(|pair| (pair.x0, pair.x1, pair.y0, pair.y1) == (0, 0, 0, 0))
+}
+
+// The bytes of a symbol with the weight 0 for each cell.
+fn without_weights(rt: &impl Abort, alloc: Global, bytes: &[u8]) -> Vec<u8> {
+    let mut without = Vec::new(alloc);
+    for (i, byte) in bytes.iter().enumerate() {
+        let byte = if i % 5 == 4 { 0 } else { *byte };
+        without.push(byte).expect(rt, "memory");
+    }
+    without
+}
+
+// The costs of the first symbol where each cell has the weight 0.
+fn weightless(rt: &impl Abort, alloc: Global, settings: &Settings) -> Vec<Costs> {
+    let streams = (drawn_bytes(rt, alloc, 1), drawn_bytes(rt, alloc, 2));
+    let mut symbols = Vec::new(alloc);
+    for bytes in &first_symbols(rt, alloc, settings, &[false], (&streams.0, &streams.1)) {
+        symbols
+            .push(without_weights(rt, alloc, bytes))
+            .expect(rt, "memory");
+    }
+    costs_of(rt, alloc, settings, &symbols, 34085)
+}
+
+// Cells of the weight 0 cost nothing.
+#[test]
+fn cells_without_weight(rt: HostRuntime) {
+    for settings in [
+        flat(Mode::M2k, Shape::Qpsk, Rate::R1of2),
+        flat(Mode::M8k, Shape::Qam64, Rate::R2of3),
+        hierarchical(
+            Mode::M2k,
+            Shape::Qam16,
+            Hierarchy::Alpha4,
+            Rate::R5of6,
+            Rate::R3of4,
+        ),
+    ] {
+        for (hp, lp) in &weightless(&rt, rt.alloc(), &settings) {
+            assert!(&rt; cost_nothing(hp) && cost_nothing(lp));
         }
     }
 }
 
 // The bytes of the first symbol that carries null packets.
-fn null_symbol(rt: &impl Abort, alloc: Global) -> Result<Vec<u8>, AllocError> {
+fn null_symbol(rt: &impl Abort, alloc: Global) -> Vec<u8> {
     let settings = flat(Mode::M2k, Shape::Qpsk, Rate::R1of2);
-    let word = OuterTx::new(alloc)?.take(&Packet::null());
-    let mut waiting = (WaitBuf::new(), WaitBuf::new());
-    for byte in word {
-        assert!(rt; waiting.0.waiting() <= 30000);
-        waiting.0.push_byte(byte);
-    }
-    let mut tx = InnerTx::<Mode2k>::new(alloc, &settings)?;
-    let mut out = SymbolOut::<Mode2k>::new(&settings);
-    let labels = drawn_labels(
-        rt,
-        alloc,
-        &settings,
-        &mut tx,
-        false,
-        &mut (0, 0),
-        &mut waiting,
-    )?;
-    let mut bytes = Vec::with_capacity(alloc, 110000)?;
-    write(rt, &labels, &mut out, &settings, &mut bytes);
-    Ok(bytes)
+    let word = OuterTx::new(alloc)
+        .expect(rt, "memory")
+        .take(&Packet::null());
+    let mut symbols = first_symbols(rt, alloc, &settings, &[false], (&word, &[]));
+    symbols.pop().expect(rt, "a symbol")
 }
 
-// A symbol taken in pieces of this size.
-fn taken_in_pieces<M: Carriers>(
-    rt: &impl Abort,
-    symbol: &mut SymbolIn<M>,
-    bytes: &[u8],
-    size: usize,
-)
-    ensures { length symbol.new ≡ 5 * M.K }
-{
-    let mut from = 0;
-    for _ in 0..bytes.len() {
-        if from < bytes.len() && !symbol.whole() {
-            let end = from + size.min(bytes.len() - from);
-            from += symbol.take(&bytes[from..end]);
-        }
+// The cells that bytes say.
+fn cells_of(rt: &impl Abort, alloc: Global, bytes: &[u8]) -> Vec<Cell> {
+    let mut cells = Vec::new(alloc);
+    for five in bytes.chunks(5) {
+        assert!(rt; five.len() == 5);
+        let re = i16::from_be_bytes([five[0], five[1]]);
+        let im = i16::from_be_bytes([five[2], five[3]]);
+        cells.push(Cell { re, im }).expect(rt, "memory");
     }
-    let whole = symbol.whole();
-    assert!(rt; whole && from == bytes.len());
+    cells
 }
 
-// A symbol taken in pieces of this size has the cells that the bytes say, and the whole weight for each.
-fn cells_fit(rt: &impl Abort, alloc: Global, bytes: &[u8], size: usize) -> Result<(), AllocError> {
-    let mut symbol = SymbolIn::<Mode2k>::new(alloc)?;
-    taken_in_pieces(rt, &mut symbol, bytes, size);
-    for (k, cell) in symbol.cells().iter().enumerate() {
-        assert!(rt; 5 * k + 4 < 8525 && bytes.len() == 8525);
-        let re = i16::from_be_bytes([bytes[5 * k], bytes[5 * k + 1]]);
-        let im = i16::from_be_bytes([bytes[5 * k + 2], bytes[5 * k + 3]]);
-        assert!(rt; *cell == Cell { re, im });
-    }
-    assert!(rt; symbol.weights().iter().all(|weight| *weight == 15));
-    Ok(())
+// Whether a symbol taken in pieces of this size has the cells that its bytes say, and the whole weight for each.
+fn is_taken(rt: &impl Abort, alloc: Global, bytes: &[u8], size: usize) -> bool {
+    let mut symbol = SymbolIn::<Mode2k>::new(alloc).expect(rt, "memory");
+    take_in_pieces(rt, &mut symbol, bytes, size);
+    symbol.cells() == cells_of(rt, alloc, bytes).as_slice()
+        && symbol.weights() == [15u8; 1705].as_slice()
 }
 
 // Its cells and the weights behind them; pieces of four bytes cut between a cell and its weight.
 #[test]
-fn a_symbol_of_null_packets_in_pieces(rt: HostRuntime) -> Result<(), Fail> {
+fn a_symbol_of_null_packets_in_pieces(rt: HostRuntime) {
     let alloc = rt.alloc();
-    let bytes = null_symbol(&rt, alloc)?;
+    let bytes = null_symbol(&rt, alloc);
     let begins = [0xAAu8, 0xAB, 0, 0, 15, 0xD2, 0xBF, 0x2D, 0x41, 15];
-    assert!(rt; bytes.len() == 8525 && bytes.starts_with(begins.as_slice()));
+    assert!(&rt; bytes.starts_with(begins.as_slice()));
     for size in [1usize, 3, 4, 8525] {
-        cells_fit(&rt, alloc, &bytes, size)?;
+        assert!(&rt; is_taken(&rt, alloc, &bytes, size));
     }
-    Ok(())
 }
 
 // A symbol of drawn cells, of which two in five have a weight byte above 15.
@@ -329,73 +339,22 @@ fn with_pairs(sum: u32, pairs: &[CostPair]) -> u32 {
     })
 }
 
-// With the costs of a stream in a symbol, if there is the stream.
-fn with_stream<M: Carriers>(
-    rt: &impl Abort,
-    alloc: Global,
-    settings: &Settings,
-    rx: &mut InnerRx<M>,
-    symbol: &SymbolIn<M>,
-    l: u8,
-    stream: Stream,
-    sum: u32,
-) -> Result<u32, AllocError>
-    requires mode { settings.now.mode ≡ M.MODE }
-    requires rx { rx.old.mode ≡ settings.now.mode }
-    requires whole { length symbol.now ≡ 5 * M.K }
-    ensures { rx.new.mode ≡ settings.now.mode }
-{
-    if !settings.has_stream(stream) {
-        return Ok(sum);
-    }
-    let pairs = pairs_of(rt, alloc, settings, rx, symbol, l, stream)?;
-    Ok(with_pairs(sum, &pairs))
+fn sum_of(costs: &[Costs]) -> u32 {
+    costs
+        .iter()
+        .fold(0, |sum, (hp, lp)| with_pairs(with_pairs(sum, hp), lp))
 }
 
-// All costs of four symbols of drawn bytes, which are taken in pieces of seven.
-fn drawn_costs<M: Carriers>(
-    rt: &impl Abort,
-    alloc: Global,
-    settings: &Settings,
-    rx: &mut InnerRx<M>,
-) -> Result<u32, AllocError>
-    requires mode { settings.now.mode ≡ M.MODE }
-    requires rx { rx.old.mode ≡ settings.now.mode }
-    ensures { rx.new.mode ≡ settings.now.mode }
-{
-    let mut symbol = SymbolIn::<M>::new(alloc)?;
-    let mut bytes = vec![in alloc; 0u8; 5 * M::K as usize]?;
+// Four symbols of drawn bytes.
+fn drawn_symbols(rt: &impl Abort, alloc: Global, mode: Mode) -> Vec<Vec<u8>> {
     let mut state = 7;
-    let mut sum = 0;
-    for l in 0..4u8 {
+    let mut symbols = Vec::new(alloc);
+    for _ in 0..4u8 {
+        let mut bytes = vec![in alloc; 0u8; 5 * mode.carriers() as usize].expect(rt, "memory");
         drawn_symbol(&mut state, &mut bytes);
-        taken_in_pieces(rt, &mut symbol, &bytes, 7);
-        sum = with_stream(rt, alloc, settings, rx, &symbol, l, Stream::Hp, sum)?;
-        sum = with_stream(rt, alloc, settings, rx, &symbol, l, Stream::Lp, sum)?;
-        symbol.next();
+        symbols.push(bytes).expect(rt, "memory");
     }
-    Ok(sum)
-}
-
-// The costs by a receiving side that is made for these settings.
-fn own_costs<M: Carriers>(
-    rt: &impl Abort,
-    alloc: Global,
-    settings: &Settings,
-) -> Result<u32, AllocError>
-    requires { settings.now.mode ≡ M.MODE }
-{
-    let mut rx = InnerRx::<M>::new(alloc, settings)?;
-    drawn_costs(rt, alloc, settings, &mut rx)
-}
-
-fn check_costs(rt: &impl Abort, alloc: Global, text: &str, sum: u32) {
-    let settings = Settings::read(alloc, text.as_bytes()).expect(rt, "the settings");
-    let found = match settings.mode {
-        Mode::M2k => own_costs::<Mode2k>(rt, alloc, &settings),
-        Mode::M8k => own_costs::<Mode8k>(rt, alloc, &settings),
-    };
-    assert!(rt; found.expect(rt, "memory") == sum);
+    symbols
 }
 
 // The same costs by one receiving side whose parameters change from symbol to symbol.
@@ -410,10 +369,13 @@ fn costs_of_changing_parameters(rt: HostRuntime) -> Result<(), Fail> {
         Rate::R2of3,
         Rate::R3of4,
     );
+    let symbols = drawn_symbols(&rt, alloc, Mode::M2k);
     let mut rx = InnerRx::<Mode2k>::new(alloc, &one)?;
-    assert!(&rt; drawn_costs(&rt, alloc, &two, &mut rx)? == 1262352538);
-    assert!(&rt; drawn_costs(&rt, alloc, &one, &mut rx)? == 2726650226);
-    assert!(&rt; drawn_costs(&rt, alloc, &two, &mut rx)? == 1262352538);
+    let first = costs_by(&rt, alloc, &two, &mut rx, &symbols, 7);
+    let second = costs_by(&rt, alloc, &one, &mut rx, &symbols, 7);
+    let third = costs_by(&rt, alloc, &two, &mut rx, &symbols, 7);
+    let sums = [sum_of(&first), sum_of(&second), sum_of(&third)];
+    assert!(&rt; sums == [1262352538, 2726650226, 1262352538]);
     Ok(())
 }
 
@@ -437,11 +399,13 @@ const COSTS: [(&str, u32); 4] = [
     ),
 ];
 
-// Drawn cells with drawn weights cost what they cost another receiver.
+// Drawn cells with drawn weights, taken in pieces of seven bytes, cost what they cost another receiver.
 #[test]
 fn costs_by_weights_of_another_receiver(rt: HostRuntime) {
     let alloc = rt.alloc();
     for (text, sum) in COSTS {
-        check_costs(&rt, alloc, text, sum);
+        let settings = Settings::read(alloc, text.as_bytes()).expect(&rt, "the settings");
+        let symbols = drawn_symbols(&rt, alloc, settings.mode);
+        assert!(&rt; sum_of(&costs_of(&rt, alloc, &settings, &symbols, 7)) == sum);
     }
 }

@@ -24,16 +24,19 @@ fn errors_are_corrected(rt: &impl Abort, sent: &[bool; 67]) {
     for i in 0..67usize {
         let mut once = *sent;
         once[i] = !once[i];
-        let mut word = once;
-        assert!(rt; correct(&mut word) == TpsOutcome::Read(1));
-        assert!(rt; word == *sent);
+        assert!(rt; corrected(once) == (TpsOutcome::Read(1), *sent));
         for j in i + 1..67 {
-            let mut word = once;
-            word[j] = !word[j];
-            assert!(rt; correct(&mut word) == TpsOutcome::Read(2));
-            assert!(rt; word == *sent);
+            let mut twice = once;
+            twice[j] = !twice[j];
+            assert!(rt; corrected(twice) == (TpsOutcome::Read(2), *sent));
         }
     }
+}
+
+fn corrected(word: [bool; 67]) -> (TpsOutcome, [bool; 67]) {
+    let mut word = word;
+    let outcome = correct(&mut word);
+    (outcome, word)
 }
 
 // The word with another value in the `width` bits from place `at` on, s1 being at 0, and its parity.
@@ -60,24 +63,37 @@ fn with_field(
     word
 }
 
-fn is_not_read(rt: &impl Abort, sent: &[bool; 67], at: usize, width: usize, value: u8) {
-    assert!(rt; TpsWord::read(&with_field(rt, sent, at, width, value)) == None);
-}
+// Values that no word has: the place and the width of the field, and the value.
+const OTHER_FIELDS: [(usize, usize, u8); 18] = [
+    // the length
+    (16, 6, 0b000000),
+    (16, 6, 0b010110),
+    (16, 6, 0b011110),
+    (16, 6, 0b100111),
+    (16, 6, 0b111111),
+    // the constellation
+    (24, 2, 0b11),
+    // the hierarchy
+    (26, 3, 4),
+    (26, 3, 5),
+    (26, 3, 6),
+    (26, 3, 7),
+    // the rates
+    (29, 3, 5),
+    (29, 3, 6),
+    (29, 3, 7),
+    (32, 3, 5),
+    (32, 3, 6),
+    (32, 3, 7),
+    // the mode
+    (37, 2, 0b10),
+    (37, 2, 0b11),
+];
 
 fn other_fields_are_not_read(rt: &impl Abort, sent: &[bool; 67]) {
-    for length in [0b000000u8, 0b010110, 0b011110, 0b100111, 0b111111] {
-        is_not_read(rt, sent, 16, 6, length);
+    for (at, width, value) in OTHER_FIELDS {
+        assert!(rt; TpsWord::read(&with_field(rt, sent, at, width, value)) == None);
     }
-    is_not_read(rt, sent, 24, 2, 0b11);
-    for hierarchy in 4..8u8 {
-        is_not_read(rt, sent, 26, 3, hierarchy);
-    }
-    for rate in 5..8u8 {
-        is_not_read(rt, sent, 29, 3, rate);
-        is_not_read(rt, sent, 32, 3, rate);
-    }
-    is_not_read(rt, sent, 37, 2, 0b10);
-    is_not_read(rt, sent, 37, 2, 0b11);
 }
 
 // One of the four words of a transmission.
@@ -87,7 +103,7 @@ fn check_word(rt: &impl Abort, settings: &Settings, frame: u8, text: &[u8; 67])
 {
     let word = TpsWord::signalled(settings, frame);
     let sent = bits_of(text);
-    assert!(rt; word.write() == sent && TpsWord::read(&sent) == Some(word));
+    assert!(rt; (word.write(), TpsWord::read(&sent)) == (sent, Some(word)));
     errors_are_corrected(rt, &sent);
     other_fields_are_not_read(rt, &sent);
 }
@@ -273,10 +289,9 @@ fn words_of_another_modulator(rt: HostRuntime) {
     }
 }
 
-// Words of another modulator: fields with a cell identifier and a hierarchy, and without.
-#[test]
-fn words_of_two_transmissions(rt: HostRuntime) {
-    let first = TpsWord {
+// Two words, one with a cell identifier and a hierarchy, and one without.
+fn layered_word() -> TpsWord {
+    TpsWord {
         frame: 1,
         with_cell: true,
         shape: Shape::Qam64,
@@ -286,8 +301,11 @@ fn words_of_two_transmissions(rt: HostRuntime) {
         guard: Guard::G1of4,
         mode: Mode::M2k,
         cell_byte: 0xAB,
-    };
-    let last = TpsWord {
+    }
+}
+
+fn flat_word() -> TpsWord {
+    TpsWord {
         frame: 4,
         with_cell: false,
         shape: Shape::Qam16,
@@ -297,18 +315,36 @@ fn words_of_two_transmissions(rt: HostRuntime) {
         guard: Guard::G1of8,
         mode: Mode::M8k,
         cell_byte: 0,
-    };
-    let sent = bits_of(b"0011010111101110011111001001001110011001010101100000000001100111101");
-    assert!(&rt; first.write() == sent);
-    assert!(&rt; TpsWord::read(&sent) == Some(first));
-    let sent = bits_of(b"1100101000010001010111110100000100010010000000000000000010001001100");
-    assert!(&rt; last.write() == sent);
-    assert!(&rt; TpsWord::read(&sent) == Some(last));
-    // The last bit flipped, and the sync word of another frame.
-    let flipped = bits_of(b"1100101000010001010111110100000100010010000000000000000010001001101");
-    assert!(&rt; TpsWord::read(&flipped) == None);
-    let other = bits_of(b"0011010111101110010111110100000100010010000000000000000010001001100");
-    assert!(&rt; TpsWord::read(&other) == None);
+    }
+}
+
+// Whether the word is written as these bits, and read from them.
+fn is_sent_as(word: TpsWord, text: &[u8; 67]) -> bool {
+    let sent = bits_of(text);
+    1 <= word.frame
+        && word.frame <= 4
+        && (word.with_cell || word.cell_byte == 0)
+        && (word.write(), TpsWord::read(&sent)) == (sent, Some(word))
+}
+
+// Words of another modulator.
+#[test]
+fn words_of_two_transmissions(rt: HostRuntime) {
+    let layered = b"0011010111101110011111001001001110011001010101100000000001100111101";
+    assert!(&rt; is_sent_as(layered_word(), layered));
+    let flat = b"1100101000010001010111110100000100010010000000000000000010001001100";
+    assert!(&rt; is_sent_as(flat_word(), flat));
+}
+
+// The flat word with its last bit flipped, and with the sync word of another frame.
+#[test]
+fn words_that_are_not_read(rt: HostRuntime) {
+    for text in [
+        b"1100101000010001010111110100000100010010000000000000000010001001101",
+        b"0011010111101110010111110100000100010010000000000000000010001001100",
+    ] {
+        assert!(&rt; TpsWord::read(&bits_of(text)) == None);
+    }
 }
 
 // Turned cells vote 1, equal ones 0, and so does a sum of 0.
@@ -317,26 +353,33 @@ fn turned_cells(rt: HostRuntime) {
     let cells = [Cell { re: 16384, im: 0 }, Cell { re: -16384, im: 5 }];
     let turned = [Cell { re: -16384, im: 0 }, Cell { re: 16384, im: -5 }];
     let crossed = [Cell { re: 16384, im: 0 }, Cell { re: 16384, im: 0 }];
-    assert!(&rt; vote(&cells, &turned));
-    assert!(&rt; !vote(&cells, &cells));
-    assert!(&rt; !vote(&cells, &crossed));
+    let votes = [
+        vote(&cells, &turned),
+        vote(&cells, &cells),
+        vote(&cells, &crossed),
+    ];
+    assert!(&rt; votes == [true, false, false]);
 }
 
-// The parity of 52 zeros and then a 1 is x^14 divided by the generator. The zero word is a word of the code, and x^7 + x^3 + 1,
-// flips of s60, s64 and s67, divides the generator: with these it is within two bits of no word.
+// The parity of 52 zeros and then a 1 is x^14 divided by the generator.
 #[test]
-fn words_of_the_code(rt: HostRuntime) {
+fn parity_of_a_single_one(rt: HostRuntime) {
     let mut info = [false; 53];
     info[52] = true;
     let expected = [
         false, false, false, false, true, true, false, true, true, true, false, true, true, true,
     ];
     assert!(&rt; parity(&info) == expected);
+}
+
+// The zero word is a word of the code, and x^7 + x^3 + 1, flips of s60, s64 and s67, divides the generator: with these it
+// is within two bits of no word.
+#[test]
+fn words_of_the_code(rt: HostRuntime) {
     errors_are_corrected(&rt, &[false; 67]);
     let mut word = [false; 67];
     for place in [59usize, 63, 66] {
         word[place] = true;
     }
-    let before = word;
-    assert!(&rt; correct(&mut word) == TpsOutcome::Unreadable && word == before);
+    assert!(&rt; corrected(word) == (TpsOutcome::Unreadable, word));
 }

@@ -67,12 +67,22 @@ fn words_are_queues(rt: HostRuntime) {
     }
 }
 
-// Puts a byte behind the others, where there is room, and takes the first one.
-fn through(queue: &mut BitBuf<3>, byte: u8) -> Option<u8> {
+// The first byte, where one is put behind the bits that wait, and how many bits and which byte are left then.
+fn through(queue: &mut BitBuf<3>, byte: u8) -> (Option<u8>, usize, Option<u8>) {
     if queue.waiting() <= 16 {
         queue.push_byte(byte);
     }
-    queue.take_byte()
+    let taken = queue.take_byte();
+    (taken, queue.waiting(), queue.take_byte())
+}
+
+// The next four bits.
+fn four_bits(queue: &mut BitBuf<3>) -> [Option<bool>; 4] {
+    let mut bits = [None; 4];
+    for bit in &mut bits {
+        *bit = queue.take_bit();
+    }
+    bits
 }
 
 // Three bits, and bytes behind them: they go round the end of the ring.
@@ -85,16 +95,17 @@ fn bits_to_bytes(rt: HostRuntime) {
             queue.push_bit(bit);
         }
     }
-    assert_eq!(rt; through(&mut queue, 0b1100_0110), Some(0b1011_1000));
-    assert_eq!(rt; (queue.waiting(), queue.take_byte()), (3, None));
-    for byte in [0x12u8, 0x34, 0x56, 0x78] {
-        assert!(rt; through(&mut queue, byte).is_some());
+    for (byte, taken) in [
+        (0b1100_0110u8, 0b1011_1000u8),
+        (0x12, 0b1100_0010),
+        (0x34, 0b0100_0110),
+        (0x56, 0b1000_1010),
+        (0x78, 0b1100_1111),
+    ] {
+        assert_eq!(rt; through(&mut queue, byte), (Some(taken), 3, None));
     }
-    let last = [
-        queue.take_bit(),
-        queue.take_bit(),
-        queue.take_bit(),
-        queue.take_bit(),
-    ];
-    assert_eq!(rt; last, [Some(false), Some(false), Some(false), None]);
+    assert_eq!(rt;
+        four_bits(&mut queue),
+        [Some(false), Some(false), Some(false), None]
+    );
 }

@@ -6,7 +6,8 @@ use cell_equal::equalise;
 use mode_set::Mode;
 use pilots::{CarrierKind, kind, reference};
 use qam_map::Cell;
-use std::alloc::{AllocError, Global};
+use std::alloc::Global;
+use std::process::Abort;
 use std::rt::HostRuntime;
 use test_tools::next_number;
 
@@ -21,19 +22,18 @@ fn carriers_of(mode: Mode) -> u32
 
 // The symbol's corrected bytes.
 fn equalised(
+    rt: &impl Abort,
     alloc: Global,
     mode: Mode,
     l: u8,
     cells: &[Cell],
     weights: &[u8],
-) -> Result<Vec<u8>, AllocError>
-    requires symbol { l < 68 }
-    requires cells { length cells.now ≡ carriers mode }
-    requires weights { length weights.now ≡ carriers mode }
-{
-    let mut bytes = Vec::with_capacity(alloc, 5 * carriers_of(mode) as usize)?;
+) -> Vec<u8> {
+    let count = carriers_of(mode) as usize;
+    assert!(rt; l < 68 && cells.len() == count && weights.len() == count);
+    let mut bytes = Vec::with_capacity(alloc, 5 * count).expect(rt, "memory");
     equalise(mode, l, cells, weights, &mut bytes);
-    Ok(bytes)
+    bytes
 }
 
 fn numbered(draw: &mut u32) -> u32 {
@@ -65,45 +65,62 @@ fn sent(mode: Mode, l: u8, k: u32, draw: &mut u32) -> Cell
     }
 }
 
+// The cells of a sent symbol in the 2K mode.
+fn sent_cells(rt: &impl Abort, alloc: Global, l: u8) -> Vec<Cell>
+    requires { l < 68 }
+{
+    let mut draw = 5;
+    let mut cells = vec![in alloc; Cell { re: 0, im: 0 }; 1705].expect(rt, "memory");
+    for k in 0..1705u32 {
+        cells[k as usize] = sent(Mode::M2k, l, k, &mut draw);
+    }
+    cells
+}
+
+fn turned_by_a_quarter(rt: &impl Abort, alloc: Global, cells: &[Cell]) -> Vec<Cell> {
+    let mut turned = Vec::new(alloc);
+    for cell in cells {
+        let came = Cell {
+            re: cell.im.wrapping_neg(),
+            im: cell.re,
+        };
+        turned.push(came).expect(rt, "memory");
+    }
+    turned
+}
+
+// The bytes of cells of the whole weight.
+fn bytes_of(rt: &impl Abort, alloc: Global, cells: &[Cell]) -> Vec<u8> {
+    let mut bytes = Vec::new(alloc);
+    for cell in cells {
+        let [a, b] = cell.re.to_be_bytes();
+        let [c, d] = cell.im.to_be_bytes();
+        bytes
+            .extend_from_slice(&[a, b, c, d, 15])
+            .expect(rt, "memory");
+    }
+    bytes
+}
+
 // A quarter turn is taken back exactly, and every weight is 15.
 #[test]
 fn a_quarter_turn(rt: HostRuntime) {
     let alloc = rt.alloc();
-    let mut cells = vec![in alloc; Cell { re: 0, im: 0 }; 1705].expect(&rt, "memory");
-    let mut sent_cells = vec![in alloc; Cell { re: 0, im: 0 }; 1705].expect(&rt, "memory");
-    let weights = vec![in alloc; 15u8; 1705].expect(&rt, "memory");
     for l in [0u8, 1, 66, 67] {
-        let mut draw = 5;
-        for k in 0..1705u32 {
-            let cell = sent(Mode::M2k, l, k, &mut draw);
-            sent_cells[k as usize] = cell;
-            cells[k as usize] = Cell {
-                re: cell.im.wrapping_neg(),
-                im: cell.re,
-            };
-        }
-        let bytes = equalised(alloc, Mode::M2k, l, &cells, &weights).expect(&rt, "memory");
-        assert!(&rt; bytes.len() == 8525);
-        for k in 0..1705usize {
-            let [a, b] = sent_cells[k].re.to_be_bytes();
-            let [c, d] = sent_cells[k].im.to_be_bytes();
-            assert!(&rt;
-                bytes[5 * k..5 * k + 5] == [a, b, c, d, 15],
-                "carrier {k} of {l}"
-            );
-        }
+        assert!(&rt; l < 68);
+        let cells = sent_cells(&rt, alloc, l);
+        let came = turned_by_a_quarter(&rt, alloc, &cells);
+        let bytes = equalised(&rt, alloc, Mode::M2k, l, &came, &[15; 1705]);
+        assert!(&rt; bytes == bytes_of(&rt, alloc, &cells), "symbol {l}");
     }
 }
 
 // Where nothing was received nothing is known.
 #[test]
 fn zero_cells(rt: HostRuntime) {
-    let alloc = rt.alloc();
-    let cells = vec![in alloc; Cell { re: 0, im: 0 }; 1705].expect(&rt, "memory");
-    let weights = vec![in alloc; 15u8; 1705].expect(&rt, "memory");
-    let bytes = equalised(alloc, Mode::M2k, 3, &cells, &weights).expect(&rt, "memory");
-    assert!(&rt; bytes.len() == 8525);
-    assert!(&rt; bytes.iter().all(|byte| *byte == 0));
+    let cells = [Cell { re: 0, im: 0 }; 1705];
+    let bytes = equalised(&rt, rt.alloc(), Mode::M2k, 3, &cells, &[15; 1705]);
+    assert!(&rt; bytes.as_slice() == [0u8; 8525].as_slice());
 }
 
 // The bytes as one number, modulo 2^32.
@@ -115,7 +132,7 @@ fn sum_of(bytes: &[u8]) -> u32 {
 }
 
 // What a channel makes of a symbol.
-#[derive(Clone, Copy, Debug, PartialEq, Eq)]
+#[derive(Clone, Copy)]
 enum Channel {
     // Any values, or values near 0, in place of the cells.
     Any,
@@ -126,9 +143,24 @@ enum Channel {
     Slope,
 }
 
+fn is_sent(channel: Channel) -> bool {
+    !matches!(channel, Channel::Any | Channel::Weak)
+}
+
+fn is_one_gain(channel: Channel) -> bool {
+    matches!(channel, Channel::Gain(_, _))
+}
+
 fn value(draw: &mut u32, small: bool) -> i16 {
     let value = ((numbered(draw) % 65536) as u16).cast_signed();
     if small { value % 4 } else { value }
+}
+
+fn any_cell(draw: &mut u32, small: bool) -> Cell {
+    Cell {
+        re: value(draw, small),
+        im: value(draw, small),
+    }
 }
 
 fn part(times_16384: i32) -> i16 {
@@ -145,11 +177,8 @@ fn through(cell: Cell, a: i32, b: i32) -> Cell {
 
 fn came(channel: Channel, cell: Cell, k: u32, draw: &mut u32) -> Cell {
     match channel {
-        Channel::Any | Channel::Weak => {
-            let re = value(draw, channel == Channel::Weak);
-            let im = value(draw, channel == Channel::Weak);
-            Cell { re, im }
-        }
+        Channel::Any => any_cell(draw, false),
+        Channel::Weak => any_cell(draw, true),
         Channel::Gain(a, b) => through(cell, a, b),
         Channel::Slope => {
             let place = (k % 8192) as i32;
@@ -174,54 +203,53 @@ fn comes_back(sent_cells: &[Cell], weights: &[u8], bytes: &[u8]) -> bool
     true
 }
 
-// The corrected bytes of a drawn symbol behind a channel as one number, and whether it comes back.
-fn drawn(alloc: Global, mode: Mode, l: u8, channel: Channel) -> Result<(u32, bool), AllocError>
+// The corrected bytes of a drawn symbol behind a channel as one number, and whether it comes back where the channel is a
+// single gain.
+fn drawn(rt: &impl Abort, alloc: Global, mode: Mode, l: u8, channel: Channel) -> (u32, bool)
     requires { l < 68 }
 {
     let mut draw = 7 + l as u32;
     let count = carriers_of(mode) as usize;
-    let mut sent_cells = vec![in alloc; Cell { re: 0, im: 0 }; count]?;
-    let mut cells = vec![in alloc; Cell { re: 0, im: 0 }; count]?;
-    let mut weights = vec![in alloc; 0u8; count]?;
-    let is_sent = channel != Channel::Any && channel != Channel::Weak;
+    let mut sent_cells = vec![in alloc; Cell { re: 0, im: 0 }; count].expect(rt, "memory");
+    let mut cells = vec![in alloc; Cell { re: 0, im: 0 }; count].expect(rt, "memory");
+    let mut weights = vec![in alloc; 0u8; count].expect(rt, "memory");
     for k in 0..count {
-        if is_sent {
+        if is_sent(channel) {
             sent_cells[k] = sent(mode, l, k as u32, &mut draw);
         }
         cells[k] = came(channel, sent_cells[k], k as u32, &mut draw);
         weights[k] = (numbered(&mut draw) % 16) as u8;
     }
-    let bytes = equalised(alloc, mode, l, &cells, &weights)?;
+    let bytes = equalised(rt, alloc, mode, l, &cells, &weights);
     let back = bytes.len() == 5 * count && comes_back(&sent_cells, &weights, &bytes);
-    Ok((sum_of(&bytes), back))
+    (sum_of(&bytes), back || !is_one_gain(channel))
 }
 
-// Drawn symbols of every phase of the scattered pilots beside the sums of an independent program: any
-// values, of which a fifth are cut off at the ends of the range; pilots that are often zero; single
-// gains of half and of the whole nominal amplitude, which come back; and one that differs by carrier.
+// Symbols and their channels, and the sums of an independent program: any values, of which a fifth are cut off at the ends
+// of the range; pilots that are often zero; single gains of half and of the whole nominal amplitude; and one that differs
+// by carrier. There is every phase of the scattered pilots.
+const DRAWN: [(Mode, u8, Channel, u32); 13] = [
+    (Mode::M2k, 0, Channel::Any, 1666746854),
+    (Mode::M2k, 67, Channel::Weak, 2945897832),
+    (Mode::M2k, 30, Channel::Any, 1339069200),
+    (Mode::M8k, 5, Channel::Any, 670544072),
+    (Mode::M8k, 2, Channel::Weak, 2571237164),
+    (Mode::M8k, 3, Channel::Any, 1509796531),
+    (Mode::M2k, 0, Channel::Gain(8192, 0), 1836251031),
+    (Mode::M2k, 1, Channel::Gain(-5793, 5793), 3199468633),
+    (Mode::M8k, 6, Channel::Gain(0, -8192), 3245562678),
+    (Mode::M8k, 67, Channel::Gain(11585, -11585), 2645961161),
+    (Mode::M2k, 3, Channel::Gain(-16384, 0), 773155435),
+    (Mode::M2k, 2, Channel::Slope, 2087090885),
+    (Mode::M8k, 4, Channel::Slope, 352988856),
+];
+
+// The corrected bytes are those of the independent program, and the cells behind a single gain come back.
 #[test]
 fn drawn_symbols(rt: HostRuntime) {
-    let alloc = rt.alloc();
-    for (mode, l, channel, sum) in [
-        (Mode::M2k, 0u8, Channel::Any, 1666746854u32),
-        (Mode::M2k, 67, Channel::Weak, 2945897832),
-        (Mode::M2k, 30, Channel::Any, 1339069200),
-        (Mode::M8k, 5, Channel::Any, 670544072),
-        (Mode::M8k, 2, Channel::Weak, 2571237164),
-        (Mode::M8k, 3, Channel::Any, 1509796531),
-        (Mode::M2k, 0, Channel::Gain(8192, 0), 1836251031),
-        (Mode::M2k, 1, Channel::Gain(-5793, 5793), 3199468633),
-        (Mode::M8k, 6, Channel::Gain(0, -8192), 3245562678),
-        (Mode::M8k, 67, Channel::Gain(11585, -11585), 2645961161),
-        (Mode::M2k, 3, Channel::Gain(-16384, 0), 773155435),
-        (Mode::M2k, 2, Channel::Slope, 2087090885),
-        (Mode::M8k, 4, Channel::Slope, 352988856),
-    ] {
+    for (mode, l, channel, sum) in DRAWN {
         assert!(&rt; l < 68);
-        let (found, back) = drawn(alloc, mode, l, channel).expect(&rt, "memory");
-        assert!(&rt; found == sum, "symbol {l}: {found}");
-        if let Channel::Gain(_, _) = channel {
-            assert!(&rt; back, "symbol {l} of one gain");
-        }
+        let found = drawn(&rt, rt.alloc(), mode, l, channel);
+        assert!(&rt; found == (sum, true), "symbol {l}");
     }
 }

@@ -52,23 +52,27 @@ fn turned_if(turned: bool, cell: Cell) -> Cell {
     }
 }
 
-// The cells of the next symbol, with the label 1 on each payload carrier. The next super-frame has the
+// The bytes of the next symbol, with the label 1 on each payload carrier. The next super-frame has the
 // parameters of `next`.
-fn next_symbol<M: Carriers>(
+fn next_bytes<M: Carriers>(
     rt: &impl Abort,
     alloc: Global,
     out: &mut SymbolOut<M>,
     now: &Entry,
     next: &Entry,
-    turned: bool,
-) -> Vec<Cell>
-    ensures { length result.items ≡ M.K }
-{
+) -> Vec<u8> {
     let labels = vec![in alloc; 1u8; M::NMAX as usize].expect(rt, "memory");
     let mut bytes = Vec::with_capacity(alloc, 5 * M::K as usize).expect(rt, "memory");
     out.write(now, next, &labels, &mut bytes);
+    bytes
+}
+
+// The cells of a symbol, turned or as they are.
+fn cells_of<M: Carriers>(rt: &impl Abort, alloc: Global, bytes: &[u8], turned: bool) -> Vec<Cell>
+    ensures { length result.items ≡ M.K }
+{
     let mut input = SymbolIn::<M>::new(alloc).expect(rt, "memory");
-    input.take(&bytes);
+    input.take(bytes);
     let whole = input.whole();
     assert!(rt; whole);
     let mut cells = Vec::new(alloc);
@@ -79,42 +83,53 @@ fn next_symbol<M: Carriers>(
     cells
 }
 
-// What is found in at most so many symbols of a transmission, of which the first ones are left out, and after how
-// many; at each symbol of `turns` the sign of all cells changes.
+// What is found with one symbol more.
+fn found_with<M: Carriers>(rt: &impl Abort, tuner: &mut Tuner<M>, cells: &[Cell]) -> Option<Found>
+    requires { length cells.now ≡ M.K }
+{
+    let fits = !tuner.found() && tuner.symbols() < 1000;
+    assert!(rt; fits);
+    tuner.symbol(cells)
+}
+
+// What is found in the symbols `from` to `to` of a transmission, and after how many of these; at each symbol of `turns` the
+// sign of all cells changes.
 fn tuned<M: Carriers>(
     rt: &impl Abort,
     alloc: Global,
     settings: &Settings,
     next: &Entry,
-    left_out: u16,
-    count: u16,
+    from: u16,
+    to: u16,
     turns: &[u16],
 ) -> (u64, Option<Found>)
     requires { settings.now.mode ≡ M.MODE }
 {
+    let now = settings.top();
     let mut out = SymbolOut::<M>::new(settings);
     let mut tuner = Tuner::<M>::new(alloc).expect(rt, "memory");
     let mut turned = false;
-    for number in 0..1000u16 {
-        let cells = next_symbol(
-            rt,
-            alloc,
-            &mut out,
-            &settings.top(),
-            next,
-            turned ^ turns.contains(&number),
-        );
+    for number in 0..to {
+        let bytes = next_bytes(rt, alloc, &mut out, &now, next);
         turned ^= turns.contains(&number);
-        if number >= left_out && number - left_out < count {
-            let fits = !tuner.found() && tuner.symbols() < 1000;
-            assert!(rt; fits);
-            let found = tuner.symbol(&cells);
+        if number >= from {
+            let cells = cells_of::<M>(rt, alloc, &bytes, turned);
+            let found = found_with(rt, &mut tuner, &cells);
             if found.is_some() {
                 return (tuner.symbols(), found);
             }
         }
     }
     (tuner.symbols(), None)
+}
+
+// The frame of these settings that begins at this symbol.
+fn frame_at(rt: &impl Abort, settings: &Settings, (place, frame): (u64, u8)) -> Found {
+    assert!(rt; 1 <= frame && frame <= 4);
+    Found {
+        place,
+        word: TpsWord::signalled(settings, frame),
+    }
 }
 
 // The number of the frame that is found in 68 symbols which show these bits, or 0.
@@ -126,9 +141,7 @@ fn frame_shown(rt: &impl Abort, alloc: Global, bits: &[u8; 67]) -> u8 {
             turned ^= bits[number - 1] == b'1';
         }
         let cell = turned_if(turned, Cell { re: 16384, im: 0 });
-        let fits = !tuner.found() && tuner.symbols() < 1000;
-        assert!(rt; fits);
-        if let Some(found) = tuner.symbol(&[cell; 1705]) {
+        if let Some(found) = found_with(rt, &mut tuner, &[cell; 1705]) {
             assert!(rt; number == 67 && found.place == 0);
             return found.word.frame;
         }
@@ -136,77 +149,47 @@ fn frame_shown(rt: &impl Abort, alloc: Global, bits: &[u8; 67]) -> u8 {
     0
 }
 
-fn is_found(found: Option<Found>, place: u64, settings: &Settings, frame: u8) -> bool {
-    match found {
-        None => false,
-        Some(found) => {
-            found.place == place
-                && 1 <= frame
-                && frame <= 4
-                && found.word == TpsWord::signalled(settings, frame)
-        }
+// Parts of a transmission: their first symbol and the one behind their last, and where the sign of all cells changes. Then
+// after how many symbols a frame is found, its place and its number.
+const PARTS: [(u16, u16, &[u16], u64, Option<(u64, u8)>); 6] = [
+    // Two super-frames without their first ten symbols: the frame of symbol 58 is the second one.
+    (10, 544, &[], 126, Some((58, 2))),
+    // 67 symbols are no frame, 68 are one.
+    (0, 67, &[], 67, None),
+    (0, 68, &[], 68, Some((0, 1))),
+    // One and two wrong votes are corrected; with three the next frame is the first that is found.
+    (0, 136, &[16], 68, Some((0, 1))),
+    (0, 136, &[1, 67], 68, Some((0, 1))),
+    (0, 136, &[3, 40, 60], 136, Some((68, 2))),
+];
+
+#[test]
+fn first_frame_of_a_part(rt: HostRuntime) {
+    let settings = base();
+    let entry = settings.top();
+    for (from, to, turns, symbols, place) in PARTS {
+        let found = tuned::<Mode2k>(&rt, rt.alloc(), &settings, &entry, from, to, turns);
+        let frame = place.map(|place| frame_at(&rt, &settings, place));
+        assert!(&rt; found == (symbols, frame));
     }
 }
 
-// Two super-frames without their first ten symbols: the frame of symbol 58 is the second one.
+// The last frame of a super-frame of a hierarchical transmission in the 8K mode.
 #[test]
-fn tuned_to_the_second_frame(rt: HostRuntime) {
-    let settings = base();
-    let (symbols, found) = tuned::<Mode2k>(
-        &rt,
-        rt.alloc(),
-        &settings,
-        &settings.top(),
-        10,
-        534,
-        &[],
-    );
-    assert!(&rt; symbols == 126);
-    assert!(&rt; is_found(found, 58, &settings, 2));
+fn eight_thousand_carriers(rt: HostRuntime) {
+    let settings = layered(Mode::M8k);
+    let found = tuned::<Mode8k>(&rt, rt.alloc(), &settings, &settings.top(), 204, 304, &[]);
+    assert!(&rt; found == (68, Some(frame_at(&rt, &settings, (0, 4)))));
 }
 
-// 67 symbols are no frame, 68 are one.
+// The super-frame behind the one that begins a transmission.
 #[test]
-fn one_frame(rt: HostRuntime) {
-    let settings = base();
-    let (symbols, found) = tuned::<Mode2k>(&rt, rt.alloc(), &settings, &settings.top(), 0, 67, &[]);
-    assert!(&rt; symbols == 67);
-    assert!(&rt; found.is_none());
-    let (symbols, found) = tuned::<Mode2k>(&rt, rt.alloc(), &settings, &settings.top(), 0, 68, &[]);
-    assert!(&rt; symbols == 68);
-    assert!(&rt; is_found(found, 0, &settings, 1));
-    let place = found.expect(&rt, "a place");
-    let small = place.place < 1000 && 1 <= place.word.frame && place.word.frame <= 4;
-    assert!(&rt; small);
-    assert!(&rt; begin(&place) == 272);
-}
-
-// One and two wrong votes are corrected; with three the next frame is the first that is found.
-#[test]
-fn wrong_votes(rt: HostRuntime) {
-    let settings = base();
-    let (_, found) = tuned::<Mode2k>(&rt, rt.alloc(), &settings, &settings.top(), 0, 136, &[16]);
-    assert!(&rt; is_found(found, 0, &settings, 1));
-    let (_, found) = tuned::<Mode2k>(
-        &rt,
-        rt.alloc(),
-        &settings,
-        &settings.top(),
-        0,
-        136,
-        &[1, 67],
-    );
-    assert!(&rt; is_found(found, 0, &settings, 1));
-    let (_, found) = tuned::<Mode2k>(
-        &rt,
-        rt.alloc(),
-        &settings,
-        &settings.top(),
-        0,
-        136,
-        &[3, 40, 60],
-    );
-    assert!(&rt; is_found(found, 68, &settings, 2));
+fn next_super_frame(rt: HostRuntime) {
+    let first = Found {
+        place: 0,
+        word: TpsWord::signalled(&base(), 1),
+    };
+    assert!(&rt; begin(&first) == 272);
 }
 
 // The super-frame before one of hierarchical 16-QAM announces it: the word has the constellation, the
@@ -222,60 +205,67 @@ fn next_parameters_are_announced(rt: HostRuntime) {
         Rate::R3of4,
     );
     let (_, found) = tuned::<Mode2k>(&rt, rt.alloc(), &settings, &next.top(), 0, 68, &[]);
-    let word = found.expect(&rt, "a place").word;
-    assert!(&rt; word.shape == Shape::Qam16 && word.hierarchy == Hierarchy::Alpha4);
-    assert!(&rt; word.rate_hp == Rate::R1of2 && word.rate_lp == Rate::R3of4);
-}
-
-// The last frame of a super-frame of a hierarchical transmission in the 8K mode.
-#[test]
-fn eight_thousand_carriers(rt: HostRuntime) {
-    let settings = layered(Mode::M8k);
-    let (symbols, found) = tuned::<Mode8k>(
-        &rt,
-        rt.alloc(),
-        &settings,
-        &settings.top(),
-        204,
-        100,
-        &[],
-    );
-    assert!(&rt; symbols == 68);
-    assert!(&rt; is_found(found, 0, &settings, 4));
+    let announced = found.map(|found| {
+        let word = found.word;
+        (word.shape, word.hierarchy, word.rate_hp, word.rate_lp)
+    });
+    let wanted = (Shape::Qam16, Hierarchy::Alpha4, Rate::R1of2, Rate::R3of4);
+    assert!(&rt; announced == Some(wanted));
 }
 
 // The words of the frames 1 and 2 of QPSK at 1/2 in the 2K mode, whole and with two errors, as another
-// program makes and finds them.
-#[test]
-fn words_that_count(rt: HostRuntime) {
-    let first = b"0011010111101110010111000000000000000000000000000000001100110000100";
-    assert!(&rt; frame_shown(&rt, rt.alloc(), first) == 1);
-    let sync_errors = b"0010010110101110010111000000000000000000000000000000001100110000100";
-    assert!(&rt; frame_shown(&rt, rt.alloc(), sync_errors) == 1);
-    let second = b"1100101000010001010111010000000000000000000000000000000110010101000";
-    assert!(&rt; frame_shown(&rt, rt.alloc(), second) == 2);
-    let errors_at_the_ends = b"0100101000010001010111010000000000000000000000000000000110010101001";
-    assert!(&rt; frame_shown(&rt, rt.alloc(), errors_at_the_ends) == 2);
-}
+// program makes and finds them, and the number of the frame.
+const WORDS_THAT_COUNT: [(&[u8; 67], u8); 4] = [
+    (
+        b"0011010111101110010111000000000000000000000000000000001100110000100",
+        1,
+    ),
+    // Two errors in the sync word.
+    (
+        b"0010010110101110010111000000000000000000000000000000001100110000100",
+        1,
+    ),
+    (
+        b"1100101000010001010111010000000000000000000000000000000110010101000",
+        2,
+    ),
+    // Errors at the ends.
+    (
+        b"0100101000010001010111010000000000000000000000000000000110010101001",
+        2,
+    ),
+];
 
 // Three errors, a word of the other mode, and words of the code whose fields cannot be sent, in all of
 // which that program finds nothing.
+const WORDS_THAT_DO_NOT_COUNT: [&[u8; 67]; 7] = [
+    // Three errors in the sync word, and three errors elsewhere.
+    b"0010010110100110010111000000000000000000000000000000001100110000100",
+    b"0100101000010000010111010000000000000000000000000000000110010101001",
+    // The 8K mode.
+    b"0011010111101110011111001001001110011011010101100000010110010000100",
+    // QPSK with a hierarchy.
+    b"0011010111101110010111000000100000000000000000000000001011011111000",
+    // The sync word of frame 2.
+    b"1100101000010001010111000000000000000000000000000000010101101101101",
+    // A rate that does not exist.
+    b"0011010111101110010111000000011100000000000000000000011110110110001",
+    // A reserved bit.
+    b"0011010111101110010111000000000000000000000000000000101101011110011",
+];
+
+#[test]
+fn words_that_count(rt: HostRuntime) {
+    for (bits, frame) in WORDS_THAT_COUNT {
+        assert!(&rt; frame_shown(&rt, rt.alloc(), bits) == frame);
+    }
+}
+
 #[test]
 fn words_that_do_not_count(rt: HostRuntime) {
-    let three_in_sync = b"0010010110100110010111000000000000000000000000000000001100110000100";
-    assert!(&rt; frame_shown(&rt, rt.alloc(), three_in_sync) == 0);
-    let three_errors = b"0100101000010000010111010000000000000000000000000000000110010101001";
-    assert!(&rt; frame_shown(&rt, rt.alloc(), three_errors) == 0);
-    let mode_8k = b"0011010111101110011111001001001110011011010101100000010110010000100";
-    assert!(&rt; frame_shown(&rt, rt.alloc(), mode_8k) == 0);
-    let layered_qpsk = b"0011010111101110010111000000100000000000000000000000001011011111000";
-    assert!(&rt; frame_shown(&rt, rt.alloc(), layered_qpsk) == 0);
-    let sync_of_frame_2 = b"1100101000010001010111000000000000000000000000000000010101101101101";
-    assert!(&rt; frame_shown(&rt, rt.alloc(), sync_of_frame_2) == 0);
-    let no_such_rate = b"0011010111101110010111000000011100000000000000000000011110110110001";
-    assert!(&rt; frame_shown(&rt, rt.alloc(), no_such_rate) == 0);
-    let reserved_bit = b"0011010111101110010111000000000000000000000000000000101101011110011";
-    assert!(&rt; frame_shown(&rt, rt.alloc(), reserved_bit) == 0);
+    for bits in WORDS_THAT_DO_NOT_COUNT {
+        assert!(&rt; frame_shown(&rt, rt.alloc(), bits) == 0);
+    }
 }
 
 // The settings that words announce.

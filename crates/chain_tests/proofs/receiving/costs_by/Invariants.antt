@@ -1,8 +1,7 @@
 use Rattle.std.proofs.Common.{◌≡◌}
-use Rattle.chain_tests.proofs.receiving.four_symbols.Given as goal
+use Rattle.chain_tests.proofs.receiving.costs_by.Given as goal
 
 abbrev pub invariant-loop-l : goal.invariant-loop-l
 invariant-loop-l g l = record {
-  tx : l.tx.settings.mode ≡ l.initial.tx.settings.mode;
   rx : l.rx.mode ≡ l.initial.rx.mode;
 }
