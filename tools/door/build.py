@@ -1,17 +1,16 @@
 """Proves and builds the program from the sources: out/dvbt.
 
-`rt all check` proves the crates side by side, lowest first, and `rt run` compiles and links the program over that work.
-The old program goes first, so that a failed proof leaves none.
+The crates are proved side by side (`proofs`), and `rt run` compiles and links the program over that work. The old program
+goes first, so that a failed proof leaves none.
 """
 import fcntl
 import os
-import re
 import shutil
 import subprocess
 import sys
 import time
 
-from door import program
+from door import program, proofs
 from door.explain import clock, fail, say, spoken
 
 # Seconds that the proof and build of the program took when it was measured, from nothing, by processors.
@@ -62,44 +61,34 @@ def built(top, level, is_quiet=False):
 
 def prove(top, is_quiet):
     """Proves the crates that the program stands on, side by side, as processors and memory allow."""
-    total = len(program.crates_of(top))
+    uses = program.uses_of(top)
     processors = len(os.sched_getaffinity(0))
-    # a check that waits for those below it holds a place: with twice as many places as processors none is idle
-    at_once = max(1, min(2 * processors, free_memory() // EACH))
     if not is_quiet:
-        say(f"proving and building the program from its sources, {total} crates. {last_time(top, processors)}")
-    began, done, current, sections = time.monotonic(), 0, None, {}
-    is_terminal = sys.stderr.isatty() and not is_quiet
+        say(f"proving and building the program from its sources, {len(uses)} crates. {last_time(top, processors)}")
+    began, is_terminal = time.monotonic(), sys.stderr.isatty() and not is_quiet
     with open(f"{top}/out/build.log", "w", encoding="utf-8") as log:
-        words = ["rt", "all", "check", "--jobs", str(at_once)]
-        # in the folder of a crate, rt all goes over that crate and those that it stands on
-        how = {"cwd": f"{top}/crates/dvbt", "stdin": subprocess.DEVNULL, "stdout": subprocess.PIPE, "stderr": subprocess.STDOUT}
-        with subprocess.Popen(words, text=True, errors="replace", **how) as ran:
-            for line in ran.stdout:
-                log.write(line)
-                log.flush()
-                header = re.fullmatch(r"== (\w+)\n", line)
-                if header:
-                    current = header[1]
-                    done += current != "summary"
-                    if current != "summary" and not is_quiet:
-                        shown = f"{done} of {total} crates, {current} done, after {clock(time.monotonic() - began)}"
-                        sys.stderr.write(f"\rdvbt: {shown}\033[K" if is_terminal else f"dvbt: {shown}\n")
-                        sys.stderr.flush()
-                sections.setdefault(current, []).append(line)
+
+        def tell(crate, said, done):
+            log.write(f"== {crate}\n{said}")
+            log.flush()
+            if not is_quiet:
+                shown = f"{done} of {len(uses)} crates, {crate} done, after {clock(time.monotonic() - began)}"
+                sys.stderr.write(f"\rdvbt: {shown}\033[K" if is_terminal else f"dvbt: {shown}\n")
+                sys.stderr.flush()
+
+        places = max(1, min(processors, free_memory() // EACH))
+        failed = proofs.Proofs(top, uses, processors, places, tell).run()
     if is_terminal:
         sys.stderr.write("\r\033[K")
-    if ran.returncode:
-        show_failure(sections)
+    if failed:
+        show_failure(*failed)
         fail(126, "the program could not be built: its proof failed. The whole log is out/build.log")
 
 
-def show_failure(sections):
-    """Prints what is said of the first crate that failed, or the end of all where none is named."""
-    failed = re.search(r"(?m)^(\w+): failed", "".join(sections.get("summary", [])))
-    lines = sections.get(failed[1] if failed else list(sections)[-1] if sections else None, [])
-    kept = [line for line in lines if not line.startswith(("rt: chose", "progress"))]
-    sys.stderr.write("".join(kept[-40:]))
+def show_failure(crate, said):
+    """Prints the end of what is said of the crate that failed."""
+    kept = [line for line in said.splitlines(True) if not line.startswith(("rt: chose", "progress"))]
+    sys.stderr.write(f"{crate}: failed\n" + "".join(kept[-40:]))
 
 
 def link(top, level):

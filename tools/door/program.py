@@ -16,25 +16,29 @@ V3 = {"avx2", "bmi1", "bmi2", "fma", "movbe", "f16c", "abm"}
 LEVELS = ("x86-64-v3", "x86-64-v2")
 
 
-def crates_of(top):
-    """The crates that `dvbt` stands on and itself, lowest first, by crates.txt."""
+def uses_of(top):
+    """The crates that `dvbt` stands on and itself, lowest first, each with those of them that it names, by crates.txt."""
     uses = {}
     with open(f"{top}/crates.txt", encoding="utf-8") as file:
         for line in file:
             name, _, used = line.partition("#")[0].partition(":")
             if name.strip():
                 uses[name.split()[0]] = used.split()
-    found = []
+    found = {}
 
     def add(name):
-        for used in uses.get(name, []):
-            if used in uses:
-                add(used)
-        if name not in found:
-            found.append(name)
+        named = [used for used in uses.get(name, []) if used in uses]
+        for used in named:
+            add(used)
+        found.setdefault(name, named)
 
     add("dvbt")
     return found
+
+
+def crates_of(top):
+    """The crates that `dvbt` stands on and itself, lowest first."""
+    return list(uses_of(top))
 
 
 def sums_of(top):

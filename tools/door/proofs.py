@@ -1,0 +1,135 @@
+"""Proves crates side by side, each once those that it stands on are proved.
+
+`rt lib` works at one crate of a checkout at a time, since it holds the folders of all crates below it. So each place has a
+checkout of its own: the repository, and copies of its crates in `out/copies`. What was proved in one of them the others take
+from there, as rt notes beside the toolchain where each library was built. First come the crates with the longest chain of
+others above them; where fewer crates are ready than processors are free, a crate has several.
+"""
+import os
+import shutil
+import signal
+import subprocess
+import threading
+from concurrent.futures import FIRST_COMPLETED, ThreadPoolExecutor, wait
+
+PARTS = ("src", "specs", "proofs")
+# What a check takes whatever its crate has, in lines of a crate.
+EACH = 1500
+# More jobs than these at one crate win little.
+MOST_JOBS = 4
+
+
+def lines_of(top, crate):
+    found = 0
+    for part in PARTS:
+        for at, _, names in os.walk(f"{top}/crates/{crate}/{part}"):
+            for name in names:
+                with open(f"{at}/{name}", "rb") as file:
+                    found += file.read().count(b"\n")
+    return found
+
+
+def chains(top, uses):
+    """Of each crate: the lines of the longest chain that begins with it and goes on with crates above. `uses` has lower crates first."""
+    longest = {}
+    for crate in reversed(uses):
+        above = [longest[it] for it in uses if crate in uses[it]]
+        longest[crate] = EACH + lines_of(top, crate) + max(above, default=0)
+    return longest
+
+
+def shares():
+    """Whether rt can note beside the toolchain what it keeps, for other checkouts to take."""
+    try:
+        page = subprocess.run(["rt", "doc"], capture_output=True, text=True, check=True).stdout.strip()
+        kept = os.path.dirname(os.path.dirname(page)) + "/rattle-kept"
+        os.makedirs(f"{kept}/work", exist_ok=True)
+        return os.lstat(kept).st_uid == os.geteuid()
+    except (OSError, subprocess.CalledProcessError):
+        return False
+
+
+def copies(top, crates, number):
+    """So many copies of what a proof of the crates reads. What was proved in them before stays."""
+    made = [f"{top}/out/copies/{at + 1}" for at in range(number)]
+    for copy in made:
+        for crate in crates:
+            for part in PARTS:
+                shutil.rmtree(f"{copy}/crates/{crate}/{part}", ignore_errors=True)
+                if os.path.isdir(f"{top}/crates/{crate}/{part}"):
+                    shutil.copytree(f"{top}/crates/{crate}/{part}", f"{copy}/crates/{crate}/{part}")
+        for name in ("crates.txt", "HANDLES"):
+            shutil.copyfile(f"{top}/{name}", f"{copy}/{name}")
+    return made
+
+
+class Proofs:
+    """The proofs of a program and of the crates that it stands on. `uses` has them, lowest first, each with those that it names."""
+
+    def __init__(self, top, uses, processors, places, tell):
+        self.top, self.uses, self.processors, self.tell = top, uses, processors, tell
+        self.program = list(uses)[-1]
+        self.idle = [top]
+        if places > 1 and shares():
+            self.idle += copies(top, list(uses)[:-1], places - 1)
+        longest = chains(top, uses)
+        self.waiting = sorted(uses, key=lambda it: -longest[it])
+        self.done, self.failed, self.alive, self.lock = set(), None, set(), threading.Lock()
+
+    def one(self, crate, place, jobs):
+        """Proves a crate; answers its status and what was printed."""
+        words = ["rt", "check" if crate == self.program else "lib", "--jobs", str(jobs)]
+        how = {"cwd": f"{place}/crates/{crate}", "stdin": subprocess.DEVNULL, "stdout": subprocess.PIPE, "stderr": subprocess.STDOUT}
+        with subprocess.Popen(words, text=True, errors="replace", start_new_session=True, **how) as ran:
+            with self.lock:
+                self.alive.add(ran)
+            said = ran.communicate()[0]
+            with self.lock:
+                self.alive.discard(ran)
+        return ran.returncode, said
+
+    def begin(self, pool, running):
+        """Begins what can be: the ready crates in order, while a place is idle and a processor free."""
+        ready = [it for it in self.waiting if self.done.issuperset(self.uses[it])]
+        for at, crate in enumerate(ready):
+            free = self.processors - sum(jobs for _, _, jobs in running.values())
+            if not self.idle or free < 1:
+                return
+            jobs = max(1, min(MOST_JOBS, free // (len(ready) - at)))
+            # the program is the last, so the repository's own folders are idle then
+            place = self.idle.pop(0)
+            self.waiting.remove(crate)
+            running[pool.submit(self.one, crate, place, jobs)] = crate, place, jobs
+
+    def run(self):
+        """Proves all; answers the name of the first crate whose proof failed and what was printed of it, or None."""
+        running = {}
+        with ThreadPoolExecutor(len(self.idle)) as pool:
+            try:
+                while not self.failed:
+                    self.begin(pool, running)
+                    if not running:
+                        # the repository itself has all by now
+                        shutil.rmtree(f"{self.top}/out/copies", ignore_errors=True)
+                        return None
+                    for ended in wait(running, return_when=FIRST_COMPLETED).done:
+                        crate, place, _ = running.pop(ended)
+                        status, said = ended.result()
+                        self.idle.append(place)
+                        self.idle.sort(key=lambda it: it != self.top)
+                        self.done.add(crate)
+                        self.tell(crate, said, len(self.done))
+                        if status and not self.failed:
+                            self.failed = crate, said
+            finally:
+                self.stop()
+        return self.failed
+
+    def stop(self):
+        """Ends what still runs."""
+        with self.lock:
+            for ran in self.alive:
+                try:
+                    os.killpg(ran.pid, signal.SIGTERM)
+                except ProcessLookupError:
+                    pass
