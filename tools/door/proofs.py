@@ -51,6 +51,8 @@ def shares():
 
 def copies(top, crates, number):
     """So many copies of what a proof of the crates reads. What was proved in them before stays."""
+    with open(f"{top}/crates.txt", encoding="utf-8") as file:
+        lines = [line for line in file if line.partition(":")[0].split()[:1] in [[it] for it in crates]]
     made = [f"{top}/out/copies/{at + 1}" for at in range(number)]
     for copy in made:
         for crate in crates:
@@ -58,8 +60,9 @@ def copies(top, crates, number):
                 shutil.rmtree(f"{copy}/crates/{crate}/{part}", ignore_errors=True)
                 if os.path.isdir(f"{top}/crates/{crate}/{part}"):
                     shutil.copytree(f"{top}/crates/{crate}/{part}", f"{copy}/crates/{crate}/{part}")
-        for name in ("crates.txt", "HANDLES"):
-            shutil.copyfile(f"{top}/{name}", f"{copy}/{name}")
+        with open(f"{copy}/crates.txt", "w", encoding="utf-8") as file:
+            file.writelines(lines)
+        shutil.copyfile(f"{top}/HANDLES", f"{copy}/HANDLES")
     return made
 
 
@@ -71,7 +74,7 @@ class Proofs:
         self.program = list(uses)[-1]
         self.idle = [top]
         if places > 1 and shares():
-            self.idle += copies(top, list(uses)[:-1], places - 1)
+            self.idle += copies(top, list(uses), places - 1)
         longest = chains(top, uses)
         self.waiting = sorted(uses, key=lambda it: -longest[it])
         self.done, self.failed, self.alive, self.lock = set(), None, set(), threading.Lock()
