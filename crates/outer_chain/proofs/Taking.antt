@@ -1,12 +1,15 @@
 -- A receiver that takes one byte more.
-use Rattle.std.proofs.Common.{◌≡◌, ℕ, ◌+◌, ◌-◌, ◌*◌, ◌/◌, ◌%◌, ◌<◌, ◌≤◌, List, [], ◌∷◌, ◌++◌, length, take, set, sym, ◌∙◌, ap, arith, length-append, length-take-le}
+use Rattle.std.proofs.Common.{◌≡◌, ℕ, ◌+◌, ◌-◌, ◌*◌, ◌/◌, ◌%◌, ◌<◌, ◌≤◌, inl, inr, ◌⊎◌, List, [], ◌∷◌, ◌++◌, length, take, set, sym, ◌∙◌, ap, arith, length-append, length-take-le}
 use Rattle.std.specs.Prelude.{Option}
+use Rattle.std.proofs.lemmas.Bool.{cases_lt}
 use Rattle.forney.specs.Values.{values, stream_of}
 use Rattle.forney.specs.Interleaving.{deinterleaved}
 use Rattle.forney.specs.Delays.{Delays, Deinterleaves}
 use Rattle.forney.proofs.ValueLists.{length-values}
+use Rattle.rs204.specs.declared.outcome.Outcome.TheVariants.{Bad}
+use Rattle.outer_chain.specs.declared.slot.WordSlot.{WordSlot}
 use Rattle.outer_chain.specs.Words.{word_at, word_count}
-use Rattle.outer_chain.specs.Receiving.{Receiver, Receives, EndsWord}
+use Rattle.outer_chain.specs.Receiving.{Receiver, Receives, EndsWord, undecoded}
 use Rattle.outer_chain.proofs.Filling.{none_yet, word_goes_on, word_whole}
 
 -- a receiver by its parts
@@ -67,3 +70,25 @@ pub word_is : (old : Delays) (word : List ℕ) (filled start z byte : ℕ) (phas
     → z ≡ deinterleaved (stream_of (bytes ++ byte ∷ [])) (length bytes) → set word filled z ≡ word_at (bytes ++ byte ∷ []) (word_count (bytes ++ byte ∷ []) - 1)
 word_is old word filled start z byte phase bytes long small last none h g =
     word_whole word bytes filled z byte start long small last (filled_is old word filled start phase bytes long small h) h.start none (filling old word filled start phase bytes long small h) g
+
+-- ---- what is put behind the slots
+
+abbrev slot_of : List ℕ → WordSlot
+slot_of word = record { word = word; outcome = Bad }
+
+pub puts_word : (old : Delays) (word : List ℕ) (filled start z byte : ℕ) (phase : Option ℕ) (bytes : List ℕ) (before after : List WordSlot) → length word ≡ 204 → filled < 204 → 203 ≤ filled → Receives (made_of old word filled start phase) bytes
+    → z ≡ deinterleaved (stream_of (bytes ++ byte ∷ [])) (length bytes) → (start ≡ 0 → after ≡ before ++ slot_of (set word filled z) ∷ []) → EndsWord (bytes ++ byte ∷ [])
+    → after ≡ before ++ undecoded (bytes ++ byte ∷ []) (word_count (bytes ++ byte ∷ []) - 1) ∷ []
+puts_word old word filled start z byte phase bytes before after long small last h g put e = go (cases_lt 0 start)
+  where
+    go : (0 < start) ⊎ (start ≤ 0) → after ≡ before ++ undecoded (bytes ++ byte ∷ []) (word_count (bytes ++ byte ∷ []) - 1) ∷ []
+    go (inl some) = absurd (still_starting old word filled start byte phase bytes long small last some h e)
+    go (inr none) = put (omega (arith, none)) ∙ ap (λ (w : List ℕ). before ++ slot_of w ∷ []) (word_is old word filled start z byte phase bytes long small last none h g)
+
+pub puts_none : (old : Delays) (word : List ℕ) (filled start byte : ℕ) (phase : Option ℕ) (bytes : List ℕ) (before after : List WordSlot) → length word ≡ 204 → filled < 204 → 203 ≤ filled → Receives (made_of old word filled start phase) bytes
+    → (0 < start → after ≡ before) → (EndsWord (bytes ++ byte ∷ []) → ⊥) → after ≡ before
+puts_none old word filled start byte phase bytes before after long small last h none n = go (cases_lt 0 start)
+  where
+    go : (0 < start) ⊎ (start ≤ 0) → after ≡ before
+    go (inl some) = none some
+    go (inr at_end) = absurd (n (word_ends old word filled start byte phase bytes long small last at_end h))

@@ -1,9 +1,9 @@
 // The receiver of the outer code.
 
-ghost use Rattle.std.specs.Prelude.{◌≡◌, ◌<◌, ◌≤◌, ◌+◌, ◌-◌, ◌*◌, ◌%◌, ◌↔◌, ℕ, List, [], ◌∷◌, ◌++◌, length, take, Some, IfOk, IfSome, IsSome, IsTrue};
+ghost use Rattle.std.specs.Prelude.{◌≡◌, ◌<◌, ◌≤◌, ◌+◌, ◌-◌, ◌*◌, ◌%◌, ◌↔◌, ℕ, List, [], ◌∷◌, ◌++◌, length, take, Some, IfOk, IfSome, IsSome, IsTrue, vec_len, vec_capacity};
 ghost use Rattle.outer_chain.specs.Words.{word_at, word_count, phase_of, given_packet, packet_of, has, IsNear};
 ghost use Rattle.outer_chain.specs.Nears.{near_of};
-ghost use Rattle.outer_chain.specs.Receiving.{EndsWord, Receives};
+ghost use Rattle.outer_chain.specs.Receiving.{EndsWord, Receives, undecoded};
 ghost use Rattle.outer_chain.specs.Sent.{packet_at, code_at};
 ghost use Rattle.outer_chain.specs.Bursts.{BurstsOf, NextOfBursts};
 
@@ -90,6 +90,25 @@ fn packet_at(slot: &WordSlot, phase: u8) -> Packet
     packet
 }
 
+// Appends a word that is whole, but of the start-up only counts it.
+#[inline(never)]
+fn end_word(word: &[u8; 204], start: &mut u8, slots: &mut Vec<WordSlot>)
+    requires room { vec_len slots.old < vec_capacity slots.old }
+    ensures capacity { vec_capacity slots.new ≡ vec_capacity slots.old }
+    ensures start { start.new ≡ start.old - 1 }
+    ensures none { 0 < start.old → slots.new.items ≡ slots.old.items }
+    ensures word { start.old ≡ 0 → slots.new.items ≡ slots.old.items ++ record { word = word.now; outcome = Outcome.Bad } ∷ [] }
+{
+    if *start > 0 {
+        *start -= 1;
+        return;
+    }
+    slots.push_reserved(WordSlot {
+        word: *word,
+        outcome: Outcome::Bad,
+    });
+}
+
 impl OuterRx {
     /// A receiver that has had no byte and finished no word. The only error is want of memory.
     pub fn new(alloc: Global) -> Result<OuterRx, AllocError>
@@ -130,6 +149,31 @@ impl OuterRx {
             word: self.word,
             outcome: Outcome::Bad,
         })
+    }
+
+    /// Takes the next interleaved byte, as [`OuterRx::take_byte`] does, and appends the word that ends
+    /// with it, still to be decoded, exactly where a word behind the eleven of the start-up ends with it.
+    /// There is room for one word; the capacity stays. No word is moved where none ends. Where the bytes
+    /// are those of packets with bursts, the word's nearest codeword is that of its packet, as without
+    /// them.
+    #[inline]
+    pub fn put_byte(&mut self, byte: u8, slots: &mut Vec<WordSlot>)
+        requires room { vec_len slots.old < vec_capacity slots.old }
+        ensures capacity { vec_capacity slots.new ≡ vec_capacity slots.old }
+        ensures stands { (bytes : List ℕ) → Receives self.old bytes → Receives self.new (bytes ++ byte ∷ []) }
+        ensures word { (bytes : List ℕ) → Receives self.old bytes → EndsWord (bytes ++ byte ∷ []) → slots.new.items ≡ slots.old.items ++ undecoded (bytes ++ byte ∷ []) (word_count (bytes ++ byte ∷ []) - 1) ∷ [] }
+        ensures none { (bytes : List ℕ) → Receives self.old bytes → (EndsWord (bytes ++ byte ∷ []) → ⊥) → slots.new.items ≡ slots.old.items }
+        ensures bursts { (bytes : List ℕ) (packets : List (List ℕ)) → Receives self.old bytes → BurstsOf packets (bytes ++ byte ∷ []) → EndsWord (bytes ++ byte ∷ [])
+            → IsNear (word_at (bytes ++ byte ∷ []) (word_count (bytes ++ byte ∷ []) - 1)) (Some (code_at packets (word_count (bytes ++ byte ∷ []) - 1))) }
+        ensures phase { self.new.phase ≡ self.old.phase }
+    {
+        self.word[self.filled] = self.deinterleaver.step(byte);
+        if self.filled < LAST {
+            self.filled += 1;
+            return;
+        }
+        self.filled = 0;
+        end_word(&self.word, &mut self.start, slots);
     }
 
     /// The packet of a decoded word, meant for each word in order: none exactly where the word has no
