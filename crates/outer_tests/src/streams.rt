@@ -145,3 +145,38 @@ fn own_bytes_after_eleven_words(rt: HostRuntime) -> Result<(), Fail> {
     }
     Ok(())
 }
+
+// What a byte puts behind no slot.
+fn put(alloc: Global, rx: &mut OuterRx, byte: u8) -> Result<Vec<WordSlot>, AllocError> {
+    let mut slots = Vec::with_capacity(alloc, 1)?;
+    rx.put_byte(byte, &mut slots);
+    Ok(slots)
+}
+
+// Is the word that was put, if one was, the one that was taken?
+fn is_taken(slots: &[WordSlot], taken: &Option<WordSlot>) -> bool {
+    match taken {
+        Some(slot) => {
+            slots.len() == 1 && slots[0].word == slot.word && slots[0].outcome == slot.outcome
+        }
+        None => slots.is_empty(),
+    }
+}
+
+// Putting bytes gives the words that taking them gives: five of these sixteen.
+#[test]
+fn bytes_put_as_taken(rt: HostRuntime) -> Result<(), Fail> {
+    let mut putting = OuterRx::new(rt.alloc())?;
+    let mut taking = OuterRx::new(rt.alloc())?;
+    let mut words = 0u8;
+    for place in 0..3300usize {
+        let byte = (place % 251) as u8;
+        let slots = put(rt.alloc(), &mut putting, byte)?;
+        if slots.len() == 1 {
+            words = words.saturating_add(1);
+        }
+        assert!(rt; is_taken(slots.as_slice(), &taking.take_byte(byte)));
+    }
+    assert_eq!(rt; words, 5);
+    Ok(())
+}
