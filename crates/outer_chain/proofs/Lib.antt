@@ -6,6 +6,7 @@ pub mod OwnWords
 pub mod WordLaws
 pub mod BitBytes
 pub mod Filling
+pub mod Places
 pub mod Taking
 pub mod DecodedWords
 pub mod Finishing

@@ -1,69 +1,123 @@
 -- A receiver that takes one byte more.
-use Rattle.std.proofs.Common.{◌≡◌, ℕ, ◌+◌, ◌-◌, ◌*◌, ◌/◌, ◌%◌, ◌<◌, ◌≤◌, List, [], ◌∷◌, ◌++◌, length, take, set, sym, ◌∙◌, ap, arith, length-append, length-take-le}
+use Rattle.std.proofs.Common.{◌≡◌, ℕ, ◌+◌, ◌-◌, ◌*◌, ◌/◌, ◌%◌, ◌<◌, ◌≤◌, inl, inr, ◌⊎◌, List, [], ◌∷◌, ◌++◌, length, get_or, take, drop, set, sym, ◌∙◌, ap, subst, arith, length-append, length-take-le, length-drop, length-set, ext_get_or, get_or-set_same, get_or-set_other}
 use Rattle.std.specs.Prelude.{Option}
+use Rattle.std.proofs.lemmas.Bool.{cases_lt}
+use Rattle.std.proofs.lemmas.List.{get_or-take, get_or-drop, get_or_append_left}
+use Rattle.std.proofs.Math.Seq.{get_or-append_seam}
 use Rattle.forney.specs.Values.{values, stream_of}
 use Rattle.forney.specs.Interleaving.{deinterleaved}
-use Rattle.forney.specs.Delays.{Delays, Deinterleaves}
-use Rattle.forney.proofs.ValueLists.{length-values}
+use Rattle.forney.proofs.ValueLists.{length-values, get_or-values}
+use Rattle.forney.proofs.DelayLines.{above}
+use Rattle.rs204.specs.declared.outcome.Outcome.TheVariants.{Bad}
+use Rattle.outer_chain.specs.declared.slot.WordSlot.{WordSlot}
 use Rattle.outer_chain.specs.Words.{word_at, word_count}
-use Rattle.outer_chain.specs.Receiving.{Receiver, Receives, EndsWord}
-use Rattle.outer_chain.proofs.Filling.{none_yet, word_goes_on, word_whole}
+use Rattle.outer_chain.specs.Receiving.{Receiver, Receives, EndsWord, place_of, undecoded}
+use Rattle.outer_chain.proofs.Places.{place_next, place_apart, place_within}
 
 -- a receiver by its parts
-abbrev pub made_of : Delays → List ℕ → ℕ → ℕ → Option ℕ → Receiver
-made_of delays word filled start phase = record { delays = delays; begun = take filled word; start = start; phase = phase }
+abbrev pub made_of : List ℕ → ℕ → ℕ → Option ℕ → Receiver
+made_of words next start phase = record { words = words; next = next; start = start; phase = phase }
 
-pub filled_is : (delays : Delays) (word : List ℕ) (filled start : ℕ) (phase : Option ℕ) (bytes : List ℕ) → length word ≡ 204 → filled < 204 → Receives (made_of delays word filled start phase) bytes → filled ≡ length bytes % 204
-filled_is delays word filled start phase bytes long small h =
-    sym (length-take-le filled word (omega (arith, long))) ∙ ap length h.begun ∙ length-values (deinterleaved (stream_of bytes)) (204 * (length bytes / 204)) (length bytes % 204)
+pub filled_is : (words : List ℕ) (next start : ℕ) (phase : Option ℕ) (bytes : List ℕ) → Receives (made_of words next start phase) bytes → next % 204 ≡ length bytes % 204
+filled_is words next start phase bytes h = omega (arith, h.next)
 
-filling : (delays : Delays) (word : List ℕ) (filled start : ℕ) (phase : Option ℕ) (bytes : List ℕ) → length word ≡ 204 → filled < 204 → Receives (made_of delays word filled start phase) bytes
-    → take filled word ≡ values (deinterleaved (stream_of bytes)) (204 * (length bytes / 204)) filled
-filling delays word filled start phase bytes long small h =
-    h.begun ∙ ap (values (deinterleaved (stream_of bytes)) (204 * (length bytes / 204))) (sym (filled_is delays word filled start phase bytes long small h))
+-- the last bytes, with one more
+pub holds_more : (words : List ℕ) (next start byte : ℕ) (phase : Option ℕ) (bytes : List ℕ) → next < 2448 → Receives (made_of words next start phase) bytes
+    → (p : ℕ) → p < length (bytes ++ byte ∷ []) → length (bytes ++ byte ∷ []) ≤ p + 2448 → get_or (set words next byte) (place_of p) 0 ≡ get_or (bytes ++ byte ∷ []) p 0
+holds_more words next start byte phase bytes small h p l m = go (cases_lt p (length bytes))
+  where
+    long : length (bytes ++ byte ∷ []) ≡ length bytes + 1
+    long = length-append bytes (byte ∷ [])
 
--- within a word
-pub goes_on : (old new : Delays) (word : List ℕ) (filled start z byte : ℕ) (phase : Option ℕ) (bytes : List ℕ) → length word ≡ 204 → filled < 203 → Receives (made_of old word filled start phase) bytes
-    → Deinterleaves new (bytes ++ byte ∷ []) → z ≡ deinterleaved (stream_of (bytes ++ byte ∷ [])) (length bytes)
-    → Receives (made_of new (set word filled z) (filled + 1) start phase) (bytes ++ byte ∷ [])
-goes_on old new word filled start z byte phase bytes long small h d g =
+    go : (p < length bytes) ⊎ (length bytes ≤ p) → get_or (set words next byte) (place_of p) 0 ≡ get_or (bytes ++ byte ∷ []) p 0
+    go (inl k) =
+        get_or-set_other words next (place_of p) byte 0 (λ e. place_apart p (length bytes) k (omega (arith, m, long)) (e ∙ h.next))
+        ∙ h.holds p k (omega (arith, m, long)) ∙ sym (get_or_append_left bytes (byte ∷ []) 0 p k)
+    go (inr k) =
+        let e : p ≡ length bytes = omega (arith, l, k, long) in
+        ap (λ q. get_or (set words next byte) (place_of q) 0) e ∙ ap (λ q. get_or (set words next byte) q 0) (sym h.next)
+        ∙ get_or-set_same words next byte 0 (omega (arith, h.twelve, small)) ∙ sym (get_or-append_seam bytes byte [] 0) ∙ ap (λ q. get_or (bytes ++ byte ∷ []) q 0) (sym e)
+
+-- within a word, and at its end
+pub stands_more : (words : List ℕ) (next after start later byte : ℕ) (phase : Option ℕ) (bytes : List ℕ) → next < 2448 → after ≡ (next + 2245) % 2448 → later ≡ 11 - length (bytes ++ byte ∷ []) / 204 → Receives (made_of words next start phase) bytes
+    → Receives (made_of (set words next byte) after later phase) (bytes ++ byte ∷ [])
+stands_more words next after start later byte phase bytes small e f h = record {
+  twelve = length-set words next byte ∙ h.twelve;
+  next = place_next (length bytes) next after h.next e ∙ ap place_of (sym (length-append bytes (byte ∷ [])));
+  holds = holds_more words next start byte phase bytes small h;
+  start = f;
+}
+
+pub goes_on : (words : List ℕ) (next after start byte : ℕ) (phase : Option ℕ) (bytes : List ℕ) → next < 2448 → next % 204 < 203 → after ≡ (next + 2245) % 2448 → Receives (made_of words next start phase) bytes
+    → Receives (made_of (set words next byte) after start phase) (bytes ++ byte ∷ [])
+goes_on words next after start byte phase bytes small l e h =
+    stands_more words next after start start byte phase bytes small e (omega (arith, l, h.start, length-append bytes (byte ∷ []), filled_is words next start phase bytes h)) h
+
+pub no_word_yet : (words : List ℕ) (next start byte : ℕ) (phase : Option ℕ) (bytes : List ℕ) → next % 204 < 203 → Receives (made_of words next start phase) bytes → EndsWord (bytes ++ byte ∷ []) → ⊥
+no_word_yet words next start byte phase bytes l h e =
+    omega (arith, l, length-append bytes (byte ∷ []), filled_is words next start phase bytes h, e.0)
+
+pub begins_anew : (words : List ℕ) (next after start byte : ℕ) (phase : Option ℕ) (bytes : List ℕ) → next < 2448 → 203 ≤ next % 204 → after ≡ (next + 2245) % 2448 → Receives (made_of words next start phase) bytes
+    → Receives (made_of (set words next byte) after (start - 1) phase) (bytes ++ byte ∷ [])
+begins_anew words next after start byte phase bytes small l e h =
+    stands_more words next after start (start - 1) byte phase bytes small e (omega (arith, l, h.start, length-append bytes (byte ∷ []), filled_is words next start phase bytes h)) h
+
+pub still_starting : (words : List ℕ) (next start byte : ℕ) (phase : Option ℕ) (bytes : List ℕ) → 203 ≤ next % 204 → 0 < start → Receives (made_of words next start phase) bytes → EndsWord (bytes ++ byte ∷ []) → ⊥
+still_starting words next start byte phase bytes last some h e =
+    omega (arith, last, some, length-append bytes (byte ∷ []), filled_is words next start phase bytes h, h.start, e.1)
+
+pub word_ends : (words : List ℕ) (next start byte : ℕ) (phase : Option ℕ) (bytes : List ℕ) → 203 ≤ next % 204 → start ≤ 0 → Receives (made_of words next start phase) bytes → EndsWord (bytes ++ byte ∷ [])
+word_ends words next start byte phase bytes last none h =
     let l = length-append bytes (byte ∷ []) in
-    let count = filled_is old word filled start phase bytes long (omega arith) h in
-    record {
-      delays = d;
-      begun = word_goes_on word bytes filled z byte long small count (filling old word filled start phase bytes long (omega arith) h) g
-          ∙ ap (values (deinterleaved (stream_of (bytes ++ byte ∷ []))) (204 * (length (bytes ++ byte ∷ []) / 204))) (let e : filled + 1 ≡ length (bytes ++ byte ∷ []) % 204 = omega (arith, l, count) in e);
-      start = omega (arith, l, h.start, count);
-    }
+    let count = filled_is words next start phase bytes h in
+    (omega (arith, l, last, count), omega (arith, l, last, count, h.start, none))
 
-pub no_word_yet : (old : Delays) (word : List ℕ) (filled start byte : ℕ) (phase : Option ℕ) (bytes : List ℕ) → length word ≡ 204 → filled < 203 → Receives (made_of old word filled start phase) bytes → EndsWord (bytes ++ byte ∷ []) → ⊥
-no_word_yet old word filled start byte phase bytes long small h e =
-    omega (arith, length-append bytes (byte ∷ []), filled_is old word filled start phase bytes long (omega arith) h, e.0)
+-- the word that stands where its last byte was put
+pub word_is : (words : List ℕ) (next start byte : ℕ) (phase : Option ℕ) (bytes : List ℕ) → next < 2448 → 203 ≤ next % 204 → start ≤ 0 → Receives (made_of words next start phase) bytes
+    → take 204 (drop (next - 203) (set words next byte)) ≡ word_at (bytes ++ byte ∷ []) (word_count (bytes ++ byte ∷ []) - 1)
+unfolding word_at
+word_is words next start byte phase bytes small last none h =
+    ext_get_or 0 _ _ (size ∙ sym (length-values (deinterleaved (stream_of (bytes ++ byte ∷ []))) (204 * (word_count (bytes ++ byte ∷ []) - 1 + 11)) 204)) (λ j l. each j (subst (λ n. j < n) size l))
+  where
+    size : length (take 204 (drop (next - 203) (set words next byte))) ≡ 204
+    size = length-take-le 204 (drop (next - 203) (set words next byte)) (omega (arith, small, last, length-drop (next - 203) (set words next byte), length-set words next byte, h.twelve))
 
--- at the end of a word
-pub begins_anew : (old new : Delays) (word longer : List ℕ) (filled start byte : ℕ) (phase : Option ℕ) (bytes : List ℕ) → length word ≡ 204 → filled < 204 → 203 ≤ filled → Receives (made_of old word filled start phase) bytes
-    → Deinterleaves new (bytes ++ byte ∷ []) → Receives (made_of new longer 0 (start - 1) phase) (bytes ++ byte ∷ [])
-begins_anew old new word longer filled start byte phase bytes long small last h d =
-    let l = length-append bytes (byte ∷ []) in
-    let count = filled_is old word filled start phase bytes long small h in
-    record {
-      delays = d;
-      begun = none_yet (deinterleaved (stream_of (bytes ++ byte ∷ []))) (204 * (length (bytes ++ byte ∷ []) / 204))
-          ∙ ap (values (deinterleaved (stream_of (bytes ++ byte ∷ []))) (204 * (length (bytes ++ byte ∷ []) / 204))) (let e : 0 ≡ length (bytes ++ byte ∷ []) % 204 = omega (arith, l, count) in e);
-      start = omega (arith, l, h.start, count);
-    }
+    each : (j : ℕ) → j < 204 → get_or (take 204 (drop (next - 203) (set words next byte))) j 0 ≡ get_or (values (deinterleaved (stream_of (bytes ++ byte ∷ []))) (204 * (word_count (bytes ++ byte ∷ []) - 1 + 11)) 204) j 0
+    each j l =
+        let longer = bytes ++ byte ∷ [] in
+        let long : length longer ≡ length bytes + 1 = length-append bytes (byte ∷ []) in
+        let ends = word_ends words next start byte phase bytes last none h in
+        let w = length bytes / 204 in
+        let p = 204 * (w - 11 + j % 12) + j in
+        let eleven : 11 ≤ w = omega (arith, h.start, none) in
+        let end : length bytes ≡ 204 * w + 203 = omega (arith, last, filled_is words next start phase bytes h) in
+        let place : next - 203 + j ≡ place_of p = omega (arith, place_within w j l eleven, h.next, end, place_within w 203 (omega arith) eleven) in
+        let number : word_count longer - 1 + 11 ≡ w = omega (arith, long, ends.0, ends.1, end) in
+        get_or-take 204 (drop (next - 203) (set words next byte)) j 0 l ∙ get_or-drop (next - 203) (set words next byte) j 0
+        ∙ ap (λ q. get_or (set words next byte) q 0) place ∙ holds_more words next start byte phase bytes small h p (omega (arith, long, end, eleven, l)) (omega (arith, long, end, eleven, l))
+        ∙ ap (λ q. get_or longer q 0) (let e : p ≡ 204 * w + j - 204 * (11 - (204 * w + j) % 12) = omega (arith, eleven, l) in e)
+        ∙ sym (above longer (204 * w + j) (204 * (11 - (204 * w + j) % 12)) (omega (arith, eleven, l)))
+        ∙ sym (get_or-values (deinterleaved (stream_of longer)) (204 * w) 204 j l)
+        ∙ ap (λ v. get_or (values (deinterleaved (stream_of longer)) (204 * v) 204) j 0) (sym number)
 
-pub still_starting : (old : Delays) (word : List ℕ) (filled start byte : ℕ) (phase : Option ℕ) (bytes : List ℕ) → length word ≡ 204 → filled < 204 → 203 ≤ filled → 0 < start → Receives (made_of old word filled start phase) bytes → EndsWord (bytes ++ byte ∷ []) → ⊥
-still_starting old word filled start byte phase bytes long small last some h e =
-    omega (arith, length-append bytes (byte ∷ []), filled_is old word filled start phase bytes long small h, h.start, e.1)
+-- ---- what is put behind the slots
 
-pub word_ends : (old : Delays) (word : List ℕ) (filled start byte : ℕ) (phase : Option ℕ) (bytes : List ℕ) → length word ≡ 204 → filled < 204 → 203 ≤ filled → start ≤ 0 → Receives (made_of old word filled start phase) bytes → EndsWord (bytes ++ byte ∷ [])
-word_ends old word filled start byte phase bytes long small last none h =
-    let l = length-append bytes (byte ∷ []) in
-    let count = filled_is old word filled start phase bytes long small h in
-    (omega (arith, l, count), omega (arith, l, count, h.start))
+abbrev pub slot_of : List ℕ → WordSlot
+slot_of word = record { word = word; outcome = Bad }
 
-pub word_is : (old : Delays) (word : List ℕ) (filled start z byte : ℕ) (phase : Option ℕ) (bytes : List ℕ) → length word ≡ 204 → filled < 204 → 203 ≤ filled → start ≤ 0 → Receives (made_of old word filled start phase) bytes
-    → z ≡ deinterleaved (stream_of (bytes ++ byte ∷ [])) (length bytes) → set word filled z ≡ word_at (bytes ++ byte ∷ []) (word_count (bytes ++ byte ∷ []) - 1)
-word_is old word filled start z byte phase bytes long small last none h g =
-    word_whole word bytes filled z byte start long small last (filled_is old word filled start phase bytes long small h) h.start none (filling old word filled start phase bytes long small h) g
+pub puts_word : (words : List ℕ) (next start byte : ℕ) (phase : Option ℕ) (bytes : List ℕ) (before after : List WordSlot) → next < 2448 → 203 ≤ next % 204 → Receives (made_of words next start phase) bytes
+    → (start ≡ 0 → after ≡ before ++ slot_of (take 204 (drop (next - 203) (set words next byte))) ∷ []) → EndsWord (bytes ++ byte ∷ [])
+    → after ≡ before ++ undecoded (bytes ++ byte ∷ []) (word_count (bytes ++ byte ∷ []) - 1) ∷ []
+puts_word words next start byte phase bytes before after small last h put e = go (cases_lt 0 start)
+  where
+    go : (0 < start) ⊎ (start ≤ 0) → after ≡ before ++ undecoded (bytes ++ byte ∷ []) (word_count (bytes ++ byte ∷ []) - 1) ∷ []
+    go (inl some) = absurd (still_starting words next start byte phase bytes last some h e)
+    go (inr none) = put (omega (arith, none)) ∙ ap (λ (w : List ℕ). before ++ slot_of w ∷ []) (word_is words next start byte phase bytes small last none h)
+
+pub puts_none : (words : List ℕ) (next start byte : ℕ) (phase : Option ℕ) (bytes : List ℕ) (before after : List WordSlot) → 203 ≤ next % 204 → Receives (made_of words next start phase) bytes
+    → (0 < start → after ≡ before) → (EndsWord (bytes ++ byte ∷ []) → ⊥) → after ≡ before
+puts_none words next start byte phase bytes before after last h none n = go (cases_lt 0 start)
+  where
+    go : (0 < start) ⊎ (start ≤ 0) → after ≡ before
+    go (inl some) = none some
+    go (inr at_end) = absurd (n (word_ends words next start byte phase bytes last at_end h))

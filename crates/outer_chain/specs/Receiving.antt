@@ -1,14 +1,17 @@
 -- What a receiver of the outer code stands for.
-use Rattle.std.specs.Prelude.{◌≡◌, ℕ, ◌-◌, ◌*◌, ◌/◌, ◌%◌, ◌<◌, Option, List, length}
-use Rattle.forney.specs.Values.{values, stream_of}
-use Rattle.forney.specs.Interleaving.{deinterleaved}
-use Rattle.forney.specs.Delays.{Delays, Deinterleaves}
-use Rattle.outer_chain.specs.Words.{word_count}
+use Rattle.std.specs.Prelude.{◌≡◌, ℕ, ◌+◌, ◌-◌, ◌*◌, ◌/◌, ◌%◌, ◌<◌, ◌≤◌, Option, List, length, slice_index}
+use Rattle.rs204.specs.declared.outcome.Outcome.TheVariants.{Bad}
+use Rattle.outer_chain.specs.declared.slot.WordSlot.{WordSlot}
+use Rattle.outer_chain.specs.Words.{word_at, word_count}
 
--- a receiver: its delay lines, the bytes of the unfinished word, the words of the start-up that are still to come, and the phase of the word that was finished last
+-- where byte p of the stream stands among twelve words: at place p mod 204 of the word that ends 11 - p mod 12 words behind its own
+abbrev pub place_of : ℕ → ℕ
+place_of p = 204 * ((p / 204 + 11 - p % 12) % 12) + p % 204
+
+-- a receiver: the twelve words that are being filled, one behind the other, the place of the next byte in them, the words of the start-up that are still to come, and the phase of the word that was finished last
 pub record Receiver : Type 0 where
-  pub delays : Delays
-  pub begun : List ℕ
+  pub words : List ℕ
+  pub next : ℕ
   pub start : ℕ
   pub phase : Option ℕ
 
@@ -16,8 +19,13 @@ pub record Receiver : Type 0 where
 abbrev pub EndsWord : List ℕ → Type 0
 EndsWord bytes = (length bytes % 204 ≡ 0) × (0 < word_count bytes)
 
--- a receiver after these interleaved bytes
+-- the slot of received word n, still to be decoded
+abbrev pub undecoded : List ℕ → ℕ → WordSlot
+undecoded bytes n = record { word = word_at bytes n; outcome = Bad }
+
+-- a receiver after these interleaved bytes: the last 2448 of them stand in its words
 pub record Receives (receiver : Receiver) (bytes : List ℕ) : Type 0 where
-  pub delays : Deinterleaves receiver.delays bytes
-  pub begun : receiver.begun ≡ values (deinterleaved (stream_of bytes)) (204 * (length bytes / 204)) (length bytes % 204)
+  pub twelve : length receiver.words ≡ 2448
+  pub next : receiver.next ≡ place_of (length bytes)
+  pub holds : (p : ℕ) → p < length bytes → length bytes ≤ p + 2448 → slice_index receiver.words (place_of p) ≡ slice_index bytes p
   pub start : receiver.start ≡ 11 - length bytes / 204

@@ -1,25 +1,33 @@
 // The receiver of the outer code.
 
-ghost use Rattle.std.specs.Prelude.{◌≡◌, ◌<◌, ◌≤◌, ◌+◌, ◌-◌, ◌*◌, ◌%◌, ◌↔◌, ℕ, List, [], ◌∷◌, ◌++◌, length, take, Some, IfOk, IfSome, IsSome, IsTrue};
+ghost use Rattle.std.specs.Prelude.{◌≡◌, ◌<◌, ◌≤◌, ◌+◌, ◌-◌, ◌*◌, ◌%◌, ◌↔◌, ℕ, List, [], ◌∷◌, ◌++◌, length, take, drop, Some, IfOk, IfSome, IsSome, IsTrue, vec_len, vec_capacity};
 ghost use Rattle.outer_chain.specs.Words.{word_at, word_count, phase_of, given_packet, packet_of, has, IsNear};
 ghost use Rattle.outer_chain.specs.Nears.{near_of};
-ghost use Rattle.outer_chain.specs.Receiving.{EndsWord, Receives};
+ghost use Rattle.outer_chain.specs.Receiving.{EndsWord, Receives, undecoded};
 ghost use Rattle.outer_chain.specs.Sent.{packet_at, code_at};
 ghost use Rattle.outer_chain.specs.Bursts.{BurstsOf, NextOfBursts};
 
 use crate::slot::WordSlot;
 use dispersal::undo;
-use forney::Deinterleaver;
 use rs204::Outcome;
 use std::alloc::{AllocError, Global};
 use std::marker::Model;
 use ts_packet::Packet;
 
-/// The words that the delay lines take to fill.
+/// The words of the start-up, which begin before the first byte.
 const START_UP: u8 = 11;
 
 /// The last place of a word.
 const LAST: usize = 203;
+
+/// The bytes of a word.
+const WORD: usize = 204;
+
+/// The bytes of the twelve words that are being filled.
+const WORDS: usize = 2448;
+
+/// The place of the first byte: the first place of the last of the twelve words.
+const FIRST: usize = 2244;
 
 /// The sync byte of the first packet of a group of eight, inverted.
 const INVERTED_SYNC: u8 = 0xB8;
@@ -31,23 +39,24 @@ const GROUP: u8 = 8;
 /// has had; the phase that contracts see is that of the word that was finished last.
 #[derive(Drop)]
 pub struct OuterRx {
-    deinterleaver: Deinterleaver,
-    word: [u8; 204],
+    // Each byte is put at once where it stands in its word, so no byte is moved through a delay line.
+    words: Vec<u8>,
+    next: usize,
     filled: usize,
     start: u8,
     phase: Option<u8>,
 }
 
 impl Model for OuterRx {
-    ghost use Rattle.std.specs.Prelude.{◌<◌, take};
+    ghost use Rattle.std.specs.Prelude.{◌≡◌, ◌<◌, ◌%◌, length};
     ghost use Rattle.std.specs.Option.{ForSome};
     ghost use Rattle.outer_chain.specs.Receiving.{Receiver};
 
     ghost Value = { Receiver };
 
-    ghost view = { λ r. record { delays = r.deinterleaver; begun = take r.filled r.word; start = r.start; phase = r.phase } };
+    ghost view = { λ r. record { words = r.words.items; next = r.next; start = r.start; phase = r.phase } };
 
-    ghost invariant = { λ r. (r.filled < 204) × ForSome r.phase (λ f. f < 8) };
+    ghost invariant = { λ r. (length r.words.items ≡ 2448) × (r.next < 2448) × (r.filled ≡ r.next % 204) × ForSome r.phase (λ f. f < 8) };
 }
 
 // Whether the word is a codeword after its decoding.
@@ -90,6 +99,49 @@ fn packet_at(slot: &WordSlot, phase: u8) -> Packet
     packet
 }
 
+// The place of the byte behind the one at this place: one place on, in the word before, which is the
+// last of the twelve where this is the first.
+fn place_after(place: usize) -> usize
+    requires { place < 2448 }
+    ensures is { result ≡ (place + 2245) % 2448 }
+{
+    if place < LAST {
+        place + (WORDS - LAST)
+    } else {
+        place - LAST
+    }
+}
+
+// The word that begins at this place.
+fn word_from(words: &[u8], first: usize) -> [u8; 204]
+    requires within { first + 204 ≤ length words.now }
+    ensures { result ≡ take 204 (drop first words.now) }
+{
+    let mut word = [0u8; 204];
+    word.copy_from_slice(&words[first..first + WORD]);
+    word
+}
+
+// Appends the word that begins at this place, but of the start-up only counts it.
+#[inline(never)]
+fn end_word(words: &[u8], first: usize, start: &mut u8, slots: &mut Vec<WordSlot>)
+    requires within { first + 204 ≤ length words.now }
+    requires room { vec_len slots.old < vec_capacity slots.old }
+    ensures capacity { vec_capacity slots.new ≡ vec_capacity slots.old }
+    ensures start { start.new ≡ start.old - 1 }
+    ensures none { 0 < start.old → slots.new.items ≡ slots.old.items }
+    ensures word { start.old ≡ 0 → slots.new.items ≡ slots.old.items ++ record { word = take 204 (drop first words.now); outcome = Outcome.Bad } ∷ [] }
+{
+    if *start > 0 {
+        *start -= 1;
+        return;
+    }
+    slots.push_reserved(WordSlot {
+        word: word_from(words, first),
+        outcome: Outcome::Bad,
+    });
+}
+
 impl OuterRx {
     /// A receiver that has had no byte and finished no word. The only error is want of memory.
     pub fn new(alloc: Global) -> Result<OuterRx, AllocError>
@@ -97,8 +149,8 @@ impl OuterRx {
         ensures phase { IfOk result (λ rx. rx.phase ≡ None) }
     {
         Ok(OuterRx {
-            deinterleaver: Deinterleaver::new(alloc)?,
-            word: [0; 204],
+            words: vec![in alloc; 0; WORDS]?,
+            next: FIRST,
             filled: 0,
             start: START_UP,
             phase: None,
@@ -116,7 +168,9 @@ impl OuterRx {
         ensures bursts { (bytes : List ℕ) (packets : List (List ℕ)) → Receives self.old bytes → BurstsOf packets (bytes ++ byte ∷ []) → IfSome result (λ slot. IsNear slot.word (Some (code_at packets (word_count (bytes ++ byte ∷ []) - 1)))) }
         ensures phase { self.new.phase ≡ self.old.phase }
     {
-        self.word[self.filled] = self.deinterleaver.step(byte);
+        let place = self.next;
+        self.words[place] = byte;
+        self.next = place_after(place);
         if self.filled < LAST {
             self.filled += 1;
             return None;
@@ -127,9 +181,36 @@ impl OuterRx {
             return None;
         }
         Some(WordSlot {
-            word: self.word,
+            word: word_from(self.words.as_slice(), place - LAST),
             outcome: Outcome::Bad,
         })
+    }
+
+    /// Takes the next interleaved byte, as [`OuterRx::take_byte`] does, and appends the word that ends
+    /// with it, still to be decoded, exactly where a word behind the eleven of the start-up ends with it.
+    /// There is room for one word; the capacity stays. No word is moved where none ends. Where the bytes
+    /// are those of packets with bursts, the word's nearest codeword is that of its packet, as without
+    /// them.
+    #[inline]
+    pub fn put_byte(&mut self, byte: u8, slots: &mut Vec<WordSlot>)
+        requires room { vec_len slots.old < vec_capacity slots.old }
+        ensures capacity { vec_capacity slots.new ≡ vec_capacity slots.old }
+        ensures stands { (bytes : List ℕ) → Receives self.old bytes → Receives self.new (bytes ++ byte ∷ []) }
+        ensures word { (bytes : List ℕ) → Receives self.old bytes → EndsWord (bytes ++ byte ∷ []) → slots.new.items ≡ slots.old.items ++ undecoded (bytes ++ byte ∷ []) (word_count (bytes ++ byte ∷ []) - 1) ∷ [] }
+        ensures none { (bytes : List ℕ) → Receives self.old bytes → (EndsWord (bytes ++ byte ∷ []) → ⊥) → slots.new.items ≡ slots.old.items }
+        ensures bursts { (bytes : List ℕ) (packets : List (List ℕ)) → Receives self.old bytes → BurstsOf packets (bytes ++ byte ∷ []) → EndsWord (bytes ++ byte ∷ [])
+            → IsNear (word_at (bytes ++ byte ∷ []) (word_count (bytes ++ byte ∷ []) - 1)) (Some (code_at packets (word_count (bytes ++ byte ∷ []) - 1))) }
+        ensures phase { self.new.phase ≡ self.old.phase }
+    {
+        let place = self.next;
+        self.words[place] = byte;
+        self.next = place_after(place);
+        if self.filled < LAST {
+            self.filled += 1;
+            return;
+        }
+        self.filled = 0;
+        end_word(self.words.as_slice(), place - LAST, &mut self.start, slots);
     }
 
     /// The packet of a decoded word, meant for each word in order: none exactly where the word has no

@@ -2,6 +2,7 @@
 
 use crate::words::NEAR_NONE;
 use dispersal::Dispersal;
+use forney::Deinterleaver;
 use outer_chain::{OuterRx, OuterTx, WordSlot};
 use rs204::{Outcome, encode};
 use std::alloc::{AllocError, Global};
@@ -143,5 +144,55 @@ fn own_bytes_after_eleven_words(rt: HostRuntime) -> Result<(), Fail> {
         let mut rx = OuterRx::new(rt.alloc())?;
         assert_eq!(rt; wrong_word(&mut tx, &mut rx, missed, first), None);
     }
+    Ok(())
+}
+
+// What a byte puts behind no slot.
+fn put(alloc: Global, rx: &mut OuterRx, byte: u8) -> Result<Vec<WordSlot>, AllocError> {
+    let mut slots = Vec::with_capacity(alloc, 1)?;
+    rx.put_byte(byte, &mut slots);
+    Ok(slots)
+}
+
+// Is the word that was put, if one was, the one that was taken?
+fn is_taken(slots: &[WordSlot], taken: &Option<WordSlot>) -> bool {
+    match taken {
+        Some(slot) => {
+            slots.len() == 1 && slots[0].word == slot.word && slots[0].outcome == slot.outcome
+        }
+        None => slots.is_empty(),
+    }
+}
+
+// A received word by the delay lines: keeps the next deinterleaved byte, and tells whether the slots hold the word that ends with it.
+fn is_deinterleaved(
+    lines: &mut Deinterleaver,
+    word: &mut [u8; 204],
+    place: usize,
+    byte: u8,
+    slots: &[WordSlot],
+) -> bool {
+    word[place % 204] = lines.step(byte);
+    slots.is_empty() || slots[0].word == *word
+}
+
+// Putting bytes gives the words that taking them gives, five of these sixteen, and that the delay lines give.
+#[test]
+fn bytes_put_as_taken(rt: HostRuntime) -> Result<(), Fail> {
+    let mut putting = OuterRx::new(rt.alloc())?;
+    let mut taking = OuterRx::new(rt.alloc())?;
+    let mut lines = Deinterleaver::new(rt.alloc())?;
+    let mut word = [0u8; 204];
+    let mut words = 0u8;
+    for place in 0..3300usize {
+        let byte = (place % 251) as u8;
+        let slots = put(rt.alloc(), &mut putting, byte)?;
+        if slots.len() == 1 {
+            words = words.saturating_add(1);
+        }
+        assert!(rt; is_taken(slots.as_slice(), &taking.take_byte(byte)));
+        assert!(rt; is_deinterleaved(&mut lines, &mut word, place, byte, slots.as_slice()));
+    }
+    assert_eq!(rt; words, 5);
     Ok(())
 }

@@ -1,5 +1,5 @@
 -- Words that wait to be finished, and their packets.
-use Rattle.std.proofs.Common.{◌≡◌, ℕ, ◌+◌, ◌-◌, ◌*◌, ◌<◌, ◌≤◌, Bool, not, cond, inl, inr, ◌⊎◌, List, [], ◌∷◌, ◌++◌, length, get_or, refl, sym, ap, ap₂, ◌∙◌, subst, arith, length-append, append_assoc, append-nil}
+use Rattle.std.proofs.Common.{◌≡◌, ℕ, ◌+◌, ◌-◌, ◌*◌, ◌%◌, ◌<◌, ◌≤◌, Bool, not, cond, inl, inr, ◌⊎◌, List, [], ◌∷◌, ◌++◌, length, get_or, refl, sym, ap, ap₂, ◌∙◌, subst, arith, length-append, append_assoc, append-nil}
 use Rattle.std.specs.Prelude.{Option, Some, None, is_some}
 use Rattle.std.proofs.lemmas.Bool.{cases_lt}
 use Rattle.std.proofs.lemmas.List.{get_or_append_left}
@@ -11,7 +11,7 @@ use Rattle.rs204.specs.Decoded.{Decoded}
 use Rattle.rs204.specs.declared.outcome.Outcome.{Outcome}
 use Rattle.inner_decoder.specs.Running.{BranchState}
 use Rattle.outer_chain.specs.declared.slot.WordSlot.{WordSlot}
-use Rattle.outer_chain.specs.Receiving.{Receiver, Receives, EndsWord}
+use Rattle.outer_chain.specs.Receiving.{Receiver, Receives, EndsWord, undecoded}
 use Rattle.outer_chain.specs.Nears.{near_of}
 use Rattle.outer_chain.specs.Running as running
 use Rattle.outer_chain.specs.Running.{Finished, TookByte, FinishedWord, WordStays, bytes_given, is_clean_outcome, is_corrected_outcome, is_bad_outcome}
@@ -25,7 +25,7 @@ use Rattle.receiver.specs.Words.{AreWords, AreDecoded, DecodesAll, Took, Passed,
 finished_more : TookByte → (old new : Receiver) (bytes given : List ℕ) (tally : Tally) (done byte : ℕ) → Finished old bytes given tally done → ((z : List ℕ) → Receives old z → Receives new (z ++ byte ∷ [])) → new.phase ≡ old.phase → Finished new (bytes ++ byte ∷ []) given tally done
 finished_more took old new bytes given tally done byte h stands phase = took old new bytes given tally done byte h (stands bytes h.receives) phase
 
-pub took_word : TookByte → WordStays → (old new : Receiver) (bytes given : List ℕ) (tally : Tally) (done byte : ℕ) (before after : List WordSlot) (slot : WordSlot) → Finished old bytes given tally done
+took_word : TookByte → WordStays → (old new : Receiver) (bytes given : List ℕ) (tally : Tally) (done byte : ℕ) (before after : List WordSlot) (slot : WordSlot) → Finished old bytes given tally done
     → ((z : List ℕ) → Receives old z → Receives new (z ++ byte ∷ [])) → new.phase ≡ old.phase → EndsWord (bytes ++ byte ∷ []) → slot.word ≡ word_at (bytes ++ byte ∷ []) (word_count (bytes ++ byte ∷ []) - 1) → after ≡ before ++ slot ∷ []
     → Took new byte bytes given tally done before after
 took_word took stay old new bytes given tally done byte before after slot h stands phase ends word is =
@@ -47,7 +47,7 @@ took_word took stay old new bytes given tally done byte before after slot h stan
         let last : word_count (bytes ++ byte ∷ []) - 1 ≡ done + i = omega (arith, here, e, length-append bytes (byte ∷ []), ends.0, ends.1) in
         ap₂ (λ (z : List WordSlot) (j : ℕ). (get_or z j d).word) is here ∙ ap (λ (z : WordSlot). z.word) (get_or-append_seam before slot [] d) ∙ word ∙ ap (word_at (bytes ++ byte ∷ [])) last
 
-pub took_none : TookByte → WordStays → (old new : Receiver) (bytes given : List ℕ) (tally : Tally) (done byte : ℕ) (before after : List WordSlot) → Finished old bytes given tally done
+took_none : TookByte → WordStays → (old new : Receiver) (bytes given : List ℕ) (tally : Tally) (done byte : ℕ) (before after : List WordSlot) → Finished old bytes given tally done
     → ((z : List ℕ) → Receives old z → Receives new (z ++ byte ∷ [])) → new.phase ≡ old.phase → (EndsWord (bytes ++ byte ∷ []) → ⊥) → after ≡ before → Took new byte bytes given tally done before after
 took_none took stay old new bytes given tally done byte before after h stands phase none is =
     let long = length-append bytes (byte ∷ []) in
@@ -61,6 +61,25 @@ took_none took stay old new bytes given tally done byte before after h stands ph
     go : (word_count bytes < word_count (bytes ++ byte ∷ [])) ⊎ (word_count (bytes ++ byte ∷ []) ≤ word_count bytes) → word_count (bytes ++ byte ∷ []) ≡ word_count bytes
     go (inl k) = absurd (none (omega (arith, k, length-append bytes (byte ∷ [])), omega (arith, k)))
     go (inr k) = omega (arith, k, length-append bytes (byte ∷ []))
+
+ends_or : (bytes : List ℕ) → EndsWord bytes ⊎ (EndsWord bytes → ⊥)
+ends_or bytes = go (cases_lt 0 (length bytes % 204)) (cases_lt 0 (word_count bytes))
+  where
+    go : (0 < length bytes % 204) ⊎ (length bytes % 204 ≤ 0) → (0 < word_count bytes) ⊎ (word_count bytes ≤ 0) → EndsWord bytes ⊎ (EndsWord bytes → ⊥)
+    go (inl l) w = inr (λ e. omega (arith, l, e.0))
+    go (inr l) (inl w) = inl (omega (arith, l), w)
+    go (inr l) (inr w) = inr (λ e. omega (arith, w, e.1))
+
+-- the word that the byte ends, or none, was put behind the slots
+pub took_put : TookByte → WordStays → (old new : Receiver) (bytes given : List ℕ) (tally : Tally) (done byte : ℕ) (before after : List WordSlot) → Finished old bytes given tally done
+    → ((z : List ℕ) → Receives old z → Receives new (z ++ byte ∷ [])) → new.phase ≡ old.phase
+    → ((z : List ℕ) → Receives old z → EndsWord (z ++ byte ∷ []) → after ≡ before ++ undecoded (z ++ byte ∷ []) (word_count (z ++ byte ∷ []) - 1) ∷ [])
+    → ((z : List ℕ) → Receives old z → (EndsWord (z ++ byte ∷ []) → ⊥) → after ≡ before) → Took new byte bytes given tally done before after
+took_put took stay old new bytes given tally done byte before after h stands phase word none = go (ends_or (bytes ++ byte ∷ []))
+  where
+    go : EndsWord (bytes ++ byte ∷ []) ⊎ (EndsWord (bytes ++ byte ∷ []) → ⊥) → Took new byte bytes given tally done before after
+    go (inl e) = took_word took stay old new bytes given tally done byte before after (undecoded (bytes ++ byte ∷ []) (word_count (bytes ++ byte ∷ []) - 1)) h stands phase e refl (word bytes h.receives e)
+    go (inr n) = took_none took stay old new bytes given tally done byte before after h stands phase n (none bytes h.receives n)
 
 -- ---- the bytes of a symbol
 

@@ -26,10 +26,7 @@ fn take_byte(outer: &mut OuterRx, byte: u8, slots: &mut Vec<WordSlot>)
 {
     receiving();
     outer_chain::laws::growth();
-    match outer.take_byte(byte) {
-        Some(slot) => slots.push_reserved(slot),
-        None => {}
-    }
+    outer.put_byte(byte, slots);
 }
 
 /// Takes the first byte of the bits that wait, of which there are eight at least.
