@@ -183,7 +183,31 @@ impl<A: Acs, V: Survivors<2048>> Branch<A, V> {
         self.decoder.give(&mut self.wait);
     }
 
-    /// The reports of the last `run_symbol`, in order.
+    /// Steps the decoder through these pairs in order, where they lie, and gives all that is shared: the branch is afterwards
+    /// what `load_all` and then `run_symbol` make of it, without the copy. All bits given so far are then exactly the bits
+    /// given of the definition. The events are the new reports.
+    ///
+    /// There are at most 31,752 pairs, the steps of the largest symbol, and `most` does not bound them. No pair is loaded,
+    /// fewer than eight bits wait, fewer than 2^61 steps were made, and the branch has not ended.
+    pub fn run_over(&mut self, pairs: &[CostPair])
+        requires going { self.old.decoder.ended ≡ false }
+        requires loaded { self.old.loaded ≡ [] }
+        requires few { length pairs.now ≤ 31752 }
+        requires wait { length self.old.wait < 8 }
+        requires steps { self.old.decoder.steps < 2 ^ 61 }
+        ensures going { self.new.decoder.ended ≡ false }
+        ensures most { self.new.most ≡ self.old.most }
+        ensures loaded { self.new.loaded ≡ [] }
+        ensures steps { self.new.decoder.steps ≡ self.old.decoder.steps + length pairs.now }
+        ensures amount { length self.new.wait + self.new.decoder.waiting ≡ length self.old.wait + self.old.decoder.waiting + length pairs.now }
+        ensures ran { (a : Option (List Bool)) (c : List CostPair) (g : List Bool) → Stands 2048 self.old.decoder a c g → RanSymbol 2048 self.new.decoder a c g pairs.now self.old.wait self.new.wait (ats self.new.events) }
+    {
+        self.events.clear();
+        run(&mut self.decoder, pairs, &mut self.wait, &mut self.events);
+        self.decoder.give(&mut self.wait);
+    }
+
+    /// The reports of the last `run_symbol` or `run_over`, in order.
     pub fn events(&self) -> &[Unmerged]
         ensures events { result.now ≡ self.now.events }
         ensures few { length result.now ≤ 16 }

@@ -15,7 +15,7 @@ use Rattle.inner_decoder.specs.Running.{BranchState}
 use Rattle.reception.specs.Laws.{NothingGiven}
 use Rattle.reception.specs.Lines.{event_at}
 use Rattle.reception.specs.Streams.{memory, start_of, so_far}
-use Rattle.word_workers.specs.Symbols.{MayRun, HasRun}
+use Rattle.word_workers.specs.Symbols.{MayRunOver, HasRunOver}
 use Rattle.stream_decoders.specs.Branches.{HasGiven, GaveMore, MayTake, HasTaken, HasEnded}
 
 pub events_more : (σ : Stream) (reports : List Unmerged) (i : ℕ) (r : Unmerged) → i < length reports → r ≡ get_or reports i r
@@ -26,13 +26,11 @@ events_more σ reports i r l e =
     ∙ map-append (event_at σ) (ats (take i reports)) (ats (get_or reports i r ∷ []))
     ∙ ap (λ (u : Unmerged). map (event_at σ) (ats (take i reports)) ++ event_at σ u.at ∷ []) (sym e)
 
-pub may_run : (x loaded : BranchState) (xs : List CostPair) → MayTake xs x → loaded ≡ record x { loaded = xs } → MayRun loaded
-may_run x loaded xs h is =
-    let m : MayRun (record x { loaded = xs }) = record { going = h.going; most = h.most; wait = h.wait; steps = h.steps } in
-    subst MayRun (sym is) m
+pub may_run : (x : BranchState) (xs : List CostPair) → MayTake xs x → MayRunOver xs x
+may_run x xs h = record { going = h.going; loaded = h.loaded; few = omega (arith, h.room, h.most); wait = h.wait; steps = h.steps }
 
 -- a symbol more
-ran : (old new : BranchState) (xs : List CostPair) → HasRun (record old { loaded = xs }) new → (a : Option (List Bool)) (c : List CostPair) (bits : List Bool) (steps : List ℕ) → HasGiven so_far old.decoder a c bits steps → GaveMore so_far old new a (c ++ xs) bits (steps ++ ats new.events)
+ran : (old new : BranchState) (xs : List CostPair) → HasRunOver xs old new → (a : Option (List Bool)) (c : List CostPair) (bits : List Bool) (steps : List ℕ) → HasGiven so_far old.decoder a c bits steps → GaveMore so_far old new a (c ++ xs) bits (steps ++ ats new.events)
 ran old new xs h a c bits steps s =
     let r = h.ran a c bits s.decoder.1 in
     record {
@@ -46,10 +44,8 @@ ran old new xs h a c bits steps s =
       };
     }
 
-pub has_taken : (old loaded new : BranchState) (xs : List CostPair) → loaded ≡ record old { loaded = xs } → HasRun loaded new → HasTaken xs old new
-has_taken old loaded new xs is run =
-    let h : HasRun (record old { loaded = xs }) new = subst (λ (z : BranchState). HasRun z new) is run in
-    record { going = h.going; loaded = h.loaded; most = h.most; steps = h.steps; gave = ran old new xs h }
+pub has_taken : (old new : BranchState) (xs : List CostPair) → HasRunOver xs old new → HasTaken xs old new
+has_taken old new xs h = record { going = h.going; loaded = h.loaded; most = h.most; steps = h.steps; gave = ran old new xs h }
 
 -- the end
 pub has_ended : (old new : BranchState) → old.loaded ≡ [] → new ≡ record old { decoder = new.decoder; wait = new.wait } → new.decoder.ended ≡ true → new.decoder.steps ≡ old.decoder.steps → length new.wait ≡ length old.wait + old.decoder.waiting

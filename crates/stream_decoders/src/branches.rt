@@ -3,7 +3,7 @@ ghost use Rattle.std.specs.Prelude.{◌≡◌, ◌+◌, ◌<◌, ◌≤◌, ◌^
 ghost use Rattle.mode_set.specs.declared.modes.Stream.TheVariants.{Hp, Lp};
 ghost use Rattle.inner_decoder.specs.Events.{ats};
 ghost use Rattle.inner_decoder.specs.Starts as inner;
-ghost use Rattle.word_workers.specs.Symbols.{MayRun, HasRun};
+ghost use Rattle.word_workers.specs.Symbols.{MayRunOver, HasRunOver};
 ghost use Rattle.reception.specs.Streams.{so_far, start_of};
 ghost use Rattle.reception.specs.Lines.{event_at};
 ghost use Rattle.stream_decoders.specs.Branches.{HasGiven, MayTake, HasTaken, HasEnded};
@@ -16,7 +16,7 @@ use rx_report::Event;
 use std::alloc::{AllocError, Global};
 use std::thread::Threads;
 use survivor_ring::RingSurvivors;
-use word_workers::{Gate, both};
+use word_workers::{Gate, both_over};
 
 /// The decoder of one stream, with a path memory of 2048 steps.
 pub type StreamBranch = Branch<LaneAcs, RingSurvivors<2048>>;
@@ -47,32 +47,26 @@ pub fn begin(alloc: Global, start: Start, most: u32) -> Result<StreamBranch, All
     Ok(branch)
 }
 
-/// Loads the pairs of a symbol.
-fn load(branch: &mut StreamBranch, pairs: &[CostPair])
-    requires may { MayTake pairs.now branch.old }
-    ensures loaded { branch.new ≡ record branch.old { loaded = pairs.now } }
-{
-    branch.load_all(pairs);
-}
-
-/// Runs a symbol of both decoders, side by side where there are two streams.
+/// Steps both decoders through the pairs of their streams in a symbol, side by side where there are two streams.
 fn run<R: Threads + Sync, G: Gate>(
     rt: &R,
     gate: &G,
     two: bool,
+    hp_pairs: &[CostPair],
+    lp_pairs: &[CostPair],
     hp: &mut StreamBranch,
     lp: &mut StreamBranch,
 )
-    requires hp { MayRun hp.old }
-    requires lp { MayRun lp.old }
-    ensures hp { HasRun hp.old hp.new }
-    ensures lp { HasRun lp.old lp.new }
+    requires hp { MayRunOver hp_pairs.now hp.old }
+    requires lp { MayRunOver lp_pairs.now lp.old }
+    ensures hp { HasRunOver hp_pairs.now hp.old hp.new }
+    ensures lp { HasRunOver lp_pairs.now lp.old lp.new }
 {
     if two {
-        both(rt, gate, hp, lp);
+        both_over(rt, gate, hp, hp_pairs, lp, lp_pairs);
     } else {
-        hp.run_symbol();
-        lp.run_symbol();
+        hp.run_over(hp_pairs);
+        lp.run_over(lp_pairs);
     }
 }
 
@@ -116,9 +110,7 @@ pub fn take_symbol<R: Threads + Sync, G: Gate>(
     ensures events { events.new.items ≡ events.old.items ++ map (event_at Hp) (ats hp.new.events) ++ map (event_at Lp) (ats lp.new.events) }
     ensures capacity { vec_capacity events.new ≡ vec_capacity events.old }
 {
-    load(hp, hp_pairs);
-    load(lp, lp_pairs);
-    run(rt, gate, two, hp, lp);
+    run(rt, gate, two, hp_pairs, lp_pairs, hp, lp);
     push_events(Stream::Hp, hp.events(), events);
     push_events(Stream::Lp, lp.events(), events);
 }

@@ -1,4 +1,4 @@
--- What `run_symbol` asks of a decoder, and what it makes of it.
+-- What `run_symbol` and `run_over` ask of a decoder, and what they make of it.
 use Rattle.std.specs.Prelude.{◌≡◌, ◌+◌, ◌^◌, ◌<◌, ◌≤◌, Bool, false, List, [], length, Option}
 use Rattle.code_paths.specs.declared.costs.CostPair.{CostPair}
 use Rattle.inner_decoder.specs.Events.{ats}
@@ -21,3 +21,16 @@ pub record HasRun (old new : BranchState) : Type 0 where
   pub steps : new.decoder.steps ≡ old.decoder.steps + length old.loaded
   pub amount : length new.wait + new.decoder.waiting ≡ length old.wait + old.decoder.waiting + length old.loaded
   pub ran : (a : Option (List Bool)) (c : List CostPair) (g : List Bool) → Stands 2048 old.decoder a c g → RanSymbol 2048 new.decoder a c g old.loaded old.wait new.wait (ats new.events)
+
+-- the decoder has not ended and no pair is loaded, there are at most 31,752 of these pairs, fewer than eight bits wait and fewer than
+-- 2^61 steps were made
+pub record MayRunOver (pairs : List CostPair) (branch : BranchState) : Type 0 where
+  pub going : branch.decoder.ended ≡ false
+  pub loaded : branch.loaded ≡ []
+  pub few : length pairs ≤ 31752
+  pub wait : length branch.wait < 8
+  pub steps : branch.decoder.steps < 2 ^ 61
+
+-- the decoder is what running a symbol makes of it with these pairs loaded
+abbrev pub HasRunOver : List CostPair → BranchState → BranchState → Type 0
+HasRunOver pairs old new = HasRun (record old { loaded = pairs }) new

@@ -1,9 +1,10 @@
 // The inner decoders of two streams side by side.
 ghost use Rattle.std.specs.Fork.{AcceptsAt, ChangesAt};
-ghost use Rattle.word_workers.specs.Symbols.{MayRun, HasRun};
+ghost use Rattle.word_workers.specs.Symbols.{MayRun, HasRun, MayRunOver, HasRunOver};
 
 use crate::gate::{Gate, Job};
 use acs_plain::Acs;
+use code_paths::CostPair;
 use inner_decoder::Branch;
 use std::marker::Send;
 use std::thread::{Threads, join_mut};
@@ -18,6 +19,20 @@ fn run_one<G: Gate, A: Acs, V: Survivors<2048>>(gate: &G, piece: u32, branch: &m
     branch.run_symbol();
 }
 
+/// Runs these pairs of a decoder behind the gate.
+fn run_one_over<G: Gate, A: Acs, V: Survivors<2048>>(
+    gate: &G,
+    piece: u32,
+    pairs: &[CostPair],
+    branch: &mut Branch<A, V>,
+)
+    requires may { MayRunOver pairs.now branch.old }
+    ensures has { HasRunOver pairs.now branch.old branch.new }
+{
+    gate.enter(Job::Inner, piece);
+    branch.run_over(pairs);
+}
+
 /// Does the work on one of two things.
 fn on_one<T, F: Fn(u32, &mut T)>(work: &F, piece: u32, thing: &mut T)
     requires { AcceptsAt F.Fn work.now piece thing.old }
@@ -26,26 +41,27 @@ fn on_one<T, F: Fn(u32, &mut T)>(work: &F, piece: u32, thing: &mut T)
     work(piece, thing);
 }
 
-/// Does the work on two things side by side: on the first as piece 0, on the second as piece 1.
-fn on_both<R: Threads + Sync, T: Send, F: Fn(u32, &mut T) + Sync>(
+/// Does a piece of work on each of two things, side by side: on the first as piece 0, on the second as piece 1.
+fn on_both<R: Threads + Sync, T: Send, F: Fn(u32, &mut T) + Sync, H: Fn(u32, &mut T) + Sync>(
     rt: &R,
-    work: &F,
+    on_first: &F,
+    on_second: &H,
     first: &mut T,
     second: &mut T,
 )
-    requires first { AcceptsAt F.Fn work.now 0 first.old }
-    requires second { AcceptsAt F.Fn work.now 1 second.old }
-    ensures first { ChangesAt F.Fn work.now 0 first.old first.new }
-    ensures second { ChangesAt F.Fn work.now 1 second.old second.new }
+    requires first { AcceptsAt F.Fn on_first.now 0 first.old }
+    requires second { AcceptsAt H.Fn on_second.now 1 second.old }
+    ensures first { ChangesAt F.Fn on_first.now 0 first.old first.new }
+    ensures second { ChangesAt H.Fn on_second.now 1 second.old second.new }
 {
     let mut front = ||
-        requires { AcceptsAt F.Fn work.now 0 first.now }
-        ensures { ChangesAt F.Fn work.entry.now 0 first.entry.now first.exit.now }
-    { on_one(work, 0, first) };
+        requires { AcceptsAt F.Fn on_first.now 0 first.now }
+        ensures { ChangesAt F.Fn on_first.entry.now 0 first.entry.now first.exit.now }
+    { on_one(on_first, 0, first) };
     let mut back = ||
-        requires { AcceptsAt F.Fn work.now 1 second.now }
-        ensures { ChangesAt F.Fn work.entry.now 1 second.entry.now second.exit.now }
-    { on_one(work, 1, second) };
+        requires { AcceptsAt H.Fn on_second.now 1 second.now }
+        ensures { ChangesAt H.Fn on_second.entry.now 1 second.entry.now second.exit.now }
+    { on_one(on_second, 1, second) };
     join_mut(rt, &mut front, &mut back);
 }
 
@@ -69,5 +85,34 @@ pub fn both<R: Threads + Sync, G: Gate, A: Acs + Send, V: Survivors<2048> + Send
         requires { MayRun branch.now }
         ensures { HasRun branch.entry.now branch.exit.now }
     { run_one(gate, piece, branch) };
-    on_both(rt, &work, hp, lp);
+    on_both(rt, &work, &work, hp, lp);
+}
+
+/// Steps two decoders side by side through the pairs of a symbol of their streams, where these lie, and each is
+/// afterwards what [`Branch::run_over`] makes of it with its pairs, for every gate.
+///
+/// Both meet the conditions of `run_over`. One of them runs in a thread of its own; where none can be
+/// made they run one after another. HP enters the gate with [`Job::Inner`] and 0, LP with 1.
+pub fn both_over<R: Threads + Sync, G: Gate, A: Acs + Send, V: Survivors<2048> + Send>(
+    rt: &R,
+    gate: &G,
+    hp: &mut Branch<A, V>,
+    hp_pairs: &[CostPair],
+    lp: &mut Branch<A, V>,
+    lp_pairs: &[CostPair],
+)
+    requires hp { MayRunOver hp_pairs.now hp.old }
+    requires lp { MayRunOver lp_pairs.now lp.old }
+    ensures hp { HasRunOver hp_pairs.now hp.old hp.new }
+    ensures lp { HasRunOver lp_pairs.now lp.old lp.new }
+{
+    let over_hp = |piece: u32, branch: &mut Branch<A, V>|
+        requires { MayRunOver hp_pairs.now branch.now }
+        ensures { HasRunOver hp_pairs.entry.now branch.entry.now branch.exit.now }
+    { run_one_over(gate, piece, hp_pairs, branch) };
+    let over_lp = |piece: u32, branch: &mut Branch<A, V>|
+        requires { MayRunOver lp_pairs.now branch.now }
+        ensures { HasRunOver lp_pairs.entry.now branch.entry.now branch.exit.now }
+    { run_one_over(gate, piece, lp_pairs, branch) };
+    on_both(rt, &over_hp, &over_lp, hp, lp);
 }
