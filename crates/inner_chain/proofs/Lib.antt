@@ -8,3 +8,4 @@ mod CostEntering
 mod CostReading
 mod CellCosts
 mod Listing
+mod Fronts

@@ -1,5 +1,5 @@
 -- The cost pairs of a symbol as one list.
-use Rattle.std.specs.Prelude.{◌≡◌, ℕ, List, ◌++◌, map, slice_index, Option, Some, None}
+use Rattle.std.specs.Prelude.{◌≡◌, ℕ, List, ◌++◌, drop, map, slice_index, Option, Some, None}
 use Rattle.std.proofs.Common.{arith}
 use Rattle.std.proofs.Math.Nat.{min-le_left}
 use Rattle.spec_words.specs.Words.{numbers}
@@ -44,3 +44,7 @@ pair_of s cells weights l σ t =
 abbrev pub PairsAreListed : Type 0
 PairsAreListed = (s : Settings) (cells : List Cell) (weights : List ℕ) (l : ℕ) (σ : Stream) (old new : List CostPair) → AppendsPairs s cells weights l σ old new
     → new ≡ old ++ map (pair_of s cells weights l σ) (numbers (need s σ))
+
+-- a list has the pairs of a symbol's steps in order at its front, and behind them what it had
+abbrev pub BeginsWithPairs : Settings → List Cell → List ℕ → ℕ → Stream → List CostPair → List CostPair → Type 0
+BeginsWithPairs s cells weights l σ old new = new ≡ map (pair_of s cells weights l σ) (numbers (need s σ)) ++ drop (need s σ) old

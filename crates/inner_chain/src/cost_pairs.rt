@@ -1,5 +1,5 @@
 // Cost pairs out of the costs of all places.
-ghost use Rattle.std.specs.Prelude.{◌≡◌, ◌+◌, ◌*◌, ◌<◌, ◌≤◌, ℕ, length, slice_index, vec_capacity, vec_len};
+ghost use Rattle.std.specs.Prelude.{◌≡◌, ◌+◌, ◌*◌, ◌<◌, ◌≤◌, [], ℕ, drop, length, slice_index, take, vec_capacity, vec_len};
 ghost use Rattle.soft_metric.specs.Squares.{IsSmallPair};
 ghost use Rattle.inner_chain.specs.CostTables.{AppendsRead, pair_at};
 
@@ -38,5 +38,23 @@ pub(crate) fn push_pairs(
         let x = costs[entries[2 * step] as usize];
         let y = costs[entries[2 * step + 1] as usize];
         to.push_reserved(pair_of(x, y));
+    }
+}
+
+// Writes a pair for each two entries over those at the front, and keeps the others.
+pub(crate) fn write_pairs(costs: &[(u16, u16)], entries: &[u16], steps: usize, to: &mut [CostPair])
+    requires steps { 2 * steps ≤ length entries.now }
+    requires few { steps ≤ 65536 }
+    requires within { (k : ℕ) → k < length entries.now → slice_index entries.now k < length costs.now }
+    requires small { (k : ℕ) → k < length costs.now → IsSmallPair (pair_at costs.now k) }
+    requires room { steps ≤ length to.old }
+    ensures pairs { AppendsRead costs.now entries.now steps [] (take steps to.new) }
+    ensures rest { drop steps to.new ≡ drop steps to.old }
+    ensures long { length to.new ≡ length to.old }
+{
+    for step in 0..steps {
+        let x = costs[entries[2 * step] as usize];
+        let y = costs[entries[2 * step + 1] as usize];
+        to[step] = pair_of(x, y);
     }
 }

@@ -65,3 +65,18 @@ pub(crate) fn entries_of<'a>(
         Stream::Lp => lp_even,
     }
 }
+
+// Of the tables of a stream that in the symbols of even or of odd number.
+pub(crate) fn of_parity<'a>(
+    settings: &Settings,
+    stream: Stream,
+    is_odd: bool,
+    even: &'a [u16],
+    odd: &'a [u16],
+) -> &'a [u16]
+    requires even { AreCostEntries settings.now false stream (need settings.now stream) even.now }
+    requires odd { AreCostEntries settings.now true stream (need settings.now stream) odd.now }
+    ensures { AreCostEntries settings.now is_odd stream (need settings.now stream) result.now }
+{
+    if is_odd { odd } else { even }
+}

@@ -2,14 +2,16 @@
 ghost use Rattle.std.specs.Prelude.{◌≡◌, ◌+◌, ◌*◌, ◌<◌, ◌≤◌, IfOk, IsTrue, false, length, true, vec_capacity, vec_len};
 ghost use Rattle.mode_set.specs.Entries.{with_entry};
 ghost use Rattle.mode_set.specs.StreamTable.{carriers, has_stream, need, payload};
+ghost use Rattle.mode_set.specs.declared.modes.Stream.TheVariants.{Hp, Lp};
 ghost use Rattle.symbol_interleave.specs.Carried.{is_odd};
 ghost use Rattle.inner_chain.specs.CostPairs.{AppendsPairs};
 ghost use Rattle.inner_chain.specs.CostTables.{AreCarriers, AreCostEntries, AreWeights, IsRoom, IsWeightRoom};
+ghost use Rattle.inner_chain.specs.PairLists.{BeginsWithPairs};
 
 use crate::cell_costs::{room_for_costs, room_for_weights, write_costs};
 use crate::cost_entries::{carriers_of, cost_table};
-use crate::cost_pairs::push_pairs;
-use crate::cost_tables::{entries_of, turn_cost_tables};
+use crate::cost_pairs::{push_pairs, write_pairs};
+use crate::cost_tables::{entries_of, of_parity, turn_cost_tables};
 use conv_code::CostPair;
 use mode_set::{Carriers, Entry, Settings, Stream};
 use qam_map::Cell;
@@ -61,6 +63,57 @@ fn push_symbol_pairs(
         costs,
     );
     push_pairs(costs, entries, settings.need(stream) as usize, to);
+}
+
+// Writes the cost pairs of both streams over the fronts of two slices, out of the entries of their steps
+// in the symbols of this one's parity. The costs of all places are written once for both.
+fn write_symbol_pairs(
+    settings: &Settings,
+    metric: &AxisMetric,
+    carrier_table: &[u16],
+    hp_entries: &[u16],
+    lp_entries: &[u16],
+    costs: &mut [(u16, u16)],
+    payload_cells: &mut [Cell],
+    payload_weights: &mut [u8],
+    cells: &[Cell],
+    weights: &[u8],
+    l: u8,
+    hp: &mut [CostPair],
+    lp: &mut [CostPair],
+)
+    requires metric { metric.now ≡ (settings.now.shape, settings.now.hierarchy) }
+    requires carriers { AreCarriers settings.now.mode (4 * payload settings.now.mode) carrier_table.now }
+    requires hp_entries { AreCostEntries settings.now (is_odd l) Hp (need settings.now Hp) hp_entries.now }
+    requires lp_entries { AreCostEntries settings.now (is_odd l) Lp (need settings.now Lp) lp_entries.now }
+    requires cells { length cells.now ≡ carriers settings.now.mode }
+    requires weights { AreWeights settings.now.mode weights.now }
+    requires room { IsRoom settings.now.mode costs.old }
+    requires payload_cells { length payload_cells.old ≡ payload settings.now.mode }
+    requires payload_weights { IsWeightRoom settings.now.mode payload_weights.old }
+    requires hp_room { need settings.now Hp ≤ length hp.old }
+    requires lp_room { need settings.now Lp ≤ length lp.old }
+    ensures hp { BeginsWithPairs settings.now cells.now weights.now l Hp hp.old hp.new }
+    ensures lp { BeginsWithPairs settings.now cells.now weights.now l Lp lp.old lp.new }
+    ensures hp_long { length hp.new ≡ length hp.old }
+    ensures lp_long { length lp.new ≡ length lp.old }
+    ensures room { IsRoom settings.now.mode costs.new }
+    ensures payload_cells { length payload_cells.new ≡ payload settings.now.mode }
+    ensures payload_weights { IsWeightRoom settings.now.mode payload_weights.new }
+{
+    write_costs(
+        settings,
+        metric,
+        carrier_table,
+        cells,
+        weights,
+        l,
+        payload_cells,
+        payload_weights,
+        costs,
+    );
+    write_pairs(costs, hp_entries, settings.need(Stream::Hp) as usize, hp);
+    write_pairs(costs, lp_entries, settings.need(Stream::Lp) as usize, lp);
 }
 
 /// The receiving side of the inner coding: from the cells of a symbol to the costs of the coded bits
@@ -195,6 +248,65 @@ impl<M: Carriers> InnerRx<M> {
             l,
             stream,
             to,
+        );
+    }
+
+    /// Writes the cost pairs of both streams in symbol `l` of a frame, one for each step in order: those of
+    /// HP over the front of `hp`, those of LP over the front of `lp`, none of a stream that does not exist
+    /// there. What stands behind them stays. The pairs are those that `pairs` appends, and the costs of the
+    /// cells are found once for both streams. `entry` has the parameters of the symbol.
+    ///
+    /// `cells` are those of all carriers of the symbol, and `weights` theirs, each at most 15. `steps` tells
+    /// how many pairs there are of a stream, and each slice has room for them.
+    pub fn symbol_pairs(
+        &mut self,
+        entry: &Entry,
+        cells: &[Cell],
+        weights: &[u8],
+        l: u8,
+        hp: &mut [CostPair],
+        lp: &mut [CostPair],
+    )
+        requires cells { length cells.now ≡ carriers self.old.mode }
+        requires weights { AreWeights self.old.mode weights.now }
+        requires symbol { l < 68 }
+        requires hp_room { need (with_entry self.old entry.now) Hp ≤ length hp.old }
+        requires lp_room { need (with_entry self.old entry.now) Lp ≤ length lp.old }
+        ensures hp { BeginsWithPairs (with_entry self.old entry.now) cells.now weights.now l Hp hp.old hp.new }
+        ensures lp { BeginsWithPairs (with_entry self.old entry.now) cells.now weights.now l Lp lp.old lp.new }
+        ensures hp_long { length hp.new ≡ length hp.old }
+        ensures lp_long { length lp.new ≡ length lp.old }
+        ensures settings { self.new ≡ self.old }
+    {
+        turn_cost_tables(
+            &self.settings,
+            entry,
+            &self.permutation,
+            &mut self.latest,
+            &mut self.metric,
+            &mut self.hp_even,
+            &mut self.hp_odd,
+            &mut self.lp_even,
+            &mut self.lp_odd,
+        );
+        let settings = self.settings.with_entry(entry);
+        let odd = l % 2 == 1;
+        let hp_entries = of_parity(&settings, Stream::Hp, odd, &self.hp_even, &self.hp_odd);
+        let lp_entries = of_parity(&settings, Stream::Lp, odd, &self.lp_even, &self.lp_odd);
+        write_symbol_pairs(
+            &settings,
+            &self.metric,
+            &self.carrier_table,
+            hp_entries,
+            lp_entries,
+            &mut self.costs,
+            &mut self.payload_cells,
+            &mut self.payload_weights,
+            cells,
+            weights,
+            l,
+            hp,
+            lp,
         );
     }
 }

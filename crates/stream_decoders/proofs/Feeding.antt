@@ -77,11 +77,6 @@ no_symbols M8k = refl
 pub nothing_unfinished : (s : Settings) → unfinished s [] ≡ []
 nothing_unfinished s = drop_all (symbols s [] * symbol_length s) [] (omega arith)
 
--- no steps have no pairs
-pub no_pairs : {A : Type 0} (f : ℕ → A) (n : ℕ) → n ≡ 0 → [] ≡ map f (numbers n)
-unfolding numbers
-no_pairs f n e = sym (ap (λ k. map f (numbers k)) e)
-
 -- what is left of a symbol that was ended or not
 pub rest_is_short : (whole : Bool) (input : List ℕ) (k : ℕ) → 0 < 5 * k → (whole ≡ false → length input < 5 * k) → length (cond whole [] input) < 5 * k
 rest_is_short true input k some l = omega (arith, some)

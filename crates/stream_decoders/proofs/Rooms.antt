@@ -1,8 +1,9 @@
 -- No symbol has more pairs of a stream than there is room for.
-use Rattle.std.proofs.Common.{◌≡◌, ℕ, zero, suc, ◌-◌, ◌*◌, ◌/◌, ◌≤◌, Bool, true, false, List, length, map, refl, sym, ap, ◌∙◌, subst, arith}
+use Rattle.std.proofs.Common.{◌≡◌, ℕ, zero, suc, ◌-◌, ◌*◌, ◌/◌, ◌≤◌, Bool, true, false, List, ◌++◌, drop, length, map, take, refl, sym, ap, ◌∙◌, subst, arith}
 use Rattle.std.specs.Prelude.{if◌then◌else◌}
 use Rattle.std.proofs.lemmas.Bool.{true≢false}
 use Rattle.std.proofs.lemmas.List.{length-map}
+use Rattle.std.proofs.Math.Seq.{take-append_seam}
 use Rattle.spec_words.specs.Words.{numbers}
 use Rattle.spec_words.proofs.Counting.{length-numbers}
 use Rattle.code_paths.specs.declared.costs.CostPair.{CostPair}
@@ -19,6 +20,8 @@ use Rattle.mode_set.specs.declared.modes.Shape.TheVariants.{Qpsk, Qam16, Qam64}
 use Rattle.mode_set.specs.declared.modes.Stream.{Stream}
 use Rattle.mode_set.specs.declared.modes.Stream.TheVariants.{Hp, Lp}
 use Rattle.mode_set.specs.declared.settings.Settings.{Settings}
+use Rattle.qam_map.specs.declared.cell.Cell.{Cell}
+use Rattle.inner_chain.specs.PairLists.{pair_of, BeginsWithPairs}
 use Rattle.symbol_spans.specs.Laws.{ModeStays, StepsAreOfAStream}
 use Rattle.symbol_spans.specs.Spans.{settings_in, settings_at, exists_in}
 use Rattle.stream_decoders.specs.Rooms.{most_steps, most_pairs}
@@ -73,5 +76,19 @@ told s t x e same is = ap (λ (z : Settings). with_entry z e) same ∙ is
 pub fits : ModeStays → StepsAreOfAStream → (s t : Settings) (e : Entry) (m : ℕ) (σ : Stream) → t ≡ s → with_entry s e ≡ settings_at s m → need (with_entry t e) σ ≤ most_pairs s σ
 fits mode streams s t e m σ same is = subst (λ (z : Settings). need z σ ≤ most_pairs s σ) (sym (told s t (settings_at s m) e same is)) (few_pairs mode streams s (m / 272) σ)
 
-pub as_many : (f : ℕ → CostPair) (n k : ℕ) (xs : List CostPair) → xs ≡ map f (numbers n) → n ≤ k → length xs ≤ k
-as_many f n k xs is l = let e = ap length is ∙ length-map (numbers n) f ∙ length-numbers n in omega (arith, e, l)
+-- the pairs at the front, in a list that was written over as a whole
+pub front_is : (s x : Settings) (cells : List Cell) (weights : List ℕ) (l : ℕ) (σ : Stream) (n len : ℕ) (old new behind : List CostPair) → s ≡ x → n ≡ need s σ → len ≡ length new → BeginsWithPairs s cells weights l σ old new
+    → take n (take len (new ++ behind)) ≡ map (pair_of x cells weights l σ) (numbers (need x σ))
+front_is s x cells weights l σ n len old new behind same count size is = subst (λ (z : Settings). take n (take len (new ++ behind)) ≡ map (pair_of z cells weights l σ) (numbers (need z σ))) same (within ∙ front)
+  where
+    ps : List CostPair
+    ps = map (pair_of s cells weights l σ) (numbers (need s σ))
+
+    long : length ps ≡ need s σ
+    long = length-map (numbers (need s σ)) (pair_of s cells weights l σ) ∙ length-numbers (need s σ)
+
+    within : take n (take len (new ++ behind)) ≡ take n new
+    within = ap (λ (z : List CostPair). take n z) (ap (λ (k : ℕ). take k (new ++ behind)) size ∙ take-append_seam new behind)
+
+    front : take n new ≡ ps
+    front = ap (λ (z : List CostPair). take n z) is ∙ ap (λ (k : ℕ). take k (ps ++ drop (need s σ) old)) (count ∙ sym long) ∙ take-append_seam ps (drop (need s σ) old)

@@ -7,13 +7,13 @@ use Rattle.mode_set.specs.declared.settings.Settings.{Settings}
 use Rattle.stream_decoders.specs.Rooms.{most_pairs}
 
 -- The mode of the settings is that of the type; a symbol that was not ended lacks a byte, and one that was lacks none; there is
--- room for the pairs of each stream in a symbol of any parameters, and there are no more.
-pub record AreKept (mode : Mode) (carriers : ℕ) (settings inner : Settings) (symbol : List ℕ) (whole : Bool) (hp lp : List CostPair) (hp_capacity lp_capacity : ℕ) : Type 0 where
+-- room for the pairs of each stream in a symbol of any parameters, and no more are used.
+pub record AreKept (mode : Mode) (carriers : ℕ) (settings inner : Settings) (symbol : List ℕ) (whole : Bool) (hp lp : List CostPair) (hp_used lp_used : ℕ) : Type 0 where
   pub mode_is : settings.mode ≡ mode
   pub inner_is : inner ≡ settings
   pub unfinished : whole ≡ false → length symbol < 5 * carriers
   pub ended : whole ≡ true → length symbol ≡ 5 * carriers
-  pub hp_room : most_pairs settings Hp ≤ hp_capacity
-  pub lp_room : most_pairs settings Lp ≤ lp_capacity
-  pub hp_few : length hp ≤ most_pairs settings Hp
-  pub lp_few : length lp ≤ most_pairs settings Lp
+  pub hp_room : most_pairs settings Hp ≤ length hp
+  pub lp_room : most_pairs settings Lp ≤ length lp
+  pub hp_few : hp_used ≤ most_pairs settings Hp
+  pub lp_few : lp_used ≤ most_pairs settings Lp

@@ -7,7 +7,7 @@ ghost use Rattle.stream_decoders.specs.Rooms.{most_pairs};
 ghost use Rattle.stream_decoders.specs.Seen.{pairs_of};
 ghost use Rattle.stream_decoders.specs.Fed.{HasHad, Fed};
 
-use crate::pairs::{most_pairs, put_pairs};
+use crate::pairs::{put_pairs, room_for_pairs};
 use conv_code::CostPair;
 use frame_build::SymbolIn;
 use inner_chain::InnerRx;
@@ -26,13 +26,16 @@ pub struct SymbolCosts<M: Carriers> {
     input: SymbolIn<M>,
     whole: bool,
     inner: InnerRx<M>,
+    // Room for the most cost pairs of each stream in a symbol, and how many at the front are those of the last whole one.
     hp: Vec<CostPair>,
     lp: Vec<CostPair>,
+    hp_used: usize,
+    lp_used: usize,
     taken: u64,
 }
 
 impl<M: Carriers> Model for SymbolCosts<M> {
-    ghost use Rattle.std.specs.Prelude.{cond, [], vec_capacity};
+    ghost use Rattle.std.specs.Prelude.{cond, [], take};
     ghost use Rattle.frame_build.specs.Symbol.{cells_from};
     ghost use Rattle.stream_decoders.specs.Seen.{CostsState};
     ghost use Rattle.stream_decoders.specs.Kept.{AreKept};
@@ -45,11 +48,11 @@ impl<M: Carriers> Model for SymbolCosts<M> {
       taken = x.taken;
       whole = x.whole;
       cells = cells_from x.input M.K;
-      hp = x.hp.items;
-      lp = x.lp.items;
+      hp = take x.hp_used x.hp.items;
+      lp = take x.lp_used x.lp.items;
     } };
 
-    ghost invariant = { λ x. AreKept M.MODE M.K x.settings x.inner x.input x.whole x.hp.items x.lp.items (vec_capacity x.hp) (vec_capacity x.lp) };
+    ghost invariant = { λ x. AreKept M.MODE M.K x.settings x.inner x.input x.whole x.hp.items x.lp.items x.hp_used x.lp_used };
 }
 
 /// Passes on behind a symbol that was ended.
@@ -73,15 +76,15 @@ impl<M: Carriers> SymbolCosts<M> {
         ensures rest { IfOk result (λ x. x.rest ≡ []) }
         ensures had { IfOk result (λ x. HasHad x []) }
     {
-        let hp_pairs = most_pairs(settings, Stream::Hp) as usize;
-        let lp_pairs = most_pairs(settings, Stream::Lp) as usize;
         Ok(SymbolCosts {
             settings: *settings,
             input: SymbolIn::new(alloc)?,
             whole: false,
             inner: InnerRx::new(alloc, settings)?,
-            hp: Vec::with_capacity(alloc, hp_pairs)?,
-            lp: Vec::with_capacity(alloc, lp_pairs)?,
+            hp: room_for_pairs(alloc, settings, Stream::Hp)?,
+            lp: room_for_pairs(alloc, settings, Stream::Lp)?,
+            hp_used: 0,
+            lp_used: 0,
             taken: 0,
         })
     }
@@ -108,24 +111,17 @@ impl<M: Carriers> SymbolCosts<M> {
         self.whole = true;
         let cells = self.input.cells();
         let weights = self.input.weights();
-        put_pairs(
+        let (hp_used, lp_used) = put_pairs(
             &self.settings,
             self.taken,
             &mut self.inner,
             cells,
             weights,
-            Stream::Hp,
             &mut self.hp,
-        );
-        put_pairs(
-            &self.settings,
-            self.taken,
-            &mut self.inner,
-            cells,
-            weights,
-            Stream::Lp,
             &mut self.lp,
         );
+        self.hp_used = hp_used;
+        self.lp_used = lp_used;
         self.taken += 1;
         count
     }
@@ -152,8 +148,8 @@ impl<M: Carriers> SymbolCosts<M> {
         ensures few { length result.now ≤ most_pairs self.now.settings stream }
     {
         match stream {
-            Stream::Hp => &self.hp,
-            Stream::Lp => &self.lp,
+            Stream::Hp => &self.hp[..self.hp_used],
+            Stream::Lp => &self.lp[..self.lp_used],
         }
     }
 

@@ -1,7 +1,8 @@
-// The cost pairs of a stream in a symbol.
-ghost use Rattle.std.specs.Prelude.{◌≡◌, ◌%◌, ◌<◌, ◌≤◌, ◌^◌, map, length, vec_capacity};
+// The cost pairs of the streams in a symbol.
+ghost use Rattle.std.specs.Prelude.{◌≡◌, ◌%◌, ◌<◌, ◌≤◌, ◌^◌, IfOk, map, length, take};
 ghost use Rattle.spec_words.specs.Words.{numbers};
 ghost use Rattle.mode_set.specs.StreamTable.{carriers, need};
+ghost use Rattle.mode_set.specs.declared.modes.Stream.TheVariants.{Hp, Lp};
 ghost use Rattle.symbol_spans.specs.Spans.{settings_at};
 ghost use Rattle.inner_chain.specs.CostTables.{AreWeights};
 ghost use Rattle.inner_chain.specs.PairLists.{pair_of};
@@ -9,9 +10,9 @@ ghost use Rattle.stream_decoders.specs.Rooms.{most_pairs};
 
 use conv_code::CostPair;
 use inner_chain::InnerRx;
-use inner_chain::laws::pairs_are_listed;
 use mode_set::{Carriers, Settings, Stream};
 use qam_map::Cell;
+use std::alloc::{AllocError, Global};
 use symbol_spans::parameters_of_symbol;
 
 /// The most cost pairs of a stream in a symbol, whatever its parameters: none where the stream does not exist in the
@@ -28,7 +29,25 @@ pub fn most_pairs(settings: &Settings, stream: Stream) -> u32
     }
 }
 
-/// Puts the cost pairs of a stream in a symbol of the transmission in the place of what was there.
+// Room for the most cost pairs of a stream in a symbol.
+pub(crate) fn room_for_pairs(
+    alloc: Global,
+    settings: &Settings,
+    stream: Stream,
+) -> Result<Vec<CostPair>, AllocError>
+    ensures { IfOk result (λ room. length room.items ≡ most_pairs settings.now stream) }
+{
+    let nothing = CostPair {
+        x0: 0,
+        x1: 0,
+        y0: 0,
+        y1: 0,
+    };
+    vec![in alloc; nothing; most_pairs(settings, stream) as usize]
+}
+
+/// Writes the cost pairs of both streams in a symbol of the transmission over the fronts of `hp` and `lp`, and answers how many
+/// there are of each: none of a stream that does not exist there.
 ///
 /// `cells` are those of all carriers of the symbol, and `weights` theirs, each at most 15.
 pub(crate) fn put_pairs<M: Carriers>(
@@ -37,26 +56,29 @@ pub(crate) fn put_pairs<M: Carriers>(
     inner: &mut InnerRx<M>,
     cells: &[Cell],
     weights: &[u8],
-    stream: Stream,
-    to: &mut Vec<CostPair>,
-)
+    hp: &mut Vec<CostPair>,
+    lp: &mut Vec<CostPair>,
+) -> (usize, usize)
     requires symbol { symbol < 2 ^ 32 }
     requires inner { inner.old ≡ settings.now }
     requires cells { length cells.now ≡ carriers settings.now.mode }
     requires weights { AreWeights settings.now.mode weights.now }
-    requires spare { most_pairs settings.now stream ≤ vec_capacity to.old }
-    ensures pairs { to.new.items ≡ map (pair_of (settings_at settings.now symbol) cells.now weights.now (symbol % 68) stream) (numbers (need (settings_at settings.now symbol) stream)) }
-    ensures few { length to.new.items ≤ most_pairs settings.now stream }
+    requires hp_room { most_pairs settings.now Hp ≤ length hp.old.items }
+    requires lp_room { most_pairs settings.now Lp ≤ length lp.old.items }
+    ensures hp { take result.0 hp.new.items ≡ map (pair_of (settings_at settings.now symbol) cells.now weights.now (symbol % 68) Hp) (numbers (need (settings_at settings.now symbol) Hp)) }
+    ensures lp { take result.1 lp.new.items ≡ map (pair_of (settings_at settings.now symbol) cells.now weights.now (symbol % 68) Lp) (numbers (need (settings_at settings.now symbol) Lp)) }
+    ensures hp_few { result.0 ≤ most_pairs settings.now Hp }
+    ensures lp_few { result.1 ≤ most_pairs settings.now Lp }
+    ensures hp_long { length hp.new.items ≡ length hp.old.items }
+    ensures lp_long { length lp.new.items ≡ length lp.old.items }
     ensures inner { inner.new ≡ settings.now }
-    ensures capacity { vec_capacity to.new ≡ vec_capacity to.old }
 {
     symbol_spans::laws::settings();
     symbol_spans::laws::steps();
-    to.clear();
     let entry = parameters_of_symbol(settings, symbol);
-    if inner.steps(&entry, stream) > 0 {
-        pairs_are_listed();
-        let l = (symbol % 68) as u8;
-        inner.pairs(&entry, cells, weights, l, stream, to);
-    }
+    let hp_steps = inner.steps(&entry, Stream::Hp) as usize;
+    let lp_steps = inner.steps(&entry, Stream::Lp) as usize;
+    let l = (symbol % 68) as u8;
+    inner.symbol_pairs(&entry, cells, weights, l, hp, lp);
+    (hp_steps, lp_steps)
 }

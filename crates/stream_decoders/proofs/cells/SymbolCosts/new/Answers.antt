@@ -9,10 +9,10 @@ invariant_of-result g c = record {
   inner_is = c.in_ok-new-2.ensures;
   unfinished = λ _. omega (arith, ap length c.in_ok-new.ensures, some_carriers _ _ _ _ _ g.M.Carriers.row);
   ended = λ e. absurd (true≢false (sym e));
-  hp_room = omega (arith, c.in_ok-with_capacity.ensures.capacity, c.most_pairs-hp_pairs.ensures.most);
-  lp_room = omega (arith, c.in_ok-with_capacity-2.ensures.capacity, c.most_pairs-lp_pairs.ensures.most);
-  hp_few = omega (arith, ap length c.in_ok-with_capacity.ensures.items);
-  lp_few = omega (arith, ap length c.in_ok-with_capacity-2.ensures.items);
+  hp_room = omega (arith, c.in_ok-room_for_pairs.ensures);
+  lp_room = omega (arith, c.in_ok-room_for_pairs-2.ensures);
+  hp_few = omega arith;
+  lp_few = omega arith;
 }
 
 pub returns-clause-had : goal.returns-clause-had
