@@ -1,9 +1,11 @@
 -- The cell of a carrier, by its kind.
-use Rattle.std.proofs.Common.{◌≡◌, ℕ, zero, suc, ◌+◌, ◌-◌, ◌*◌, ◌%◌, ◌^◌, ◌<◌, ◌≤◌, ◌≢◌, ◌⊎◌, inl, inr, ◌||◌, not, if◌then◌else◌, length, set, append_assoc, List, [], ◌∷◌, ◌++◌, refl, sym, ap, ◌∙◌, arith, Bool, true, false, get_or, ℤ, subst}
+use Rattle.std.proofs.Common.{◌≡◌, ℕ, zero, suc, ◌+◌, ◌*◌, ◌%◌, ◌<◌, ◌≤◌, ◌≢◌, ◌⊎◌, inl, inr, ◌||◌, not, if◌then◌else◌, length, take, drop, set, append_assoc, List, [], ◌∷◌, ◌++◌, refl, sym, ap, ◌∙◌, arith, Bool, true, false, get_or, ℤ, subst}
 use Rattle.std.specs.Prelude.{flat_map, count_by}
 use Rattle.std.proofs.lemmas.List.Concat.{flat_map-append}
 use Rattle.std.proofs.lemmas.List.Sums.{sum_by-append, count_by-le-length}
-use Rattle.std.proofs.lemmas.List.{append-nil, get_or-set_same, get_or-set_other}
+use Rattle.std.proofs.lemmas.List.{append-nil, get_or-set_same, get_or-set_other, length-drop, length-take-le}
+use Rattle.std.proofs.lemmas.Slice.{take-put_mid}
+use borrow.Rule.Slice.PartMut.{put_mid, mid_of, same_len_mid}
 use Rattle.std.proofs.lemmas.Bool.{cases_lt}
 use Rattle.spec_words.specs.Bits.{bit, xor, is_set}
 use Rattle.spec_words.specs.Words.{numbers}
@@ -362,3 +364,14 @@ pub own_symbol : (s : Settings) (m : ℕ) (labels : ℕ → ℕ → Bool) → an
 unfolding announcing_bytes symbol_bytes
 own_symbol s m labels =
     same_flat_map (λ k. sent_bytes (announcing_cell s s m labels k)) (λ k. sent_bytes (cell_at s m labels k)) (λ k. ap sent_bytes (own_cell s m labels k)) (numbers (carriers s.mode))
+
+-- five bytes that are put over those of a cell
+pub five_put : (old new p : List ℕ) (k five : ℕ) → length p ≡ 5 → five ≡ 5 → 5 * k + 5 ≤ length old → new ≡ p
+    → (length (put_mid (5 * k) five old new) ≡ length old) × (take (5 * (k + 1)) (put_mid (5 * k) five old new) ≡ take (5 * k) old ++ p)
+five_put old new p k five size is_five within is =
+    let left = length-drop (5 * k) old in
+    let long : length new ≡ 5 = ap length is ∙ size in
+    let part : length (mid_of (5 * k) five old) ≡ five = length-take-le five (drop (5 * k) old) (omega (arith, left, within, is_five)) in (
+      same_len_mid (5 * k) five old new (long ∙ sym is_five ∙ sym part),
+      take-put_mid (5 * k) five old new (5 * (k + 1)) (omega (arith, long)) (omega (arith, within)) ∙ ap (λ (z : List ℕ). take (5 * k) old ++ z) is,
+    )

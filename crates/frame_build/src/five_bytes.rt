@@ -1,5 +1,5 @@
 // The bytes of a cell.
-ghost use Rattle.std.specs.Prelude.{◌≡◌, ◌+◌, ◌++◌, ◌≤◌, vec_len, vec_capacity};
+ghost use Rattle.std.specs.Prelude.{◌≡◌, ◌+◌, ◌*◌, ◌++◌, ◌≤◌, length, take, vec_len, vec_capacity};
 ghost use Rattle.frame_build.specs.Symbol.{cell_bytes};
 
 use byteorder::{BigEndian, ByteOrder};
@@ -30,4 +30,13 @@ pub fn push_five(bytes: [u8; 5], to: &mut Vec<u8>)
     to.push_reserved(bytes[2]);
     to.push_reserved(bytes[3]);
     to.push_reserved(bytes[4]);
+}
+
+// Puts the five bytes of cell `k` in the place of those that stand there.
+pub(crate) fn put_five(bytes: [u8; 5], to: &mut [u8], k: usize)
+    requires room { 5 * k + 5 ≤ length to.old }
+    ensures long { length to.new ≡ length to.old }
+    ensures bytes { take (5 * (k + 1)) to.new ≡ take (5 * k) to.old ++ bytes }
+{
+    to[5 * k..5 * k + 5].copy_from_slice(&bytes);
 }

@@ -1,15 +1,15 @@
 // From labels to the bytes of a symbol.
 ghost use Rattle.std.specs.Prelude.{◌≡◌, ℕ, ◌+◌, ◌*◌, ◌%◌, ◌^◌, ◌<◌, ◌≤◌, ◌++◌, get_or, length, vec_len, vec_capacity};
 ghost use Rattle.mode_set.specs.Entries.{with_entry};
-ghost use Rattle.mode_set.specs.StreamTable.{label_bits};
+ghost use Rattle.mode_set.specs.StreamTable.{carriers, label_bits};
 ghost use Rattle.pilots.specs.Carriers.{kind};
 ghost use Rattle.pilots.specs.Reference.{reference};
 ghost use Rattle.tps_word.specs.Tps.{signalled, tps_word};
 ghost use Rattle.frame_build.specs.Symbol.{bits_of, frame_of};
 ghost use Rattle.frame_build.specs.Announcing.{announcing_bytes};
-ghost use Rattle.frame_build.specs.State.{AreAllSources, is_turned, source_of};
+ghost use Rattle.frame_build.specs.State.{AreAllSources, AreSources, is_turned, source_of};
 
-use crate::five_bytes::push_five;
+use crate::five_bytes::{push_five, put_five};
 use crate::label_cells::LabelCells;
 use crate::source::{Source, sources};
 use mode_set::{Carriers, Entry, Settings};
@@ -71,6 +71,46 @@ fn push_symbol<M: Carriers>(
     for k in 0..M::K {
         let source = source::<M>(sources, l, k);
         push_five(label_cells.bytes(source, turned, labels, sent), to);
+        sent = source.after(sent);
+    }
+}
+
+// What the carriers of symbol `l` send, which is what those of the symbol at its place among four do.
+fn sources_of<M: Carriers>(sources: &[[Source; 6817]; 4], l: u8) -> &[Source; 6817]
+    requires symbol { l < 68 }
+    requires send { AreAllSources M.MODE sources.now }
+    ensures { AreSources M.MODE l result.now (carriers M.MODE) }
+{
+    kinds_repeat(M::MODE, l);
+    &sources[(l % 4) as usize]
+}
+
+// Writes symbol `number` of a super-frame over a slice of its length. `sources` is what its carriers send.
+fn put_symbol<M: Carriers>(
+    settings: &Settings,
+    next: &Settings,
+    number: u16,
+    label_cells: &LabelCells,
+    sources: &[Source; 6817],
+    labels: &[u8],
+    to: &mut [u8],
+)
+    requires mode { settings.now.mode ≡ M.MODE }
+    requires number { number < 272 }
+    requires shape { label_cells.now.shape ≡ settings.now.shape }
+    requires hierarchy { label_cells.now.hierarchy ≡ settings.now.hierarchy }
+    requires send { AreSources M.MODE (number % 68) sources.now (carriers M.MODE) }
+    requires count { length labels.now ≡ M.NMAX }
+    requires small { (q : ℕ) → q < M.NMAX → get_or labels.now q 0 < 2 ^ label_bits settings.now.shape }
+    requires long { length to.old ≡ 5 * M.K }
+    ensures bytes { to.new ≡ announcing_bytes settings.now next.now number (bits_of labels.now) }
+{
+    payload_carriers_are_numbered(M::MODE, (number % 68) as u8);
+    let turned = turned_at(next, number);
+    let mut sent = 0;
+    for k in 0..M::K as usize {
+        let source = sources[k];
+        put_five(label_cells.bytes(source, turned, labels, sent), to, k);
         sent = source.after(sent);
     }
 }
@@ -144,6 +184,31 @@ impl<M: Carriers> SymbolOut<M> {
             self.number,
             &self.label_cells,
             &self.sources,
+            labels,
+            to,
+        );
+        self.number = (self.number + 1) % 272;
+    }
+
+    /// Writes the next symbol over the slice, which has the five bytes of each carrier: the bytes that
+    /// [`write`](SymbolOut::write) appends for the same parameters and labels. It is the faster of the two.
+    pub fn write_into(&mut self, now: &Entry, next: &Entry, labels: &[u8], to: &mut [u8])
+        requires count { length labels.now ≡ M.NMAX }
+        requires small { (q : ℕ) → q < M.NMAX → get_or labels.now q 0 < 2 ^ label_bits now.now.shape }
+        requires long { length to.old ≡ 5 * M.K }
+        ensures bytes { to.new ≡ announcing_bytes (with_entry self.old.settings now.now) (with_entry self.old.settings next.now) self.old.number (bits_of labels.now) }
+        ensures settings { self.new.settings ≡ self.old.settings }
+        ensures number { self.new.number ≡ (self.old.number + 1) % 272 }
+    {
+        let present = self.settings.with_entry(now);
+        let announced = self.settings.with_entry(next);
+        self.label_cells.turn_to(present.shape, present.hierarchy);
+        put_symbol::<M>(
+            &present,
+            &announced,
+            self.number,
+            &self.label_cells,
+            sources_of::<M>(&self.sources, (self.number % 68) as u8),
             labels,
             to,
         );

@@ -1,9 +1,6 @@
 -- The bits so far turn the sign.
-use Rattle.std.proofs.Common.{Bool, List, ℕ, ap, ◌∙◌, ◌%◌, ◌≡◌, arith}
+use Rattle.std.proofs.Common.{Bool, ap, ◌∙◌}
 use Rattle.spec_words.specs.Bits.{bit, xor}
-use Rattle.tps_word.specs.Tps.{tps_word, signalled}
-use Rattle.frame_build.specs.Symbol.{frame_of}
-use Rattle.frame_build.specs.State.{is_turned}
 use Rattle.frame_build.proofs.Cells.{not_turned, turned_more}
 use Rattle.frame_build.proofs.symbol_out.turned_at.Goals as goal
 
