@@ -167,6 +167,41 @@ impl<M: Carriers> Modulator<M> {
         self.made += 1;
     }
 
+    /// Makes the next symbol, and writes its bytes over the slice, which has five for each carrier: those
+    /// that [`symbol`](Modulator::symbol) appends. It is the faster of the two.
+    pub fn symbol_into(&mut self, to: &mut [u8])
+        requires wanted { wanted self.old ≡ None }
+        requires few { self.old.made < 2 ^ 32 }
+        requires long { length to.old ≡ 5 * M.K }
+        ensures settings { self.new.settings ≡ self.old.settings }
+        ensures made { self.new.made ≡ self.old.made + 1 }
+        ensures hp { self.new.hp ≡ self.old.hp }
+        ensures lp { self.new.lp ≡ self.old.lp }
+        ensures put { (inputs : Inputs) → HasPut self.old inputs → HasPut self.new inputs }
+        ensures stands { (packets : Inputs) → StandsFor self.old packets → StandsFor self.new packets }
+
+        // The bytes are those of the next symbol of every transmission that begins with the packets put.
+        ensures bytes { (inputs : Inputs) → HasPut self.old inputs → to.new ≡ tx_symbol self.old.settings inputs self.old.made }
+    {
+        steps();
+        super_frame_settings();
+        let made = self.made;
+        symbols_repeat(made);
+        symbols_follow_labels(self.settings.mode, made);
+        let now = parameters_of_symbol(&self.settings, made);
+        let next = parameters_of_symbol(&self.settings, made + 272);
+        next_labels(
+            &now,
+            made % 2 == 1,
+            &mut self.inner,
+            &mut self.hp.waiting,
+            &mut self.lp.waiting,
+            &mut self.labels,
+        );
+        self.out.write_into(&now, &next, &self.labels, to);
+        self.made = made + 1;
+    }
+
     /// The symbols made so far.
     pub fn made(&self) -> u64
         ensures { result ≡ self.now.made }
