@@ -15,6 +15,6 @@ place_next p next after h e = omega (arith, h, e, place_line p, line_next p, pla
 pub place_apart : (p n : ℕ) → p < n → n < p + 2448 → place_of p ≢ place_of n
 place_apart p n l m e = omega (arith, l, m, e, place_line p, place_line n)
 
--- byte j of the word that ends with byte n
+-- where byte j of word w stands, the words of the start-up counted, by the byte of the stream that it is
 pub place_within : (w j : ℕ) → j < 204 → 11 ≤ w → place_of (204 * (w - 11 + j % 12) + j) ≡ 204 * (w % 12) + j
 place_within w j l m = omega (arith, l, m)
