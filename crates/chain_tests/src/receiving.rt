@@ -379,6 +379,89 @@ fn costs_of_changing_parameters(rt: HostRuntime) -> Result<(), Fail> {
     Ok(())
 }
 
+// What stands behind the pairs of a symbol.
+const BEHIND: CostPair = CostPair {
+    x0: 1,
+    x1: 2,
+    y0: 3,
+    y1: 4,
+};
+
+// The cost pairs of both streams in the whole symbol that was taken, found at once.
+fn pairs_at_once<M: Carriers>(
+    rt: &impl Abort,
+    alloc: Global,
+    settings: &Settings,
+    rx: &mut InnerRx<M>,
+    symbol: &SymbolIn<M>,
+    l: u8,
+) -> Costs
+    requires mode { settings.now.mode ≡ M.MODE }
+    requires rx { rx.old.mode ≡ settings.now.mode }
+    requires whole { length symbol.now ≡ 5 * M.K }
+    ensures { rx.new.mode ≡ settings.now.mode }
+{
+    let entry = settings.top();
+    let hp_steps = rx.steps(&entry, Stream::Hp) as usize;
+    let lp_steps = rx.steps(&entry, Stream::Lp) as usize;
+    let mut hp = vec![in alloc; BEHIND; hp_steps + 1].expect(rt, "memory");
+    let mut lp = vec![in alloc; BEHIND; lp_steps + 1].expect(rt, "memory");
+    assert!(rt; l < 68);
+    rx.symbol_pairs(
+        &entry,
+        symbol.cells(),
+        symbol.weights(),
+        l,
+        &mut hp,
+        &mut lp,
+    );
+    assert!(rt; hp.pop() == Some(BEHIND) && lp.pop() == Some(BEHIND));
+    (hp, lp)
+}
+
+// The two calls agree on a symbol.
+fn agree_on<M: Carriers>(
+    rt: &impl Abort,
+    alloc: Global,
+    settings: &Settings,
+    rx: &mut InnerRx<M>,
+    bytes: &[u8],
+    l: u8,
+)
+    requires mode { settings.now.mode ≡ M.MODE }
+    requires rx { rx.old.mode ≡ settings.now.mode }
+    ensures { rx.new.mode ≡ settings.now.mode }
+{
+    let mut symbol = SymbolIn::<M>::new(alloc).expect(rt, "memory");
+    take_in_pieces(rt, &mut symbol, bytes, 34085);
+    let hp = pairs_of(rt, alloc, settings, rx, &symbol, l, Stream::Hp);
+    let lp = pairs_of(rt, alloc, settings, rx, &symbol, l, Stream::Lp);
+    let (hp_at_once, lp_at_once) = pairs_at_once(rt, alloc, settings, rx, &symbol, l);
+    assert!(rt; hp.as_slice() == hp_at_once.as_slice());
+    assert!(rt; lp.as_slice() == lp_at_once.as_slice());
+}
+
+// The pairs of both streams at once are those of each by itself, of one stream and of two.
+#[test]
+fn both_streams_at_once(rt: HostRuntime) -> Result<(), Fail> {
+    let alloc = rt.alloc();
+    let one = flat(Mode::M2k, Shape::Qam64, Rate::R5of6);
+    let two = hierarchical(
+        Mode::M2k,
+        Shape::Qam64,
+        Hierarchy::Alpha2,
+        Rate::R2of3,
+        Rate::R7of8,
+    );
+    let mut rx = InnerRx::<Mode2k>::new(alloc, &one)?;
+    for (l, bytes) in drawn_symbols(&rt, alloc, Mode::M2k).iter().enumerate() {
+        let l = (l % 68) as u8;
+        agree_on(&rt, alloc, &one, &mut rx, bytes, l);
+        agree_on(&rt, alloc, &two, &mut rx, bytes, l);
+    }
+    Ok(())
+}
+
 // Settings, and the sum of the costs.
 const COSTS: [(&str, u32); 4] = [
     (
