@@ -32,7 +32,7 @@ fn modulate_in<'a, M: Carriers, S: Station<'a>>(
     let Ok(mut tx) = Modulator::<M>::new(alloc, settings) else {
         return refuse(&Refusal::Memory, station);
     };
-    let Ok(mut bytes) = Vec::with_capacity(alloc, 5 * M::K as usize) else {
+    let Ok(mut bytes) = vec![in alloc; 0u8; 5 * M::K as usize] else {
         return refuse(&Refusal::Memory, station);
     };
     run_modulation(names, limits, settings, &mut tx, &mut bytes, station)

@@ -26,8 +26,8 @@ impl<M: Carriers> Transmitter for Modulator<M> {
         self.put(packet);
     }
 
-    fn symbol(&mut self, to: &mut Vec<u8>) {
-        self.symbol(to);
+    fn symbol(&mut self, to: &mut [u8]) {
+        self.symbol_into(to);
     }
 
     fn super_frames(settings: &Settings, hp: u64, lp: u64) -> Option<u64> {

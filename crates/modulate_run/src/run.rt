@@ -1,5 +1,5 @@
 // A whole run behind its settings.
-ghost use Rattle.std.specs.Prelude.{◌≡◌, ◌≤◌, ◌*◌, ℕ, true, vec_capacity};
+ghost use Rattle.std.specs.Prelude.{◌≡◌, ◌≤◌, ◌*◌, ℕ, true, length};
 ghost use Rattle.std.specs.Option.{option_copied};
 ghost use Rattle.transmission.specs.Transmission.{Inputs};
 ghost use Rattle.run_clauses.specs.StreamForm.{fits_form};
@@ -34,7 +34,7 @@ fn modulate_all<'a, T: Transmitter, S: Station<'a>>(
     limits: &Limits,
     settings: &Settings,
     tx: &mut T,
-    bytes: &mut Vec<u8>,
+    bytes: &mut [u8],
     station: &mut S,
 ) -> Result<TransmissionCounts, Refusal>
     requires ready { IsReady (S.meaning station.old) }
@@ -43,7 +43,7 @@ fn modulate_all<'a, T: Transmitter, S: Station<'a>>(
     requires form { fits_form (T.seen tx.old).settings (option_copied names.lp) ≡ true }
     requires new { IsNew (T.seen tx.old) }
     requires stands { (inputs : Inputs) → T.stands tx.old inputs }
-    requires room { T.symbol_len ≤ vec_capacity bytes.old }
+    requires long { length bytes.old ≡ T.symbol_len }
     ensures cause { HasCause (S.meaning station.old) (S.meaning station.new) result }
     ensures ran { Ran (T.seen tx.old).settings limits.now.packets names.entry.hp.now (option_copied names.entry.lp) names.entry.cells.now (S.meaning station.old) (S.meaning station.new) result }
 {
@@ -66,14 +66,14 @@ fn modulate_all<'a, T: Transmitter, S: Station<'a>>(
     }
 }
 
-/// Runs a modulation by this transmitter, which has had no packet, and gives its status. `bytes` has
-/// room for a symbol.
+/// Runs a modulation by this transmitter, which has had no packet, and gives its status. `bytes`
+/// has the length of a symbol.
 pub(crate) fn run_modulation<'a, T: Transmitter, S: Station<'a>>(
     names: Names<'a>,
     limits: &Limits,
     settings: &Settings,
     tx: &mut T,
-    bytes: &mut Vec<u8>,
+    bytes: &mut [u8],
     station: &mut S,
 ) -> u8
     requires ready { IsReady (S.meaning station.old) }
@@ -82,7 +82,7 @@ pub(crate) fn run_modulation<'a, T: Transmitter, S: Station<'a>>(
     requires form { fits_form (T.seen tx.old).settings (option_copied names.lp) ≡ true }
     requires new { IsNew (T.seen tx.old) }
     requires stands { (inputs : Inputs) → T.stands tx.old inputs }
-    requires room { T.symbol_len ≤ vec_capacity bytes.old }
+    requires long { length bytes.old ≡ T.symbol_len }
     ensures runs { RunsModulation (T.seen tx.old).settings limits.now.packets names.entry.hp.now (option_copied names.entry.lp) names.entry.cells.now (S.meaning station.old) (S.meaning station.new) result }
 {
     match modulate_all(names, limits, settings, tx, bytes, station) {

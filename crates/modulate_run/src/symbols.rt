@@ -1,5 +1,5 @@
 // The work: symbol after symbol.
-ghost use Rattle.std.specs.Prelude.{◌≡◌, ◌≤◌, ◌<◌, ◌*◌, ◌+◌, ◌^◌, ℕ, List, [], Some, None, true, false, IsTrue, OnOk, OnErr, vec_capacity};
+ghost use Rattle.std.specs.Prelude.{◌≡◌, ◌≤◌, ◌<◌, ◌*◌, ◌+◌, ◌^◌, ℕ, List, [], Some, None, true, false, IsTrue, OnOk, OnErr, length};
 ghost use Rattle.mode_set.specs.declared.modes.Stream.TheVariants.{Lp};
 ghost use Rattle.mode_set.specs.declared.modes.Stream.{Stream as AnyStream};
 ghost use Rattle.frame_build.specs.CellFile.{header as header_of};
@@ -62,15 +62,15 @@ fn put_wanted<'a, T: Transmitter, S: Station<'a>>(
 // Makes the next symbol in the place of what stands in `bytes`, and writes it.
 fn send_symbol<'a, T: Transmitter, S: Station<'a>>(
     tx: &mut T,
-    bytes: &mut Vec<u8>,
+    bytes: &mut [u8],
     station: &mut S,
 ) -> Result<(), Refusal>
     requires suffices { wanted (T.seen tx.old) ≡ None }
     requires few { (T.seen tx.old).made < 2 ^ 32 }
-    requires room { T.symbol_len ≤ vec_capacity bytes.old }
+    requires long { length bytes.old ≡ T.symbol_len }
     requires created { (S.meaning station.old).cells_out.created ≡ true }
     requires open { (S.meaning station.old).cells_out.closed ≡ false }
-    ensures room { vec_capacity bytes.new ≡ vec_capacity bytes.old }
+    ensures long { length bytes.new ≡ length bytes.old }
     ensures seen { T.seen tx.new ≡ record (T.seen tx.old) { made = (T.seen tx.old).made + 1 } }
     ensures cause { HasCause (S.meaning station.old) (S.meaning station.new) result }
     ensures others { WritesCells (S.meaning station.old) (S.meaning station.new) }
@@ -78,9 +78,8 @@ fn send_symbol<'a, T: Transmitter, S: Station<'a>>(
     ensures written { IsTrue (S.meaning station.old).tells → (inputs : Inputs) → T.stands tx.old inputs
         → WritesBytes (tx_symbol (T.seen tx.old).settings inputs (T.seen tx.old).made) (S.meaning station.old) (S.meaning station.new) result }
 {
-    bytes.clear();
     tx.symbol(bytes);
-    match station.write(OutPort::Cells, bytes.as_slice()) {
+    match station.write(OutPort::Cells, bytes) {
         Ok(()) => Ok(()),
         Err(_) => Err(Refusal::WriteFault),
     }
@@ -91,16 +90,16 @@ fn next_symbol<'a, T: Transmitter, S: Station<'a>>(
     limit: u64,
     inputs: &mut PacketInputs,
     tx: &mut T,
-    bytes: &mut Vec<u8>,
+    bytes: &mut [u8],
     station: &mut S,
 ) -> Result<(), Refusal>
     requires few { (T.seen tx.old).made < 2 ^ 32 }
-    requires room { T.symbol_len ≤ vec_capacity bytes.old }
+    requires long { length bytes.old ≡ T.symbol_len }
     requires created { (S.meaning station.old).cells_out.created ≡ true }
     requires open { (S.meaning station.old).cells_out.closed ≡ false }
     requires inputs_open { AreOpen inputs.old (S.meaning station.old) }
     requires within { AreWithin limit inputs.old }
-    ensures room { vec_capacity bytes.new ≡ vec_capacity bytes.old }
+    ensures long { length bytes.new ≡ length bytes.old }
     ensures inputs_open { AreOpen inputs.new (S.meaning station.new) }
     ensures within { AreWithin limit inputs.new }
     ensures met { inputs.new.lp.tail ≡ None → inputs.old.lp.tail ≡ None }
@@ -128,14 +127,14 @@ fn send_all<'a, T: Transmitter, S: Station<'a>>(
     settings: &Settings,
     mut inputs: PacketInputs,
     tx: &mut T,
-    bytes: &mut Vec<u8>,
+    bytes: &mut [u8],
     station: &mut S,
 ) -> Result<TransmissionCounts, Refusal>
     requires few { limits.now.packets ≤ 100000000 }
     requires same { (T.seen tx.old).settings ≡ settings.now }
     requires two { inputs.lp.tail ≡ None → IsTrue (exists_in (T.seen tx.old).settings Lp) }
     requires none_made { (T.seen tx.old).made ≡ 0 }
-    requires room { T.symbol_len ≤ vec_capacity bytes.old }
+    requires long { length bytes.old ≡ T.symbol_len }
     requires created { (S.meaning station.old).cells_out.created ≡ true }
     requires open { (S.meaning station.old).cells_out.closed ≡ false }
     requires inputs_open { AreOpen inputs (S.meaning station.old) }
@@ -170,14 +169,14 @@ pub(crate) fn send_file<'a, T: Transmitter, S: Station<'a>>(
     settings: &Settings,
     inputs: PacketInputs,
     tx: &mut T,
-    bytes: &mut Vec<u8>,
+    bytes: &mut [u8],
     station: &mut S,
 ) -> Result<TransmissionCounts, Refusal>
     requires few { limits.now.packets ≤ 100000000 }
     requires same { (T.seen tx.old).settings ≡ settings.now }
     requires two { inputs.lp.tail ≡ None → IsTrue (exists_in (T.seen tx.old).settings Lp) }
     requires none_made { (T.seen tx.old).made ≡ 0 }
-    requires room { T.symbol_len ≤ vec_capacity bytes.old }
+    requires long { length bytes.old ≡ T.symbol_len }
     requires created { (S.meaning station.old).cells_out.created ≡ true }
     requires open { (S.meaning station.old).cells_out.closed ≡ false }
     requires inputs_open { AreOpen inputs (S.meaning station.old) }

@@ -1,5 +1,5 @@
 // What the work asks of a transmitter.
-ghost use Rattle.std.specs.Prelude.{◌≡◌, ◌≢◌, ◌+◌, ◌*◌, ◌^◌, ◌<◌, ◌≤◌, ◌++◌, ℕ, Some, None, IfSome, vec_capacity, vec_len};
+ghost use Rattle.std.specs.Prelude.{◌≡◌, ◌≢◌, ◌+◌, ◌^◌, ◌<◌, ◌≤◌, ℕ, Some, None, IfSome, length};
 ghost use Rattle.outer_chain.specs.Sent.{packet_at};
 ghost use Rattle.transmission.specs.Transmission.{Inputs, by_stream, tx_symbol};
 ghost use Rattle.transmission.specs.SuperFrames.{super_frames};
@@ -31,16 +31,15 @@ pub(crate) trait Transmitter {
         ensures stands { (inputs : Inputs) → stands self.old inputs
             → IfSome (wanted (seen self.old)) (λ σ. packet.now ≡ packet_at (inputs σ) (by_stream (seen self.old).hp (seen self.old).lp σ)) → stands self.new inputs };
 
-    /// Makes the next symbol and appends its bytes, for which `to` has room.
-    fn symbol(&mut self, to: &mut Vec<u8>)
+    /// Makes the next symbol, and writes its bytes over the slice, which has their number.
+    fn symbol(&mut self, to: &mut [u8])
         requires wanted { wanted (seen self.old) ≡ None }
         requires few { (seen self.old).made < 2 ^ 32 }
-        requires spare { vec_len to.old + symbol_len ≤ vec_capacity to.old }
+        requires long { length to.old ≡ symbol_len }
         ensures seen { seen self.new ≡ record (seen self.old) { made = (seen self.old).made + 1 } }
         ensures stands { (inputs : Inputs) → stands self.old inputs → stands self.new inputs }
         ensures bytes { (inputs : Inputs) → stands self.old inputs
-            → to.new.items ≡ to.old.items ++ tx_symbol (seen self.old).settings inputs (seen self.old).made }
-        ensures capacity { vec_capacity to.new ≡ vec_capacity to.old };
+            → to.new ≡ tx_symbol (seen self.old).settings inputs (seen self.old).made };
 
     /// The super-frames of a transmission of so many packets; none where no number carries them.
     fn super_frames(settings: &Settings, hp: u64, lp: u64) -> Option<u64>

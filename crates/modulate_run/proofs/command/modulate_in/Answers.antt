@@ -17,7 +17,7 @@ run_modulation-requires g c κs =
             e.settings,
             (
               ap (λ (s : Settings). fits_form s lp) e.settings ∙ c.requires.form,
-              (record { made = e.made; hp = e.hp; lp = e.lp }, (e.put, omega (arith, c.in-Ok-with_capacity.ensures.exact, c.K.ensures))),
+              (record { made = e.made; hp = e.hp; lp = e.lp }, (e.put, omega (arith, c.deref_mut.ensures.len, c.in-Ok-vec.ensures.len, c.K.ensures))),
             ),
           ),
         ),

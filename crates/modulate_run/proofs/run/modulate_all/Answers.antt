@@ -36,7 +36,7 @@ send_file-requires g c κs =
             two,
             (
               c.requires.new.made,
-              (c.requires.room, (ap (λ (x : Meaning). x.cells_out.created) opened, (ap (λ (x : Meaning). x.cells_out.closed) opened, (inputs_open, within)))),
+              (c.requires.long, (ap (λ (x : Meaning). x.cells_out.created) opened, (ap (λ (x : Meaning). x.cells_out.closed) opened, (inputs_open, within)))),
             ),
           ),
         ),

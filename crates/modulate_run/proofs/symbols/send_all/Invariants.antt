@@ -1,4 +1,4 @@
-use Rattle.std.proofs.Common.{◌≡◌, ◌<◌, ℕ, List, None, true, vec_capacity}
+use Rattle.std.proofs.Common.{◌≡◌, ◌<◌, ℕ, List, None, true, length}
 use Rattle.mode_set.specs.declared.modes.Stream.{Stream}
 use Rattle.transmission.specs.SuperFrames.{symbols_of}
 use Rattle.modulate_run.specs.ModulateCommand.{inputs_of}
@@ -13,7 +13,7 @@ invariant-loop-symbol g l = record {
   write_faults : (g.S.Station.meaning l.station).write_faults ≡ (g.S.Station.meaning l.initial.station).write_faults;
   settings : (g.T.Transmitter.seen l.tx).settings ≡ (g.T.Transmitter.seen l.initial.tx).settings;
   made : (g.T.Transmitter.seen l.tx).made ≡ l.symbol;
-  room : vec_capacity l.bytes ≡ vec_capacity l.initial.bytes;
+  long : length l.bytes ≡ length l.initial.bytes;
   opened : AreOpen l.inputs (g.S.Station.meaning l.station);
   within : AreWithin l.limits.packets l.inputs;
   met : l.inputs.lp.tail ≡ None → l.initial.inputs.lp.tail ≡ None;
