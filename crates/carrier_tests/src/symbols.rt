@@ -78,6 +78,28 @@ fn cells_of_changing_parameters(rt: HostRuntime) -> Result<(), Fail> {
     Ok(())
 }
 
+// Four symbols, each over the one before it, are those that another builder appends.
+#[test]
+fn symbols_over_a_slice(rt: HostRuntime) -> Result<(), Fail> {
+    let one = flat(Mode::M2k, Shape::Qpsk, Rate::R1of2).top();
+    let two = flat(Mode::M2k, Shape::Qam16, Rate::R1of2).top();
+    let symbols = [(one, two), (two, one), (two, two), (one, one)];
+    let bytes = four_symbols(rt.alloc(), &symbols)?;
+    assert!(&rt; bytes.len() == 34100);
+    let labels = labels();
+    let mut out = SymbolOut::<Mode2k>::new(&flat(Mode::M2k, Shape::Qpsk, Rate::R1of2));
+    let mut symbol = [0xFFu8; 8525];
+    for k in 0..4usize {
+        let (now, next) = &symbols[k];
+        out.write_into(now, next, &labels, &mut symbol);
+        assert!(&rt;
+            &bytes[8525 * k..8525 * k + 8525] == symbol.as_slice(),
+            "symbol {k}"
+        );
+    }
+    Ok(())
+}
+
 // The bytes of a symbol of another modulator, of which carrier k has the weight byte k mod 256, and five of
 // the next one.
 fn weighted_bytes() -> [u8; 8530] {
