@@ -10,6 +10,8 @@ mod decoding;
 #[cfg(test)]
 mod encoding;
 #[cfg(test)]
+mod lying_pairs;
+#[cfg(test)]
 mod margins;
 #[cfg(test)]
 mod paths;

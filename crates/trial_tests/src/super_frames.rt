@@ -1,5 +1,5 @@
 // Transmissions beside those of an independent program, which was given the same packets.
-ghost use Rattle.std.specs.Prelude.{◌≡◌, ◌≤◌, vec_capacity};
+ghost use Rattle.std.specs.Prelude.{◌≡◌, ◌*◌, ◌≤◌, length, vec_capacity};
 
 use mode_set::{Carriers, Mode, Mode2k, Mode8k, Settings};
 use modulator::{Modulator, Want};
@@ -68,6 +68,23 @@ fn next_symbol<M: Carriers>(
             tx.symbol(to);
         }
     }
+}
+
+// The next symbol over a slice of its length.
+fn next_symbol_over<M: Carriers>(
+    rt: &impl Abort,
+    tx: &mut Modulator<M>,
+    sources: &mut (Source, Source),
+    to: &mut [u8],
+)
+    requires { length to.old ≡ 5 * M.K }
+{
+    for _ in 0..40u8 {
+        put_next(rt, tx, sources);
+    }
+    assert!(rt; tx.wants() == Want::Symbol);
+    assert!(rt; tx.made() < 4294967296);
+    tx.symbol_into(to);
 }
 
 // The bytes as the digits of a number to the base 31, modulo 2^32.
@@ -164,6 +181,43 @@ fn super_frames_of_another_program(rt: HostRuntime) {
         1500,
         2560115016,
     );
+}
+
+// Two modulators with the same packets: one appends each symbol, and one writes it over a slice.
+fn check_both_ways<M: Carriers>(
+    rt: &impl Abort,
+    alloc: Global,
+    settings: &Settings,
+) -> Result<(), AllocError>
+    requires { settings.now.mode ≡ M.MODE }
+{
+    let mut appending = Modulator::<M>::new(alloc, settings)?;
+    let mut writing = Modulator::<M>::new(alloc, settings)?;
+    let mut appended = Vec::with_capacity(alloc, 34085)?;
+    let mut written = vec![in alloc; 0u8; 5 * M::K as usize]?;
+    let mut sources = sources_of(50, 60);
+    let mut same_sources = sources_of(50, 60);
+    for number in 0..10u8 {
+        next_symbol(rt, &mut appending, &mut sources, &mut appended);
+        assert!(rt; written.len() == 5 * M::K as usize);
+        next_symbol_over(rt, &mut writing, &mut same_sources, &mut written);
+        assert!(rt;
+            appended.as_slice() == written.as_slice(),
+            "symbol {number}"
+        );
+    }
+    Ok(())
+}
+
+#[test]
+fn symbols_over_a_slice(rt: HostRuntime) {
+    let alloc = rt.alloc();
+    let settings = settings_of(&rt, alloc, BASE);
+    assert!(&rt; settings.mode == Mode::M2k);
+    check_both_ways::<Mode2k>(&rt, alloc, &settings).expect(&rt, "memory");
+    let settings = settings_of(&rt, alloc, TWO_STREAMS);
+    assert!(&rt; settings.mode == Mode::M8k);
+    check_both_ways::<Mode8k>(&rt, alloc, &settings).expect(&rt, "memory");
 }
 
 // Pilots, a TPS cell and a data cell of the first symbol of null packets, and the TPS cell of the fourth.
