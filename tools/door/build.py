@@ -3,6 +3,7 @@
 The crates are proved side by side (`proofs`), and `rt run` compiles and links the program over that work. The old program
 goes first, so that a failed proof leaves none.
 """
+import contextlib
 import fcntl
 import os
 import shutil
@@ -23,17 +24,24 @@ def build(top, is_quiet):
     """Builds out/dvbt and answers its path; ends with 126 or 127 where that can't be."""
     if not shutil.which("rt"):
         fail(127, "the program is not built from these sources, and the toolchain's command rt is not on the PATH")
+    with alone(top) as has_waited:
+        file = has_waited and program.built_here(top, program.sums_of(top))
+        return file or built(top, program.level_of_processor(), is_quiet)
+
+
+@contextlib.contextmanager
+def alone(top):
+    """Waits while another build of the program works in the tree, and gives whether it had to."""
     os.makedirs(f"{top}/out", exist_ok=True)
     with open(f"{top}/out/lock", "w") as lock:
+        has_waited = False
         try:
             fcntl.flock(lock, fcntl.LOCK_EX | fcntl.LOCK_NB)
         except BlockingIOError:
             say("waiting for another build of the program to end")
             fcntl.flock(lock, fcntl.LOCK_EX)
-            file = program.built_here(top, program.sums_of(top))
-            if file:
-                return file
-        return built(top, program.level_of_processor(), is_quiet)
+            has_waited = True
+        yield has_waited
 
 
 def built(top, level, is_quiet=False):

@@ -112,8 +112,7 @@ class Proofs:
                 while not self.failed:
                     self.begin(pool, running)
                     if not running:
-                        # the repository itself has all by now
-                        shutil.rmtree(f"{self.top}/out/copies", ignore_errors=True)
+                        self.leave_copies()
                         return None
                     for ended in wait(running, return_when=FIRST_COMPLETED).done:
                         crate, place, _ = running.pop(ended)
@@ -127,6 +126,14 @@ class Proofs:
             finally:
                 self.stop()
         return self.failed
+
+    def leave_copies(self):
+        """Has the copies removed, for which nothing waits: the repository itself has all that was proved in them."""
+        copies, gone = f"{self.top}/out/copies", f"{self.top}/out/copies-{os.getpid()}"
+        if os.path.isdir(copies):
+            os.rename(copies, gone)
+            how = {"stdin": subprocess.DEVNULL, "stdout": subprocess.DEVNULL, "stderr": subprocess.DEVNULL}
+            subprocess.Popen(["rm", "-rf", gone], start_new_session=True, **how)
 
     def stop(self):
         """Ends what still runs."""
