@@ -85,7 +85,10 @@ def prove(top, is_quiet):
                 sys.stderr.flush()
 
         places = max(1, min(processors, free_memory() // EACH))
-        failed = proofs.Proofs(top, uses, processors, places, tell).run()
+        if proofs.shares():
+            failed = proofs.Proofs(top, uses, processors, places, tell).run()
+        else:
+            failed = proofs.by_rt(top, list(uses)[-1], places, tell, log)
     if is_terminal:
         sys.stderr.write("\r\033[K")
     if failed:

@@ -3,9 +3,11 @@
 `rt lib` works at one crate of a checkout at a time, since it holds the folders of all crates below it. So each place has a
 checkout of its own: the repository, and copies of its crates in `out/copies`. What was proved in one of them the others take
 from there, as rt notes beside the toolchain where each library was built. First come the crates with the longest chain of
-others above them; where fewer crates are ready than processors are free, a crate has several.
+others above them; where fewer crates are ready than processors are free, a crate has several. Where rt can note nothing beside
+the toolchain, `rt all check` goes over the crates in the repository alone.
 """
 import os
+import re
 import shutil
 import signal
 import subprocess
@@ -52,7 +54,7 @@ def shares():
 def copies(top, crates, number):
     """So many copies of what a proof of the crates reads. What was proved in them before stays."""
     with open(f"{top}/crates.txt", encoding="utf-8") as file:
-        lines = [line for line in file if line.partition(":")[0].split()[:1] in [[it] for it in crates]]
+        lines = [line for line in file if line.partition(":")[0].partition(" ")[0] in crates]
     made = [f"{top}/out/copies/{at + 1}" for at in range(number)]
     for copy in made:
         for crate in crates:
@@ -66,15 +68,38 @@ def copies(top, crates, number):
     return made
 
 
+def by_rt(top, crate, places, tell, log):
+    """Proves a program and what it stands on by `rt all check`; answers as `Proofs.run` does. What is printed of a crate goes to the log."""
+    # a check that waits for those below it holds a place: with twice as many places as processors none is idle
+    words = ["rt", "all", "check", "--jobs", str(2 * places)]
+    # in the folder of a crate, rt all goes over that crate and those that it stands on
+    how = {"cwd": f"{top}/crates/{crate}", "stdin": subprocess.DEVNULL, "stdout": subprocess.PIPE, "stderr": subprocess.STDOUT}
+    current, sections = "", {"": []}
+    with subprocess.Popen(words, text=True, errors="replace", **how) as ran:
+        for line in ran.stdout:
+            header = re.fullmatch(r"== (\w+)\n", line)
+            if header:
+                current = header[1]
+                sections[current] = []
+                if current != "summary":
+                    tell(current, "", len(sections) - 1)
+            else:
+                sections[current].append(line)
+                log.write(line)
+    if not ran.returncode:
+        return None
+    failed = re.search(r"(?m)^(\w+): failed", "".join(sections.get("summary", [])))
+    name = failed[1] if failed and failed[1] in sections else current
+    return name, "".join(sections[name])
+
+
 class Proofs:
     """The proofs of a program and of the crates that it stands on. `uses` has them, lowest first, each with those that it names."""
 
     def __init__(self, top, uses, processors, places, tell):
         self.top, self.uses, self.processors, self.tell = top, uses, processors, tell
         self.program = list(uses)[-1]
-        self.idle = [top]
-        if places > 1 and shares():
-            self.idle += copies(top, list(uses), places - 1)
+        self.idle = [top, *copies(top, list(uses), places - 1)]
         longest = chains(top, uses)
         self.waiting = sorted(uses, key=lambda it: -longest[it])
         self.done, self.failed, self.alive, self.lock = set(), None, set(), threading.Lock()
