@@ -84,11 +84,12 @@ def prove(top, is_quiet):
                 sys.stderr.write(f"\rdvbt: {shown}\033[K" if is_terminal else f"dvbt: {shown}\n")
                 sys.stderr.flush()
 
-        places = max(1, min(processors, free_memory() // EACH))
+        room = max(1, free_memory() // EACH)
         if proofs.shares():
-            failed = proofs.Proofs(top, uses, processors, places, tell).run()
+            failed = proofs.Proofs(top, uses, processors, min(processors, room), tell).run()
         else:
-            failed = proofs.by_rt(top, list(uses)[-1], places, tell, log)
+            # a check that waits for those below it holds a place: with twice as many places as processors none is idle
+            failed = proofs.by_rt(top, list(uses)[-1], min(2 * processors, room), tell, log)
     if is_terminal:
         sys.stderr.write("\r\033[K")
     if failed:

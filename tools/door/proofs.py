@@ -70,8 +70,7 @@ def copies(top, crates, number):
 
 def by_rt(top, crate, places, tell, log):
     """Proves a program and what it stands on by `rt all check`; answers as `Proofs.run` does. What is printed of a crate goes to the log."""
-    # a check that waits for those below it holds a place: with twice as many places as processors none is idle
-    words = ["rt", "all", "check", "--jobs", str(2 * places)]
+    words = ["rt", "all", "check", "--jobs", str(places)]
     # in the folder of a crate, rt all goes over that crate and those that it stands on
     how = {"cwd": f"{top}/crates/{crate}", "stdin": subprocess.DEVNULL, "stdout": subprocess.PIPE, "stderr": subprocess.STDOUT}
     current, sections = "", {"": []}
