@@ -1,7 +1,7 @@
 """Proves and builds the program from the sources: out/dvbt.
 
-The crates are proved side by side (`proofs`), and `rt run` compiles and links the program over that work. The old program
-goes first, so that a failed proof leaves none.
+The libraries are proved side by side (`proofs`), and `rt run` proves, compiles and links the program over that work. The old
+program goes first, so that a failed proof leaves none.
 """
 import contextlib
 import fcntl
@@ -68,8 +68,9 @@ def built(top, level, is_quiet=False):
 
 
 def prove(top, is_quiet):
-    """Proves the crates that the program stands on, side by side, as processors and memory allow."""
+    """Proves the libraries that the program stands on, side by side, as processors and memory allow."""
     uses = program.uses_of(top)
+    libraries = {crate: named for crate, named in uses.items() if crate != "dvbt"}
     processors = len(os.sched_getaffinity(0))
     if not is_quiet:
         say(f"proving and building the program from its sources, {len(uses)} crates. {last_time(top, processors)}")
@@ -80,16 +81,13 @@ def prove(top, is_quiet):
             log.write(f"== {crate}\n{said}")
             log.flush()
             if not is_quiet:
-                shown = f"{done} of {len(uses)} crates, {crate} done, after {clock(time.monotonic() - began)}"
+                last = "; now the program itself" if done == len(libraries) else ""
+                shown = f"{done} of {len(uses)} crates, {crate} done, after {clock(time.monotonic() - began)}{last}"
                 sys.stderr.write(f"\rdvbt: {shown}\033[K" if is_terminal else f"dvbt: {shown}\n")
                 sys.stderr.flush()
 
         room = max(1, free_memory() // EACH)
-        if proofs.shares():
-            failed = proofs.Proofs(top, uses, processors, min(processors, room), tell).run()
-        else:
-            # a check that waits for those below it holds a place: with twice as many places as processors none is idle
-            failed = proofs.by_rt(top, list(uses)[-1], min(2 * processors, room), tell, log)
+        failed = proofs.Proofs(top, libraries, processors, min(processors, room), tell).run()
     if is_terminal:
         sys.stderr.write("\r\033[K")
     if failed:
@@ -104,7 +102,7 @@ def show_failure(crate, said):
 
 
 def link(top, level):
-    """Compiles and links the program over what was proved; answers its path."""
+    """Proves, compiles and links the program over its libraries; answers its path."""
     made = f"{top}/crates/dvbt/out/dvbt"
     for path in (made, f"{made}.stamp", f"{made}.o"):
         remove(path)
@@ -119,7 +117,7 @@ def link(top, level):
             log.seek(at)
             sys.stderr.write("".join(log.read().decode(errors="replace").splitlines(True)[-40:]))
         remove(made)
-        fail(126, "the program could not be built. The whole log is out/build.log")
+        fail(126, "the program could not be proved or built. The whole log is out/build.log")
     return made
 
 

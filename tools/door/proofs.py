@@ -1,13 +1,12 @@
 """Proves crates side by side, each once those that it stands on are proved.
 
 `rt lib` works at one crate of a checkout at a time, since it holds the folders of all crates below it. So each place has a
-checkout of its own: the repository, and copies of its crates in `out/copies`. What was proved in one of them the others take
-from there, as rt notes beside the toolchain where each library was built. First come the crates with the longest chain of
-others above them; where fewer crates are ready than processors are free, a crate has several. Where rt can note nothing beside
-the toolchain, `rt all check` goes over the crates in the repository alone.
+checkout of its own: the repository, and copies of its crates in `out/copies`. What was proved in one of them is handed to the
+others as links to the same files; a newer rt does so by itself, as it notes beside the toolchain where each library was built.
+A library that rt does not take it proves again, so nothing rests on what is handed over. First come the crates with the longest
+chain of others above them; where fewer crates are ready than processors are free, a crate has several.
 """
 import os
-import re
 import shutil
 import signal
 import subprocess
@@ -40,15 +39,28 @@ def chains(top, uses):
     return longest
 
 
-def shares():
-    """Whether rt can note beside the toolchain what it keeps, for other checkouts to take."""
+def notes_by_itself():
+    """Whether rt notes beside the toolchain what it keeps, for other checkouts to take: where it knows that folder and can write to it."""
+    rt = os.path.realpath(shutil.which("rt") or "")
     try:
+        with open(rt, "rb") as file:
+            if b"rattle-kept" not in file.read():
+                return False
         page = subprocess.run(["rt", "doc"], capture_output=True, text=True, check=True).stdout.strip()
         kept = os.path.dirname(os.path.dirname(page)) + "/rattle-kept"
         os.makedirs(f"{kept}/work", exist_ok=True)
         return os.lstat(kept).st_uid == os.geteuid()
     except (OSError, subprocess.CalledProcessError):
         return False
+
+
+def hand_over(crate, place, other):
+    """Links what was proved of a crate in one checkout into another."""
+    for part in ("rlib", "incremental"):
+        made, target = f"{place}/crates/{crate}/out/{part}", f"{other}/crates/{crate}/out/{part}"
+        if os.path.isdir(made):
+            shutil.rmtree(target, ignore_errors=True)
+            shutil.copytree(made, target, copy_function=os.link)
 
 
 def copies(top, crates, number):
@@ -68,44 +80,29 @@ def copies(top, crates, number):
     return made
 
 
-def by_rt(top, crate, places, tell, log):
-    """Proves a program and what it stands on by `rt all check`; answers as `Proofs.run` does. What is printed of a crate goes to the log."""
-    words = ["rt", "all", "check", "--jobs", str(places)]
-    # in the folder of a crate, rt all goes over that crate and those that it stands on
-    how = {"cwd": f"{top}/crates/{crate}", "stdin": subprocess.DEVNULL, "stdout": subprocess.PIPE, "stderr": subprocess.STDOUT}
-    current, sections = "", {"": []}
-    with subprocess.Popen(words, text=True, errors="replace", **how) as ran:
-        for line in ran.stdout:
-            header = re.fullmatch(r"== (\w+)\n", line)
-            if header:
-                current = header[1]
-                sections[current] = []
-                if current != "summary":
-                    tell(current, "", len(sections) - 1)
-            else:
-                sections[current].append(line)
-                log.write(line)
-    if not ran.returncode:
-        return None
-    failed = re.search(r"(?m)^(\w+): failed", "".join(sections.get("summary", [])))
-    name = failed[1] if failed and failed[1] in sections else current
-    return name, "".join(sections[name])
-
-
 class Proofs:
-    """The proofs of a program and of the crates that it stands on. `uses` has them, lowest first, each with those that it names."""
+    """The proofs of libraries. `uses` has them, lowest first, each with those that it names."""
 
     def __init__(self, top, uses, processors, places, tell):
         self.top, self.uses, self.processors, self.tell = top, uses, processors, tell
-        self.program = list(uses)[-1]
-        self.idle = [top, *copies(top, list(uses), places - 1)]
+        self.places = [top, *copies(top, list(uses), places - 1)]
+        self.idle, self.hands_over = list(self.places), not notes_by_itself()
+        if self.hands_over:
+            for crate in uses:
+                self.share(crate, top)
         longest = chains(top, uses)
         self.waiting = sorted(uses, key=lambda it: -longest[it])
         self.done, self.failed, self.alive, self.lock = set(), None, set(), threading.Lock()
 
+    def share(self, crate, place):
+        """Hands what was proved of a crate in one place to all others."""
+        for other in self.places:
+            if other != place:
+                hand_over(crate, place, other)
+
     def one(self, crate, place, jobs):
         """Proves a crate; answers its status and what was printed."""
-        words = ["rt", "check" if crate == self.program else "lib", "--jobs", str(jobs)]
+        words = ["rt", "lib", "--jobs", str(jobs)]
         how = {"cwd": f"{place}/crates/{crate}", "stdin": subprocess.DEVNULL, "stdout": subprocess.PIPE, "stderr": subprocess.STDOUT}
         with subprocess.Popen(words, text=True, errors="replace", start_new_session=True, **how) as ran:
             with self.lock:
@@ -123,7 +120,6 @@ class Proofs:
             if not self.idle or free < 1:
                 return
             jobs = max(1, min(MOST_JOBS, free // (len(ready) - at)))
-            # the program is the last, so the repository's own folders are idle then
             place = self.idle.pop(0)
             self.waiting.remove(crate)
             running[pool.submit(self.one, crate, place, jobs)] = crate, place, jobs
@@ -141,6 +137,8 @@ class Proofs:
                     for ended in wait(running, return_when=FIRST_COMPLETED).done:
                         crate, place, _ = running.pop(ended)
                         status, said = ended.result()
+                        if self.hands_over and not status:
+                            self.share(crate, place)
                         self.idle.append(place)
                         self.idle.sort(key=lambda it: it != self.top)
                         self.done.add(crate)
