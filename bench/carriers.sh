@@ -7,7 +7,7 @@ set -eu
 top=$(cd "$(dirname "$0")/.." && pwd)
 to=${1:-$(mktemp -d)}
 . "$top/bench/scratch.sh"
-copy_crates "$top" "$to" spec_words mode_set qam_map pilots tps_bch tps_word frame_build
+copy_crates "$top" "$to" mode_set qam_map pilots frame_build
 program() { # name, dependencies; the program on standard input
   mkdir -p "$to/crates/$1/src"
   cat > "$to/crates/$1/src/main.rt"
@@ -80,7 +80,7 @@ program bench_symbol_out "frame_build mode_set qam_map anyhow" <<'END'
 #![tactic(auto)]
 ghost use Rattle.std.specs.Prelude.{ℕ, ◌<◌, get_or};
 use frame_build::SymbolOut;
-use mode_set::{Guard, Hierarchy, Mode, Mode8k, Rate, Settings, Shape, Start};
+use mode_set::{Guard, Hierarchy, Mode, Mode8k, Plan, Rate, Settings, Shape, Start};
 use std::rt::HostRuntime;
 fn labels() -> [u8; 6048]
     ensures { (q : ℕ) → q < 6048 → get_or result q 0 < 64 }
@@ -100,6 +100,7 @@ fn main(rt: HostRuntime) -> anyhow::Result<()> {
         start: Start::Zero,
         workers: 1,
         max_symbols: 1000000,
+        plan: Plan::none(),
     };
     let labels = labels();
     let entry = settings.top();

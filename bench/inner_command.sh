@@ -1,12 +1,12 @@
 #!/usr/bin/env bash
 # Times `dvbt inner` at each rate beside `dvbt outer` on the same file of 200 MB, in memory (/dev/shm).
 # Prints seconds, processor seconds and megabits of the input a second, the best of the rounds.
-# usage: bench/inner_command.sh [ROUNDS]
+# usage: bench/inner_command.sh [ROUNDS] [PROGRAM WORDS..]
 set -eu
 top=$(cd "$(dirname "$0")/.." && pwd)
 . "$top/bench/program.sh"
-begin "$top"
-PYTHONPATH="$top/bench" python3 - "${program[@]}" "$folder" "${1:-3}" <<'PY'
+begin "$top" "${@:2}"
+PYTHONPATH="$top/bench" python3 - "${program[@]}" "$folder" "${1:-5}" <<'PY'
 import os, random, sys
 from timing import best
 dvbt, folder, rounds = sys.argv[1], sys.argv[2], int(sys.argv[3])

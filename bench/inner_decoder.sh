@@ -9,7 +9,7 @@ top=$(cd "$(dirname "$0")/.." && pwd)
 to=${1:-$(mktemp -d)}
 [ $# -gt 0 ] && shift
 . "$top/bench/scratch.sh"
-copy_crates "$top" "$to" spec_words code_paths conv_code bit_pack acs_plain acs_lanes survivor_ring inner_decoder bit_margin
+copy_crates "$top" "$to" acs_plain acs_lanes survivor_ring inner_decoder bit_margin bit_pack
 mkdir -p "$to/crates/bench_inner"
 echo 'bench_inner: bit_margin acs_plain acs_lanes survivor_ring conv_code code_paths bit_pack inner_decoder spec_words anyhow' >> "$to/crates.txt"
 cd "$to/crates/bench_inner"

@@ -1,8 +1,9 @@
 #!/usr/bin/env bash
-# Times `dvbt modulate` in 8K, 64-QAM, rate 2/3 on 100,000 random packets beside the independent reference in the same
-# run, all files in memory (/dev/shm, about 400 MB). Prints seconds, processor seconds (user and system), Mbit/s of
-# transport stream a processor second, the ratio of the two, and whether the two cell files are the same. The best of
-# five runs of the program and of one of the reference, which is no part of this repository: it is sought in
+# Times `dvbt modulate` by examples/settings/64qam.toml (8K, 64-QAM, rate 2/3), or by the settings of one stream that
+# $SETTINGS names, on 100,000 random packets beside the independent reference in the same run, all files in memory
+# (/dev/shm, about 500 MB; by examples/settings/qpsk.toml 9.3 KB a packet). Prints seconds, processor seconds (user and
+# system), Mbit/s of transport stream a processor second, the ratio of the two, and whether the two cell files are the same.
+# The best of five runs of the program and of one of the reference, which is no part of this repository: it is sought in
 # ../shared/tools/oracle, or where $REFERENCE says (a command that takes the same words behind `v2`).
 # usage: bench/modulate.sh [PACKETS] [PROGRAM WORDS..]
 set -eu
@@ -12,7 +13,7 @@ packets=${1:-100000}
 reference=${REFERENCE:-$top/../shared/tools/oracle}
 . "$top/bench/program.sh"
 begin "$top" "$@"
-PYTHONPATH="$top/bench" python3 - "$folder" "$top/examples/settings/64qam.toml" "$packets" "$reference" "${program[@]}" <<'PY'
+PYTHONPATH="$top/bench" python3 - "$folder" "${SETTINGS:-$top/examples/settings/64qam.toml}" "$packets" "$reference" "${program[@]}" <<'PY'
 import filecmp, os, random, shutil, subprocess, sys
 from timing import best
 folder, settings, packets, reference, *program = sys.argv[1:]

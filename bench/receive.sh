@@ -1,7 +1,7 @@
 #!/usr/bin/env bash
 # Times `dvbt receive` in 8K, 64-QAM, rate 2/3 on the cells of random packets in 20 super-frames, as they were sent and
 # with Gaussian noise of the standard deviation NOISE on both axes, all files in memory (/dev/shm, about 430 MB). Prints
-# the report, seconds, processor seconds (user and system), Mbit/s of packets a processor second, the best of three runs,
+# the report, seconds, processor seconds (user and system), Mbit/s of packets a processor second, the best of five runs,
 # and the greatest memory in use (by /usr/bin/time -v); then, of the noisy cells, the share of the processor that each
 # function has (where `perf` is there). Beside it the independent reference receives the first super-frame, and the
 # ratio of the two is that of their processor seconds a super-frame; it is no part of this repository: it is sought in
@@ -51,7 +51,7 @@ def received(words, cells, rounds):
 bits = 8 * 188 * (WORDS * frames - 11)
 seconds = {}
 for name in ("clean", "noisy"):
-    wall, cpu, report = received(program, f"{folder}/{name}", 3)
+    wall, cpu, report = received(program, f"{folder}/{name}", 5)
     seconds[name] = cpu
     timed = subprocess.run(["/usr/bin/time", "-v", *program, "receive", settings, f"{folder}/{name}", back],
                            stdout=subprocess.DEVNULL, stderr=subprocess.PIPE, text=True).stderr

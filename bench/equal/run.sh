@@ -9,7 +9,7 @@ here="$(cd "$(dirname "$0")" && pwd)"
 top="$(cd "$here/../.." && pwd)"
 scratch="${SCRATCH:-/tmp/bench-equal}"
 . "$top/bench/scratch.sh"
-copy_crates "$top" "$scratch" spec_words integer_lemmas mode_set qam_map pilots cell_equal
+copy_crates "$top" "$scratch" mode_set pilots qam_map cell_equal
 mkdir -p "$scratch/crates/bench_equal/src"
 echo "bench_equal: anyhow mode_set pilots qam_map cell_equal" >> "$scratch/crates.txt"
 cp "$here/equal.txt" "$scratch/crates/bench_equal/src/main.rt"

@@ -9,18 +9,12 @@ top="$(cd "$here/../.." && pwd)"
 scratch="${SCRATCH:-/tmp/bench-inner}"
 which="${1:-chain}"
 case "$which" in
-  chain)
-    below="spec_words mode_set bit_pack code_paths conv_code puncture bit_interleave symbol_interleave qam_map soft_metric pilots inner_chain"
-    deps="anyhow mode_set bit_pack conv_code qam_map inner_chain"
-    ;;
-  bytes)
-    below="spec_words mode_set bit_pack code_paths conv_code puncture"
-    deps="anyhow arrayvec mode_set bit_pack puncture"
-    ;;
+  chain) deps="anyhow mode_set bit_pack conv_code qam_map inner_chain" ;;
+  bytes) deps="anyhow arrayvec mode_set bit_pack puncture" ;;
 esac
 . "$top/bench/scratch.sh"
 # shellcheck disable=SC2086 # a list of names
-copy_crates "$top" "$scratch" $below
+copy_crates "$top" "$scratch" $deps
 mkdir -p "$scratch/crates/bench_inner/src"
 echo "bench_inner: $deps" >> "$scratch/crates.txt"
 cp "$here/$which.txt" "$scratch/crates/bench_inner/src/main.rt"

@@ -7,9 +7,7 @@ here="$(cd "$(dirname "$0")" && pwd)"
 top="$(cd "$here/../.." && pwd)"
 to=${1:-$(mktemp -d)}
 . "$top/bench/scratch.sh"
-copy_crates "$top" "$to" spec_words ts_packet dispersal gf256 rs204 forney outer_chain mode_set bit_pack code_paths \
-  conv_code puncture bit_interleave symbol_interleave qam_map soft_metric pilots tps_bch tps_word frame_build inner_chain \
-  transmission modulator
+copy_crates "$top" "$to" mode_set ts_packet modulator
 mkdir -p "$to/crates/bench_modulator/src" "$to/crates/bench_modulator/proofs/transmit"
 echo "bench_modulator: anyhow mode_set ts_packet modulator" >> "$to/crates.txt"
 cp "$here/modulator.txt" "$to/crates/bench_modulator/src/main.rt"

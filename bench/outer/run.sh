@@ -8,13 +8,13 @@ top="$(cd "$here/../.." && pwd)"
 scratch="${SCRATCH:-/tmp/bench-outer}"
 which="${1:-rs204}"
 case "$which" in
-  rs204) below="gf256 rs204"; deps="anyhow rs204" ;;
-  chain) below="spec_words ts_packet dispersal gf256 rs204 forney outer_chain"; deps="anyhow ts_packet rs204 outer_chain" ;;
-  erasures) below="gf256 rs204 rs_erasure"; deps="anyhow rs204 rs_erasure" ;;
+  rs204) deps="anyhow rs204" ;;
+  chain) deps="anyhow ts_packet rs204 outer_chain" ;;
+  erasures) deps="anyhow rs204 rs_erasure" ;;
 esac
 . "$top/bench/scratch.sh"
 # shellcheck disable=SC2086 # a list of names
-copy_crates "$top" "$scratch" $below
+copy_crates "$top" "$scratch" $deps
 mkdir -p "$scratch/crates/bench_$which/src"
 echo "bench_$which: $deps" >> "$scratch/crates.txt"
 cp "$here/$which.txt" "$scratch/crates/bench_$which/src/main.rt"

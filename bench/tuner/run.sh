@@ -8,9 +8,7 @@ top="$(cd "$here/../.." && pwd)"
 to=${1:-$(mktemp -d)}
 [ $# -gt 0 ] && shift
 . "$top/bench/scratch.sh"
-copy_crates "$top" "$to" spec_words ts_packet dispersal gf256 rs204 forney outer_chain mode_set bit_pack code_paths \
-  conv_code puncture bit_interleave symbol_interleave qam_map soft_metric pilots tps_bch tps_word frame_build inner_chain \
-  report_line rx_report reception tune_in
+copy_crates "$top" "$to" mode_set qam_map tps_word tune_in
 mkdir -p "$to/crates/bench_tuner/src"
 echo "bench_tuner: anyhow mode_set qam_map tps_word tune_in" >> "$to/crates.txt"
 cp "$here/tuner.txt" "$to/crates/bench_tuner/src/main.rt"
