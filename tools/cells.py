@@ -10,7 +10,8 @@ Ends with 0 where all is as it should be, 1 where a check fails or a file can't 
 
 Needs Python 3.9 or later, numpy, and for --out matplotlib too. On Debian:
     apt-get install python3-numpy python3-matplotlib
-Before Python 3.11 the settings have to be plain lines (cell_tools/plain_toml.py), as those of examples/settings are. Where the python3 on the PATH lacks numpy, it goes on by /usr/bin/python3 if that is there.
+Before Python 3.11 the settings have to be plain lines (cell_tools/plain_toml.py), as those of examples/settings are.
+Where the python3 on the PATH lacks numpy, it goes on by /usr/bin/python3 if that is there.
 
 It is a reader's tool beside the program and shares no code with it. Other programs can use it as a module:
 read_settings(path), CellFile(path, settings).array() and Carriers(mode).kinds(l).
