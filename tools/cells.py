@@ -8,8 +8,9 @@
 
 Ends with 0 where all is as it should be, 1 where a check fails or a file can't be read, 2 where the words are wrong.
 
-Needs Python 3.11 or later (for tomllib), numpy, and for --out matplotlib too. On Debian:
+Needs Python 3.9 or later, numpy, and for --out matplotlib too. On Debian:
     apt-get install python3-numpy python3-matplotlib
+Before Python 3.11 the settings have to be plain lines (cell_tools/plain_toml.py), as those of examples/settings are.
 Where the python3 on the PATH lacks numpy, it goes on by /usr/bin/python3 if that is there.
 
 It is a reader's tool beside the program and shares no code with it. Other programs can use it as a module:
@@ -21,13 +22,11 @@ import sys
 
 sys.path.insert(0, os.path.dirname(os.path.realpath(__file__)))
 try:
-    import tomllib  # noqa: F401
-
     import numpy  # noqa: F401
 except ImportError as error:
     if __name__ == "__main__" and os.path.exists("/usr/bin/python3") and os.path.realpath(sys.executable) != os.path.realpath("/usr/bin/python3"):
         os.execv("/usr/bin/python3", ["/usr/bin/python3", *sys.argv])
-    sys.exit(f"cells.py: {error}; it needs Python 3.11 or later and numpy (Debian: python3-numpy)")
+    sys.exit(f"cells.py: {error}; it needs numpy (Debian: python3-numpy)")
 
 from cell_tools.files import CellFile, Unfit, check, read_settings  # noqa: E402
 from cell_tools.standard import KINDS, Carriers  # noqa: E402, F401
@@ -39,7 +38,7 @@ def span(text):
         parts = [int(part) if part else None for part in text.split(":")]
         if len(parts) == 1 and parts[0] is not None:
             return slice(parts[0], parts[0] + 1 or None)
-        if 2 <= len(parts) <= 3:
+        if 2 <= len(parts) <= 3 and parts[2:] != [0]:
             return slice(*parts)
     except ValueError:
         pass
@@ -61,7 +60,8 @@ def arguments(words):
     about = {
         "look": "Looks into a cell file: symbols, TPS, mean powers, and a picture of the constellation. Three more: cells.py compare --help, measure --help, disturb --help.",
         "compare": "Compares the cell file A with B and tells where they differ first: symbol, carrier, kind, label bit, clause of EN 300 744.",
-        "measure": "Measures a cell file: MER over the data cells, pilots, cells beyond the tolerance, TPS words.",
+        "measure": "Measures a cell file: MER over the data cells, pilots, TPS words, and whether the law on noise speaks of it. "
+        "Ends with 1 where a part of the law's premise fails or a TPS word can't be read.",
         "disturb": "Writes the cells with noise. The same seed gives the same noise everywhere.",
     }[verb]
     parser = argparse.ArgumentParser(prog=f"cells.py {verb}" if verb != "look" else "cells.py", description=about)
@@ -74,7 +74,7 @@ def arguments(words):
     else:
         add("cells", metavar="CELLS", help="the cell file (docs/FILES.md)")
     if verb == "measure":
-        add("--sent", metavar="CELLS", help="measure against this file, what was sent, and not against the nearest points")
+        add("--sent", metavar="CELLS", help="measure against this file, what dvbt modulate wrote by the same settings, and not against the nearest points")
         add("--list", choices=["symbols", "carriers"], help="print the MER of each symbol or of each carrier too")
         add("--out", metavar="PNG", help="draw the MER over carriers and over symbols to this file")
     if verb == "disturb":
@@ -86,7 +86,7 @@ def arguments(words):
     if verb == "look":
         add("--frames", type=span, default=slice(None), metavar="A:B", help="the frames whose TPS is looked at, from 0 (default: all)")
         add("--verbose", action="store_true", help="three lines for each frame: where it is, s1 to s67, what they say")
-        add("--symbols", type=span, default=slice(0, 4), metavar="A:B", help="the symbols that are drawn, from A to before B (default: 0:4)")
+        add("--symbols", type=span, metavar="A:B", help="the symbols that are drawn, from A to before B (default: 0:4)")
         add("--kinds", type=kind_list, default=["data", "pilot", "tps"], metavar="LIST",
             help="the kinds of cells that are drawn: data, pilot (both of the next), continual, scattered, tps, "
             "with commas between (default: data,pilot,tps)")

@@ -1,11 +1,15 @@
 """Settings and cell files, and what keeps them from being read."""
 import pathlib
 import sys
-import tomllib
 
 import numpy as np
 
 from cell_tools.standard import FRAME, LEVELS, SUPER_FRAME, UNIT, VALUES, Carriers, Points
+
+try:
+    from tomllib import loads
+except ImportError:  # before Python 3.11
+    from cell_tools.plain_toml import loads
 
 NUMBERS = {"cell_id": (0, 65535), "workers": (1, 16), "max_symbols": (1, 4294967295), "after": (1, 4294967295)}
 WORDS = VALUES | {"start": ["zero", "any"]}
@@ -28,7 +32,7 @@ def read_settings(path):
     if len(content) > 65536:
         raise Unfit(f"{path}: settings too long")
     try:
-        found = tomllib.loads(content.decode())
+        found = loads(content.decode("utf-8-sig"))
     except ValueError as error:
         raise Unfit(f"{path}: settings not toml: {error}") from None
     for place, key in enumerate(sorted(found, key=str.encode)):

@@ -10,9 +10,10 @@ from cell_tools.standard import (
 
 def look(file, words):
     """Prints what is in the file and draws it; answers whether each TPS word is as the settings say."""
-    if words.out and not range(file.symbols)[words.symbols]:
+    symbols = words.symbols or slice(0, 4)
+    if (words.symbols or words.out) and not range(file.symbols)[symbols]:
         raise Unfit(f"no symbol of the {file.symbols} in the file is in --symbols")
-    if words.out and len({file.points(m) for m in range(file.symbols)[words.symbols]}) > 1:
+    if words.out and len({file.points(m) for m in range(file.symbols)[symbols]}) > 1:
         raise Unfit("the symbols of --symbols have different constellations; draw those of one")
     print(f"symbols {file.symbols} of {file.size} bytes, bytes left over {file.left_over}")
     is_well = True
@@ -20,7 +21,7 @@ def look(file, words):
         is_well = print_tps(file, words.frames, words.verbose)
         print_powers(file)
     if words.out:
-        draw(file, words.symbols, words.kinds, words.labels, words.out)
+        draw(file, symbols, words.kinds, words.labels, words.out)
         print(f"picture {words.out}")
     return is_well
 

@@ -3,8 +3,8 @@ import math
 
 import numpy as np
 
-from cell_tools.files import Unfit
-from cell_tools.standard import CONTINUAL_PILOT, DATA, FRAME, SCATTERED_PILOT, read_word
+from cell_tools.files import Unfit, Version1
+from cell_tools.standard import CONTINUAL_PILOT, DATA, FRAME, SCATTERED_PILOT, SUPER_FRAME, read_word
 
 BOOSTED = 21845
 
@@ -26,7 +26,7 @@ class Measure:
         count = file.carriers.count
         self.of_symbols = np.zeros((file.symbols, 2))  # ideal power and power of the error
         self.of_carriers = np.zeros((count, 2))
-        self.beyond, self.data = 0, 0
+        self.beyond, self.data, self.weightless, self.off = 0, 0, 0, 0
         self.pilots = [[], []]
         for m in range(file.symbols):
             self.add(m)
@@ -43,6 +43,8 @@ class Measure:
         self.of_carriers[data] += both
         self.beyond += int(np.sum(np.any(abs(error) > points.tolerance, axis=1)))
         self.data += len(cells)
+        self.weightless += int(np.count_nonzero(self.file.weights[m][data] == 0))
+        self.off += int(np.sum(np.any(ideal != points.nearest(ideal), axis=1)))
         for place, kind in enumerate((CONTINUAL_PILOT, SCATTERED_PILOT)):
             at = kinds == kind
             turned = (parts[at, 0] + 1j * parts[at, 1]) * self.file.carriers.signs[at] / BOOSTED
@@ -62,7 +64,7 @@ class Measure:
 
 
 def measure(file, sent, words):
-    """Prints the measures of a file; answers whether all data cells are within the tolerance and all TPS words are read."""
+    """Prints the measures of a file; answers whether no part of the law's premise fails and all TPS words are read."""
     if not file.symbols:
         raise Unfit("the file has no whole symbol")
     if sent and sent.symbols < file.symbols:
@@ -81,7 +83,9 @@ def measure(file, sent, words):
         print(f"{name} pilots: {of_pilots(np.concatenate(turned))}")
     tolerances = dict.fromkeys(file.points(m).tolerance for m in range(file.symbols))
     print(f"tolerance {', '.join(map(str, tolerances))} on each axis: data cells beyond it {found.beyond}")
-    print(f"  {premise(found, sent)}")
+    print(f"data cells of weight 0: {found.weightless}")
+    failing = failing_parts(found)
+    print(f"  {verdict(failing, sent)}")
     frames = file.tps_words()
     errors = [word and word[1] for word in map(read_word, frames)]
     read = sum(it is not None for it in errors)
@@ -93,16 +97,34 @@ def measure(file, sent, words):
     if words.out:
         draw(found, words.out)
         print(f"picture {words.out}")
-    return found.beyond == 0 and read == len(frames)
+    return not failing and read == len(frames)
 
 
-def premise(found, sent):
-    """Whether the law on noise speaks of these cells."""
-    if found.beyond:
-        return "so the law on noise says nothing of this file"
+def failing_parts(found):
+    """The parts of the premise of the law on noise that fail, in words. The premise is `Returns` in crates/receive_run/specs/OwnLaws.antt
+    and `IsWithin` in crates/own_cell_laws/specs/Returned.antt; that `receive` takes the file at all is beside them."""
+    file, sent, most = found.file, found.sent, found.file.settings["max_symbols"]
+    parts = [
+        (found.beyond, f"data cells beyond the tolerance: {found.beyond}"),
+        (found.weightless, f"data cells of weight 0: {found.weightless}"),
+        (file.symbols % SUPER_FRAME, f"its {file.symbols} symbols are no whole super-frames"),
+        (file.settings["start"] != "zero", "the settings do not start at zero"),
+        (file.version is Version1, "it has no header, so receive refuses it"),
+        (file.symbols > most, f"receive takes {most} symbols of it, by max_symbols"),
+    ]
+    if sent:
+        parts.append((sent.symbols != file.symbols, f"it has {file.symbols} symbols, and {sent.symbols} were sent"))
+        parts.append((found.off, f"{sent.path} is no transmission: data cells of it that stand on no point: {found.off}"))
+    return [text for fails, text in parts if fails]
+
+
+def verdict(failing, sent):
+    """Whether the law on noise speaks of the cells, or what keeps it from that."""
+    if failing:
+        return f"so the law on noise says nothing of this file: {'; '.join(failing)}"
     if sent:
         return "so the law on noise speaks of this file: what was sent comes back, then null packets"
-    return "none is further from its nearest point; compare with what was sent (--sent) to know that this is the point sent"
+    return "no part of the premise of the law on noise fails; which points were sent, and how many symbols, was not looked at (--sent)"
 
 
 def spread(ratios):
