@@ -83,7 +83,7 @@ class Differences:
         """The first cell that differs, and what the standard has there."""
         m, k, kind, ours, theirs = self.first
         l, frame = m % FRAME, m // FRAME
-        yield f"first difference: symbol {m} (symbol {l} of frame {frame % 4 + 1} of super-frame {frame // 4 + 1}), carrier {k}, {NAMES[kind]}"
+        yield f"first difference: symbol {m} (symbol {l} of frame {frame % 4 + 1} of super-frame {frame // 4}), carrier {k}, {NAMES[kind]}"
         yield f"  A {ours[0]}, {ours[1]}; B {theirs[0]}, {theirs[1]}"
         if kind == DATA:
             q = int(np.sum(self.file.carriers.kinds(l)[:k] == DATA))

@@ -38,7 +38,7 @@ def print_tps(file, frames, is_verbose):
         wrong += "DIFFERS" in text or bch_rest(words[n]) != 0 or sync == "sync wrong" or not is_placed
         said.setdefault(f"{sync}, {fields}" if sync == "sync wrong" else fields, []).append(n)
         if is_verbose:
-            print(f"frame {n % 4 + 1} of super-frame {n // 4 + 1}, symbols {FRAME * n} to {FRAME * n + 67}")
+            print(f"frame {n % 4 + 1} of super-frame {n // 4}, symbols {FRAME * n} to {FRAME * n + 67}")
             print(f"  s1..s67 {spaced(words[n])}")
             print(f"  {text}")
             if not is_placed:
@@ -47,7 +47,7 @@ def print_tps(file, frames, is_verbose):
     print(f"TPS words looked at {len(numbers)}, not as they should be {wrong}")
     if not is_verbose:
         for text, at in said.items():
-            print(f"  {text} ({len(at)} frame{'s' * (len(at) > 1)}, number {listed(at)})")
+            print(f"  {text} ({len(at)} frame{'s' * (len(at) > 1)}, from 0: {listed(at)})")
     if words and not any(bits[:16] in SYNC for bits in words):
         print_shifted("".join("1" if x < 0 else "0" for x in file.tps_sums()))
     return wrong == 0
