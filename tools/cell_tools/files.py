@@ -6,6 +6,7 @@ import tomllib
 import numpy as np
 
 from cell_tools.standard import FRAME, LEVELS, SUPER_FRAME, UNIT, VALUES, Carriers, Points
+from door.explain import in_toml_1_0
 
 NUMBERS = {"cell_id": (0, 65535), "workers": (1, 16), "max_symbols": (1, 4294967295), "after": (1, 4294967295)}
 WORDS = VALUES | {"start": ["zero", "any"]}
@@ -28,9 +29,9 @@ def read_settings(path):
     if len(content) > 65536:
         raise Unfit(f"{path}: settings too long")
     try:
-        found = tomllib.loads(content.decode())
-    except ValueError as error:
-        raise Unfit(f"{path}: settings not toml: {error}") from None
+        found = tomllib.loads(in_toml_1_0(content.decode("utf-8-sig")))
+    except (ValueError, RecursionError) as error:
+        raise Unfit(f"{path}: settings not toml, by Python's reader: {error}") from None
     for place, key in enumerate(sorted(found, key=str.encode)):
         if key not in KEYS:
             raise Unfit(f"{path}: settings unknown {place}: {key}")
