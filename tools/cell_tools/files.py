@@ -5,6 +5,7 @@ import sys
 import numpy as np
 
 from cell_tools.standard import FRAME, LEVELS, SUPER_FRAME, UNIT, VALUES, Carriers, Points
+from door.explain import in_toml_1_0
 
 try:
     from tomllib import loads
@@ -32,9 +33,9 @@ def read_settings(path):
     if len(content) > 65536:
         raise Unfit(f"{path}: settings too long")
     try:
-        found = loads(content.decode("utf-8-sig"))
-    except ValueError as error:
-        raise Unfit(f"{path}: settings not toml: {error}") from None
+        found = loads(in_toml_1_0(content.decode("utf-8-sig")))
+    except (ValueError, RecursionError) as error:
+        raise Unfit(f"{path}: settings not toml, by Python's reader: {error}") from None
     for place, key in enumerate(sorted(found, key=str.encode)):
         if key not in KEYS:
             raise Unfit(f"{path}: settings unknown {place}: {key}")

@@ -99,11 +99,11 @@ def of_usage(words):
 def of_refusal(form, words, status, text, before):
     """Explains a run that ended with another status than 0: its last line is `text`, empty where it was not seen, and
     `before` says how the outputs stood when it began."""
-    if form is None:
-        of_usage(words)
-        return
     if status == 7 and not text and not all(is_utf8(word) for word in words):
         say("the words could not be taken: they are not UTF-8")
+        return
+    if form is None:
+        of_usage(words)
         return
     lines = {3: of_settings, 4: of_packet, 5: of_reading, 6: of_writing, 7: of_memory, 8: of_limit, 9: of_header, 10: of_no_frame, 11: of_form}.get(status)
     for line in lines(form, text) if lines else []:
@@ -125,13 +125,12 @@ def of_settings(form, text):
     if kind == "not":
         return [f"{path} is no TOML document{why_not_toml(path)}"]
     if kind == "unknown":
-        keys = keys_in(path)
-        name = f"{keys[int(key)]!r} in {path}" if key.isdigit() and int(key) < len(keys) else f"a key of {path}"
-        return [f"{name} is no key of the settings; the keys are {', '.join(VALUES)}"]
+        return [f"{name_of_key(path, key)} is no key of the settings; the keys are {', '.join(VALUES)}"]
     if kind == "missing":
         return [f"{path} lacks {key}, which is {VALUES.get(key, 'needed')}"]
     if kind == "value" and key == "plan":
-        return [f"{path}: {no_plan(document_of(path).get('plan'))}"]
+        document = document_of(path)
+        return [f"{path}: {no_plan(document.get('plan')) if document else 'its plan is refused; docs/SETTINGS.md says what a plan may hold'}"]
     if kind == "value":
         return [f"{path} has {key} = {value_in(path, key)}; it is {VALUES.get(key, 'another')}"]
     if kind == "clash":
@@ -341,22 +340,40 @@ def text_of(path):
 
 
 def document_of(path):
-    """The document by Python's own reader (3.11), or by its plain lines."""
+    """The document by Python's own reader, or None where that refuses it; by its plain lines where there is none (before 3.11)."""
     text = text_of(path)
     try:
         import tomllib
 
-        return tomllib.loads(text)
+        return tomllib.loads(in_toml_1_0(text))
     except ImportError:
         pass
-    except ValueError:
-        return {}
-    found = re.findall(r"(?m)^[ \t]*([\w-]+)[ \t]*=[ \t]*([^#\n]*)", text)
-    return {key: value.strip().strip("\"'") for key, value in found}
+    except (ValueError, RecursionError):
+        return None
+    top = re.split(r"(?m)^[ \t]*\[", text)[0]
+    found = re.findall(r"(?m)^[ \t]*([\w-]+)[ \t]*=[ \t]*([^#\n]*)", top)
+    tables = re.findall(r"(?m)^[ \t]*\[+[ \t]*([\w-]+)", text)
+    return {**dict.fromkeys(tables), **{key: value.strip().strip("\"'") for key, value in found}}
 
 
-def keys_in(path):
-    return sorted(document_of(path), key=lambda key: key.encode())
+def in_toml_1_0(text):
+    """The text with the escapes that TOML 1.1 added (`\\x32`, `\\e`) as 1.0 writes them: Python's reader knows no others."""
+
+    def written(found):
+        if len(found[1]) == 3:
+            return "\\u00" + found[1][1:]
+        return "\\u001b" if found[1] == "e" else found[0]
+
+    return re.sub(r"(?s)\\(x[0-9A-Fa-f]{2}|.)", written, text)
+
+
+def name_of_key(path, number):
+    """The key that has this number among those of the document, in byte order, or why it has no name here."""
+    document = document_of(path)
+    if document is None:
+        return f"a key of {path} (number {number} in byte order, from 0; it can't be named, as Python's TOML reader refuses the file)"
+    keys = sorted(document, key=lambda key: key.encode())
+    return f"{keys[int(number)]!r} in {path}" if number.isdigit() and int(number) < len(keys) else f"a key of {path}"
 
 
 def value_in(path, key):
@@ -368,11 +385,13 @@ def why_not_toml(path):
     try:
         import tomllib
 
-        tomllib.loads(text_of(path))
+        tomllib.loads(in_toml_1_0(text_of(path)))
     except ImportError:
         pass
     except ValueError as error:
         return f": {error}"
+    except RecursionError:
+        return ": its values stand too deep in one another"
     return ""
 
 
@@ -403,7 +422,7 @@ def spacing_of(path):
 
 def air_of(path, symbols):
     """How long so many symbols are on air in a channel of 8 MHz."""
-    document = document_of(path)
+    document = document_of(path) or {}
     mode, guard = document.get("mode"), str(document.get("guard", "")).partition("/")
     if symbols is None or mode not in USEFUL or guard[0] != "1" or not guard[2].isdigit():
         return ""

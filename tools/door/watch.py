@@ -44,7 +44,8 @@ def end_by(number):
     """Ends by the signal that ended the program, without a second core file."""
     import resource
 
-    explain.say(f"the program was ended by signal {number}")
+    why = ": so it ends where it has too little stack or address space (docs/FILES.md)" if number == signal.SIGSEGV else ""
+    explain.say(f"the program was ended by signal {number}{why}")
     resource.setrlimit(resource.RLIMIT_CORE, (0, 0))
     if number != signal.SIGKILL:
         signal.signal(number, signal.SIG_DFL)

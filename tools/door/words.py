@@ -93,7 +93,9 @@ STATUSES = [
      ("modulate", "disperse", "outer", "inner")),
     (5, "a file can't be opened or read: `read fault`", FORMS),
     (6, "a file can't be made, written or closed: `write fault`", FORMS),
-    (7, "memory is wanting: `memory`", ("modulate", "receive", "rescue", "tune", "upgrade", "equalise", "trial", "outer", "inner")),
+    (7, "memory is wanting: `memory`; no line where the words are not UTF-8 or the files' buffers can't be taken",
+     ("modulate", "receive", "rescue", "tune", "upgrade", "equalise", "trial", "outer", "inner")),
+    (7, "the words are not UTF-8, or the files' buffers can't be taken: no line", ("disperse",)),
     (8, "more packets or symbols than the limit: `limit N`", FORMS),
     (9, "the cells do not begin with the header of the settings' mode: `cells header`", ("receive", "rescue", "tune", "equalise")),
     (10, "no frame is found in the cells: `tune none`", ("tune",)),
@@ -184,5 +186,8 @@ def help_of(command):
 
 
 def lines_of_statuses(command):
-    shown = [(number, text) for number, text, of in STATUSES if command is None or command in of]
-    return [f"  {number:3}  {text}" for number, text in shown + OF_THE_DOOR]
+    shown = {}
+    for number, text, of in STATUSES:
+        if command is None or command in of:
+            shown.setdefault(number, text)
+    return [f"  {number:3}  {text}" for number, text in [*shown.items(), *OF_THE_DOOR]]
