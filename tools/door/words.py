@@ -59,13 +59,15 @@ least sure bytes are erased, and it is decoded once more: with up to four errors
 is counted as rescued. Packets come later than those of `receive`, and no line `tps` is printed.""",
     "tune": """Finds the first 68 symbols whose TPS word can be read, takes constellation, hierarchy, rates and guard interval from
 it, and receives from the next super-frame on. Of the settings mode, workers and max_symbols alone have an effect. LP is
-given exactly where the signal has a hierarchy. `tune at I frame F` tells the first symbol of the frame, counted from 0.""",
+given exactly where the signal has a hierarchy. `tune at I frame F` tells the first symbol of the frame, counted from 0.
+What stands before that super-frame is not received.""",
     "upgrade": """Writes the header of the settings' mode, and each cell of OLD's whole symbols with the weight 15, at
 which it counts whole. Of the settings the mode and max_symbols alone have an effect.""",
     "equalise": """Divides each cell by the gain on the line between the two pilots around it, and writes it with a weight of
 0 to 15 by how strong that gain is. Serves one gain a symbol, or one that bends slowly over the carriers. Of the
 settings the mode and max_symbols alone have an effect.""",
-    "trial": "Writes no file: the lines count what was sent and what came back.",
+    "trial": """Writes no file: the lines count what was sent and what came back, null packets too. `cells` and `sum` are sums of
+bytes modulo 2^32.""",
     "disperse": "EN 300 744, 4.3.1.",
     "outer": "EN 300 744, 4.3.1 and 4.3.2.",
     "inner": "EN 300 744, 4.3.1 to 4.3.3, at rate_hp of the settings. Zero bits fill the last byte.",
