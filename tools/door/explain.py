@@ -272,7 +272,7 @@ def of_no_frame(form, text):
     path = form.of("cells")[0]
     return [
         f"no 68 symbols of {path} have a TPS word of the mode in {form.settings} with at most two wrong bits",
-        "its symbols are of the other mode, or too disturbed, or fewer than 68",
+        "its symbols are of the other mode, or too disturbed, or fewer than 68, or their TPS has bits beyond those of 4.6 (DVB-H, 4K)",
     ]
 
 
