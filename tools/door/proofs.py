@@ -4,7 +4,8 @@
 checkout of its own: the repository, and copies of its crates in `out/copies`. What was proved in one of them is handed to the
 others as links to the same files; a newer rt does so by itself, as it notes beside the toolchain where each library was built.
 A library that rt does not take it proves again, so nothing rests on what is handed over. First come the crates with the longest
-chain of others above them; where fewer crates are ready than processors are free, a crate has several.
+chain of others above them. A crate has several processors where fewer crates are ready than processors are free, and two where
+its chain would last longer than all that is left to do.
 """
 import os
 import shutil
@@ -30,12 +31,11 @@ def lines_of(top, crate):
     return found
 
 
-def chains(top, uses):
+def chains(lines, uses):
     """Of each crate: the lines of the longest chain that begins with it and goes on with crates above. `uses` has lower crates first."""
     longest = {}
     for crate in reversed(uses):
-        above = [longest[it] for it in uses if crate in uses[it]]
-        longest[crate] = EACH + lines_of(top, crate) + max(above, default=0)
+        longest[crate] = lines[crate] + max((longest[it] for it in uses if crate in uses[it]), default=0)
     return longest
 
 
@@ -90,8 +90,9 @@ class Proofs:
         if self.hands_over:
             for crate in uses:
                 self.share(crate, top)
-        longest = chains(top, uses)
-        self.waiting = sorted(uses, key=lambda it: -longest[it])
+        self.lines = {it: EACH + lines_of(top, it) for it in uses}
+        self.longest = chains(self.lines, uses)
+        self.waiting = sorted(uses, key=lambda it: -self.longest[it])
         self.done, self.failed, self.alive, self.lock = set(), None, set(), threading.Lock()
 
     def share(self, crate, place):
@@ -120,6 +121,8 @@ class Proofs:
             if not self.idle or free < 1:
                 return
             jobs = max(1, min(MOST_JOBS, free // (len(ready) - at)))
+            if self.longest[crate] * self.processors > sum(self.lines[it] for it in self.uses if it not in self.done):
+                jobs = max(jobs, min(2, free))
             place = self.idle.pop(0)
             self.waiting.remove(crate)
             running[pool.submit(self.one, crate, place, jobs)] = crate, place, jobs
