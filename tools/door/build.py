@@ -111,7 +111,7 @@ def link(top, level):
         # rt run ends with the program's own status, which is 2 without words: whether there is a program says if it was built
         how = {"cwd": f"{top}/crates/dvbt", "stdin": subprocess.DEVNULL, "stdout": log, "stderr": subprocess.STDOUT}
         at = log.tell()
-        status = subprocess.run(["rt", "run", *cpu], **how).returncode
+        status = subprocess.run(proofs.rt("run", *cpu), **how).returncode
     if not os.access(made, os.X_OK) or status != 2:
         with open(f"{top}/out/build.log", "rb") as log:
             log.seek(at)

@@ -7,10 +7,12 @@ A library that rt does not take it proves again, so nothing rests on what is han
 chain of others above them. A crate has several processors where fewer crates are ready than processors are free, and two where
 its chain would last longer than all that is left to do.
 """
+import functools
 import os
 import shutil
 import signal
 import subprocess
+import sys
 import threading
 from concurrent.futures import FIRST_COMPLETED, ThreadPoolExecutor, wait
 
@@ -39,6 +41,7 @@ def chains(lines, uses):
     return longest
 
 
+@functools.lru_cache(maxsize=None)
 def notes_by_itself():
     """Whether rt notes beside the toolchain what it keeps, for other checkouts to take: where it knows that folder and can write to it."""
     rt = os.path.realpath(shutil.which("rt") or "")
@@ -52,6 +55,13 @@ def notes_by_itself():
         return os.lstat(kept).st_uid == os.geteuid()
     except (OSError, subprocess.CalledProcessError):
         return False
+
+
+def rt(*words):
+    """The words that call rt."""
+    if notes_by_itself():
+        return ["rt", *words]
+    return [sys.executable, os.path.join(os.path.dirname(os.path.realpath(__file__)), "rt_once.py"), *words]
 
 
 def hand_over(crate, place, other):
@@ -103,7 +113,7 @@ class Proofs:
 
     def one(self, crate, place, jobs):
         """Proves a crate; answers its status and what was printed."""
-        words = ["rt", "lib", "--jobs", str(jobs)]
+        words = rt("lib", "--jobs", str(jobs))
         how = {"cwd": f"{place}/crates/{crate}", "stdin": subprocess.DEVNULL, "stdout": subprocess.PIPE, "stderr": subprocess.STDOUT}
         with subprocess.Popen(words, text=True, errors="replace", start_new_session=True, **how) as ran:
             with self.lock:
