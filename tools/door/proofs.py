@@ -3,12 +3,15 @@
 `rt lib` works at one crate of a checkout at a time, since it holds the folders of all crates below it. So each place has a
 checkout of its own: the repository, and copies of its crates in `out/copies`. What was proved in one of them is handed to the
 others as links to the same files; a newer rt does so by itself, as it notes beside the toolchain where each library was built.
-A library that rt does not take it proves again, so nothing rests on what is handed over. First come the crates with the longest
+A library that rt does not take it proves again, so nothing rests on what is handed over. A library that was proved keeps its
+statements, and not its proofs, for the crates above to read, as those of std are kept. First come the crates with the longest
 chain of others above them. A crate has several processors where fewer crates are ready than processors are free, and two where
 its chain would last longer than all that is left to do.
 """
+import contextlib
 import functools
 import os
+import re
 import shutil
 import signal
 import subprocess
@@ -17,8 +20,10 @@ import threading
 from concurrent.futures import FIRST_COMPLETED, ThreadPoolExecutor, wait
 
 PARTS = ("src", "specs", "proofs")
-# What a check takes whatever its crate has, in lines of a crate.
-EACH = 1500
+# A row of the table of docs/GATE.md: a crate and the seconds of its proof.
+ROW = re.compile(r"\| (\w+) \| (\d+) \|")
+# Of a crate that the table does not have: the seconds that a check takes whatever its crate has, and the lines that it does in one.
+EACH, LINES = 15, 20
 # More jobs than these at one crate win little.
 MOST_JOBS = 4
 
@@ -33,11 +38,20 @@ def lines_of(top, crate):
     return found
 
 
-def chains(lines, uses):
-    """Of each crate: the lines of the longest chain that begins with it and goes on with crates above. `uses` has lower crates first."""
+def seconds_of(top, uses):
+    """The seconds of each crate's proof: as docs/GATE.md has them, or else by its lines."""
+    measured = {}
+    with contextlib.suppress(OSError):
+        with open(f"{top}/docs/GATE.md", encoding="utf-8") as file:
+            measured = {found[1]: int(found[2]) for found in map(ROW.match, file) if found}
+    return {it: measured[it] if it in measured else EACH + lines_of(top, it) / LINES for it in uses}
+
+
+def chains(seconds, uses):
+    """Of each crate: the seconds of the longest chain that begins with it and goes on with crates above. `uses` has lower crates first."""
     longest = {}
     for crate in reversed(uses):
-        longest[crate] = lines[crate] + max((longest[it] for it in uses if crate in uses[it]), default=0)
+        longest[crate] = seconds[crate] + max((longest[it] for it in uses if crate in uses[it]), default=0)
     return longest
 
 
@@ -62,6 +76,17 @@ def rt(*words):
     if notes_by_itself():
         return ["rt", *words]
     return [sys.executable, os.path.join(os.path.dirname(os.path.realpath(__file__)), "rt_once.py"), *words]
+
+
+@functools.lru_cache(maxsize=None)
+def statements():
+    """The words by which a library keeps its statements alone: none where the toolchain has no such word."""
+    rattle = os.path.join(os.path.dirname(os.path.realpath(shutil.which("rt") or "")), "rattle")
+    try:
+        told = subprocess.run([rattle, "build", "--help"], stdin=subprocess.DEVNULL, capture_output=True, text=True, errors="replace").stdout
+    except OSError:
+        return []
+    return ["--statements"] * ("--statements" in told)
 
 
 def hand_over(crate, place, other):
@@ -100,8 +125,8 @@ class Proofs:
         if self.hands_over:
             for crate in uses:
                 self.share(crate, top)
-        self.lines = {it: EACH + lines_of(top, it) for it in uses}
-        self.longest = chains(self.lines, uses)
+        self.seconds = seconds_of(top, uses)
+        self.longest = chains(self.seconds, uses)
         self.waiting = sorted(uses, key=lambda it: -self.longest[it])
         self.done, self.failed, self.alive, self.lock = set(), None, set(), threading.Lock()
 
@@ -113,7 +138,7 @@ class Proofs:
 
     def one(self, crate, place, jobs):
         """Proves a crate; answers its status and what was printed."""
-        words = rt("lib", "--jobs", str(jobs))
+        words = rt("lib", "--jobs", str(jobs), *statements())
         how = {"cwd": f"{place}/crates/{crate}", "stdin": subprocess.DEVNULL, "stdout": subprocess.PIPE, "stderr": subprocess.STDOUT}
         with subprocess.Popen(words, text=True, errors="replace", start_new_session=True, **how) as ran:
             with self.lock:
@@ -131,7 +156,7 @@ class Proofs:
             if not self.idle or free < 1:
                 return
             jobs = max(1, min(MOST_JOBS, free // (len(ready) - at)))
-            if self.longest[crate] * self.processors > sum(self.lines[it] for it in self.uses if it not in self.done):
+            if self.longest[crate] * self.processors > sum(self.seconds[it] for it in self.uses if it not in self.done):
                 jobs = max(jobs, min(2, free))
             place = self.idle.pop(0)
             self.waiting.remove(crate)
