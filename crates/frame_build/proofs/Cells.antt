@@ -1,9 +1,9 @@
 -- The cell of a carrier, by its kind.
-use Rattle.std.proofs.Common.{◌≡◌, ℕ, zero, suc, ◌+◌, ◌*◌, ◌%◌, ◌<◌, ◌≤◌, ◌≢◌, ◌⊎◌, inl, inr, ◌||◌, not, if◌then◌else◌, length, take, drop, set, append_assoc, List, [], ◌∷◌, ◌++◌, refl, sym, ap, ◌∙◌, arith, Bool, true, false, get_or, ℤ, subst}
+use Rattle.std.proofs.Common.{◌≡◌, ℕ, zero, suc, ◌+◌, ◌*◌, ◌%◌, ◌^◌, ◌<◌, ◌≤◌, ◌≢◌, ◌⊎◌, inl, inr, ◌||◌, not, if◌then◌else◌, length, take, drop, set, append_assoc, List, [], ◌∷◌, ◌++◌, refl, sym, ap, ◌∙◌, arith, Bool, true, false, get_or, ℤ, subst}
 use Rattle.std.specs.Prelude.{flat_map, count_by}
 use Rattle.std.proofs.lemmas.List.Concat.{flat_map-append}
 use Rattle.std.proofs.lemmas.List.Sums.{sum_by-append, count_by-le-length}
-use Rattle.std.proofs.lemmas.List.{append-nil, get_or-set_same, get_or-set_other, length-drop, length-take-le}
+use Rattle.std.proofs.lemmas.List.{append-nil, get_or-set_same, get_or-set_other, get_or_append_left, get_or-append-add, get_or-take, length-drop, length-take-le, take_all}
 use Rattle.std.proofs.lemmas.Slice.{take-put_mid}
 use borrow.Rule.Slice.PartMut.{put_mid, mid_of, same_len_mid}
 use Rattle.std.proofs.lemmas.Bool.{cases_lt}
@@ -27,7 +27,7 @@ use Rattle.qam_map.specs.Points.{map_cell, value_of, real_bits, imaginary_bits}
 use Rattle.tps_word.specs.Tps.{tps_word, signalled}
 use Rattle.frame_build.specs.Symbol.{real, tps_sign, frame_of, cell_of_kind, cell_at, sent_bytes, symbol_bytes, bits_of, Agree}
 use Rattle.frame_build.specs.Announcing.{settings_for, announcing_cell, announcing_bytes}
-use Rattle.frame_build.specs.State.{is_turned, IsLabelTable, AreSources, AreAllSources, bytes_sent, labels_before, labels_of, source_of}
+use Rattle.frame_build.specs.State.{is_turned, IsLabelTable, IsCellTable, AreSources, AreAllSources, bytes_sent, labels_before, labels_of, other_cells, place_of, source_of}
 use Rattle.frame_build.specs.declared.source.Source.{Source}
 use Rattle.frame_build.specs.declared.source.Source.TheVariants.{Label, Pilot, OppositePilot, Signalling, OppositeSignalling}
 
@@ -201,6 +201,50 @@ labels_table_more s h cells n bytes t within is k d less = go (cases_lt k n)
     go (inl lt) = let other : k ≢ n = omega (arith, lt) in get_or-set_other cells n k bytes d other ∙ t k d lt
     go (inr ge) = let same : n ≡ k = omega (arith, less, ge) in
         subst (λ (z : ℕ). get_or (set cells n bytes) z d ≡ sent_bytes (map_cell s h (is_set z))) same (get_or-set_same cells n bytes d within ∙ is)
+
+-- ---- the cells that a carrier may send
+few_label_values : (s : Shape) → 2 ^ label_bits s ≤ 64
+few_label_values Qpsk = omega arith
+few_label_values Qam16 = omega arith
+few_label_values Qam64 = omega arith
+
+pub others_are : (pilot opposite_pilot signalling opposite_signalling : List ℕ) → pilot ≡ sent_bytes (real 21845 false) → opposite_pilot ≡ sent_bytes (real 21845 true) → signalling ≡ sent_bytes (real 16384 false)
+    → opposite_signalling ≡ sent_bytes (real 16384 true) → (pilot ∷ opposite_pilot ∷ signalling ∷ opposite_signalling ∷ pilot ∷ opposite_pilot ∷ opposite_signalling ∷ signalling ∷ []) ≡ other_cells
+others_are p o s t ep eo es et =
+    ap (λ (z : List ℕ). z ∷ o ∷ s ∷ t ∷ z ∷ o ∷ t ∷ s ∷ []) ep
+    ∙ ap (λ (z : List ℕ). sent_bytes (real 21845 false) ∷ z ∷ s ∷ t ∷ sent_bytes (real 21845 false) ∷ z ∷ t ∷ s ∷ []) eo
+    ∙ ap (λ (z : List ℕ). sent_bytes (real 21845 false) ∷ sent_bytes (real 21845 true) ∷ z ∷ t ∷ sent_bytes (real 21845 false) ∷ sent_bytes (real 21845 true) ∷ t ∷ z ∷ []) es
+    ∙ ap (λ (z : List ℕ). sent_bytes (real 21845 false) ∷ sent_bytes (real 21845 true) ∷ sent_bytes (real 16384 false) ∷ z ∷ sent_bytes (real 21845 false) ∷ sent_bytes (real 21845 true) ∷ z ∷ sent_bytes (real 16384 false) ∷ []) et
+
+behind : (front : List (List ℕ)) (i place : ℕ) (d : List ℕ) → length front ≡ 64 → 64 + i ≡ place → get_or (front ++ other_cells) place d ≡ get_or other_cells i d
+behind front i place d long is =
+    let at : length front + i ≡ place = ap (λ (z : ℕ). z + i) long ∙ is in
+    ap (λ (z : ℕ). get_or (front ++ other_cells) z d) (sym at) ∙ get_or-append-add front other_cells i d
+
+-- behind 64 cells
+other_sent : (front : List (List ℕ)) (source : Source) (turned : Bool) (label d : List ℕ) → length front ≡ 64 → source ≢ Label → get_or (front ++ other_cells) (place_of source turned) d ≡ bytes_sent source turned label
+other_sent front Label turned label d long other = absurd (other refl)
+other_sent front Pilot false label d long other = behind front 0 64 d long refl
+other_sent front Pilot true label d long other = behind front 4 68 d long refl
+other_sent front OppositePilot false label d long other = behind front 1 65 d long refl
+other_sent front OppositePilot true label d long other = behind front 5 69 d long refl
+other_sent front Signalling false label d long other = behind front 2 66 d long refl
+other_sent front Signalling true label d long other = behind front 6 70 d long refl
+other_sent front OppositeSignalling false label d long other = behind front 3 67 d long refl
+other_sent front OppositeSignalling true label d long other = behind front 7 71 d long refl
+
+pub table_made : (s : Shape) (h : Hierarchy) (cells new : List (List ℕ)) → length cells ≡ 72 → IsLabelTable s h cells (2 ^ label_bits s) → new ≡ other_cells → IsCellTable s h (put_mid 64 8 cells new)
+table_made s h cells new long labels are =
+    let front : length (take 64 cells) ≡ 64 = length-take-le 64 cells (omega (arith, long)) in
+    let size : length new ≡ 8 = ap length are in
+    let put : put_mid 64 8 cells new ≡ take 64 cells ++ other_cells =
+    sym (take_all 72 (put_mid 64 8 cells new) (omega (arith, same_len_mid 64 8 cells new (size ∙ sym (length-take-le 8 (drop 64 cells) (omega (arith, length-drop 64 cells, long)))), long)))
+    ∙ take-put_mid 64 8 cells new 72 (omega (arith, size)) (omega (arith, long)) ∙ ap (λ (z : List (List ℕ)). take 64 cells ++ z) are in
+    record {
+      labels = λ label d less. let few : label < 64 = omega (arith, less, few_label_values s) in
+          ap (λ (z : List (List ℕ)). get_or z label d) put ∙ get_or_append_left (take 64 cells) other_cells d label (omega (arith, few, front)) ∙ get_or-take 64 cells label d few ∙ labels label d less;
+      others = λ source turned label d other. ap (λ (z : List (List ℕ)). get_or z (place_of source turned) d) put ∙ other_sent (take 64 cells) source turned label d front other;
+    }
 
 -- one bit more of a TPS word
 pub turned_more : (word : List Bool) (l : ℕ) → xor (is_turned word l) (bit word l) ≡ is_turned word (l + 1)

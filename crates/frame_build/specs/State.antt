@@ -1,8 +1,8 @@
 -- What a builder of symbols keeps.
-use Rattle.std.specs.Prelude.{◌≡◌, ℕ, zero, suc, ◌≤◌, ◌<◌, Bool, false, if◌then◌else◌, List, get_or, length, count_by, not, true, ◌*◌}
+use Rattle.std.specs.Prelude.{◌≡◌, ◌≢◌, ℕ, zero, suc, ◌≤◌, ◌<◌, Bool, false, if◌then◌else◌, List, [], ◌∷◌, get_or, length, count_by, not, true, ◌+◌, ◌*◌, ◌^◌}
 use Rattle.spec_words.specs.Bits.{bit, xor, is_set}
 use Rattle.spec_words.specs.Words.{numbers}
-use Rattle.mode_set.specs.StreamTable.{carriers}
+use Rattle.mode_set.specs.StreamTable.{carriers, label_bits}
 use Rattle.mode_set.specs.declared.modes.Mode.{Mode}
 use Rattle.mode_set.specs.declared.modes.Shape.{Shape}
 use Rattle.mode_set.specs.declared.modes.Hierarchy.{Hierarchy}
@@ -64,6 +64,25 @@ bytes_sent Pilot turned label = sent_bytes (real 21845 false)
 bytes_sent OppositePilot turned label = sent_bytes (real 21845 true)
 bytes_sent Signalling turned label = sent_bytes (real 16384 turned)
 bytes_sent OppositeSignalling turned label = sent_bytes (real 16384 (not turned))
+
+-- where what a carrier sends stands behind the cells of 64 labels
+abbrev pub place_of : Source → Bool → ℕ
+place_of Label turned = 63
+place_of Pilot turned = 64 + (if turned then 4 else 0)
+place_of OppositePilot turned = 65 + (if turned then 4 else 0)
+place_of Signalling turned = 66 + (if turned then 4 else 0)
+place_of OppositeSignalling turned = 67 + (if turned then 4 else 0)
+
+-- the bytes of what carriers send that send no label, where the TPS cells are not turned and where they are
+abbrev pub other_cells : List (List ℕ)
+other_cells =
+    sent_bytes (real 21845 false) ∷ sent_bytes (real 21845 true) ∷ sent_bytes (real 16384 false) ∷ sent_bytes (real 16384 true)
+    ∷ sent_bytes (real 21845 false) ∷ sent_bytes (real 21845 true) ∷ sent_bytes (real 16384 true) ∷ sent_bytes (real 16384 false) ∷ []
+
+-- the bytes of the cells of all labels, and those that other carriers send
+pub record IsCellTable (s : Shape) (h : Hierarchy) (cells : List (List ℕ)) : Type 0 where
+  pub labels : IsLabelTable s h cells (2 ^ label_bits s)
+  pub others : (source : Source) (turned : Bool) (label d : List ℕ) → source ≢ Label → get_or cells (place_of source turned) d ≡ bytes_sent source turned label
 
 -- the next symbol of a super-frame, and what the carriers of the symbols 0 to 3 send
 pub record IsReady (m : Mode) (s : Settings) (number : ℕ) (lists : List (List Source)) : Type 0 where

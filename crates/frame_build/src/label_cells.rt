@@ -1,9 +1,9 @@
-// The bytes of the cells of all labels of a constellation.
+// The bytes of the cells that carriers send: those of all labels of a constellation, and the others.
 ghost use Rattle.std.specs.Prelude.{◌≡◌, ◌^◌, ◌<◌, ◌≤◌, ◌⊎◌, ℕ, pos, get_or, length};
 ghost use Rattle.mode_set.specs.StreamTable.{label_bits};
 ghost use Rattle.qam_map.specs.Points.{map_cell};
 ghost use Rattle.frame_build.specs.Symbol.{bits_of, real, sent_bytes};
-ghost use Rattle.frame_build.specs.State.{IsLabelTable, bytes_sent};
+ghost use Rattle.frame_build.specs.State.{IsCellTable, IsLabelTable, bytes_sent, other_cells};
 
 use crate::five_bytes::cell_bytes;
 use crate::source::Source;
@@ -40,23 +40,53 @@ fn label_count(shape: Shape) -> u8
 }
 
 // The bytes of the cells of all labels of a constellation, by label.
-fn label_cells(shape: Shape, hierarchy: Hierarchy) -> [[u8; 5]; 64]
+fn label_cells(shape: Shape, hierarchy: Hierarchy) -> [[u8; 5]; 72]
     ensures { IsLabelTable shape hierarchy result (2 ^ label_bits shape) }
 {
-    let mut cells = [[0; 5]; 64];
+    let mut cells = [[0; 5]; 72];
     for label in 0..label_count(shape) {
         cells[label as usize] = bytes_of(map(shape, hierarchy, label));
     }
     cells
 }
 
-// The bytes of the cells of all labels, for the constellation of the symbol that was sent last.
+// What carriers send that send no label: as it is, and where the TPS cells are turned.
+fn other_cells() -> [[u8; 5]; 8]
+    ensures { result ≡ other_cells }
+{
+    let pilot = bytes_of(on_real_axis(21845, false));
+    let opposite_pilot = bytes_of(on_real_axis(21845, true));
+    let signalling = bytes_of(on_real_axis(16384, false));
+    let opposite_signalling = bytes_of(on_real_axis(16384, true));
+    [
+        pilot,
+        opposite_pilot,
+        signalling,
+        opposite_signalling,
+        pilot,
+        opposite_pilot,
+        opposite_signalling,
+        signalling,
+    ]
+}
+
+// The bytes of all cells that a carrier may send, those of the labels first.
+fn all_cells(shape: Shape, hierarchy: Hierarchy) -> [[u8; 5]; 72]
+    ensures { IsCellTable shape hierarchy result }
+{
+    let mut cells = label_cells(shape, hierarchy);
+    cells[64..72].copy_from_slice(&other_cells());
+    cells
+}
+
+// The bytes of all cells that a carrier may send, for the constellation of the symbol that was sent last. A
+// carrier's cell is found by an index, with no jump by what the carrier sends.
 #[derive(Drop)]
 pub(crate) struct LabelCells {
     pub shape: Shape,
     pub hierarchy: Hierarchy,
-    cells: [[u8; 5]; 64],
-    ghost table: { IsLabelTable shape hierarchy cells (2 ^ label_bits shape) },
+    cells: [[u8; 5]; 72],
+    ghost table: { IsCellTable shape hierarchy cells },
 }
 
 impl LabelCells {
@@ -67,7 +97,7 @@ impl LabelCells {
         LabelCells {
             shape,
             hierarchy,
-            cells: label_cells(shape, hierarchy),
+            cells: all_cells(shape, hierarchy),
         }
     }
 
@@ -88,12 +118,13 @@ impl LabelCells {
         requires small { source ≡ Source.Label → get_or labels.now next 0 < 2 ^ label_bits self.now.shape }
         ensures { result ≡ bytes_sent source turned (sent_bytes (map_cell self.now.shape self.now.hierarchy (bits_of labels.now next))) }
     {
-        match source {
-            Source::Label => self.cells[labels[next] as usize],
-            Source::Pilot => bytes_of(on_real_axis(21845, false)),
-            Source::OppositePilot => bytes_of(on_real_axis(21845, true)),
-            Source::Signalling => bytes_of(on_real_axis(16384, turned)),
-            Source::OppositeSignalling => bytes_of(on_real_axis(16384, !turned)),
-        }
+        let place = match source {
+            Source::Label => labels[next] as usize,
+            Source::Pilot
+            | Source::OppositePilot
+            | Source::Signalling
+            | Source::OppositeSignalling => source.place(turned),
+        };
+        self.cells[place]
     }
 }

@@ -1,9 +1,9 @@
 // What each carrier of a symbol sends.
-ghost use Rattle.std.specs.Prelude.{◌≡◌, ℕ, ◌+◌, ◌<◌};
+ghost use Rattle.std.specs.Prelude.{◌≡◌, ◌≢◌, ℕ, ◌+◌, ◌<◌};
 ghost use Rattle.mode_set.specs.StreamTable.{carriers};
 ghost use Rattle.pilots.specs.Carriers.{kind};
 ghost use Rattle.pilots.specs.Reference.{reference};
-ghost use Rattle.frame_build.specs.State.{AreSources, labels_of, source_of};
+ghost use Rattle.frame_build.specs.State.{AreSources, labels_of, place_of, source_of};
 
 use mode_set::Carriers;
 use pilots::{CarrierKind, kind, reference};
@@ -31,6 +31,14 @@ impl Source {
             | Source::Signalling
             | Source::OppositeSignalling => next,
         }
+    }
+
+    // Where its cell stands among those of all carriers, behind the cells of 64 labels.
+    pub(crate) fn place(self, turned: bool) -> usize
+        requires { self ≢ Source.Label }
+        ensures { result ≡ place_of self turned }
+    {
+        63 + self as usize + if turned { 4 } else { 0 }
     }
 }
 

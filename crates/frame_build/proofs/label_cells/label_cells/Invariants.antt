@@ -6,7 +6,7 @@ use Rattle.frame_build.specs.State.{IsLabelTable}
 use Rattle.frame_build.proofs.label_cells.label_cells.Given as goal
 
 pub record Filled (s : Shape) (h : Hierarchy) (cells : List (List ℕ)) (n : ℕ) : Type 0 where
-  pub long : length cells ≡ 64
+  pub long : length cells ≡ 72
   pub table : IsLabelTable s h cells n
 
 abbrev pub invariant-loop-label : goal.invariant-loop-label

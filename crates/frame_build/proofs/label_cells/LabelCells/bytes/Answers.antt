@@ -1,22 +1,17 @@
--- Each kind of carrier has its bytes.
-use Rattle.std.proofs.Common.{List, ℕ, ap, sym, ◌∙◌, refl}
+-- A label has its own cell, and each other source the one behind those of the labels.
+use Rattle.std.proofs.Common.{ℕ, List, ap, sym, ◌∙◌, get_or, [], rules}
 use Rattle.qam_map.specs.Points.{map_cell}
 use Rattle.frame_build.specs.Symbol.{bits_of, sent_bytes}
 use Rattle.frame_build.specs.State.{bytes_sent}
 use Rattle.frame_build.specs.declared.source.Source.{Source}
 use Rattle.frame_build.proofs.label_cells.LabelCells.bytes.Goals as goal
+use Rattle.frame_build.proofs.label_cells.LabelCells.bytes.Goals.{in-Label, in-Pilot}
 
-pub returns-in-OppositePilot : goal.returns-in-OppositePilot
-returns-in-OppositePilot c =
+pub returns : goal.returns
+returns c =
     let label : List ℕ = sent_bytes (map_cell c.args.self.now.shape c.args.self.now.hierarchy (bits_of c.args.labels.now c.args.next)) in
-    c.bytes_of-in-OppositePilot.ensures ∙ ap sent_bytes (c.on_real_axis-in-OppositePilot.ensures 21845 refl) ∙ ap (λ (z : Source). bytes_sent z c.args.turned label) (sym c.in-OppositePilot.is)
-
-pub returns-in-Signalling : goal.returns-in-Signalling
-returns-in-Signalling c =
-    let label : List ℕ = sent_bytes (map_cell c.args.self.now.shape c.args.self.now.hierarchy (bits_of c.args.labels.now c.args.next)) in
-    c.bytes_of-in-Signalling.ensures ∙ ap sent_bytes (c.on_real_axis-in-Signalling.ensures 16384 refl) ∙ ap (λ (z : Source). bytes_sent z c.args.turned label) (sym c.in-Signalling.is)
-
-pub returns-in-OppositeSignalling : goal.returns-in-OppositeSignalling
-returns-in-OppositeSignalling c =
-    let label : List ℕ = sent_bytes (map_cell c.args.self.now.shape c.args.self.now.hierarchy (bits_of c.args.labels.now c.args.next)) in
-    c.bytes_of-in-OppositeSignalling.ensures ∙ ap sent_bytes (c.on_real_axis-in-OppositeSignalling.ensures 16384 refl) ∙ ap (λ (z : Source). bytes_sent z c.args.turned label) (sym c.in-OppositeSignalling.is)
+    elim c.match-source.branch [
+      | in-Label w ↦ ap (λ (z : ℕ). get_or c.args.self.now.cells z []) w.place-is ∙ c.args.self.now.table.labels (get_or c.args.labels.now c.args.next 0) [] (c.requires.small w.in-Label.is)
+          ∙ ap (λ (z : Source). bytes_sent z c.args.turned label) (sym w.in-Label.is)
+      | in-Pilot w ↦ ap (λ (z : ℕ). get_or c.args.self.now.cells z []) (w.place-is ∙ w.place-place.ensures) ∙ c.args.self.now.table.others c.args.source c.args.turned label [] (search rules)
+    ]
