@@ -117,3 +117,53 @@ fn drawn_errors_by_both_decoders(rt: HostRuntime) {
         assert!(rt; both_agree(&sent, &word, errors), "{errors} errors");
     }
 }
+
+// The word with these errors, each of them a place and a value.
+fn with_errors(word: &[u8; 204], errors: &[(u8, u8)]) -> [u8; 204] {
+    let mut disturbed = *word;
+    for error in errors {
+        disturbed[error.0 as usize % 204] ^= error.1;
+    }
+    disturbed
+}
+
+// Two errors at the ends of a word and beside one another, three whose first syndromes are those of
+// one, and four whose first five are those of two.
+#[test]
+fn few_errors(rt: HostRuntime) {
+    let mut seed = 2u32;
+    let rows = [
+        &[(0u8, 1u8), (203, 255)][..],
+        &[(0, 255), (1, 255)],
+        &[(202, 16), (203, 1)],
+        &[(187, 7), (188, 7)],
+        &[(5, 120), (95, 131), (108, 185)],
+        &[(13, 69), (31, 20), (64, 208), (72, 113)],
+    ];
+    for row in rows {
+        let (sent, _) = drawn_words(&mut seed, 0);
+        assert!(rt;
+            comes_out(
+                &with_errors(&sent, row),
+                Outcome::Corrected(row.len() as u8),
+                &sent
+            )
+        );
+    }
+}
+
+// Two drawn errors at drawn places.
+#[test]
+fn two_drawn_errors(rt: HostRuntime) {
+    let mut seed = 3u32;
+    for _ in 0..40u8 {
+        let (sent, _) = drawn_words(&mut seed, 0);
+        let first = next_number(&mut seed) >> 8;
+        let second = first % 204 + 1 + (next_number(&mut seed) >> 8) % 203;
+        let errors = [
+            ((first % 204) as u8, 1 + next_byte(&mut seed) % 255),
+            ((second % 204) as u8, 1 + next_byte(&mut seed) % 255),
+        ];
+        assert!(rt; comes_out(&with_errors(&sent, &errors), Outcome::Corrected(2), &sent));
+    }
+}

@@ -1,10 +1,10 @@
 // Decoding by what is left of a division, and by syndromes only where something is left.
 
-ghost use Rattle.std.specs.Prelude.{◌≡◌, ◌<◌, ℕ, List, length, slice_index};
+ghost use Rattle.std.specs.Prelude.{◌≡◌, ◌≢◌, ◌<◌, ℕ, List, length, slice_index};
 ghost use Rattle.rs204.specs.Codes.{IsCodeword};
 ghost use Rattle.rs204.specs.Decoded.{Decoded, IsFar, IsNearBy};
 
-use crate::bytes::mul;
+use crate::bytes::{inv, mul};
 use crate::division::rest;
 use crate::outcome::Outcome;
 use crate::steps::{is_codeword, nearest, places_apart, syndromes_by_rest};
@@ -31,6 +31,74 @@ fn less_one_error(word: &[u8; 204], values: &[u8; 16]) -> [u8; 204]
     fixed
 }
 
+/// Bit i of a sum stands for this entry in `halved`, which is linear.
+const HALVES: [u8; 8] = [214, 232, 234, 44, 238, 0, 36, 80];
+
+/// The element that, added to its own square, gives this one, where there is one.
+// Nothing is promised of it, as of what is made from it.
+fn halved(sum: u8) -> u8 {
+    let mut root = 0u8;
+    for i in 0..8usize {
+        if (sum >> i) & 1 == 1 {
+            root ^= HALVES[i];
+        }
+    }
+    root
+}
+
+/// Adds to the byte of a word that a power of λ stands for, where it stands for one.
+fn add_at(word: &mut [u8; 204], power: u8, value: u8)
+    ensures size { length word.new ≡ 204 }
+    ensures bytes { (i : ℕ) → slice_index word.new i < 256 }
+{
+    if power != 0 {
+        let place = Elem(power).log() as usize;
+        if place < 204 {
+            word[203 - place] ^= value;
+        }
+    }
+}
+
+/// Takes two errors from a word, by its first two syndromes and the sum and the product of the powers of λ that stand for their
+/// places. The sum is not 0.
+fn take_two(word: &mut [u8; 204], values: &[u8; 16], sum: u8, product: u8)
+    requires { sum ≢ 0 }
+    ensures size { length word.new ≡ 204 }
+    ensures bytes { (i : ℕ) → slice_index word.new i < 256 }
+{
+    let inverse = inv(sum);
+    // the powers are the sum times the two roots of x^2 + x + product / sum^2
+    let ratio = mul(product, mul(inverse, inverse));
+    let one = mul(sum, halved(ratio));
+    let other = one ^ sum;
+    let value = mul(values[1] ^ mul(other, values[0]), inverse);
+    add_at(word, one, value);
+    add_at(word, other, values[0] ^ value);
+}
+
+/// The word less the two errors that its first syndromes speak of, where they speak of two: each next syndrome is then the sum of
+/// the two powers of λ that stand for their places times the one before, plus their product times the one before that. Else the
+/// word as it is.
+// Nothing is promised of it either.
+fn less_two_errors(word: &[u8; 204], values: &[u8; 16]) -> [u8; 204]
+    ensures size { length result ≡ 204 }
+    ensures bytes { (i : ℕ) → slice_index result i < 256 }
+{
+    let mut fixed = *word;
+    let (first, second, third, fourth) = (values[0], values[1], values[2], values[3]);
+    let determinant = mul(first, third) ^ mul(second, second);
+    if determinant != 0 {
+        let inverse = inv(determinant);
+        let sum = mul(mul(first, fourth) ^ mul(second, third), inverse);
+        let product = mul(mul(second, fourth) ^ mul(third, third), inverse);
+        // with more errors the fifth syndrome seldom fits
+        if sum != 0 && mul(sum, fourth) ^ mul(product, third) == values[4] {
+            take_two(&mut fixed, values, sum, product);
+        }
+    }
+    fixed
+}
+
 /// Puts the codeword that is within eight places in the place of the word, where there is one.
 fn put_right(word: &mut [u8; 204]) -> Outcome
     ensures { Decoded word.old word.new result }
@@ -40,11 +108,16 @@ fn put_right(word: &mut [u8; 204]) -> Outcome
         return Outcome::Clean;
     }
     let values = syndromes_by_rest(left);
-    // most words that are not clean have one error
+    // most words that are not clean have one error or two
     let early = less_one_error(word, &values);
     if places_apart(word, &early) == 1 && is_codeword(&early) {
         *word = early;
         return Outcome::Corrected(1);
+    }
+    let early = less_two_errors(word, &values);
+    if places_apart(word, &early) == 2 && is_codeword(&early) {
+        *word = early;
+        return Outcome::Corrected(2);
     }
     let fixed = nearest(word, &values);
     let count = places_apart(word, &fixed);
