@@ -128,7 +128,7 @@ class Proofs:
         self.seconds = seconds_of(top, uses)
         self.longest = chains(self.seconds, uses)
         self.waiting = sorted(uses, key=lambda it: -self.longest[it])
-        self.done, self.failed, self.alive, self.lock = set(), None, set(), threading.Lock()
+        self.done, self.failed, self.where, self.alive, self.lock = set(), None, {}, set(), threading.Lock()
 
     def share(self, crate, place):
         """Hands what was proved of a crate in one place to all others."""
@@ -158,7 +158,7 @@ class Proofs:
             jobs = max(1, min(MOST_JOBS, free // (len(ready) - at)))
             if self.longest[crate] * self.processors > sum(self.seconds[it] for it in self.uses if it not in self.done):
                 jobs = max(jobs, min(2, free))
-            place = self.idle.pop(0)
+            place = self.where[crate] = self.idle.pop(0)
             self.waiting.remove(crate)
             running[pool.submit(self.one, crate, place, jobs)] = crate, place, jobs
 
@@ -170,6 +170,7 @@ class Proofs:
                 while not self.failed:
                     self.begin(pool, running)
                     if not running:
+                        self.gather()
                         self.leave_copies()
                         return None
                     for ended in wait(running, return_when=FIRST_COMPLETED).done:
@@ -186,6 +187,12 @@ class Proofs:
             finally:
                 self.stop()
         return self.failed
+
+    def gather(self):
+        """Has rt take into the repository itself what was proved in copies alone: of crates that no library uses, and all below them."""
+        for crate, place in self.where.items():
+            if place != self.top and not any(crate in used for used in self.uses.values()):
+                self.one(crate, self.top, self.processors)
 
     def leave_copies(self):
         """Has the copies removed, for which nothing waits: the repository itself has all that was proved in them."""
