@@ -4,3 +4,4 @@ mod Words
 mod Walks
 mod Traces
 mod AllAlive
+pub mod Eights

@@ -13,7 +13,7 @@ use Rattle.std.proofs.Math.Seq.{take-append_seam, drop-append_seam}
 
 -- ---- bytes as bits
 
-spelled_at : (x j : ℕ) → j < 8 → get_or (spelled 8 x) j false ≡ is_set x (7 - j)
+pub spelled_at : (x j : ℕ) → j < 8 → get_or (spelled 8 x) j false ≡ is_set x (7 - j)
 spelled_at x zero l = refl
 spelled_at x (suc zero) l = refl
 spelled_at x (suc (suc zero)) l = refl
@@ -24,11 +24,11 @@ spelled_at x (suc (suc (suc (suc (suc (suc zero)))))) l = refl
 spelled_at x (suc (suc (suc (suc (suc (suc (suc zero))))))) l = refl
 spelled_at x (suc (suc (suc (suc (suc (suc (suc (suc j)))))))) l = absurd (omega arith)
 
-bits_len : (bytes : List ℕ) → length (bits_of_bytes bytes) ≡ 8 * length bytes
+pub bits_len : (bytes : List ℕ) → length (bits_of_bytes bytes) ≡ 8 * length bytes
 bits_len [] = refl
 bits_len (x ∷ xs) = omega (arith, length-append (spelled 8 x) (bits_of_bytes xs), bits_len xs)
 
-bits_at : (bytes : List ℕ) (b j : ℕ) → j < 8 → b < length bytes → get_or (bits_of_bytes bytes) (8 * b + j) false ≡ is_set (get_or bytes b 0) (7 - j)
+pub bits_at : (bytes : List ℕ) (b j : ℕ) → j < 8 → b < length bytes → get_or (bits_of_bytes bytes) (8 * b + j) false ≡ is_set (get_or bytes b 0) (7 - j)
 bits_at [] b j l m = absurd (omega arith)
 bits_at (x ∷ xs) zero j l m = let e : 8 * 0 + j ≡ j = omega arith in ap (λ k. get_or (spelled 8 x ++ bits_of_bytes xs) k false) e ∙ get_or_append_left (spelled 8 x) (bits_of_bytes xs) false j l ∙ spelled_at x j l
 bits_at (x ∷ xs) (suc b) j l m =

@@ -32,7 +32,7 @@ pub trace_push : (ws : List ℕ) (d n : ℕ) → trace (ws ++ d ∷ []) n ≡ tr
 trace_push [] d n = refl
 trace_push (w ∷ ws) d n = ap₂ (λ x xs. is_set x 5 ∷ xs) (root_push ws d n) (trace_push ws d n)
 
-root_append : (ws vs : List ℕ) (n : ℕ) → root (ws ++ vs) n ≡ root ws (root vs n)
+pub root_append : (ws vs : List ℕ) (n : ℕ) → root (ws ++ vs) n ≡ root ws (root vs n)
 root_append [] vs n = refl
 root_append (w ∷ ws) vs n = ap (before w) (root_append ws vs n)
 
@@ -357,7 +357,7 @@ pub walk_alike : (ws : List ℕ) (states j now answer : ℕ) → Walk ws states 
 walk_alike ws states j now answer h z = found_alike ws states answer (record { within = h.within; alike = λ p k. h.alike p (omega (arith, z)) k; differ = h.differ })
 
 -- the way from a place back to an earlier one
-root_from : (ws : List ℕ) (i j n : ℕ) → i ≤ j → root (drop i ws) n ≡ root (take (j - i) (drop i ws)) (root (drop j ws) n)
+pub root_from : (ws : List ℕ) (i j n : ℕ) → i ≤ j → root (drop i ws) n ≡ root (take (j - i) (drop i ws)) (root (drop j ws) n)
 root_from ws i j n l =
     let e : j - i + i ≡ j = omega arith in
     ap (λ z. root z n) (sym (take-append-drop (j - i) (drop i ws)))

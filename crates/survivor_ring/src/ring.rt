@@ -1,6 +1,6 @@
 // Survivors as decision words.
 ghost use Rattle.std.specs.Prelude.{◌≡◌, ◌≢◌, ◌+◌, ◌-◌, ◌*◌, ◌/◌, ◌%◌, ◌<◌, ◌≤◌, ◌==◌, ℕ, Bool, List, [], ◌∷◌, ◌++◌, ◌&&◌, ◌||◌, not, cond, length, take, drop, IfOk, IsTrue, ◌↔◌};
-ghost use Rattle.spec_words.specs.Bits.{is_set};
+ghost use Rattle.spec_words.specs.Bits.{is_set, spelled};
 ghost use Rattle.code_paths.specs.States.{before};
 ghost use Rattle.survivor_ring.specs.Survivors.{AreAlike, IsAlike};
 ghost use Rattle.survivor_ring.specs.Ring.{TraceFollows, root, trace, IsTraced, moved, AreBefore, IsSplit, IsUniform, IsSingle, Chosen};
@@ -77,9 +77,9 @@ fn step_back(word: u64, state: u64) -> u64
     2 * (state % 32) + if odd { 1 } else { 0 }
 }
 
-/// Writes the bits that words stand for, from a place on, eight in a byte: behind the oldest word the state before it, and
-/// the eight bits from this place on. `byte` are the eight bits behind those of the newest word.
-fn trace_part(
+/// Writes the bits that words stand for, from a place on, one by one: behind the oldest word the state before it, and the
+/// eight bits from this place on. `byte` are the eight bits behind those of the newest word.
+fn trace_steps(
     words: &[u64],
     place: usize,
     state: u64,
@@ -104,6 +104,153 @@ fn trace_part(
         now = step_back(words[index], now);
     }
     (now, last)
+}
+
+/// A step back that keeps what it leaves: the state before is the lowest six bits, and above them are the newest bits of
+/// the states on the way, the latest one the lowest.
+fn walk_back(word: u64, walk: u64) -> u64
+    requires { walk < 8192 }
+    ensures state { result % 64 ≡ before word (walk % 64) }
+    ensures rest { result / 2 ≡ walk }
+{
+    let odd = (word >> (walk % 64)) & 1 == 1;
+    2 * walk + if odd { 1 } else { 0 }
+}
+
+/// The bits of a byte in the other order.
+fn reversed(byte: u8) -> u8
+    ensures { (k : ℕ) → k < 8 → is_set result (7 - k) ≡ is_set byte k }
+{
+    let halves = byte >> 4 | byte << 4;
+    let pairs = (halves >> 2) & 0x33 | (halves & 0x33) << 2;
+    (pairs >> 1) & 0x55 | (pairs & 0x55) << 1
+}
+
+/// The state before eight words, and the bits that they stand for as a byte.
+fn trace_byte(words: &[u64], state: u64) -> (u64, u8)
+    requires number { length words.now ≡ 8 }
+    requires state { state < 64 }
+    ensures root { result.0 ≡ root words.now state }
+    ensures small { result.0 < 64 }
+    ensures bits { spelled 8 result.1 ≡ trace words.now state }
+{
+    let mut walk = state;
+    for k in 0..8usize {
+        walk = walk_back(words[7 - k], walk);
+    }
+    (walk % 64, reversed((walk / 64 % 256) as u8))
+}
+
+/// Writes the bits that newer words stand for, and beside them those that older words stand for if state 0 follows these:
+/// two walks side by side take no longer than one. The states before the older and the newer words.
+fn trace_both(
+    older: &[u64],
+    newer: &[u64],
+    state: u64,
+    first: &mut [u8],
+    last: &mut [u8],
+) -> (u64, u64)
+    requires number { length last.old ≡ length first.old }
+    requires older { length older.now ≡ 8 * length first.old }
+    requires newer { length newer.now ≡ 8 * length first.old }
+    requires state { state < 64 }
+    ensures first_size { length first.new ≡ length first.old }
+    ensures last_size { length last.new ≡ length last.old }
+    ensures first_root { result.0 ≡ root older.now 0 }
+    ensures first_bits { bits_of_bytes first.new ≡ trace older.now 0 }
+    ensures last_root { result.1 ≡ root newer.now state }
+    ensures last_bits { bits_of_bytes last.new ≡ trace newer.now state }
+    ensures small { result.1 < 64 }
+{
+    let count = first.len();
+    let mut guess = 0;
+    let mut now = state;
+    for k in 0..count {
+        let index = count - 1 - k;
+        let (next, byte) = trace_byte(&newer[8 * index..8 * index + 8], now);
+        let (other, guessed) = trace_byte(&older[8 * index..8 * index + 8], guess);
+        last[index] = byte;
+        first[index] = guessed;
+        now = next;
+        guess = other;
+    }
+    (guess, now)
+}
+
+/// Makes the bits that were written for state 0 those for another state. Where a byte stays, so do all before it, since the
+/// walk has come to the same state.
+fn rejoin(words: &[u64], state: u64, guess: u64, bytes: &mut [u8]) -> u64
+    requires number { length words.now ≡ 8 * length bytes.old }
+    requires state { state < 64 }
+    requires guess { guess ≡ root words.now 0 }
+    requires bits { bits_of_bytes bytes.old ≡ trace words.now 0 }
+    ensures size { length bytes.new ≡ length bytes.old }
+    ensures root { result ≡ root words.now state }
+    ensures bits { bits_of_bytes bytes.new ≡ trace words.now state }
+{
+    let count = bytes.len();
+    let mut now = state;
+    for k in 0..count {
+        let index = count - 1 - k;
+        let (next, byte) = trace_byte(&words[8 * index..8 * index + 8], now);
+        if bytes[index] == byte {
+            return guess;
+        }
+        bytes[index] = byte;
+        now = next;
+    }
+    now
+}
+
+/// Writes the bits that words stand for, eight in a byte, and answers the state before them.
+fn trace_bytes(words: &[u64], half: usize, state: u64, bytes: &mut [u8]) -> u64
+    requires number { length words.now ≡ 16 * half }
+    requires size { length bytes.old ≡ 2 * half }
+    requires state { state < 64 }
+    ensures size { length bytes.new ≡ length bytes.old }
+    ensures root { result ≡ root words.now state }
+    ensures bits { bits_of_bytes bytes.new ≡ trace words.now state }
+{
+    let older = &words[..8 * half];
+    let newer = &words[8 * half..];
+    let (first, last) = bytes.split_at_mut(half);
+    let (guess, now) = trace_both(older, newer, state, first, last);
+    rejoin(older, now, guess, first)
+}
+
+/// Writes the bits that words stand for, from a place on, eight in a byte: behind the oldest word the state before it, and
+/// the eight bits from this place on. `byte` are the eight bits behind those of the newest word.
+fn trace_part(
+    words: &[u64],
+    place: usize,
+    state: u64,
+    byte: u64,
+    bytes: &mut [u8; 257],
+) -> (u64, u64)
+    requires state { state < 64 }
+    requires byte { byte < 256 }
+    requires room { place + length words.now ≤ 2056 }
+    ensures root { result.0 ≡ root words.now state }
+    ensures small { result.0 < 64 }
+    ensures byte { result.1 < 256 }
+    ensures traced { (bits : List Bool) → take (length words.now) (drop place bits) ≡ trace words.now state → IsTraced bits (place + length words.now) byte bytes.old → IsTraced bits place result.1 bytes.new }
+{
+    let count = words.len();
+    let low = (8 - place % 8) % 8;
+    if count < low + 16 {
+        return trace_steps(words, place, state, byte, bytes);
+    }
+    let half = (count - low) / 16;
+    let high = low + 16 * half;
+    let start = (place + low) / 8;
+    let (after, _) = trace_steps(&words[high..], place + high, state, byte, bytes);
+    let now = trace_bytes(
+        &words[low..high],
+        half,
+        after,
+        &mut bytes[start..start + 2 * half],
+    );
+    trace_steps(&words[..low], place, now, bytes[start] as u64, bytes)
 }
 
 /// Writes the bits that the words of a ring stand for, eight in a byte.

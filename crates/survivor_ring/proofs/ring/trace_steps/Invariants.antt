@@ -1,6 +1,6 @@
 use Rattle.std.proofs.Common.{◌≡◌, ◌+◌, ◌-◌, ◌<◌, List, Bool, length, take, drop}
 use Rattle.survivor_ring.specs.Ring.{IsTraced, root, trace}
-use Rattle.survivor_ring.proofs.ring.trace_part.Given as goal
+use Rattle.survivor_ring.proofs.ring.trace_steps.Given as goal
 
 abbrev pub invariant-loop-k : goal.invariant-loop-k
 invariant-loop-k l = record {
