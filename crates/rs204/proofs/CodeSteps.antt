@@ -1,7 +1,7 @@
 -- What the code's loops do.
-use Rattle.std.proofs.Common.{◌≡◌, ℕ, zero, suc, ◌+◌, ◌-◌, ◌<◌, ◌≤◌, Bool, true, false, cond, set, drop, add-one, add-zero, add-suc, append-nil, length-append, length-take, List, [], ◌∷◌, ◌++◌, map, reverse, length, get_or, take, refl, sym, ap, ap₂, ◌∙◌, arith, ext_get_or}
+use Rattle.std.proofs.Common.{◌≡◌, ℕ, zero, suc, ◌+◌, ◌-◌, ◌<◌, ◌≤◌, Bool, true, false, cond, set, add-one, add-zero, add-suc, append-nil, length-append, length-take, List, [], ◌∷◌, ◌++◌, map, reverse, length, get_or, take, refl, sym, ap, ap₂, ◌∙◌, arith, ext_get_or}
 use Rattle.std.specs.Prelude.{bit_xor}
-use Rattle.std.proofs.lemmas.List.{take_more, take_more_set, drop_more, reverse-append, length-map}
+use Rattle.std.proofs.lemmas.List.{take_more, take_more_set, reverse-append, length-map}
 use lib.Bits.{xor_comm, xor_zero_r}
 use Rattle.gf256.specs.Field.{mul, power}
 use Rattle.gf256.proofs.FieldLaws.{mul_zero_right}

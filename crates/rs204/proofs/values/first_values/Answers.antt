@@ -1,4 +1,4 @@
-use Rattle.std.proofs.Common.{◌≡◌, ◌∙◌, refl, ap, subst, arith, take}
+use Rattle.std.proofs.Common.{◌≡◌, refl, subst, arith, take}
 use Rattle.rs204.specs.Division.{Holds}
 use Rattle.rs204.proofs.PlaceValues.{values_from, summed_none, summed_more, summed_all}
 use Rattle.rs204.proofs.values.first_values.Goals as goal
