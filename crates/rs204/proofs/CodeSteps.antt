@@ -1,7 +1,7 @@
 -- What the code's loops do.
-use Rattle.std.proofs.Common.{◌≡◌, ℕ, zero, suc, ◌+◌, ◌-◌, ◌<◌, ◌≤◌, Bool, true, false, cond, set, drop, add-one, add-zero, add-suc, append-nil, length-append, length-take, List, [], ◌∷◌, ◌++◌, map, reverse, length, get_or, take, refl, sym, ap, ap₂, ◌∙◌, arith, ext_get_or}
+use Rattle.std.proofs.Common.{◌≡◌, ℕ, zero, suc, ◌+◌, ◌-◌, ◌<◌, ◌≤◌, Bool, true, false, cond, set, add-one, add-zero, add-suc, append-nil, length-append, length-take, List, [], ◌∷◌, ◌++◌, map, reverse, length, get_or, take, refl, sym, ap, ap₂, ◌∙◌, arith, ext_get_or}
 use Rattle.std.specs.Prelude.{bit_xor}
-use Rattle.std.proofs.lemmas.List.{take_more, take_more_set, drop_more, reverse-append, length-map}
+use Rattle.std.proofs.lemmas.List.{take_more, take_more_set, reverse-append, length-map}
 use lib.Bits.{xor_comm, xor_zero_r}
 use Rattle.gf256.specs.Field.{mul, power}
 use Rattle.gf256.proofs.FieldLaws.{mul_zero_right}
@@ -36,13 +36,6 @@ pub sum_end : (f : ℕ) (to old other : List ℕ) (j : ℕ) → 9 ≤ j → leng
 sum_end f to old other j l a b c h =
     let m : length (map (mul f) other) ≡ 9 = length-map other (mul f) ∙ c in
     ext_get_or 0 to (plus old (map (mul f) other)) (a ∙ sym (length-plus old (map (mul f) other) (b ∙ sym m) ∙ b)) (λ k w. h k (omega arith) ∙ sym (get_or-sum f old other k))
-
-pub value_down : (x n k sum : ℕ) (p : List ℕ) (b : ℕ) → k < n → length p ≡ n → b ≡ get_or p (n - 1 - k) 0 → sum ≡ value_at x (drop (n - k) p) → bit_xor (mul x sum) b ≡ value_at x (drop (n - (k + 1)) p)
-value_down x n k sum p b l m e h =
-    let u : n - (k + 1) ≡ n - 1 - k = omega arith in
-    let v : n - 1 - k + 1 ≡ n - k = omega arith in
-    xor_comm (mul x sum) b ∙ ap₂ (λ y z. bit_xor y (mul x z)) e (h ∙ ap (λ n. value_at x (drop n p)) (sym v))
-    ∙ ap (value_at x) (sym (drop_more p (n - 1 - k) 0 (omega arith))) ∙ ap (λ n. value_at x (drop n p)) (sym u)
 
 pub found_one : (test : ℕ → Bool) (count k : ℕ) (at : List ℕ) → count < length at → test k ≡ true → take count at ≡ chosen test k → take (count + 1) (set at count k) ≡ chosen test (k + 1)
 unfolding chosen

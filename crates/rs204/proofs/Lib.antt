@@ -9,5 +9,6 @@ pub mod Solving
 pub mod Near
 pub mod Horner
 pub mod Dividing
+pub mod PlaceValues
 pub mod Codewords
 pub mod Exact

@@ -16,6 +16,8 @@ mod multiples_ahead;
 mod outcome;
 pub mod plain;
 pub mod steps;
+mod terms;
+mod values;
 
 pub use decoder::decode;
 pub use encoder::encode;

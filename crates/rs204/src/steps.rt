@@ -4,7 +4,7 @@
 ghost use Rattle.std.specs.Prelude.{◌≡◌, [], ◌∷◌, ◌≢◌, ◌+◌, ◌-◌, ◌<◌, ◌≤◌, ℕ, List, length, map, slice_index, bit_xor, take, IsTrue, ◌↔◌};
 ghost use Rattle.gf256.specs.Field as field;
 ghost use Rattle.rs204.specs.Codes.{AreBytes, IsCodeword, distance, plus, rest_of};
-ghost use Rattle.rs204.specs.Polynomials.{IsNonzero, along, value_at};
+ghost use Rattle.rs204.specs.Polynomials.{IsNonzero, along};
 ghost use Rattle.rs204.specs.Kernels.{IsKernel, vector};
 ghost use Rattle.rs204.specs.Decoding.{AllDiffer, AreSyndromes, Differ, DifferAtRoots, HasFewRoots, IsLocator, IsSolution, Solves, Unscales, chosen, corrected, is_root};
 ghost use Rattle.rs204.specs.Division.{Holds};
@@ -12,6 +12,7 @@ ghost use Rattle.std.specs.List.{All};
 
 use crate::bytes::{inv, mul, power};
 use crate::division::rest;
+use crate::values::values_at_places;
 use gf256::Elem;
 
 /// The values at the first sixteen powers of λ after one more coefficient.
@@ -156,17 +157,6 @@ pub fn locator(values: &[u8; 16], errors: usize) -> [u8; 9]
     solution(values, errors)
 }
 
-fn value_of(polynomial: &[u8], x: u8) -> u8
-    ensures { result ≡ value_at x polynomial.now }
-{
-    let count = polynomial.len();
-    let mut sum = 0u8;
-    for k in 0..count {
-        sum = mul(x, sum) ^ polynomial[count - 1 - k];
-    }
-    sum
-}
-
 /// At most sixteen places of a word, as powers of x.
 #[derive(Drop)]
 struct Places {
@@ -176,7 +166,8 @@ struct Places {
 
 /// The places where a polynomial is 0.
 fn find_places(polynomial: &[u8]) -> Places
-    requires { HasFewRoots polynomial.now }
+    requires size { length polynomial.now ≤ 17 }
+    requires few { HasFewRoots polynomial.now }
     ensures count { result.count ≤ 16 }
     ensures places { take result.count result.at ≡ chosen (is_root polynomial.now) 204 }
 {
@@ -184,8 +175,10 @@ fn find_places(polynomial: &[u8]) -> Places
         at: [0; 16],
         count: 0,
     };
+    let values = values_at_places(polynomial);
     for k in 0..204u8 {
-        if value_of(polynomial, power(k)) == 0 {
+        let value = values[k as usize];
+        if value == 0 {
             found.at[found.count] = k;
             found.count += 1;
         }

@@ -6,8 +6,8 @@ use Rattle.rs204.specs.Decoding.{AllDiffer, HasFewRoots, chosen, is_root, correc
 use Rattle.rs204.proofs.Near.{bytes_of, chosen_differ, chosen_below, fewer_roots, repaired}
 use Rattle.rs204.proofs.steps.repair.Goals as goal
 
-pub find_places-places-requires : goal.find_places-places-requires
-find_places-places-requires c = omega (arith, fewer_roots c.args.polynomial.now (bytes_of c.args.polynomial.now (λ k. (c.type_inv.polynomial k).fits)) c.requires.some, c.requires.size)
+pub find_places-places-requires-clause-few : goal.find_places-places-requires-clause-few
+find_places-places-requires-clause-few c = omega (arith, fewer_roots c.args.polynomial.now (bytes_of c.args.polynomial.now (λ k. (c.type_inv.polynomial k).fits)) c.requires.some, c.requires.size)
 
 pub solve-requires-clause-differ : goal.solve-requires-clause-differ
 solve-requires-clause-differ c = subst AllDiffer (sym (c.powers-found.ensures ∙ ap (map field.power) c.find_places-places.ensures.places)) (chosen_differ 204 (is_root c.args.polynomial.now) (lit≤ tt))
