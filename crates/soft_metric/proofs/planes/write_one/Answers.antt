@@ -21,10 +21,10 @@ loop-place-preserved c =
     let place : e < label_bits s = omega (arith, c.loop-place-test.true, c.label_bits-place-end.ensures) in
     let room : label_bits s * length cells ≤ length c.loop-place.to = omega (arith, c.requires.room, c.loop-place.auto.to) in
     let right : (d : Cell) → c.weighted.result ≡ weighted (costs_at_place s h (slice_index_or cells q d) e) w = λ d.
-        c.weighted.ensures.weighted ∙ ap (λ (z : ℕ × ℕ). weighted z w) (ap₂ two c.costs-pair.ensures.zero c.costs-pair.ensures.one)
-        ∙ ap (λ (z : Cell). weighted (costs_at_place s h z e) w) (get_or_default cells q _ d c.requires.within) in
+    c.weighted.ensures.weighted ∙ ap (λ (z : ℕ × ℕ). weighted z w) (ap₂ two c.costs-pair.ensures.zero c.costs-pair.ensures.one)
+    ∙ ap (λ (z : Cell). weighted (costs_at_place s h z e) w) (get_or_default cells q _ d c.requires.within) in
     let p : Put s h cells weights e q 1 (e * length cells + q) c.loop-place.to (slice_set c.loop-place.to (e * length cells + q) c.weighted.result)
-        = one_put s h cells weights e q _ c.weighted.result c.loop-place.to refl place c.requires.within c.requires.weights room right in
+    = one_put s h cells weights e q _ c.weighted.result c.loop-place.to refl place c.requires.within c.requires.weights room right in
     record {
       writes = then_written s h cells weights _ _ _ c.loop-place.invariant.writes (put_writes s h cells weights e q 1 _ _ _ p);
       here = one_more s h cells weights e q _ _ _ p c.loop-place.invariant.here;

@@ -1,5 +1,4 @@
-use Rattle.std.proofs.Common.{◌≡◌, ◌+◌, ◌≤◌, ℕ, length, arith}
-use Rattle.soft_metric.specs.Planes.{IsWrittenAt}
+use Rattle.std.proofs.Common.{◌+◌, ◌≤◌, length, arith}
 use Rattle.soft_metric.proofs.Writing.{cells_more, one_cell, then_written}
 use Rattle.soft_metric.proofs.planes.write_planes.Goals as goal
 

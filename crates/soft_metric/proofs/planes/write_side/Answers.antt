@@ -1,4 +1,4 @@
-use Rattle.std.proofs.Common.{◌≡◌, ◌+◌, ◌*◌, ◌<◌, ℕ, List, length, refl, arith}
+use Rattle.std.proofs.Common.{◌+◌, ◌*◌, ◌<◌, ℕ, length, refl, arith}
 use Rattle.mode_set.specs.StreamTable.{label_bits}
 use Rattle.soft_metric.proofs.Writing.{Put, lanes_here, put_writes, side_more, then_written}
 use Rattle.soft_metric.proofs.planes.write_side.Goals as goal
