@@ -17,7 +17,7 @@ use Rattle.soft_metric.specs.Squares.{IsSmallPair}
 use Rattle.soft_metric.specs.Weights.{full_weight, weighted}
 use Rattle.qam_map.specs.Cells.{cell_of}
 use Rattle.inner_chain.specs.CostPairs.{weight_of, costs_on, weighted_costs_on}
-use Rattle.inner_chain.specs.CostTables.{pair_at, ArePayloadCells, ArePayloadWeights, AreWeights, ArePlanes, PutsCosts, AreCosts, AreCarriers, IsRoom, most_places}
+use Rattle.inner_chain.specs.CostTables.{pair_at, ArePayloadCells, ArePayloadWeights, AreWeights, AreCosts, AreCarriers, IsRoom, most_places}
 use Rattle.inner_chain.proofs.Entering.{six}
 
 -- ---- the carriers of a symbol
@@ -90,85 +90,31 @@ weights_more m weights l q p table to e a w low repeat c = record {
         go (inl same) = subst (λ (z : ℕ). slice_index (slice_set to q v) z ≤ full_weight) (sym same) (subst (λ (z : ℕ). z ≤ full_weight) (sym (get_or-set_same to q v 0 fits)) (w.small k within))
         go (inr other) = subst (λ (z : ℕ). z ≤ full_weight) (sym (get_or-set_other to q j v 0 other)) (c.room.small j h)
 
--- ---- costs more
--- a place among the costs of all places: which label place and which payload place
-row_is : (m : Mode) (e p q k count : ℕ) → p < payload m → q + count ≤ payload m → k * payload m + q ≤ e * payload m + p → e * payload m + p < k * payload m + q + count → (e ≡ k) × (p ≡ q + (e * payload m + p - (k * payload m + q)))
-row_is M2k e p q k count a b l m = (omega (arith, a, b, l, m), omega (arith, a, b, l, m))
-row_is M8k e p q k count a b l m = (omega (arith, a, b, l, m), omega (arith, a, b, l, m))
-
-in_room : (m : Mode) (v e q count : ℕ) → e < v → q + count ≤ payload m → e * payload m + q + count ≤ payload m * v
-in_room m v e q count l b = let r : (e + 1) * payload m ≤ v * payload m = mul-le-mul_right (payload m) (omega (arith, l)) in omega (arith, r, b)
-
-pub record HasMore (s : Settings) (cells : List Cell) (weights : List ℕ) (n : ℕ) (new : List (ℕ × ℕ)) : Type 0 where
-  pub planes : ArePlanes s cells weights n new
-  pub room : IsRoom s.mode new
-
-pub costs_more : (s : Settings) (cells : List Cell) (weights : List ℕ) (e q count : ℕ) (old new : List (ℕ × ℕ)) → e < label_bits s.shape → q + count ≤ payload s.mode
-    → ArePlanes s cells weights (e * payload s.mode + q) old → IsRoom s.mode old → PutsCosts s e q count cells weights old new → HasMore s cells weights (e * payload s.mode + (q + count)) new
-costs_more s cells weights e q count old new within fits a r w = record { planes = record { at = at }; room = record { long = w.long ∙ r.long; last = last; small = small } }
-  where
-    n : ℕ
-    n = e * payload s.mode + q
-
-    at : (p f : ℕ) (d : Cell) → p < payload s.mode → f < label_bits s.shape → f * payload s.mode + p < e * payload s.mode + (q + count) → pair_at new (f * payload s.mode + p) ≡ weighted (costs_at_place s.shape s.hierarchy (slice_index_or cells p d) f) (slice_index weights p)
-    at p f d m l below = go (cases_lt (f * payload s.mode + p) (e * payload s.mode + q))
-      where
-        go : (f * payload s.mode + p < e * payload s.mode + q) ⊎ (e * payload s.mode + q ≤ f * payload s.mode + p) → pair_at new (f * payload s.mode + p) ≡ weighted (costs_at_place s.shape s.hierarchy (slice_index_or cells p d) f) (slice_index weights p)
-        go (inl less) = w.below (f * payload s.mode + p) less ∙ a.at p f d m l less
-        go (inr more) =
-            let j = f * payload s.mode + p - (e * payload s.mode + q) in
-            let r = row_is s.mode f p q e count m fits more (omega (arith, below)) in
-            let place : e * payload s.mode + q + j ≡ f * payload s.mode + p = omega (arith, more) in
-            ap (pair_at new) (sym place) ∙ w.here j d (omega (arith, below, more))
-            ∙ ap (λ z. weighted (costs_at_place s.shape s.hierarchy (slice_index_or cells z d) e) (slice_index weights z)) (sym r.1)
-            ∙ ap (λ z. weighted (costs_at_place s.shape s.hierarchy (slice_index_or cells p d) z) (slice_index weights p)) (sym r.0)
-
-    top : e * payload s.mode + q + count ≤ most_places s.mode
-    top = omega (arith, in_room s.mode (label_bits s.shape) e q count within fits, six (payload s.mode) s.shape)
-
-    last : pair_at new (most_places s.mode) ≡ (0, 0)
-    last = w.above (most_places s.mode) top ∙ r.last
-
-    small : (k : ℕ) → k < length new → IsSmallPair (pair_at new k)
-    small k m = go (cases_lt k (e * payload s.mode + q)) (cases_lt k (e * payload s.mode + q + count))
-      where
-        in_old : k < length old
-        in_old = omega (arith, m, w.long)
-
-        go : (k < e * payload s.mode + q) ⊎ (e * payload s.mode + q ≤ k) → (k < e * payload s.mode + q + count) ⊎ (e * payload s.mode + q + count ≤ k) → IsSmallPair (pair_at new k)
-        go (inl less) z = subst IsSmallPair (sym (w.below k less)) (r.small k in_old)
-        go (inr more) (inl less) =
-            let place : e * payload s.mode + q + (k - (e * payload s.mode + q)) ≡ k = omega (arith, more) in
-            subst (λ z. IsSmallPair (pair_at new z)) place (w.small (k - (e * payload s.mode + q)) (omega (arith, more, less)))
-        go (inr more) (inr past) = subst IsSmallPair (sym (w.above k past)) (r.small k in_old)
-
--- sixteen costs that are put into the others
-pub sixteen_put : (m : Shape × Hierarchy) (s : Settings) (e q first : ℕ) (cells block : List Cell) (weights part : List ℕ) (pairs old new : List (ℕ × ℕ)) → m ≡ (s.shape, s.hierarchy) → first ≡ e * payload s.mode + q → length new ≡ length old
-    → ((j : ℕ) (d : Cell) → j < 16 → slice_index_or block j d ≡ slice_index_or cells (q + j) d)
-    → ((j : ℕ) → j < 16 → slice_index part j ≡ slice_index weights (q + j))
-    → ((k : ℕ) (d : Cell) → k < 16 → pair_at pairs k ≡ weighted (costs_at_place m.0 m.1 (slice_index_or block k d) e) (slice_index part k)) → ((k : ℕ) → k < 16 → IsSmallPair (pair_at pairs k))
-    → ((k : ℕ) → k < 16 → pair_at new (first + k) ≡ pair_at pairs k) → ((k : ℕ) → k < first → pair_at new k ≡ pair_at old k) → ((k : ℕ) → first + 16 ≤ k → pair_at new k ≡ pair_at old k) → PutsCosts s e q 16 cells weights old new
-sixteen_put m s e q first cells block weights part pairs old new em ef long eb ew costs small put lower upper = record {
-  long = long;
-  here = λ j d l. put_at j l ∙ costs_here j d l ∙ ap₂ (λ (z : Cell) (w : ℕ). weighted (costs_at_place s.shape s.hierarchy z e) w) (eb j d l) (ew j l);
-  small = λ j l. subst IsSmallPair (sym (put_at j l)) (small j l);
-  below = λ k l. lower k (omega (arith, l, ef));
-  above = λ k l. upper k (omega (arith, l, ef));
-}
-  where
-    put_at : (j : ℕ) → j < 16 → pair_at new (e * payload s.mode + q + j) ≡ pair_at pairs j
-    put_at j l = ap (λ z. pair_at new (z + j)) (sym ef) ∙ put j l
-
-    costs_here : (j : ℕ) (d : Cell) → j < 16 → pair_at pairs j ≡ weighted (costs_at_place s.shape s.hierarchy (slice_index_or block j d) e) (slice_index part j)
-    costs_here j d l = subst (λ z. pair_at pairs j ≡ weighted (costs_at_place z.0 z.1 (slice_index_or block j d) e) (slice_index part j)) em (costs j d l)
-
--- the costs of all places, by the cells of the carriers
-pub costs_all : (s : Settings) (cells list : List Cell) (weights ws : List ℕ) (l n : ℕ) (costs : List (ℕ × ℕ)) → ArePayloadCells s.mode cells l (payload s.mode) list → ArePayloadWeights s.mode weights l (payload s.mode) ws → n ≡ label_bits s.shape → ArePlanes s list ws (n * payload s.mode) costs → AreCosts s cells weights l costs
+-- ---- the costs of all places
+-- the metric is that of the settings, and its costs of these payload cells are written
+pub costs_all : (s : Settings) (m : Shape × Hierarchy) (cells list : List Cell) (weights ws : List ℕ) (l : ℕ) (costs : List (ℕ × ℕ)) → m ≡ (s.shape, s.hierarchy) → ArePayloadCells s.mode cells l (payload s.mode) list → ArePayloadWeights s.mode weights l (payload s.mode) ws
+    → ((q e : ℕ) (d : Cell) → q < length list → e < label_bits m.0 → pair_at costs (e * length list + q) ≡ weighted (costs_at_place m.0 m.1 (slice_index_or list q d) e) (slice_index ws q)) → AreCosts s cells weights l costs
 unfolding costs_on weighted_costs_on
-costs_all s cells list weights ws l n costs c w en a = record { at = at }
+costs_all s m cells list weights ws l costs em c w written = record { at = at }
   where
     at : (q e : ℕ) → q < payload s.mode → e < label_bits s.shape → pair_at costs (e * payload s.mode + q) ≡ weighted_costs_on s cells weights l q e
-    at q e m k =
+    at q e low place =
         let d : Cell = cell_of cells 0 in
-        let r : (e + 1) * payload s.mode ≤ n * payload s.mode = mul-le-mul_right (payload s.mode) (omega (arith, k, en)) in
-        a.at q e d m k (omega (arith, r, m)) ∙ ap₂ (λ (z : Cell) (v : ℕ). weighted (costs_at_place s.shape s.hierarchy z e) v) (c.at q d m) (w.at q m)
+        let within : q < length list = omega (arith, low, c.long) in
+        let here : (z : Shape × Hierarchy) → z ≡ m → e < label_bits z.0 → pair_at costs (e * length list + q) ≡ weighted (costs_at_place z.0 z.1 (slice_index_or list q d) e) (slice_index ws q)
+        = λ z same k. subst (λ (y : Shape × Hierarchy). e < label_bits y.0 → pair_at costs (e * length list + q) ≡ weighted (costs_at_place y.0 y.1 (slice_index_or list q d) e) (slice_index ws q)) (sym same) (λ j. written q e d within j) k in
+        ap (λ (z : ℕ). pair_at costs (e * z + q)) (sym c.long) ∙ here (s.shape, s.hierarchy) (sym em) place ∙ ap₂ (λ (z : Cell) (v : ℕ). weighted (costs_at_place s.shape s.hierarchy z e) v) (c.at q d low) (w.at q low)
+
+-- the room has as many pairs, and the last one is nothing still
+pub room_for : (s : Settings) (m : Shape × Hierarchy) (list : List Cell) (costs : List (ℕ × ℕ)) → m ≡ (s.shape, s.hierarchy) → length list ≡ payload s.mode → label_bits m.0 * length list ≤ most_places s.mode
+room_for s m list costs em long =
+    let bits : label_bits m.0 * length list ≡ payload s.mode * label_bits s.shape = ap₂ (λ (z : Shape × Hierarchy) (n : ℕ). label_bits z.0 * n) em long ∙ omega arith in
+    omega (arith, bits, six (payload s.mode) s.shape)
+
+pub room_kept : (s : Settings) (m : Shape × Hierarchy) (list : List Cell) (old new : List (ℕ × ℕ)) → m ≡ (s.shape, s.hierarchy) → length list ≡ payload s.mode → IsRoom s.mode old → length new ≡ length old
+    → ((k : ℕ) → IsSmallPair (pair_at old k) → IsSmallPair (pair_at new k)) → ((k : ℕ) → label_bits m.0 * length list ≤ k → pair_at new k ≡ pair_at old k) → IsRoom s.mode new
+room_kept s m list old new em cells r long small rest = record {
+  long = long ∙ r.long;
+  last = rest (most_places s.mode) (room_for s m list old em cells) ∙ r.last;
+  small = λ k l. small k (r.small k (omega (arith, l, long)));
+}

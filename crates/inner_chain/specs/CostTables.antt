@@ -104,19 +104,6 @@ pub record ArePayloadWeights (m : Mode) (weights : List ℕ) (l n : ℕ) (list :
   pub room : IsWeightRoom m list
   pub at : (q : ℕ) → q < n → slice_index list q ≡ weight_of weights (slice_index (payload_carriers m l) q)
 
--- the first n of the costs of all places of these payload cells, by their weights
-pub record ArePlanes (s : Settings) (cells : List Cell) (weights : List ℕ) (n : ℕ) (costs : List (ℕ × ℕ)) : Type 0 where
-  pub at : (q e : ℕ) (d : Cell) → q < payload s.mode → e < label_bits s.shape → e * payload s.mode + q < n
-      → pair_at costs (e * payload s.mode + q) ≡ weighted (costs_at_place s.shape s.hierarchy (slice_index_or cells q d) e) (slice_index weights q)
-
--- the costs at place e of so many of these payload cells, from number q on, are written
-pub record PutsCosts (s : Settings) (e q count : ℕ) (cells : List Cell) (weights : List ℕ) (old new : List (ℕ × ℕ)) : Type 0 where
-  pub long : length new ≡ length old
-  pub here : (j : ℕ) (d : Cell) → j < count → pair_at new (e * payload s.mode + q + j) ≡ weighted (costs_at_place s.shape s.hierarchy (slice_index_or cells (q + j) d) e) (slice_index weights (q + j))
-  pub small : (j : ℕ) → j < count → IsSmallPair (pair_at new (e * payload s.mode + q + j))
-  pub below : (k : ℕ) → k < e * payload s.mode + q → pair_at new k ≡ pair_at old k
-  pub above : (k : ℕ) → e * payload s.mode + q + count ≤ k → pair_at new k ≡ pair_at old k
-
 -- a list is continued by cost pairs whose X and Y are the costs at two entries each
 pub record AppendsRead (costs : List (ℕ × ℕ)) (entries : List ℕ) (n : ℕ) (old new : List CostPair) : Type 0 where
   pub pairs : List CostPair

@@ -1,13 +1,12 @@
 // The costs of all places of the labels of a symbol.
-ghost use Rattle.std.specs.Prelude.{◌≡◌, ◌+◌, ◌*◌, ◌%◌, ◌<◌, ◌≤◌, ℕ, IfOk, length, slice_index, slice_index_or};
-ghost use Rattle.mode_set.specs.StreamTable.{carriers, label_bits, payload};
-ghost use Rattle.qam_map.specs.declared.cell.Cell.{Cell as AnyCell};
-ghost use Rattle.inner_chain.specs.CostTables.{AreCarriers, AreCosts, ArePayloadCells, ArePayloadWeights, ArePlanes, AreWeights, IsRoom, IsWeightRoom, PutsCosts, pair_at};
+ghost use Rattle.std.specs.Prelude.{◌≡◌, ◌*◌, IfOk, length};
+ghost use Rattle.mode_set.specs.StreamTable.{carriers, payload};
+ghost use Rattle.inner_chain.specs.CostTables.{AreCarriers, AreCosts, ArePayloadCells, ArePayloadWeights, AreWeights, IsRoom, IsWeightRoom};
 
 use mode_set::{Mode, Settings};
 use pilots::kinds_repeat;
 use qam_map::Cell;
-use soft_metric::{AxisMetric, costs, weighted};
+use soft_metric::AxisMetric;
 use std::alloc::{AllocError, Global};
 
 // The cells on the payload places of symbol `l`, and their weights.
@@ -34,116 +33,6 @@ fn gather_cells(
         let carrier = carrier_table[first + q] as usize;
         to[q] = cells[carrier];
         weights_to[q] = weights[carrier];
-    }
-}
-
-// Sixteen cells in a row.
-fn sixteen_of(cells: &[Cell], first: usize) -> [Cell; 16]
-    requires { first + 16 ≤ length cells.now }
-    ensures { (j : ℕ) (d : AnyCell) → j < 16 → slice_index_or result j d ≡ slice_index_or cells.now (first + j) d }
-{
-    let mut block = [Cell { re: 0, im: 0 }; 16];
-    block.copy_from_slice(&cells[first..first + 16]);
-    block
-}
-
-// Sixteen weights in a row.
-fn sixteen_weights(weights: &[u8], first: usize) -> [u8; 16]
-    requires { first + 16 ≤ length weights.now }
-    ensures { (j : ℕ) → j < 16 → slice_index result j ≡ slice_index weights.now (first + j) }
-{
-    let mut block = [0; 16];
-    block.copy_from_slice(&weights[first..first + 16]);
-    block
-}
-
-// Puts sixteen pairs in place of those from number `first` on.
-fn put_sixteen(to: &mut [(u16, u16)], first: usize, pairs: &[(u16, u16); 16])
-    requires { first + 16 ≤ length to.old }
-    ensures long { length to.new ≡ length to.old }
-    ensures here { (k : ℕ) → k < 16 → pair_at to.new (first + k) ≡ pair_at pairs.now k }
-    ensures below { (k : ℕ) → k < first → pair_at to.new k ≡ pair_at to.old k }
-    ensures above { (k : ℕ) → first + 16 ≤ k → pair_at to.new k ≡ pair_at to.old k }
-{
-    to[first..first + 16].copy_from_slice(pairs);
-}
-
-// Writes the weighted costs at a place of sixteen cells in a row.
-fn write_sixteen(
-    settings: &Settings,
-    metric: &AxisMetric,
-    cells: &[Cell],
-    weights: &[u8],
-    place: u8,
-    q: usize,
-    costs: &mut [(u16, u16)],
-)
-    requires metric { metric.now ≡ (settings.now.shape, settings.now.hierarchy) }
-    requires place { place < label_bits settings.now.shape }
-    requires cells { length cells.now ≡ payload settings.now.mode }
-    requires weights { IsWeightRoom settings.now.mode weights.now }
-    requires within { q + 16 ≤ payload settings.now.mode }
-    requires room { IsRoom settings.now.mode costs.old }
-    ensures { PutsCosts settings.now place q 16 cells.now weights.now costs.old costs.new }
-{
-    let block = sixteen_of(cells, q);
-    let weights = sixteen_weights(weights, q);
-    let first = place as usize * settings.mode.payload() as usize + q;
-    put_sixteen(
-        costs,
-        first,
-        &metric.weighted_costs_lanes(&block, &weights, place),
-    );
-}
-
-// Writes the weighted costs at a place of one cell.
-fn write_one(
-    settings: &Settings,
-    cells: &[Cell],
-    weights: &[u8],
-    place: u8,
-    q: usize,
-    to: &mut [(u16, u16)],
-)
-    requires place { place < label_bits settings.now.shape }
-    requires cells { length cells.now ≡ payload settings.now.mode }
-    requires weights { IsWeightRoom settings.now.mode weights.now }
-    requires within { q < payload settings.now.mode }
-    requires room { IsRoom settings.now.mode to.old }
-    ensures { PutsCosts settings.now place q 1 cells.now weights.now to.old to.new }
-{
-    let first = place as usize * settings.mode.payload() as usize + q;
-    let pair = costs(settings.shape, settings.hierarchy, cells[q], place);
-    to[first] = weighted(pair, weights[q]);
-}
-
-// Writes the weighted costs at a place of all cells, sixteen at once and the rest one by one.
-fn write_plane(
-    settings: &Settings,
-    metric: &AxisMetric,
-    cells: &[Cell],
-    weights: &[u8],
-    place: u8,
-    costs: &mut [(u16, u16)],
-)
-    requires metric { metric.now ≡ (settings.now.shape, settings.now.hierarchy) }
-    requires place { place < label_bits settings.now.shape }
-    requires cells { length cells.now ≡ payload settings.now.mode }
-    requires weights { IsWeightRoom settings.now.mode weights.now }
-    requires planes { ArePlanes settings.now cells.now weights.now (place * payload settings.now.mode) costs.old }
-    requires room { IsRoom settings.now.mode costs.old }
-    ensures planes { ArePlanes settings.now cells.now weights.now ((place + 1) * payload settings.now.mode) costs.new }
-    ensures room { IsRoom settings.now.mode costs.new }
-{
-    let payload = settings.mode.payload() as usize;
-    let mut q = 0;
-    while q + 16 <= payload {
-        write_sixteen(settings, metric, cells, weights, place, q, costs);
-        q += 16;
-    }
-    while q < payload {
-        write_one(settings, cells, weights, place, q, costs);
-        q += 1;
     }
 }
 
@@ -195,14 +84,5 @@ pub(crate) fn write_costs(
         payload_cells,
         payload_weights,
     );
-    for place in 0..settings.shape.label_bits() {
-        write_plane(
-            settings,
-            metric,
-            payload_cells,
-            payload_weights,
-            place,
-            costs,
-        );
-    }
+    metric.write_weighted_costs(payload_cells, payload_weights, costs);
 }

@@ -1,5 +1,5 @@
 -- Lane by lane: a fifteenth of a product.
-use Rattle.std.proofs.Common.{◌≡◌, ℕ, zero, suc, ◌+◌, ◌-◌, ◌*◌, ◌/◌, ◌%◌, ◌^◌, ◌<◌, ◌≤◌, List, [], ◌∷◌, length, map, replicate, refl, sym, ap, ap₂, ◌∙◌, arith, w16, Fits, mod-eq_of_lt}
+use Rattle.std.proofs.Common.{◌≡◌, ℕ, zero, suc, ◌*◌, ◌/◌, ◌%◌, ◌^◌, ◌<◌, ◌≤◌, List, [], ◌∷◌, length, map, replicate, refl, ap, ap₂, ◌∙◌, arith, w16, Fits, mod-eq_of_lt}
 use Rattle.std.specs.Prelude.{slice_index}
 use Rattle.std.specs.Simd.Lanes.{zip2, Each1}
 use Rattle.std.proofs.lemmas.Nat.{mul-le}
@@ -46,15 +46,10 @@ no_wrap c w small within =
 abbrev pub two : ℕ → ℕ → ℕ × ℕ
 two z o = (z, o)
 
-as_they_are : (xs : List ℕ) → map (λ x. x) xs ≡ xs
-as_they_are [] = refl
-as_they_are (x ∷ xs) = ap (λ (zs : List ℕ). x ∷ zs) (as_they_are xs)
-
--- the costs and the weights of a lane, where the weights were widened
+-- the costs and the weights of a lane
 pub weighed_at : (zs os ws vs us : List ℕ) (k : ℕ) → length zs ≡ 16 → length os ≡ 16 → length ws ≡ 16 → k < 16 → IsSmallPair (two (slice_index zs k) (slice_index os k)) → slice_index ws k ≤ 15
-    → vs ≡ zip2 (λ c w. c * w % 2 ^ 16 / 15) zs (map (λ w. w) ws) → us ≡ zip2 (λ c w. c * w % 2 ^ 16 / 15) os (map (λ w. w) ws) → two (slice_index vs k) (slice_index us k) ≡ weighted (two (slice_index zs k) (slice_index os k)) (slice_index ws k)
+    → vs ≡ zip2 (λ c w. c * w % 2 ^ 16 / 15) zs ws → us ≡ zip2 (λ c w. c * w % 2 ^ 16 / 15) os ws → two (slice_index vs k) (slice_index us k) ≡ weighted (two (slice_index zs k) (slice_index os k)) (slice_index ws k)
 weighed_at zs os ws vs us k ez eo ew l small within ev eu =
-    let same : (xs : List ℕ) → zip2 (λ c w. c * w % 2 ^ 16 / 15) xs (map (λ w. w) ws) ≡ zip2 (λ c w. c * w % 2 ^ 16 / 15) xs ws = λ xs. ap (zip2 (λ c w. c * w % 2 ^ 16 / 15) xs) (as_they_are ws) in
-    let z = ap (λ q. slice_index q k) (ev ∙ same zs) ∙ zip_at (λ c w. c * w % 2 ^ 16 / 15) zs ws k (omega (arith, l, ez)) (omega (arith, l, ew)) ∙ no_wrap _ _ small.0 within in
-    let o = ap (λ q. slice_index q k) (eu ∙ same os) ∙ zip_at (λ c w. c * w % 2 ^ 16 / 15) os ws k (omega (arith, l, eo)) (omega (arith, l, ew)) ∙ no_wrap _ _ small.1 within in
+    let z = ap (λ q. slice_index q k) ev ∙ zip_at (λ c w. c * w % 2 ^ 16 / 15) zs ws k (omega (arith, l, ez)) (omega (arith, l, ew)) ∙ no_wrap _ _ small.0 within in
+    let o = ap (λ q. slice_index q k) eu ∙ zip_at (λ c w. c * w % 2 ^ 16 / 15) os ws k (omega (arith, l, eo)) (omega (arith, l, ew)) ∙ no_wrap _ _ small.1 within in
     ap₂ two z o

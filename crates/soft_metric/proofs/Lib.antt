@@ -3,5 +3,6 @@ mod Vectors
 mod Wrapping
 mod Sides
 pub mod Near
+mod Writing
 mod Weighing
 mod Fifteenths

@@ -1,5 +1,5 @@
 -- Laws of weights, and weighted costs computed.
-use Rattle.std.proofs.Common.{◌≡◌, ℕ, ◌+◌, ◌*◌, ◌/◌, ◌≤◌, List, [], ◌∷◌, map, refl, arith}
+use Rattle.std.proofs.Common.{◌≡◌, ℕ, ◌+◌, ◌*◌, ◌/◌, ◌≤◌, [], ◌∷◌, map, refl, arith}
 use Rattle.std.proofs.Math.Nat.{mul-le-mul_right, mul-div_left}
 use Rattle.soft_metric.specs.Weights.{full_weight, weight_of_byte, weighted, WeightsTellApart, WholeWeightChangesNothing, NoWeightLeavesNothing}
 

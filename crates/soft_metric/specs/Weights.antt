@@ -1,7 +1,7 @@
 -- Weights of cells, from 0 to 15, and what they make of costs (this project's own).
 use Rattle.std.specs.Prelude.{◌≡◌, ℕ, ◌+◌, ◌*◌, ◌/◌, ◌<◌, ◌≤◌, min}
 use Rattle.std.proofs.Common.{arith}
-use Rattle.std.proofs.Math.Nat.{min-le_left, div-le_of_le-mul}
+use Rattle.std.proofs.Math.Nat.{div-le_of_le-mul}
 use Rattle.std.proofs.lemmas.Nat.{mul-le}
 use Rattle.soft_metric.specs.Squares.{IsSmallPair}
 

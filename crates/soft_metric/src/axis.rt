@@ -1,5 +1,5 @@
 // The costs of all bits of one axis.
-ghost use Rattle.std.specs.Prelude.{◌≡◌, ◌+◌, ◌/◌, ◌^◌, ◌<◌, ◌≤◌, ℕ, min, if◌then◌else◌, slice_index, slice_index_or, true, false};
+ghost use Rattle.std.specs.Prelude.{◌≡◌, ◌+◌, ◌*◌, ◌/◌, ◌^◌, ◌<◌, ◌≤◌, ℕ, min, if◌then◌else◌, length, slice_index, slice_index_or, true, false};
 ghost use Rattle.std.specs.Int.{abs_diff};
 ghost use Rattle.mode_set.specs.Levels.{levels as levels_of};
 ghost use Rattle.mode_set.specs.StreamTable.{label_bits};
@@ -9,7 +9,7 @@ ghost use Rattle.soft_metric.specs.Squares.{AreAxisCosts, IsSmallPair};
 ghost use Rattle.soft_metric.specs.Weights.{weighted};
 
 use crate::lanes::costs_by_lanes;
-use crate::weight::weighted_by_lanes;
+use crate::planes::write_planes;
 use mode_set::{Hierarchy, Shape};
 use qam_map::{Cell, levels};
 use std::marker::Model;
@@ -134,26 +134,18 @@ impl AxisMetric {
         costs_by_lanes(self.shape, self.hierarchy, self.rings, cells, place)
     }
 
-    /// The costs of the values 0 and 1 at a place of the label of each of sixteen cells, by the
-    /// cells' weights: those of `costs_lanes`, each as `weighted` makes it.
-    pub fn weighted_costs_lanes(
-        &self,
-        cells: &[Cell; 16],
-        weights: &[u8; 16],
-        place: u8,
-    ) -> [(u16, u16); 16]
-        requires place { place < label_bits self.now.0 }
-        requires weights { (k : ℕ) → k < 16 → slice_index weights.now k ≤ 15 }
-        ensures costs { (k : ℕ) (d : AnyCell) → k < 16 → slice_index_or result k (0, 0) ≡ weighted (costs_at_place self.now.0 self.now.1 (slice_index_or cells.now k d) place) (slice_index weights.now k) }
-        ensures small { (k : ℕ) → k < 16 → IsSmallPair (slice_index_or result k (0, 0)) }
+    /// Writes the costs of the values 0 and 1 at each place of the label of each of many cells, by the
+    /// cells' weights: those of `costs_lanes`, each as `weighted` makes it. Those at the first place of
+    /// all cells come first, then those at the next one; what stands behind them stays.
+    pub fn write_weighted_costs(&self, cells: &[Cell], weights: &[u8], to: &mut [(u16, u16)])
+        requires weights_long { length weights.now ≡ length cells.now }
+        requires weights { (k : ℕ) → k < length cells.now → slice_index weights.now k ≤ 15 }
+        requires room { label_bits self.now.0 * length cells.now ≤ length to.old }
+        ensures costs { (k e : ℕ) (d : AnyCell) → k < length cells.now → e < label_bits self.now.0 → slice_index_or to.new (e * length cells.now + k) (0, 0) ≡ weighted (costs_at_place self.now.0 self.now.1 (slice_index_or cells.now k d) e) (slice_index weights.now k) }
+        ensures small { (k : ℕ) → IsSmallPair (slice_index_or to.old k (0, 0)) → IsSmallPair (slice_index_or to.new k (0, 0)) }
+        ensures rest { (k : ℕ) → label_bits self.now.0 * length cells.now ≤ k → slice_index_or to.new k (0, 0) ≡ slice_index_or to.old k (0, 0) }
+        ensures long { length to.new ≡ length to.old }
     {
-        weighted_by_lanes(
-            self.shape,
-            self.hierarchy,
-            self.rings,
-            cells,
-            weights,
-            place,
-        )
+        write_planes(self.shape, self.hierarchy, self.rings, cells, weights, to);
     }
 }

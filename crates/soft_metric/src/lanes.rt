@@ -65,7 +65,7 @@ pub(crate) fn lane_costs(levels: [u16; 4], axis: u8, values: u16x16) -> (u16x16,
 }
 
 // The value of a cell on the axis of a place, modulo 2^16.
-fn value_of(cell: Cell, place: u8) -> u16
+pub(crate) fn value_of(cell: Cell, place: u8) -> u16
     ensures { lane_value result ≡ on_axis cell place }
 {
     let x = if place % 2 == 0 { cell.re } else { cell.im };

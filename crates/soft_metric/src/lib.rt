@@ -6,6 +6,7 @@ mod axis;
 mod lanes;
 pub mod laws;
 mod metric;
+mod planes;
 mod weight;
 
 pub use axis::AxisMetric;

@@ -29,35 +29,11 @@ pub fn weighted(pair: (u16, u16), weight: u8) -> (u16, u16)
 }
 
 // Costs by weights in each lane.
-fn weighed(costs: u16x16, weights: u16x16) -> u16x16
+pub(crate) fn weighed(costs: u16x16, weights: u16x16) -> u16x16
     ensures { result ≡ zip2 (λ cost weight. cost * weight % 2 ^ 16 / 15) costs weights }
 {
     let products: u32x16 = (costs * weights).cast();
     // a fifteenth is 34953 / 2^19: the upper half of a product, which is one instruction, and its eighth
     let high: u16x16 = (products * u32x16::splat(34953) >> u32x16::splat(16)).cast();
     high >> u16x16::splat(3)
-}
-
-// The costs at a place of sixteen cells, by the levels of an axis and the cells' weights.
-pub(crate) fn weighted_by_lanes(
-    shape: Shape,
-    hierarchy: Hierarchy,
-    levels: [u16; 4],
-    cells: &[Cell; 16],
-    weights: &[u8; 16],
-    place: u8,
-) -> [(u16, u16); 16]
-    requires place { place < label_bits shape }
-    requires levels { levels ≡ four_levels (levels_of shape hierarchy) }
-    requires weights { (k : ℕ) → k < 16 → slice_index weights.now k ≤ 15 }
-    ensures costs { (k : ℕ) (d : AnyCell) → k < 16 → pair_at result k ≡ weighted_by (costs_at_place shape hierarchy (slice_index_or cells.now k d) place) (slice_index weights.now k) }
-    ensures small { (k : ℕ) → k < 16 → IsSmallPair (pair_at result k) }
-{
-    let values = u16x16::from_array(values_of(cells, place));
-    let (zero, one) = lane_costs(levels, place / 2, values);
-    let weights: u16x16 = u8x16::from_array(*weights).cast();
-    in_pairs(
-        weighed(zero, weights).to_array(),
-        weighed(one, weights).to_array(),
-    )
 }

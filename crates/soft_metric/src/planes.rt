@@ -1,0 +1,181 @@
+// The weighted costs of all places of the labels of many cells.
+ghost use Rattle.std.specs.Prelude.{◌≡◌, ◌+◌, ◌-◌, ◌*◌, ◌/◌, ◌%◌, ◌<◌, ◌≤◌, ℕ, length, slice_index, slice_index_or};
+ghost use Rattle.mode_set.specs.Levels.{levels as levels_of};
+ghost use Rattle.mode_set.specs.StreamTable.{label_bits};
+ghost use Rattle.qam_map.specs.Points.{on_axis};
+ghost use Rattle.qam_map.specs.declared.cell.Cell.{Cell as AnyCell};
+ghost use Rattle.soft_metric.specs.Costs.{four_levels};
+ghost use Rattle.soft_metric.specs.Planes.{IsWrittenAt, WritesCosts};
+ghost use Rattle.soft_metric.specs.Squares.{lane_pair, lane_value, pair_at};
+ghost use Rattle.soft_metric.specs.Weights.{weighted as weighted_by};
+
+use crate::lanes::{lane_costs, value_of};
+use crate::metric::costs;
+use crate::weight::{weighed, weighted};
+use mode_set::{Hierarchy, Shape};
+use qam_map::Cell;
+use std::simd::u16x16;
+
+// The values of sixteen cells in a row on the axis of a place, modulo 2^16.
+fn values_from(cells: &[Cell], first: usize, place: u8) -> [u16; 16]
+    requires { first + 16 ≤ length cells.now }
+    ensures { (j : ℕ) (d : AnyCell) → j < 16 → lane_value (slice_index result j) ≡ on_axis (slice_index_or cells.now (first + j) d) place }
+{
+    let mut values = [0; 16];
+    for k in 0..16 {
+        values[k] = value_of(cells[first + k], place);
+    }
+    values
+}
+
+// The weights of sixteen cells in a row.
+fn weights_from(weights: &[u8], first: usize) -> [u16; 16]
+    requires { first + 16 ≤ length weights.now }
+    ensures { (j : ℕ) → j < 16 → slice_index result j ≡ slice_index weights.now (first + j) }
+{
+    let mut lanes = [0; 16];
+    for k in 0..16 {
+        lanes[k] = weights[first + k] as u16;
+    }
+    lanes
+}
+
+// Puts sixteen pairs in place of those from number `first` on.
+fn put_pairs(to: &mut [(u16, u16)], first: usize, zero: [u16; 16], one: [u16; 16])
+    requires { first + 16 ≤ length to.old }
+    ensures long { length to.new ≡ length to.old }
+    ensures here { (k : ℕ) → k < 16 → pair_at to.new (first + k) ≡ (slice_index zero k, slice_index one k) }
+    ensures below { (k : ℕ) → k < first → pair_at to.new k ≡ pair_at to.old k }
+    ensures above { (k : ℕ) → first + 16 ≤ k → pair_at to.new k ≡ pair_at to.old k }
+{
+    for k in 0..16 {
+        to[first + k] = (zero[k], one[k]);
+    }
+}
+
+// Writes the weighted costs of the bit of axis number `axis` of sixteen values.
+fn write_lanes(
+    levels: [u16; 4],
+    axis: u8,
+    values: u16x16,
+    weights: u16x16,
+    to: &mut [(u16, u16)],
+    first: usize,
+)
+    requires axis { axis < 3 }
+    requires levels { (k : ℕ) → slice_index levels k ≤ 20000 }
+    requires weights { (k : ℕ) → k < 16 → slice_index weights k ≤ 15 }
+    requires room { first + 16 ≤ length to.old }
+    ensures long { length to.new ≡ length to.old }
+    ensures here { (k : ℕ) → k < 16 → pair_at to.new (first + k) ≡ weighted_by (lane_pair levels axis (slice_index values k)) (slice_index weights k) }
+    ensures below { (k : ℕ) → k < first → pair_at to.new k ≡ pair_at to.old k }
+    ensures above { (k : ℕ) → first + 16 ≤ k → pair_at to.new k ≡ pair_at to.old k }
+{
+    let (zero, one) = lane_costs(levels, axis, values);
+    put_pairs(
+        to,
+        first,
+        weighed(zero, weights).to_array(),
+        weighed(one, weights).to_array(),
+    );
+}
+
+// Writes the weighted costs at all places of the axis of `side`, 0 or 1, of sixteen cells from number
+// `q` on.
+fn write_side(
+    shape: Shape,
+    hierarchy: Hierarchy,
+    levels: [u16; 4],
+    cells: &[Cell],
+    weights: &[u8],
+    side: u8,
+    q: usize,
+    to: &mut [(u16, u16)],
+)
+    requires levels { levels ≡ four_levels (levels_of shape hierarchy) }
+    requires side { side < 2 }
+    requires weights_long { length weights.now ≡ length cells.now }
+    requires weights { (k : ℕ) → k < length cells.now → slice_index weights.now k ≤ 15 }
+    requires within { q + 16 ≤ length cells.now }
+    requires room { label_bits shape * length cells.now ≤ length to.old }
+    ensures writes { WritesCosts shape hierarchy cells.now weights.now to.old to.new }
+    ensures here { (e k : ℕ) → e < label_bits shape → e % 2 ≡ side → q ≤ k → k < q + 16 → IsWrittenAt shape hierarchy cells.now weights.now to.new e k }
+{
+    let values = u16x16::from_array(values_from(cells, q, side));
+    let lane_weights = u16x16::from_array(weights_from(weights, q));
+    for axis in 0..shape.label_bits() / 2 {
+        let first = (2 * axis + side) as usize * cells.len() + q;
+        write_lanes(levels, axis, values, lane_weights, to, first);
+    }
+}
+
+// Writes the weighted costs at all places of sixteen cells from number `q` on.
+fn write_sixteen(
+    shape: Shape,
+    hierarchy: Hierarchy,
+    levels: [u16; 4],
+    cells: &[Cell],
+    weights: &[u8],
+    q: usize,
+    to: &mut [(u16, u16)],
+)
+    requires levels { levels ≡ four_levels (levels_of shape hierarchy) }
+    requires weights_long { length weights.now ≡ length cells.now }
+    requires weights { (k : ℕ) → k < length cells.now → slice_index weights.now k ≤ 15 }
+    requires within { q + 16 ≤ length cells.now }
+    requires room { label_bits shape * length cells.now ≤ length to.old }
+    ensures writes { WritesCosts shape hierarchy cells.now weights.now to.old to.new }
+    ensures here { (e k : ℕ) → e < label_bits shape → q ≤ k → k < q + 16 → IsWrittenAt shape hierarchy cells.now weights.now to.new e k }
+{
+    write_side(shape, hierarchy, levels, cells, weights, 0, q, to);
+    write_side(shape, hierarchy, levels, cells, weights, 1, q, to);
+}
+
+// Writes the weighted costs at all places of one cell.
+fn write_one(
+    shape: Shape,
+    hierarchy: Hierarchy,
+    cells: &[Cell],
+    weights: &[u8],
+    q: usize,
+    to: &mut [(u16, u16)],
+)
+    requires weights_long { length weights.now ≡ length cells.now }
+    requires weights { (k : ℕ) → k < length cells.now → slice_index weights.now k ≤ 15 }
+    requires within { q < length cells.now }
+    requires room { label_bits shape * length cells.now ≤ length to.old }
+    ensures writes { WritesCosts shape hierarchy cells.now weights.now to.old to.new }
+    ensures here { (e : ℕ) → e < label_bits shape → IsWrittenAt shape hierarchy cells.now weights.now to.new e q }
+{
+    for place in 0..shape.label_bits() {
+        let pair = costs(shape, hierarchy, cells[q], place);
+        to[place as usize * cells.len() + q] = weighted(pair, weights[q]);
+    }
+}
+
+// Writes the weighted costs at all places of many cells, sixteen at once and the rest one by one.
+pub(crate) fn write_planes(
+    shape: Shape,
+    hierarchy: Hierarchy,
+    levels: [u16; 4],
+    cells: &[Cell],
+    weights: &[u8],
+    to: &mut [(u16, u16)],
+)
+    requires levels { levels ≡ four_levels (levels_of shape hierarchy) }
+    requires weights_long { length weights.now ≡ length cells.now }
+    requires weights { (k : ℕ) → k < length cells.now → slice_index weights.now k ≤ 15 }
+    requires room { label_bits shape * length cells.now ≤ length to.old }
+    ensures writes { WritesCosts shape hierarchy cells.now weights.now to.old to.new }
+    ensures here { (k e : ℕ) → k < length cells.now → e < label_bits shape → IsWrittenAt shape hierarchy cells.now weights.now to.new e k }
+{
+    let mut q = 0;
+    while q + 16 <= cells.len() {
+        write_sixteen(shape, hierarchy, levels, cells, weights, q, to);
+        q += 16;
+    }
+    while q < cells.len() {
+        write_one(shape, hierarchy, cells, weights, q, to);
+        q += 1;
+    }
+}
