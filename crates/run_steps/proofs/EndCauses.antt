@@ -1,5 +1,5 @@
 -- The cause of a whole run's answer, from the causes of its parts: the work, and the closing of the output behind it.
-use Rattle.std.proofs.Common.{◌≡◌, ◌≤◌, ◌⊎◌, inl, inr, ◌∙◌, arith, Result, Ok, Err}
+use Rattle.std.proofs.Common.{◌≡◌, ◌⊎◌, inl, inr, ◌∙◌, arith, Result, Ok, Err}
 use Rattle.station_core.specs.Meaning.{Meaning}
 use Rattle.station_core.specs.Causes.{Rose}
 use Rattle.run_clauses.specs.declared.work.Refusal.{Refusal}

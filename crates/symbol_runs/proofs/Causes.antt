@@ -1,5 +1,5 @@
 -- The cause of the answer of a run on cells, from the causes of its parts.
-use Rattle.std.proofs.Common.{◌≡◌, ◌≤◌, inl, inr, ℕ, true, Result, Ok, Err, ◌∙◌, sym, ap, subst, arith}
+use Rattle.std.proofs.Common.{◌≡◌, inl, inr, ℕ, true, Result, Ok, Err, ◌∙◌, sym, ap, subst, arith}
 use Rattle.std.specs.Result.{result_and}
 use Rattle.station_core.specs.Meaning.{Meaning}
 use Rattle.symbol_runs.specs.declared.stop.Stop.{Stop}
