@@ -4,6 +4,7 @@ use Rattle.std.specs.Prelude.{IsTrue, is_some, option_and_then}
 use Rattle.std.specs.Option.{option_or}
 use Rattle.std.proofs.lemmas.Bool.{true≢false}
 use Rattle.station_core.specs.Meaning.{Meaning, Source, IsFresh, source_at, sink_at}
+use Rattle.station_core.specs.Causes.{Rose}
 use Rattle.station_core.specs.declared.ports.InPort.{InPort}
 use Rattle.station_core.specs.declared.ports.InPort.TheVariants as ins
 use Rattle.station_core.specs.declared.ports.OutPort.{OutPort}
@@ -21,13 +22,13 @@ use Rattle.run_clauses.specs.SettingsFile.{most_settings, settings_refusal}
 use Rattle.run_clauses.specs.StatedSettings.{settings_of}
 use Rattle.run_clauses.specs.StreamForm.{fits_form, form_refusal}
 use Rattle.run_clauses.specs.Text.{status_of}
-use Rattle.run_steps.specs.Causes.{HasCause}
-use Rattle.run_steps.specs.Ended.{AreMade, Ended, Hold, IsCaused, IsExact, Leaves}
+use Rattle.run_steps.specs.Causes.{HasEndCause}
+use Rattle.run_steps.specs.Ended.{AreMade, Ended, Hold, IsCaused, IsExact, IsWriteFault, Leaves}
 use Rattle.modulate_run.specs.declared.counts.TransmissionCounts.{TransmissionCounts}
 use Rattle.modulate_run.specs.ModulateCommand.{HoldsSymbolsSoFar, cells_sent, files_of, inputs_of, left_unread, modulate_command, modulation_lines, modulation_refusal, transmission_counts, transmission_lines}
 use Rattle.modulate_run.specs.Inputs.{left_of, lp_left}
 use Rattle.modulate_run.specs.Work.{Modulates, TakeFew, TakesFew}
-use Rattle.modulate_run.specs.Steps.{FailsAtCells, FailsAtHp, FailsAtLp, OpensAll, Ran, Worked, lp_source}
+use Rattle.modulate_run.specs.Steps.{FailsAtCells, FailsAtHp, FailsAtLp, IsAccepted, OpensAll, Ran, Worked, lp_source}
 
 -- what was done at the port of the settings before the work
 pub record SettingsDone (name : List ℕ) (lp : Option (List ℕ)) (s : TheSettings) (start : Meaning) (at : Source) : Type 0 where
@@ -65,6 +66,7 @@ KeepsElse old end = end ≡ record old {
   report = record old.report { written = end.report.written };
   read_faults = end.read_faults;
   write_faults = end.write_faults;
+  close_faults = end.close_faults;
   report_faults = end.report_faults;
 }
 
@@ -262,7 +264,7 @@ module _ (limit : ℕ) (name hp : List ℕ) (lp : Option (List ℕ)) (cells : Li
     took t ins.Lp is attached = ports.lp_few t attached
     took t ins.Cells is attached = absurd (true≢false (sym is))
 
-    ended : (r : Option Refusal) → is_among (status_of r) c.statuses ≡ true → IsCaused start end r → start.read_faults ≤ end.read_faults → start.write_faults ≤ end.write_faults
+    ended : (r : Option Refusal) → is_among (status_of r) c.statuses ≡ true → IsCaused c limit start end r → start.read_faults ≤ end.read_faults → start.write_faults ≤ end.write_faults
         → IsExact c limit start r → (r ≡ None → (port : InPort) → IsInput c port → (source_at port end).attached ≡ true)
         → (r ≡ None → start.tells ≡ true → (port : InPort) → IsInput c port → (source_at port end).left ≡ []) → Leaves c limit start end r → Ended c limit start end r
     ended r known caused reads writes exact opened read_out leaves = record {
@@ -293,7 +295,7 @@ module _ (limit : ℕ) (name hp : List ℕ) (lp : Option (List ℕ)) (cells : Li
     }
 
     -- the same of a run that was refused
-    refused : (r : Refusal) → is_among (status_of (Some r)) c.statuses ≡ true → IsCaused start end (Some r) → start.read_faults ≤ end.read_faults → start.write_faults ≤ end.write_faults
+    refused : (r : Refusal) → is_among (status_of (Some r)) c.statuses ≡ true → IsCaused c limit start end (Some r) → start.read_faults ≤ end.read_faults → start.write_faults ≤ end.write_faults
         → IsExact c limit start (Some r) → Leaves c limit start end (Some r) → Ended c limit start end (Some r)
     refused r known caused reads writes exact leaves =
         ended (Some r) known caused reads writes exact (λ none. absurd (let e : Some r ≡ None = none in cc)) (λ none. absurd (let e : Some r ≡ None = none in cc)) leaves
@@ -342,7 +344,12 @@ module _ (limit : ℕ) (name hp : List ℕ) (lp : Option (List ℕ)) (cells : Li
       report = λ t. (s, settings.stated t, printed t ∙ fresh.report_empty t ∙ sym (no_lines r (ends t).0));
     }
 
-    by_refusal : (r : Refusal) → HasCause {T = TransmissionCounts} before end (Err r) → OpensAll hp lp cells before end (Err r) ⊎ Worked s limit hp lp cells before end (Err r) → Ended c limit start end (Some r)
+    -- an output that failed to close behind the whole work is no refusal's
+    fault : Rose start.write_faults end.write_faults ⊎ (Rose start.close_faults end.close_faults × (start.tells ≡ true → IsAccepted s limit files)) → IsWriteFault c limit start end
+    fault (inl rose) = inl rose
+    fault (inr shut) = inr (shut.0, λ t. refusal_is t ∙ shut.1 t)
+
+    by_refusal : (r : Refusal) → HasEndCause {T = TransmissionCounts} (start.tells ≡ true → IsAccepted s limit files) before end (Err r) → OpensAll hp lp cells before end (Err r) ⊎ Worked s limit hp lp cells before end (Err r) → Ended c limit start end (Some r)
     by_refusal Usage cause ran = absurd cause
     by_refusal (Cells reason) cause ran = absurd cause
     by_refusal (Settings reason) cause ran = absurd cause
@@ -387,7 +394,7 @@ module _ (limit : ℕ) (name hp : List ℕ) (lp : Option (List ℕ)) (cells : Li
           ]
           | inr w ↦ w.printed t
         ]
-    by_refusal WriteFault cause ran = refused end ports WriteFault refl (cause.0, cause.1) (omega (arith, cause.0)) cause.2 tt (record {
+    by_refusal WriteFault cause ran = refused end ports WriteFault refl (cause.0, fault cause.1) (omega (arith, cause.0)) cause.2 tt (record {
       outputs = λ t. only (λ out. (sink_at out end).created ≡ true → (bytes : List ℕ) × c.Comes limit start.file out bytes × ((k : ℕ) × ((sink_at out end).written ≡ take k bytes))) (stands t);
       report = λ t. (lines, (s, settings.stated t, refl), printed t);
     })
@@ -420,8 +427,8 @@ module _ (limit : ℕ) (name hp : List ℕ) (lp : Option (List ℕ)) (cells : Li
           (λ t. refusal_is t ∙ (w.modulates t).0.0) (holds (Limit n) w (λ t. (w.modulates t).0) w.printed)
     ]
 
-    pub by_outcome : (o : Result TransmissionCounts Refusal) → HasCause before end o → Ran s limit hp lp cells before end o → Ended c limit start end (refusal_in o)
-    by_outcome (Ok counts) cause w = ended end (has_worked limit hp lp cells start at fresh end s (Ok counts) w) None refl (cause.reads, cause.writes) (omega (arith, cause.reads)) (omega (arith, cause.writes))
+    pub by_outcome : (o : Result TransmissionCounts Refusal) → HasEndCause (start.tells ≡ true → IsAccepted s limit files) before end o → Ran s limit hp lp cells before end o → Ended c limit start end (refusal_in o)
+    by_outcome (Ok counts) cause w = ended end (has_worked limit hp lp cells start at fresh end s (Ok counts) w) None refl (cause.0.reads, cause.0.writes, cause.1) (omega (arith, cause.0.reads)) (omega (arith, cause.0.writes))
         (λ t. refusal_is t ∙ (w.modulates t).3)
         (λ is. open_at end (has_worked limit hp lp cells start at fresh end s (Ok counts) w) (hp_open (Ok counts) w, lp_open (Ok counts) w))
         (λ is t. read_out t)

@@ -32,6 +32,7 @@ closed_as new m = record m {
   report = record m.report { written = new.report.written };
   read_faults = new.read_faults;
   write_faults = new.write_faults;
+  close_faults = new.close_faults;
   report_faults = new.report_faults;
 }
 
@@ -94,7 +95,7 @@ module _ (s : TheSettings) (limit : ℕ) (hp : List ℕ) (lp : Option (List ℕ)
     is_closed since later = record { others = since ∙ ap (closed_as new) keeps ∙ ap (closed_as new) opened; later_report = later }
 
     -- what holds of the cells and of what is left holds also when Cells is closed
-    ends_same : (n : ℕ) (r : Refusal) → Ends s limit files fin r → Ends s limit files (record fin { cells_out = record fin.cells_out { closed = true }; write_faults = n }) r
+    ends_same : (n : ℕ) (r : Refusal) → Ends s limit files fin r → Ends s limit files (record fin { cells_out = record fin.cells_out { closed = true }; close_faults = n }) r
     ends_same n Usage e = e
     ends_same n (Cells reason) e = e
     ends_same n (Settings reason) e = e
@@ -109,7 +110,7 @@ module _ (s : TheSettings) (limit : ℕ) (hp : List ℕ) (lp : Option (List ℕ)
     refused_with r work closes = inr (record {
       ports = is_closed (subst (λ (x : Meaning). ClosedSince fin x) (sym closes.closed) refl) (omega (arith, same_faults, ap (λ (x : Meaning). x.report_faults) closes.closed));
       modulates = λ t. subst (λ (x : Meaning). Modulates s limit files x (Err r)) (sym closes.closed)
-          (let w = work (tells ∙ t) in (ends_same new.write_faults r w.0, w.1));
+          (let w = work (tells ∙ t) in (ends_same new.close_faults r w.0, w.1));
       printed = λ t. none r;
     })
       where

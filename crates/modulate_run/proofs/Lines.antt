@@ -1,7 +1,7 @@
 -- The end of a modulation: its lines, and the closing of its output.
 use Rattle.std.proofs.Common.{◌≡◌, ℕ, Bool, true, false, if◌then◌else◌, List, [], ◌++◌, length, Ok, Err, refl, ap, sym, ◌∙◌, arith}
 use Rattle.std.proofs.lemmas.List.{append-nil, take_all}
-use Rattle.station_core.specs.Meaning.{Meaning, with_sink, closed_sink, with_write_faults}
+use Rattle.station_core.specs.Meaning.{Meaning, with_sink, closed_sink, with_close_faults}
 use Rattle.station_core.specs.declared.ports.OutPort.TheVariants.{Cells}
 use Rattle.modulate_run.specs.declared.counts.TransmissionCounts.{TransmissionCounts}
 use Rattle.run_clauses.specs.declared.work.Refusal.TheVariants.{WriteFault}
@@ -19,18 +19,20 @@ writes_none b text m is = record {
 -- the lines were written, and the output could not be closed
 pub closes_late : (two : Bool) (counts : TransmissionCounts) (m m' m'' : Meaning)
     → WritesLines (transmission_lines two counts) m m' (Ok tt)
-    → m'' ≡ with_write_faults m''.write_faults (with_sink Cells (closed_sink m'.cells_out) m')
+    → m'' ≡ with_close_faults m''.close_faults (with_sink Cells (closed_sink m'.cells_out) m')
     → Finishes two counts m m'' (Err WriteFault)
 closes_late two counts m m' m'' writes closes =
     let text : List ℕ = transmission_lines two counts in
     let report : m''.report.written ≡ m'.report.written = ap (λ (x : Meaning). x.report.written) closes in
+    let writes_same : m''.write_faults ≡ m'.write_faults = ap (λ (x : Meaning). x.write_faults) closes in
     let faults : m''.report_faults ≡ m'.report_faults = ap (λ (x : Meaning). x.report_faults) closes in
     record {
       others =
           closes
-          ∙ ap (λ (x : Meaning). with_write_faults m''.write_faults (with_sink Cells (closed_sink x.cells_out) x)) writes.others
-          ∙ ap (λ (l : List ℕ). record m { cells_out = record m.cells_out { closed = true }; report = record m.report { written = l }; write_faults = m''.write_faults; report_faults = m'.report_faults }) (sym report)
-          ∙ ap (λ (n : ℕ). record m { cells_out = record m.cells_out { closed = true }; report = record m.report { written = m''.report.written }; write_faults = m''.write_faults; report_faults = n }) (sym faults);
+          ∙ ap (λ (x : Meaning). with_close_faults m''.close_faults (with_sink Cells (closed_sink x.cells_out) x)) writes.others
+          ∙ ap (λ (l : List ℕ). record m { cells_out = record m.cells_out { closed = true }; report = record m.report { written = l }; write_faults = m'.write_faults; close_faults = m''.close_faults; report_faults = m'.report_faults }) (sym report)
+          ∙ ap (λ (n : ℕ). record m { cells_out = record m.cells_out { closed = true }; report = record m.report { written = m''.report.written }; write_faults = n; close_faults = m''.close_faults; report_faults = m'.report_faults }) (sym writes_same)
+          ∙ ap (λ (n : ℕ). record m { cells_out = record m.cells_out { closed = true }; report = record m.report { written = m''.report.written }; write_faults = m''.write_faults; close_faults = m''.close_faults; report_faults = n }) (sym faults);
       later_report = omega (arith, writes.later_report, faults);
       written = λ t. (length text, report ∙ writes.written t ∙ ap (λ (l : List ℕ). m.report.written ++ l) (sym (take_all (length text) text (omega arith))));
     }

@@ -13,6 +13,7 @@ pub record Finishes (two : Bool) (counts : TransmissionCounts) (old new : Meanin
     cells_out = record old.cells_out { closed = true };
     report = record old.report { written = new.report.written };
     write_faults = new.write_faults;
+    close_faults = new.close_faults;
     report_faults = new.report_faults;
   }
   pub later_report : old.report_faults ≤ new.report_faults

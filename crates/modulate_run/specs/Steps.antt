@@ -3,16 +3,17 @@
 use Rattle.std.specs.Prelude.{◌≡◌, ◌⊎◌, ◌≤◌, ℕ, Bool, true, false, if◌then◌else◌, List, [], ◌++◌, take, Result, Ok, Err, Option, Some, None, is_some, IsSomeAnd}
 use Rattle.station_core.specs.Meaning.{Meaning, Source, asked_source, asked_sink}
 use Rattle.station_core.specs.declared.station.Failed.{Failed}
+use Rattle.mode_set.specs.declared.modes.Stream.{Stream}
 use Rattle.mode_set.specs.declared.settings.Settings.{Settings as TheSettings}
 use Rattle.run_clauses.specs.declared.work.Refusal.{Refusal}
 use Rattle.run_clauses.specs.declared.work.Refusal.TheVariants.{ReadFault, WriteFault, Memory}
 use Rattle.run_clauses.specs.Text.{refusal_text, refusal_status}
-use Rattle.run_steps.specs.Causes.{HasCause}
+use Rattle.run_steps.specs.Causes.{HasEndCause}
 use Rattle.run_steps.specs.Report.{WritesText}
 use Rattle.modulate_run.specs.declared.inputs.PacketInputs.{PacketInputs}
 use Rattle.modulate_run.specs.Seen.{Seen}
 use Rattle.modulate_run.specs.Work.{Modulates}
-use Rattle.modulate_run.specs.ModulateCommand.{files_of, modulation_lines}
+use Rattle.modulate_run.specs.ModulateCommand.{files_of, inputs_of, modulation_lines, modulation_refusal}
 use Rattle.modulate_run.specs.declared.counts.TransmissionCounts.{TransmissionCounts}
 
 -- nothing was asked on HP, LP and Cells, and Report is open
@@ -81,6 +82,7 @@ pub record IsClosed (hp : List ℕ) (lp : Option (List ℕ)) (cells : List ℕ) 
     report = record old.report { written = new.report.written };
     read_faults = new.read_faults;
     write_faults = new.write_faults;
+    close_faults = new.close_faults;
     report_faults = new.report_faults;
   }
   pub later_report : old.report_faults ≤ new.report_faults
@@ -102,10 +104,14 @@ abbrev pub Ran : TheSettings → ℕ → List ℕ → Option (List ℕ) → List
 Ran s limit hp lp cells old new (Ok counts) = Worked s limit hp lp cells old new (Ok counts)
 Ran s limit hp lp cells old new (Err refusal) = OpensAll hp lp cells old new (Err refusal) ⊎ Worked s limit hp lp cells old new (Err refusal)
 
+-- every packet that is sent is accepted
+abbrev pub IsAccepted : TheSettings → ℕ → (Stream → List ℕ) → Type 0
+IsAccepted s limit files = modulation_refusal s limit (inputs_of files) ≡ None
+
 -- after a refusal in the work the output is closed all the same, and whether that failed is only counted
 pub record ClosesRefused (old new : Meaning) : Type 0 where
-  pub closed : new ≡ record old { cells_out = record old.cells_out { closed = true }; write_faults = new.write_faults }
-  pub later : old.write_faults ≤ new.write_faults
+  pub closed : new ≡ record old { cells_out = record old.cells_out { closed = true }; close_faults = new.close_faults }
+  pub later : old.close_faults ≤ new.close_faults
 
 -- the status of an outcome
 abbrev pub outcome_status : Result TransmissionCounts Refusal → ℕ
@@ -122,7 +128,7 @@ pub record RunsModulation (s : TheSettings) (limit : ℕ) (hp : List ℕ) (lp : 
   pub outcome : Result TransmissionCounts Refusal
   pub mid : Meaning
   pub status_is : status ≡ outcome_status outcome
-  pub cause : HasCause old mid outcome
+  pub cause : HasEndCause (old.tells ≡ true → IsAccepted s limit (files_of old.file hp lp)) old mid outcome
   pub ran : Ran s limit hp lp cells old mid outcome
   pub tells : Tells mid new outcome
 

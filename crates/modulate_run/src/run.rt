@@ -3,8 +3,9 @@ ghost use Rattle.std.specs.Prelude.{◌≡◌, ◌≤◌, ◌*◌, ℕ, true, le
 ghost use Rattle.std.specs.Option.{option_copied};
 ghost use Rattle.transmission.specs.Transmission.{Inputs};
 ghost use Rattle.run_clauses.specs.StreamForm.{fits_form};
-ghost use Rattle.run_steps.specs.Causes.{HasCause};
-ghost use Rattle.modulate_run.specs.Steps.{IsNew, IsReady, Ran, RunsModulation};
+ghost use Rattle.run_steps.specs.Causes.{HasEndCause};
+ghost use Rattle.modulate_run.specs.ModulateCommand.{files_of};
+ghost use Rattle.modulate_run.specs.Steps.{IsAccepted, IsNew, IsReady, Ran, RunsModulation};
 
 use crate::counts::TransmissionCounts;
 use crate::inputs::PacketInputs;
@@ -44,7 +45,7 @@ fn modulate_all<'a, T: Transmitter, S: Station<'a>>(
     requires new { IsNew (T.seen tx.old) }
     requires stands { (inputs : Inputs) → T.stands tx.old inputs }
     requires long { length bytes.old ≡ T.symbol_len }
-    ensures cause { HasCause (S.meaning station.old) (S.meaning station.new) result }
+    ensures cause { HasEndCause ((S.meaning station.old).tells ≡ true → IsAccepted (T.seen tx.old).settings limits.now.packets (files_of (S.meaning station.old).file names.entry.hp.now (option_copied names.entry.lp))) (S.meaning station.old) (S.meaning station.new) result }
     ensures ran { Ran (T.seen tx.old).settings limits.now.packets names.entry.hp.now (option_copied names.entry.lp) names.entry.cells.now (S.meaning station.old) (S.meaning station.new) result }
 {
     work();

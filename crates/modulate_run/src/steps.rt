@@ -4,7 +4,7 @@ ghost use Rattle.mode_set.specs.declared.modes.Stream.TheVariants.{Lp};
 ghost use Rattle.std.specs.Option.{option_copied};
 ghost use Rattle.station_core.specs.Causes.{Rose};
 ghost use Rattle.run_clauses.specs.Packets.{packets_line};
-ghost use Rattle.run_steps.specs.Causes.{HasCause};
+ghost use Rattle.run_steps.specs.Causes.{HasCause, HasEndCause};
 ghost use Rattle.run_steps.specs.Lines.{IsWriting, WritesLines};
 ghost use Rattle.modulate_run.specs.ModulateCommand.{super_frames_line, transmission_lines};
 ghost use Rattle.modulate_run.specs.Reporting.{Finishes, IsFinish};
@@ -119,7 +119,7 @@ pub(crate) fn finish<'a, S: Station<'a>>(
     requires report_open { (S.meaning station.old).report.closed ≡ false }
     requires cells { (S.meaning station.old).cells_out.created ≡ true }
     requires cells_open { (S.meaning station.old).cells_out.closed ≡ false }
-    ensures cause { HasCause (S.meaning station.old) (S.meaning station.new) result }
+    ensures cause { HasEndCause (Unit {0}) (S.meaning station.old) (S.meaning station.new) result }
     ensures kind { IsFinish counts result }
     ensures finished { Finishes two counts (S.meaning station.old) (S.meaning station.new) result }
 {

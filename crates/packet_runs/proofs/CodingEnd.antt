@@ -5,6 +5,7 @@ use Rattle.std.specs.Option.{option_or}
 use Rattle.std.proofs.lemmas.List.{append-nil, drop_all}
 use Rattle.std.proofs.lemmas.Bool.{true≢false, eq-eqb, eqb-true}
 use Rattle.station_core.specs.Meaning.{Meaning, Source, Sink, IsFresh, source_at, sink_at}
+use Rattle.station_core.specs.Causes.{Rose}
 use Rattle.station_core.specs.declared.ports.InPort.{InPort}
 use Rattle.station_core.specs.declared.ports.InPort.TheVariants as ins
 use Rattle.station_core.specs.declared.ports.OutPort.{OutPort}
@@ -19,8 +20,8 @@ use Rattle.run_clauses.specs.Run.{Run, IsUntaken}
 use Rattle.run_steps.proofs.Taken.{all_unread}
 use Rattle.run_clauses.specs.Text.{status_of}
 use Rattle.run_clauses.proofs.Accepting.{all_accepted, no_refusal, not_sync_at, not_sync, past_limit_at, past_limit, accepted_from}
-use Rattle.run_steps.specs.Causes.{HasCause}
-use Rattle.run_steps.specs.Ended.{Ended, IsCaused, IsExact, Leaves, AreMade}
+use Rattle.run_steps.specs.Causes.{HasEndCause}
+use Rattle.run_steps.specs.Ended.{Ended, IsCaused, IsExact, IsWriteFault, Leaves, AreMade}
 use Rattle.run_steps.proofs.Whole.{run_done, run_refused}
 use Rattle.run_clauses.specs.SettingsFile.{most_settings}
 use Rattle.packet_runs.specs.Commands.{Coding, IsRefused, CodesTo, ClosesWith, CodesSoFar, packets_taken, coding_early, coding_command}
@@ -89,6 +90,10 @@ module _ (settings : Option (List ℕ)) (statuses : List ℕ) (knows : KnowsStat
 
   abbrev file : List ℕ
   file = start.file input
+
+  -- every packet is accepted
+  abbrev AllAccepted : Type 0
+  AllAccepted = start.tells ≡ true → AcceptsFirst limit file (whole_packets file)
 
   -- a fact of the only output
   only : (P : OutPort → Type 0) → P outs.Bytes → (port : OutPort) → IsOutput c port → P port
@@ -162,7 +167,7 @@ module _ (settings : Option (List ℕ)) (statuses : List ℕ) (knows : KnowsStat
       by false is = record { lines = []; are = inr ((λ all. true≢false (sym (eq-eqb (accepted limit file) (whole_packets file) all) ∙ is)), refl) }
 
   module _ (mid : Meaning) (asks : AsksPorts input output old mid) where
-    known_by : (o : Result Counts Refusal) → HasCause old mid o → is_among (status_of (reason o)) statuses ≡ true
+    known_by : (o : Result Counts Refusal) → HasEndCause AllAccepted old mid o → is_among (status_of (reason o)) statuses ≡ true
     known_by (Ok counts) cause = knows.done
     known_by (Err Usage) cause = absurd cause
     known_by (Err (Cells reason)) cause = absurd cause
@@ -173,19 +178,27 @@ module _ (settings : Option (List ℕ)) (statuses : List ℕ) (knows : KnowsStat
     known_by (Err Memory) cause = absurd cause
     known_by (Err (Limit n)) cause = knows.limit
 
-    caused_by : (o : Result Counts Refusal) → HasCause old mid o → IsCaused start mid (reason o)
-    caused_by (Ok counts) cause = (cause.reads, cause.writes)
+    refusal_is : start.tells ≡ true → refusal_of limit start.file c ≡ packet_refusal limit file
+    refusal_is t = ap (λ (x : Option Refusal). option_or x (packet_refusal limit file)) (done.accepted t)
+
+    -- an output that failed to close behind the whole work is no refusal's
+    fault_by : Rose start.write_faults mid.write_faults ⊎ (Rose start.close_faults mid.close_faults × AllAccepted) → IsWriteFault c limit start mid
+    fault_by (inl rose) = inl rose
+    fault_by (inr shut) = inr (shut.0, λ t. refusal_is t ∙ no_refusal limit file (shut.1 t))
+
+    caused_by : (o : Result Counts Refusal) → HasEndCause AllAccepted old mid o → IsCaused c limit start mid (reason o)
+    caused_by (Ok counts) cause = (cause.0.reads, cause.0.writes, cause.1)
     caused_by (Err Usage) cause = absurd cause
     caused_by (Err (Cells reason)) cause = absurd cause
     caused_by (Err (Settings why)) cause = absurd cause
     caused_by (Err ReadFault) cause = cause.0
-    caused_by (Err WriteFault) cause = (cause.0, cause.1)
+    caused_by (Err WriteFault) cause = (cause.0, fault_by cause.1)
     caused_by (Err (NotSync stream n)) cause = cause.0
     caused_by (Err Memory) cause = absurd cause
     caused_by (Err (Limit n)) cause = cause.0
 
-    later_reads_by : (o : Result Counts Refusal) → HasCause old mid o → start.read_faults ≤ mid.read_faults
-    later_reads_by (Ok counts) cause = omega (arith, cause.reads)
+    later_reads_by : (o : Result Counts Refusal) → HasEndCause AllAccepted old mid o → start.read_faults ≤ mid.read_faults
+    later_reads_by (Ok counts) cause = omega (arith, cause.0.reads)
     later_reads_by (Err Usage) cause = absurd cause
     later_reads_by (Err (Cells reason)) cause = absurd cause
     later_reads_by (Err (Settings why)) cause = absurd cause
@@ -195,8 +208,8 @@ module _ (settings : Option (List ℕ)) (statuses : List ℕ) (knows : KnowsStat
     later_reads_by (Err Memory) cause = absurd cause
     later_reads_by (Err (Limit n)) cause = omega (arith, cause.0)
 
-    later_writes_by : (o : Result Counts Refusal) → HasCause old mid o → start.write_faults ≤ mid.write_faults
-    later_writes_by (Ok counts) cause = omega (arith, cause.writes)
+    later_writes_by : (o : Result Counts Refusal) → HasEndCause AllAccepted old mid o → start.write_faults ≤ mid.write_faults
+    later_writes_by (Ok counts) cause = omega (arith, cause.0.writes)
     later_writes_by (Err Usage) cause = absurd cause
     later_writes_by (Err (Cells reason)) cause = absurd cause
     later_writes_by (Err (Settings why)) cause = absurd cause
@@ -206,10 +219,7 @@ module _ (settings : Option (List ℕ)) (statuses : List ℕ) (knows : KnowsStat
     later_writes_by (Err Memory) cause = absurd cause
     later_writes_by (Err (Limit n)) cause = cause.1
 
-    refusal_is : start.tells ≡ true → refusal_of limit start.file c ≡ packet_refusal limit file
-    refusal_is t = ap (λ (x : Option Refusal). option_or x (packet_refusal limit file)) (done.accepted t)
-
-    exact_by : (o : Result Counts Refusal) → HasCause old mid o → Ran gives ends limit input old mid o → IsExact c limit start (reason o)
+    exact_by : (o : Result Counts Refusal) → HasEndCause AllAccepted old mid o → Ran gives ends limit input old mid o → IsExact c limit start (reason o)
     exact_by (Ok counts) cause ran = λ t. refusal_is t ∙ no_refusal limit file (ran.1 t).1
     exact_by (Err Usage) cause ran = absurd cause
     exact_by (Err (Cells reason)) cause ran = absurd cause
@@ -290,7 +300,7 @@ module _ (settings : Option (List ℕ)) (statuses : List ℕ) (knows : KnowsStat
     one_taken : (n : ℕ) → accepted limit file ≡ n → mid.hp.left ≡ drop (188 * (n + 1)) file → Taken
     one_taken n is left = (188 * (n + 1), omega (arith, is), left)
 
-    taken_by : (o : Result Counts Refusal) → HasCause old mid o → Ran gives ends limit input old mid o → start.tells ≡ true → mid.bytes_out.created ≡ true → Taken
+    taken_by : (o : Result Counts Refusal) → HasEndCause AllAccepted old mid o → Ran gives ends limit input old mid o → start.tells ≡ true → mid.bytes_out.created ≡ true → Taken
     taken_by (Ok counts) cause ran t made = let e = ran.1 t in all_taken e.1 e.2
     taken_by (Err Usage) cause ran t made = absurd cause
     taken_by (Err (Cells reason)) cause ran t made = absurd cause
@@ -306,7 +316,7 @@ module _ (settings : Option (List ℕ)) (statuses : List ℕ) (knows : KnowsStat
     taken_by (Err Memory) cause ran t made = absurd cause
     taken_by (Err (Limit n)) cause ran t made = let e = ran.2 t in one_taken n (limit_at n e.0 e.1 e.2).1 e.3
 
-    taken : (o : Result Counts Refusal) → HasCause old mid o → Ran gives ends limit input old mid o → start.tells ≡ true → (port : InPort) → IsInput c port → (source_at port mid).attached ≡ true
+    taken : (o : Result Counts Refusal) → HasEndCause AllAccepted old mid o → Ran gives ends limit input old mid o → start.tells ≡ true → (port : InPort) → IsInput c port → (source_at port mid).attached ≡ true
         → (j : ℕ) × (j ≤ c.most_taken limit start.file port) × ((source_at port mid).left ≡ drop j (named start.file (c.reads port)))
     taken o cause ran t ins.Settings reads is =
         let r = done.read t reads (ap (λ (x : Meaning). x.settings.attached) (sym asks.others) ∙ is) in
@@ -350,7 +360,7 @@ module _ (settings : Option (List ℕ)) (statuses : List ℕ) (knows : KnowsStat
         let here : At n = (subst (λ (b : List ℕ). k.Gives start.file (first_packets n file) b) (sym written) ((same t).so_far (first_packets n file)), within) in
         subst (λ (l : List ℕ). At (packets_taken file l)) (sym (left_is is)) (subst At count here)
 
-    leaves_by : (o : Result Counts Refusal) → HasCause old mid o → Ran gives ends limit input old mid o → Leaves c limit start mid (reason o)
+    leaves_by : (o : Result Counts Refusal) → HasEndCause AllAccepted old mid o → Ran gives ends limit input old mid o → Leaves c limit start mid (reason o)
     leaves_by (Ok counts) cause ran = record {
       made = only (λ out. (sink_at out mid).created ≡ true) ran.0.created;
       outputs = λ t. only (λ out. CodesTo k limit start.file input (sink_at out mid).written) (output_all t (ran.1 t).1 mid.bytes_out.written (ran.1 t).3);
@@ -404,7 +414,7 @@ module _ (settings : Option (List ℕ)) (statuses : List ℕ) (knows : KnowsStat
           (is.1.0, is.1.1 ∙ empty (take is.1.0 (closing_line (counts_of file))) t),
         )
 
-    pub ended_of : (o : Result Counts Refusal) → HasCause old mid o → Ran gives ends limit input old mid o → Ended c limit start mid (reason o)
+    pub ended_of : (o : Result Counts Refusal) → HasEndCause AllAccepted old mid o → Ran gives ends limit input old mid o → Ended c limit start mid (reason o)
     ended_of o cause ran = record {
       known = known_by o cause;
       caused = caused_by o cause;
@@ -442,7 +452,7 @@ module _ (settings : Option (List ℕ)) (statuses : List ℕ) (knows : KnowsStat
         work_of ins.Cells other is = absurd (true≢false (sym is))
 
   -- the promise of the run
-  run_by : (o : Result Counts Refusal) (mid new : Meaning) (status : ℕ) → status ≡ outcome_status o → AsksPorts input output old mid → HasCause old mid o → Ran gives ends limit input old mid o → Tells mid new o
+  run_by : (o : Result Counts Refusal) (mid new : Meaning) (status : ℕ) → status ≡ outcome_status o → AsksPorts input output old mid → HasEndCause AllAccepted old mid o → Ran gives ends limit input old mid o → Tells mid new o
       → Run c limit start new status
   run_by (Ok counts) mid new status is asks cause ran tells =
       subst (λ (n : ℕ). Run c limit start new n) (sym is)

@@ -5,7 +5,7 @@ use Rattle.station_core.specs.Meaning.{Meaning}
 use Rattle.run_clauses.specs.declared.work.Counts.{Counts}
 use Rattle.run_clauses.specs.declared.work.Refusal.{Refusal}
 use Rattle.run_clauses.specs.declared.work.Refusal.TheVariants.{Usage, Settings, ReadFault, WriteFault, NotSync, Memory, Limit, Cells}
-use Rattle.run_steps.specs.Causes.{HasCause}
+use Rattle.run_steps.specs.Causes.{HasEndCause}
 use Rattle.packet_runs.specs.Coding.{CodesWhole}
 use Rattle.run_clauses.specs.Packets.{AcceptsFirst, closing_line, counts_of, whole_packets}
 use Rattle.run_steps.specs.Report.{WritesText}
@@ -30,6 +30,7 @@ pub record AsksPorts (input output : List ℕ) (old new : Meaning) : Type 0 wher
     report = record old.report { written = new.report.written };
     read_faults = new.read_faults;
     write_faults = new.write_faults;
+    close_faults = new.close_faults;
     report_faults = new.report_faults;
   }
   pub later_report : old.report_faults ≤ new.report_faults
@@ -99,13 +100,14 @@ Finishes counts old new (Err refusal) =
       bytes_out = record old.bytes_out { closed = true };
       report = record old.report { written = if old.tells then old.report.written ++ take k (closing_line counts) else old.report.written };
       write_faults = new.write_faults;
+      close_faults = new.close_faults;
       report_faults = new.report_faults;
     })
 
 -- after a refusal in the work the output is closed all the same, and whether that failed is only counted
 pub record ClosesRefused (old new : Meaning) : Type 0 where
-  pub closed : new ≡ record old { bytes_out = record old.bytes_out { closed = true }; write_faults = new.write_faults }
-  pub later : old.write_faults ≤ new.write_faults
+  pub closed : new ≡ record old { bytes_out = record old.bytes_out { closed = true }; close_faults = new.close_faults }
+  pub later : old.close_faults ≤ new.close_faults
 
 -- the status of an outcome
 abbrev pub outcome_status : Result Counts Refusal → ℕ
@@ -123,6 +125,6 @@ pub record RunsCoding (coded ended : List (List ℕ) → List ℕ) (limit : ℕ)
   pub mid : Meaning
   pub status_is : status ≡ outcome_status outcome
   pub asks : AsksPorts input output old mid
-  pub cause : HasCause old mid outcome
+  pub cause : HasEndCause (old.tells ≡ true → AcceptsFirst limit (old.file input) (whole_packets (old.file input))) old mid outcome
   pub ran : Ran coded ended limit input old mid outcome
   pub tells : Tells mid new outcome

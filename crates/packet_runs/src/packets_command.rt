@@ -1,6 +1,7 @@
 // A whole run of a command that codes the packets of HP.
-ghost use Rattle.std.specs.Prelude.{◌≡◌, ℕ, List, []};
-ghost use Rattle.run_steps.specs.Causes.{HasCause};
+ghost use Rattle.std.specs.Prelude.{◌≡◌, ℕ, List, [], true};
+ghost use Rattle.run_steps.specs.Causes.{HasEndCause};
+ghost use Rattle.run_clauses.specs.Packets.{AcceptsFirst, whole_packets};
 ghost use Rattle.packet_runs.specs.Steps.{IsReady, AsksPorts, Ran, RunsCoding};
 
 use crate::coder::Coder;
@@ -22,7 +23,7 @@ fn code_all<'a, C: Coder, S: Station<'a>>(
     requires new { C.took coder.old [] }
     requires empty { C.coded coder.old [] ≡ [] }
     ensures asks { AsksPorts input.now output.now (S.meaning station.old) (S.meaning station.new) }
-    ensures cause { HasCause (S.meaning station.old) (S.meaning station.new) result }
+    ensures cause { HasEndCause ((S.meaning station.old).tells ≡ true → AcceptsFirst limits.now.packets ((S.meaning station.old).file input.now) (whole_packets ((S.meaning station.old).file input.now))) (S.meaning station.old) (S.meaning station.new) result }
     ensures ran { Ran (C.coded coder.old) (C.ended coder.old) limits.now.packets input.now (S.meaning station.old) (S.meaning station.new) result }
 {
     open(input, output, station)?;

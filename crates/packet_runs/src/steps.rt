@@ -1,6 +1,6 @@
 // The steps of a run: the ports are opened, and closed behind the work.
 ghost use Rattle.std.specs.Prelude.{◌≡◌, ◌≤◌, ℕ, true, false, None};
-ghost use Rattle.run_steps.specs.Causes.{HasCause};
+ghost use Rattle.run_steps.specs.Causes.{HasCause, HasEndCause};
 ghost use Rattle.packet_runs.specs.Steps.{OpensAll, Finishes, ClosesRefused};
 
 use run_clauses::{Counts, Refusal, closing_line_of};
@@ -32,7 +32,7 @@ pub fn finish<'a, S: Station<'a>>(counts: Counts, station: &mut S) -> Result<Cou
     requires report_open { (S.meaning station.old).report.closed ≡ false }
     requires bytes { (S.meaning station.old).bytes_out.created ≡ true }
     requires bytes_open { (S.meaning station.old).bytes_out.closed ≡ false }
-    ensures cause { HasCause (S.meaning station.old) (S.meaning station.new) result }
+    ensures cause { HasEndCause (Unit {0}) (S.meaning station.old) (S.meaning station.new) result }
     ensures finished { Finishes counts (S.meaning station.old) (S.meaning station.new) result }
 {
     let line = closing_line_of(&counts);

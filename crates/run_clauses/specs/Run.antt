@@ -46,15 +46,20 @@ pub record Run (c : Command) (limit : ℕ) (old new : Meaning) (status : ℕ) : 
   -- 5 comes only where a read failed, or an input could not be opened.
   pub read_fault : status ≡ 5 → Rose old.read_faults new.read_faults
   -- 6 comes only where a write failed, or an output could not be made or closed.
-  pub write_fault : status ≡ 6 → Rose old.write_faults new.write_faults
-  -- At every status but 5 no read has failed, and at 0 no write either.
+  pub write_fault : status ≡ 6 → Rose old.write_faults new.write_faults ⊎ Rose old.close_faults new.close_faults
+  -- Where the words and the files come to a refusal, 6 comes only where a write failed, or an output could not be
+  -- made: an output that could not be closed behind a refusal changes neither status nor text.
+  pub refusal_first : old.tells ≡ true → refusal_of limit old.file c ≢ None → status ≡ 6 → Rose old.write_faults new.write_faults
+  -- At every status but 5 no read has failed, and at 0 no write and no close either.
   pub reads_kept : status ≢ 5 → new.read_faults ≡ old.read_faults
   pub writes_kept : status ≡ 0 → new.write_faults ≡ old.write_faults
+  pub closes_kept : status ≡ 0 → new.close_faults ≡ old.close_faults
   -- Every other status but 7, want of memory, is the one that the words and the files come to.
   pub exact : old.tells ≡ true → status ≢ 5 → status ≢ 6 → status ≢ 7 → status ≡ status_of (refusal_of limit old.file c)
   -- Where they come to no refusal and nothing fails, the run is done, or has no memory.
   pub complete : old.tells ≡ true → refusal_of limit old.file c ≡ None
-      → (Rose old.read_faults new.read_faults → ⊥) → (Rose old.write_faults new.write_faults → ⊥) → (status ≡ 0) ⊎ (status ≡ 7)
+      → (Rose old.read_faults new.read_faults → ⊥) → (Rose old.write_faults new.write_faults → ⊥) → (Rose old.close_faults new.close_faults → ⊥)
+      → (status ≡ 0) ⊎ (status ≡ 7)
   -- FILES, AND THE ORDER IN WHICH THEY ARE ASKED FOR
   -- Only the files of the command are asked for, each at its port.
   pub sources : (port : InPort) → ((source_at port new).asked ≡ None) ⊎ ((source_at port new).asked ≡ c.reads port)

@@ -132,7 +132,7 @@ module _ (c : Command) (limit : ℕ) (name : List ℕ) (old mid : Meaning) (no_r
   took t ins.Lp is = absurd (true≢false (sym is ∙ unopened ins.Lp (λ e. cc)))
   took t ins.Cells is = absurd (true≢false (sym is ∙ unopened ins.Cells (λ e. cc)))
 
-  caused : (r : Refusal) → RefusedEarly c limit old mid r → IsCaused old mid (Some r)
+  caused : (r : Refusal) → RefusedEarly c limit old mid r → IsCaused c limit old mid (Some r)
   caused Usage h = h.0
   caused (Settings reason) h = h.0
   caused ReadFault h = h.0

@@ -7,3 +7,4 @@ pub mod Whole
 pub mod Early
 pub mod Taken
 pub mod HandedOn
+pub mod EndCauses

@@ -16,17 +16,19 @@ use Rattle.run_clauses.specs.Header.{header_size, IsHeaderTaken}
 use Rattle.run_clauses.specs.Run.{Run, header_at, Reports, AreMadeEmpty, AsksSettingsAlone, IsUntaken}
 use Rattle.run_clauses.specs.Text.{status_of, refusal_status, refusal_text, text_at, text_if_refused}
 use Rattle.run_steps.specs.Report.{WritesText}
-use Rattle.run_steps.specs.Ended.{Ended, Hold, HoldSoFar, HoldFronts, HoldEmpty, HoldNothing, HoldUnheaded, AreMade}
+use Rattle.run_steps.specs.Ended.{Ended, IsWriteFault, Hold, HoldSoFar, HoldFronts, HoldEmpty, HoldNothing, HoldUnheaded, AreMade}
 
 pub run_done : (c : Command) (limit : ℕ) (old new : Meaning) → Ended c limit old new None → Run c limit old new 0
 run_done c limit old new e = record {
   known = e.known;
   read_fault = λ is. absurd (omega arith);
   write_fault = λ is. absurd (omega arith);
+  refusal_first = λ t some is. absurd (omega arith);
   reads_kept = λ other. e.caused.0;
   writes_kept = λ is. e.caused.1;
+  closes_kept = λ is. e.caused.2;
   exact = λ t a b d. ap status_of (sym (e.exact t));
-  complete = λ t none a b. inl refl;
+  complete = λ t none a b d. inl refl;
   sources = e.sources;
   sinks = e.sinks;
   settings_first = e.settings_first;
@@ -100,6 +102,9 @@ module _ (c : Command) (limit : ℕ) (old mid new : Meaning) (text : List ℕ) (
   reads_same : new.read_faults ≡ mid.read_faults
   reads_same = ap (λ (x : Meaning). x.read_faults) tells.others
 
+  closes_same : new.close_faults ≡ mid.close_faults
+  closes_same = ap (λ (x : Meaning). x.close_faults) tells.others
+
   unread_same : unread c new ≡ unread c mid
   unread_same = λ i port. at port i
     where
@@ -148,11 +153,11 @@ module _ (c : Command) (limit : ℕ) (old mid new : Meaning) (text : List ℕ) (
     -- the promise at a status, from what each status says
     run_at : (status : ℕ) → is_among status c.statuses ≡ true
         → (status ≡ 5 → Rose old.read_faults mid.read_faults)
-        → (status ≡ 6 → Rose old.write_faults mid.write_faults)
+        → (status ≡ 6 → IsWriteFault c limit old mid)
         → (status ≢ 5 → mid.read_faults ≡ old.read_faults)
         → status ≢ 0
         → (old.tells ≡ true → status ≢ 5 → status ≢ 6 → status ≢ 7 → status ≡ status_of (refusal_of limit old.file c))
-        → (old.tells ≡ true → refusal_of limit old.file c ≡ None → (Rose old.read_faults mid.read_faults → ⊥) → (Rose old.write_faults mid.write_faults → ⊥) → (status ≡ 0) ⊎ (status ≡ 7))
+        → (old.tells ≡ true → refusal_of limit old.file c ≡ None → (Rose old.read_faults mid.read_faults → ⊥) → (IsWriteFault c limit old mid → ⊥) → (status ≡ 0) ⊎ (status ≡ 7))
         → (old.tells ≡ true → text ≡ text_at c limit old.file status)
         → (is_among status (0 ∷ 4 ∷ 8 ∷ 10 ∷ 11 ∷ []) ≡ true → Hold c limit old mid)
         → (is_among status (4 ∷ 8 ∷ 10 ∷ 11 ∷ []) ≡ true → Hold c limit old mid)
@@ -165,11 +170,13 @@ module _ (c : Command) (limit : ℕ) (old mid new : Meaning) (text : List ℕ) (
     run_at status known read write kept undone exact complete named held work nothing lacks stopped fronts unheaded = record {
       known = known;
       read_fault = λ is. subst (λ (n : ℕ). Rose old.read_faults n) (sym reads_same) (read is);
-      write_fault = λ is. risen (write is);
+      write_fault = λ is. either (write is);
+      refusal_first = λ t some is. written t some (write is);
       reads_kept = λ other. reads_same ∙ kept other;
       writes_kept = λ is. absurd (undone is);
+      closes_kept = λ is. absurd (undone is);
       exact = exact;
-      complete = λ t none a b. complete t none (λ rose. a (subst (λ (n : ℕ). Rose old.read_faults n) (sym reads_same) rose)) (λ rose. b (risen rose));
+      complete = λ t none a b d. complete t none (λ rose. a (subst (λ (n : ℕ). Rose old.read_faults n) (sym reads_same) rose)) (λ fault. neither b d (either fault));
       sources = λ port. subst (λ (s : Source). (s.asked ≡ None) ⊎ (s.asked ≡ c.reads port)) (sym (source_same port)) (e.sources port);
       sinks = λ port. subst (λ (s : Option (List ℕ)). (s ≡ None) ⊎ (s ≡ c.writes port)) (sym (asked_same port)) (e.sinks port);
       settings_first = λ is. first (e.settings_first is);
@@ -237,6 +244,18 @@ module _ (c : Command) (limit : ℕ) (old mid new : Meaning) (text : List ℕ) (
 
         risen : Rose old.write_faults mid.write_faults → Rose old.write_faults new.write_faults
         risen rose = omega (arith, rose, tells.later)
+
+        either : IsWriteFault c limit old mid → Rose old.write_faults new.write_faults ⊎ Rose old.close_faults new.close_faults
+        either (inl rose) = inl (risen rose)
+        either (inr shut) = inr (subst (λ (n : ℕ). Rose old.close_faults n) (sym closes_same) shut.0)
+
+        neither : (Rose old.write_faults new.write_faults → ⊥) → (Rose old.close_faults new.close_faults → ⊥) → Rose old.write_faults new.write_faults ⊎ Rose old.close_faults new.close_faults → ⊥
+        neither b d (inl rose) = b rose
+        neither b d (inr rose) = d rose
+
+        written : old.tells ≡ true → refusal_of limit old.file c ≢ None → IsWriteFault c limit old mid → Rose old.write_faults new.write_faults
+        written t some (inl rose) = risen rose
+        written t some (inr shut) = absurd (some (shut.1 t))
 
         first : AsksSettingsAlone mid ⊎ ((mid.settings.attached ≡ true) × (old.tells ≡ true → (mid.settings.left ≡ []) × (c.early_refusal old.file ≡ None)))
             → AsksSettingsAlone new ⊎ ((new.settings.attached ≡ true) × (old.tells ≡ true → (new.settings.left ≡ []) × (c.early_refusal old.file ≡ None)))

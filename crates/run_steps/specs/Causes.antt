@@ -1,17 +1,16 @@
--- The cause of each answer of a part of the work, in the two counts of faults.
-use Rattle.std.specs.Prelude.{◌≡◌, ◌≤◌, Result, Ok, Err}
+-- The cause of each answer of a part of the work, in the counts of faults.
+use Rattle.std.specs.Prelude.{◌≡◌, ◌≤◌, ◌⊎◌, Result, Ok, Err}
 use Rattle.station_core.specs.Meaning.{Meaning}
 use Rattle.station_core.specs.Causes.{Rose}
 use Rattle.run_clauses.specs.declared.work.Refusal.{Refusal}
 use Rattle.run_clauses.specs.declared.work.Refusal.TheVariants.{Usage, Settings, ReadFault, WriteFault, NotSync, Memory, Limit, Cells}
 
--- both counts of faults are as before
+-- no read and no write has failed
 pub record IsFaultless (old new : Meaning) : Type 0 where
   pub reads : new.read_faults ≡ old.read_faults
   pub writes : new.write_faults ≡ old.write_faults
 
--- A fault is answered only where its count rose. Where the work is done no count has changed; where it
--- is refused an output that is then closed may fail, and be counted.
+-- A fault is answered only where its count rose. Where the work is done no count has changed.
 abbrev pub HasCause : {T : Type 0} → Meaning → Meaning → Result T Refusal → Type 0
 HasCause old new (Ok value) = IsFaultless old new
 HasCause old new (Err ReadFault) = Rose old.read_faults new.read_faults × (old.read_faults ≤ new.read_faults) × (old.write_faults ≤ new.write_faults)
@@ -22,3 +21,17 @@ HasCause old new (Err Usage) = ⊥
 HasCause old new (Err (Cells reason)) = ⊥
 HasCause old new (Err (Settings reason)) = ⊥
 HasCause old new (Err Memory) = ⊥
+
+-- The same behind the closing of the output: it may fail, and is counted. A write fault is answered where a write has
+-- failed or, behind work that is whole, where the output could not be closed.
+abbrev pub HasEndCause : {T : Type 0} → Type 0 → Meaning → Meaning → Result T Refusal → Type 0
+HasEndCause whole old new (Ok value) = IsFaultless old new × (new.close_faults ≡ old.close_faults)
+HasEndCause whole old new (Err ReadFault) = Rose old.read_faults new.read_faults × (old.read_faults ≤ new.read_faults) × (old.write_faults ≤ new.write_faults)
+HasEndCause whole old new (Err WriteFault) =
+    (new.read_faults ≡ old.read_faults) × (Rose old.write_faults new.write_faults ⊎ (Rose old.close_faults new.close_faults × whole)) × (old.write_faults ≤ new.write_faults)
+HasEndCause whole old new (Err (NotSync stream n)) = (new.read_faults ≡ old.read_faults) × (old.write_faults ≤ new.write_faults)
+HasEndCause whole old new (Err (Limit n)) = (new.read_faults ≡ old.read_faults) × (old.write_faults ≤ new.write_faults)
+HasEndCause whole old new (Err Usage) = ⊥
+HasEndCause whole old new (Err (Cells reason)) = ⊥
+HasEndCause whole old new (Err (Settings reason)) = ⊥
+HasEndCause whole old new (Err Memory) = ⊥

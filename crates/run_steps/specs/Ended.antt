@@ -15,17 +15,23 @@ use Rattle.run_clauses.specs.Command.{Command, IsInput, IsOutput, is_among, refu
 use Rattle.run_clauses.specs.Run.{AreMadeEmpty, AsksSettingsAlone, IsUntaken}
 use Rattle.run_clauses.specs.Text.{status_of}
 
+-- A write has failed, or an output could not be made; or, where the words and the files come to no refusal, an
+-- output could not be closed.
+abbrev pub IsWriteFault : Command → ℕ → Meaning → Meaning → Type 0
+IsWriteFault c limit old mid = Rose old.write_faults mid.write_faults
+    ⊎ (Rose old.close_faults mid.close_faults × (old.tells ≡ true → refusal_of limit old.file c ≡ None))
+
 -- A fault is answered only where its count rose. Behind a refusal an output may fail to close, and is counted.
-abbrev pub IsCaused : Meaning → Meaning → Option Refusal → Type 0
-IsCaused old mid None = (mid.read_faults ≡ old.read_faults) × (mid.write_faults ≡ old.write_faults)
-IsCaused old mid (Some ReadFault) = Rose old.read_faults mid.read_faults
-IsCaused old mid (Some WriteFault) = (mid.read_faults ≡ old.read_faults) × Rose old.write_faults mid.write_faults
-IsCaused old mid (Some Usage) = mid.read_faults ≡ old.read_faults
-IsCaused old mid (Some (Settings reason)) = mid.read_faults ≡ old.read_faults
-IsCaused old mid (Some (NotSync stream n)) = mid.read_faults ≡ old.read_faults
-IsCaused old mid (Some Memory) = mid.read_faults ≡ old.read_faults
-IsCaused old mid (Some (Limit n)) = mid.read_faults ≡ old.read_faults
-IsCaused old mid (Some (Cells reason)) = mid.read_faults ≡ old.read_faults
+abbrev pub IsCaused : Command → ℕ → Meaning → Meaning → Option Refusal → Type 0
+IsCaused c limit old mid None = (mid.read_faults ≡ old.read_faults) × (mid.write_faults ≡ old.write_faults) × (mid.close_faults ≡ old.close_faults)
+IsCaused c limit old mid (Some ReadFault) = Rose old.read_faults mid.read_faults
+IsCaused c limit old mid (Some WriteFault) = (mid.read_faults ≡ old.read_faults) × IsWriteFault c limit old mid
+IsCaused c limit old mid (Some Usage) = mid.read_faults ≡ old.read_faults
+IsCaused c limit old mid (Some (Settings reason)) = mid.read_faults ≡ old.read_faults
+IsCaused c limit old mid (Some (NotSync stream n)) = mid.read_faults ≡ old.read_faults
+IsCaused c limit old mid (Some Memory) = mid.read_faults ≡ old.read_faults
+IsCaused c limit old mid (Some (Limit n)) = mid.read_faults ≡ old.read_faults
+IsCaused c limit old mid (Some (Cells reason)) = mid.read_faults ≡ old.read_faults
 
 -- A refusal that is no fault and no want of memory is the one that the words and the files come to.
 abbrev pub IsExact : Command → ℕ → Meaning → Option Refusal → Type 0
@@ -93,7 +99,7 @@ Leaves c limit old mid (Some (Cells AnnouncedForm)) = Hold c limit old mid
 
 pub record Ended (c : Command) (limit : ℕ) (old mid : Meaning) (r : Option Refusal) : Type 0 where
   pub known : is_among (status_of r) c.statuses ≡ true
-  pub caused : IsCaused old mid r
+  pub caused : IsCaused c limit old mid r
   -- no count has fallen
   pub later_reads : old.read_faults ≤ mid.read_faults
   pub later_writes : old.write_faults ≤ mid.write_faults

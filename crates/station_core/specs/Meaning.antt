@@ -36,7 +36,10 @@ pub record Meaning : Type 0 where
   pub bytes_out : Sink
   pub report : Sink
   pub read_faults : ℕ
+  -- the writes that have failed, and the outputs that could not be made
   pub write_faults : ℕ
+  -- the outputs that could not be closed well
+  pub close_faults : ℕ
   -- those of the write faults at which a write to Report has failed
   pub report_faults : ℕ
 
@@ -72,6 +75,9 @@ with_read_faults n m = record m { read_faults = n }
 
 abbrev pub with_write_faults : ℕ → Meaning → Meaning
 with_write_faults n m = record m { write_faults = n }
+
+abbrev pub with_close_faults : ℕ → Meaning → Meaning
+with_close_faults n m = record m { close_faults = n }
 
 -- a write to the port has failed: the counts of all write faults, and of those at Report
 abbrev pub with_failed_write : OutPort → ℕ → ℕ → Meaning → Meaning
@@ -129,6 +135,7 @@ fresh tells file = record {
   report = record no_sink { created = true };
   read_faults = 0;
   write_faults = 0;
+  close_faults = 0;
   report_faults = 0;
 }
 

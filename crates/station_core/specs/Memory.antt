@@ -26,6 +26,7 @@ memory_meaning m = record {
   report = sink_of m.report;
   read_faults = m.read_faults;
   write_faults = m.write_faults;
+  close_faults = m.close_faults;
   report_faults = m.report.faults;
 }
 

@@ -2,8 +2,8 @@
 //!
 //! [`Station`] is the trait of the outside. Its contracts speak of one record, `Meaning` of
 //! `specs/Meaning.antt`: each port with the name asked there, what is still to be read or was
-//! written, and two counts of faults. [`MemoryStation`] is an outside that lies in memory and fails
-//! where it is told to.
+//! written, and counts of faults. [`MemoryStation`] is an outside that lies in memory and fails where
+//! it is told to.
 #![tactic(auto)]
 
 mod memory;

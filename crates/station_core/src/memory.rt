@@ -43,6 +43,7 @@ pub struct MemoryStation<'a> {
     writes: [u64; 5],
     read_faults: u64,
     write_faults: u64,
+    close_faults: u64,
     ghost reads_some: { 1 ≤ most_per_read },
 }
 
@@ -93,6 +94,7 @@ impl<'a> MemoryStation<'a> {
             writes: [0; 5],
             read_faults: 0,
             write_faults: 0,
+            close_faults: 0,
         })
     }
 
@@ -164,7 +166,7 @@ fn count_call(calls: &mut [u64], port: usize) -> u64
 impl<'a> Station<'a> for MemoryStation<'a> {
     ghost use Rattle.std.specs.Prelude.{◌≡◌, ◌≢◌, ◌≤◌, ◌<◌, ◌↔◌, ◌⊎◌, ◌+◌, ◌/◌, ◌++◌, ℕ, min, take, length, IsErr, IsTrue, OnOk, OnErr, IfOk, Contains, true, false, None, []};
     ghost use Rattle.station_core.specs.Causes.{Rose, greatest_count};
-    ghost use Rattle.station_core.specs.Meaning.{source_at, sink_at, with_source, with_sink, with_read_faults, with_write_faults, with_failed_write, asked_source, attached_source, read_source, asked_sink, created_sink, written_sink, closed_sink};
+    ghost use Rattle.station_core.specs.Meaning.{source_at, sink_at, with_source, with_sink, with_read_faults, with_write_faults, with_close_faults, with_failed_write, asked_source, attached_source, read_source, asked_sink, created_sink, written_sink, closed_sink};
     ghost use Rattle.station_core.specs.declared.ports.OutPort.TheVariants.{Report};
     ghost use Rattle.station_core.specs.Files.{has_file};
     ghost use Rattle.station_core.specs.Memory.{memory_meaning, files_of, failing_of, most_of, room_of, reads_of, writes_of, in_number, out_number, IsSamePlan};
@@ -290,18 +292,18 @@ impl<'a> Station<'a> for MemoryStation<'a> {
         requires created { (sink_at port (memory_meaning self.old)).created ≡ true }
         requires open { (sink_at port (memory_meaning self.old)).closed ≡ false }
         ensures ok { OnOk result (memory_meaning self.new ≡ with_sink port (closed_sink (sink_at port (memory_meaning self.old))) (memory_meaning self.old)) }
-        ensures err { OnErr result (memory_meaning self.new ≡ with_write_faults (memory_meaning self.new).write_faults
+        ensures err { OnErr result (memory_meaning self.new ≡ with_close_faults (memory_meaning self.new).close_faults
             (with_sink port (closed_sink (sink_at port (memory_meaning self.old))) (memory_meaning self.old))) }
-        ensures cause { OnErr result (Rose (memory_meaning self.old).write_faults (memory_meaning self.new).write_faults) }
-        ensures later { (memory_meaning self.old).write_faults ≤ (memory_meaning self.new).write_faults }
-        ensures bounded { OnErr result ((memory_meaning self.new).write_faults ≤ greatest_count) }
+        ensures cause { OnErr result (Rose (memory_meaning self.old).close_faults (memory_meaning self.new).close_faults) }
+        ensures later { (memory_meaning self.old).close_faults ≤ (memory_meaning self.new).close_faults }
+        ensures bounded { OnErr result ((memory_meaning self.new).close_faults ≤ greatest_count) }
         ensures exact { IsErr result ↔ Contains (failing_of self.old) (Failing.Close port 1) }
         ensures plan { IsSamePlan self.old self.new }
         ensures reads { reads_of self.new ≡ reads_of self.old }
         ensures writes { writes_of self.new ≡ writes_of self.old }
     {
         let fails = is_named(&self.failing, Failing::Close(port, 1));
-        let faults = &mut self.write_faults;
+        let faults = &mut self.close_faults;
         match port {
             OutPort::Cells => self.cells_out.close(fails, faults),
             OutPort::Hp => self.hp_out.close(fails, faults),

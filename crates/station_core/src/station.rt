@@ -1,7 +1,7 @@
 // The trait of the outside.
 ghost use Rattle.std.specs.Prelude.{◌≡◌, ◌<◌, ◌≤◌, ◌↔◌, ◌≢◌, ℕ, true, false, [], List, length, take, None, Some, IfOk, OnOk, OnErr, IsTrue};
 ghost use Rattle.station_core.specs.Causes.{Rose, greatest_count};
-ghost use Rattle.station_core.specs.Meaning.{Meaning, source_at, sink_at, with_source, with_sink, with_read_faults, with_write_faults, with_failed_write, asked_source, attached_source, read_source, asked_sink, created_sink, written_sink, closed_sink};
+ghost use Rattle.station_core.specs.Meaning.{Meaning, source_at, sink_at, with_source, with_sink, with_read_faults, with_write_faults, with_close_faults, with_failed_write, asked_source, attached_source, read_source, asked_sink, created_sink, written_sink, closed_sink};
 ghost use Rattle.station_core.specs.declared.ports.OutPort.TheVariants.{Report};
 
 use crate::{InPort, OutPort};
@@ -13,11 +13,11 @@ pub struct Failed;
 /// The outside of a command: the files that it reads and writes, and its report.
 ///
 /// Contracts see a station as its `meaning`: whether it tells its contents, what it has under a
-/// name, each port, and two counts of faults, which never fall and stand still at 2^64 - 1. Of the
-/// write faults those at which a write to Report has failed are counted once more, by themselves. A
-/// call changes only what its clauses `ok` and `err` name: everything else of the meaning stays. It
-/// answers `Failed` only where the count of its kind rose, and no call that answers `Ok` changes a
-/// count.
+/// name, each port, and three counts of faults, which never fall and stand still at 2^64 - 1: one
+/// of `attach` and `read`, one of `create` and `write`, one of `close`. Of the write faults those at
+/// which a write to Report has failed are counted once more, by themselves. A call changes only what
+/// its clauses `ok` and `err` name: everything else of the meaning stays. It answers `Failed` only
+/// where the count of its kind rose, and no call that answers `Ok` changes a count.
 pub trait Station<'a> {
     ghost meaning: { Self → Meaning };
 
@@ -85,9 +85,9 @@ pub trait Station<'a> {
         requires created { (sink_at port (meaning self.old)).created ≡ true }
         requires open { (sink_at port (meaning self.old)).closed ≡ false }
         ensures ok { OnOk result (meaning self.new ≡ with_sink port (closed_sink (sink_at port (meaning self.old))) (meaning self.old)) }
-        ensures err { OnErr result (meaning self.new ≡ with_write_faults (meaning self.new).write_faults
+        ensures err { OnErr result (meaning self.new ≡ with_close_faults (meaning self.new).close_faults
             (with_sink port (closed_sink (sink_at port (meaning self.old))) (meaning self.old))) }
-        ensures cause { OnErr result (Rose (meaning self.old).write_faults (meaning self.new).write_faults) }
-        ensures later { (meaning self.old).write_faults ≤ (meaning self.new).write_faults }
-        ensures bounded { OnErr result ((meaning self.new).write_faults ≤ greatest_count) };
+        ensures cause { OnErr result (Rose (meaning self.old).close_faults (meaning self.new).close_faults) }
+        ensures later { (meaning self.old).close_faults ≤ (meaning self.new).close_faults }
+        ensures bounded { OnErr result ((meaning self.new).close_faults ≤ greatest_count) };
 }

@@ -32,6 +32,7 @@ pub struct FileStation<'a, R: Files + Print> {
     report_closed: bool,
     read_faults: u64,
     write_faults: u64,
+    close_faults: u64,
     // the writes to Report that have failed
     report_faults: u64,
 }
@@ -46,6 +47,7 @@ impl<'a, R: Files + Print> FileStation<'a, R> {
         ensures fresh { IsFresh (file_meaning result) }
         ensures no_read_fault { (file_meaning result).read_faults ≡ 0 }
         ensures no_write_fault { (file_meaning result).write_faults ≡ 0 }
+        ensures no_close_fault { (file_meaning result).close_faults ≡ 0 }
     {
         FileStation {
             rt,
@@ -62,6 +64,7 @@ impl<'a, R: Files + Print> FileStation<'a, R> {
             report_closed: false,
             read_faults: 0,
             write_faults: 0,
+            close_faults: 0,
             report_faults: 0,
         }
     }
@@ -71,6 +74,7 @@ impl<'a, R: Files + Print> FileStation<'a, R> {
         ensures fresh { IsFresh (file_meaning result) }
         ensures no_read_fault { (file_meaning result).read_faults ≡ 0 }
         ensures no_write_fault { (file_meaning result).write_faults ≡ 0 }
+        ensures no_close_fault { (file_meaning result).close_faults ≡ 0 }
     {
         FileStation {
             rt,
@@ -87,6 +91,7 @@ impl<'a, R: Files + Print> FileStation<'a, R> {
             report_closed: false,
             read_faults: 0,
             write_faults: 0,
+            close_faults: 0,
             report_faults: 0,
         }
     }
@@ -158,7 +163,7 @@ impl<'a, R: Files + Print> Station<'a> for FileStation<'a, R> {
     }
 
     fn close(&mut self, port: OutPort) -> Result<(), Failed> {
-        let faults = &mut self.write_faults;
+        let faults = &mut self.close_faults;
         match port {
             OutPort::Cells => counted(self.outputs.cells.close(), faults),
             OutPort::Hp => counted(self.outputs.hp.close(), faults),

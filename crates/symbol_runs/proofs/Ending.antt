@@ -8,6 +8,7 @@ use Rattle.std.proofs.lemmas.List.{drop-drop, take-append-drop}
 use Rattle.std.proofs.lemmas.Slice.Eq.{bytes_eq-Decides}
 use Rattle.std.proofs.Math.Nat.{div-eq_of_lt}
 use Rattle.station_core.specs.Meaning.{Meaning, Source, Sink, IsFresh, IsUntouched, source_at, sink_at}
+use Rattle.station_core.specs.Causes.{Rose}
 use Rattle.station_core.specs.declared.ports.InPort.{InPort}
 use Rattle.station_core.specs.declared.ports.InPort.TheVariants as ins
 use Rattle.station_core.specs.declared.ports.OutPort.{OutPort}
@@ -21,16 +22,16 @@ use Rattle.run_clauses.specs.Run.{IsUntaken, Run}
 use Rattle.run_clauses.specs.Text.{refusal_status, refusal_text, status_of}
 use Rattle.run_steps.specs.Report.{WritesText}
 use Rattle.run_steps.proofs.Taken.{all_unread}
-use Rattle.run_steps.specs.Ended.{AreMade, Ended, Hold, HoldFronts, HoldSoFar, HoldUnheaded, IsCaused, IsExact, Leaves}
+use Rattle.run_steps.specs.Ended.{AreMade, Ended, Hold, HoldFronts, HoldSoFar, HoldUnheaded, IsCaused, IsExact, IsWriteFault, Leaves}
 use Rattle.run_steps.proofs.Whole.{run_done, run_refused}
 use Rattle.symbol_runs.specs.declared.stop.Stop.{Stop}
 use Rattle.symbol_runs.specs.declared.stop.Stop.TheVariants.{ReadFault, WriteFault, Limit}
 use Rattle.symbol_runs.specs.declared.stop.Stop.TheVariants as stops
-use Rattle.symbol_runs.specs.Stops.{HasCause, refusal_in, stop_refusal}
+use Rattle.symbol_runs.specs.Stops.{HasEndCause, refusal_in, stop_refusal}
 use Rattle.symbol_runs.specs.Symbols.{symbols}
 use Rattle.symbol_runs.specs.Work.{HasReason, Holds, Work, Written}
 use Rattle.symbol_runs.specs.Outputs.{Names, made}
-use Rattle.symbol_runs.specs.Cells.{IsCutShort, IsStopped, TakesAtMost}
+use Rattle.symbol_runs.specs.Cells.{EndsWithin, IsCutShort, IsStopped, TakesAtMost}
 use Rattle.symbol_runs.specs.Opening.{CellsOnly, IsUnopened, Opens, TakesHeader, opened}
 use Rattle.symbol_runs.specs.Runs.{AsksOutputs, IsReady, IsUnmade, IsWorked, PortsOnly, RanBehind, RefusesCells, RunsBehind, RunsCells, Tells, outcome_status}
 use Rattle.symbol_runs.specs.Commands.{CellCommand, Come, ComeSoFar, ComesRefused, Continues, MayRefuse, SettingsDone, reads_at}
@@ -248,7 +249,7 @@ module _ (c : Command) (limit : ℕ) (name cells : List ℕ) (header : Option (L
   }
 
   -- ---- all of it, by the refusal
-  ended_by : (r : Option Refusal) → is_among (status_of r) c.statuses ≡ true → IsCaused start mid r → start.read_faults ≤ mid.read_faults → start.write_faults ≤ mid.write_faults
+  ended_by : (r : Option Refusal) → is_among (status_of r) c.statuses ≡ true → IsCaused c limit start mid r → start.read_faults ≤ mid.read_faults → start.write_faults ≤ mid.write_faults
       → IsExact c limit start r → InOrder → (r ≡ None → mid.cells.attached ≡ true) → (r ≡ None → start.tells ≡ true → mid.cells.left ≡ []) → Leaves c limit start mid r
       → Ended c limit start mid r
   ended_by r known caused later_reads later_writes exact order is_open read leaves = record {
@@ -414,7 +415,7 @@ module _ (c : Command) (limit : ℕ) (name cells : List ℕ) (header : Option (L
         })
 
     -- ---- the work refused the cells
-    caused_by : (r : Refusal) → MayRefuse c r → mid.read_faults ≡ start.read_faults → IsCaused start mid (Some r)
+    caused_by : (r : Refusal) → MayRefuse c r → mid.read_faults ≡ start.read_faults → IsCaused c limit start mid (Some r)
     caused_by refusals.Memory may same = same
     caused_by (refusals.Cells reason) may same = same
     caused_by refusals.Usage may same = absurd may
@@ -454,6 +455,11 @@ module _ (c : Command) (limit : ℕ) (name cells : List ℕ) (header : Option (L
     left_by (refusals.NotSync stream n) done may came = absurd may
     left_by (refusals.Limit n) done may came = absurd may
 
+    -- an output that failed to close behind the whole work is no refusal's
+    fault_by : Rose start.write_faults mid.write_faults ⊎ (Rose start.close_faults mid.close_faults × (start.tells ≡ true → EndsWithin w most file)) → IsWriteFault c limit start mid
+    fault_by (inl rose) = inl rose
+    fault_by (inr shut) = inr (shut.0, λ t. let e = shut.1 t in refusal_by None None (fits t) ((command.comes t).whole e.1.0 e.0 e.1.1).1 t)
+
     -- ---- by the outcome
     abbrev tag : Result (Unit {0}) Stop → ℕ
     tag (Ok u) = 0
@@ -465,10 +471,10 @@ module _ (c : Command) (limit : ℕ) (name cells : List ℕ) (header : Option (L
     worked_if : (result : Result (Unit {0}) Stop) → tag result ≢ 2 → RanBehind w most names (opened cells header old) mid result → IsWorked w most names (opened cells header old) mid result
     worked_if result not_written ran = elim ran [ inl p ↦ absurd (not_written (ap tag p.0)) | inr p ↦ p ]
 
-    pub ended_of : (o : Result (Unit {0}) Stop) → HasCause old mid o → HasReason w o → RanBehind w most names (opened cells header old) mid o → Ended c limit start mid (refusal_in most o)
+    pub ended_of : (o : Result (Unit {0}) Stop) → HasEndCause (start.tells ≡ true → EndsWithin w most file) old mid o → HasReason w o → RanBehind w most names (opened cells header old) mid o → Ended c limit start mid (refusal_in most o)
     ended_of (Ok u) cause reason ran =
         let done = worked_if (Ok u) (λ e. omega (arith, e)) ran in
-        ended_by None command.done (cause.0, cause.1) (omega (arith, cause.0)) (omega (arith, cause.1))
+        ended_by None command.done cause (omega (arith, cause.0)) (omega (arith, cause.1))
         (λ t. let d = done.works (told t) in refusal_by None None (fits t) ((command.comes t).whole d.2.given d.1 d.2.ends).1 t) (order (Ok u) ran)
         (λ is. done.attached) (λ is t. (done.works (told t)).0)
         (hold_by (Ok u) done (λ t. let d = done.works (told t) in (d.2.given, ((command.comes t).whole d.2.given d.1 d.2.ends).0, d.2.holds)))
@@ -476,7 +482,7 @@ module _ (c : Command) (limit : ℕ) (name cells : List ℕ) (header : Option (L
         ended_by (Some refusals.ReadFault) command.read_fault cause.0 cause.1 cause.2 tt (order (Err ReadFault) ran) (λ is. absurd (no_refusal _ is)) (λ is t. absurd (no_refusal _ is))
         (let p = worked_if (Err ReadFault) (λ e. omega (arith, e)) ran in stopped_left (Err ReadFault) p (λ t. p.works (told t)))
     ended_of (Err WriteFault) cause reason ran =
-        ended_by (Some refusals.WriteFault) command.write_fault (cause.0, cause.1) (omega (arith, cause.0)) cause.2 tt (order (Err WriteFault) ran) (λ is. absurd (no_refusal _ is)) (λ is t. absurd (no_refusal _ is))
+        ended_by (Some refusals.WriteFault) command.write_fault (cause.0, fault_by cause.1) (omega (arith, cause.0)) cause.2 tt (order (Err WriteFault) ran) (λ is. absurd (no_refusal _ is)) (λ is t. absurd (no_refusal _ is))
         (elim ran [ inl p ↦ unmade_left p.1 | inr p ↦ fronts_left (Err WriteFault) p (λ t. p.works (told t)) ])
     ended_of (Err Limit) cause reason ran =
         let done = worked_if (Err Limit) (λ e. omega (arith, e)) ran in

@@ -5,4 +5,5 @@ pub mod Steps
 pub mod Ends
 pub mod Loop
 pub mod Runs
+pub mod Causes
 pub mod Ending

@@ -79,6 +79,10 @@ pub record IsWhole (w : Work) (file : List ℕ) (start m : Meaning) : Type 0 whe
   pub ends : w.Ends file given
   pub holds : Holds start m given
 
+-- The cells are no more whole symbols than the limit, and the work comes to an end on them.
+abbrev pub EndsWithin : Work → ℕ → List ℕ → Type 0
+EndsWithin w most file = (symbols w.size file ≤ most) × ((given : Written) × w.Ends file given)
+
 -- what is left where the work stops
 abbrev pub Stopped : Work → ℕ → List ℕ → Meaning → Meaning → Stop → Type 0
 Stopped w most file start m ReadFault = IsStopped w most file start m

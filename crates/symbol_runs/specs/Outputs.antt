@@ -20,13 +20,14 @@ AreUntouched names m = (port : OutPort) → is_some (names port) ≡ true → Is
 abbrev pub made : List ℕ → Sink
 made name = record { asked = Some name; created = true; closed = false; written = [] }
 
--- only sinks and the count of write faults have changed
+-- only sinks and the counts of failed writes and closes have changed
 abbrev pub SinksOnly : Meaning → Meaning → Type 0
-SinksOnly old new = new ≡ record old { cells_out = new.cells_out; hp_out = new.hp_out; lp_out = new.lp_out; bytes_out = new.bytes_out; write_faults = new.write_faults }
+SinksOnly old new = new ≡ record old { cells_out = new.cells_out; hp_out = new.hp_out; lp_out = new.lp_out; bytes_out = new.bytes_out; write_faults = new.write_faults; close_faults = new.close_faults }
 
 -- the outputs were made, LP behind HP
 pub record AreMade (names : Names) (old new : Meaning) : Type 0 where
   pub others : SinksOnly old new
+  pub unfailed : new.close_faults ≡ old.close_faults
   pub are : (port : OutPort) (name : List ℕ) → names port ≡ Some name → sink_at port new ≡ made name
   pub kept : (port : OutPort) → names port ≡ None → sink_at port new ≡ sink_at port old
   pub lp_behind : (new.lp_out ≡ old.lp_out) ⊎ (new.hp_out.created ≡ true)
@@ -43,14 +44,14 @@ abbrev pub Makes : Names → Meaning → Meaning → Result (Unit {0}) Stop → 
 Makes names old new (Ok u) = AreMade names old new
 Makes names old new (Err stop) = (stop ≡ WriteFault) × AreUnmade names old new
 
--- only what is closed and the count of write faults have changed
+-- only what is closed and the count of failed closes have changed
 abbrev pub ClosesOnly : Meaning → Meaning → Type 0
 ClosesOnly old new = new ≡ record old {
   cells_out = record old.cells_out { closed = new.cells_out.closed };
   hp_out = record old.hp_out { closed = new.hp_out.closed };
   lp_out = record old.lp_out { closed = new.lp_out.closed };
   bytes_out = record old.bytes_out { closed = new.bytes_out.closed };
-  write_faults = new.write_faults;
+  close_faults = new.close_faults;
 }
 
 -- the outputs are closed, also where a close has failed
@@ -64,4 +65,4 @@ IsWriting (Err stop) = stop ≡ WriteFault
 
 -- LP is closed, if there are two streams
 abbrev pub ClosesLp : Bool → Meaning → Meaning → Type 0
-ClosesLp two old new = new ≡ record old { lp_out = if two then record old.lp_out { closed = true } else old.lp_out; write_faults = new.write_faults }
+ClosesLp two old new = new ≡ record old { lp_out = if two then record old.lp_out { closed = true } else old.lp_out; close_faults = new.close_faults }

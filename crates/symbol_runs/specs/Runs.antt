@@ -10,10 +10,10 @@ use Rattle.run_clauses.specs.Text.{refusal_text, refusal_status}
 use Rattle.run_steps.specs.Report.{WritesText}
 use Rattle.symbol_runs.specs.declared.stop.Stop.{Stop}
 use Rattle.symbol_runs.specs.declared.stop.Stop.TheVariants.{WriteFault}
-use Rattle.symbol_runs.specs.Stops.{HasCause, stop_refusal}
+use Rattle.symbol_runs.specs.Stops.{HasEndCause, stop_refusal}
 use Rattle.symbol_runs.specs.Work.{HasReason, Work}
 use Rattle.symbol_runs.specs.Outputs.{AreUntouched, Names, made}
-use Rattle.symbol_runs.specs.Cells.{TakesAtMost, Works}
+use Rattle.symbol_runs.specs.Cells.{EndsWithin, TakesAtMost, Works}
 use Rattle.symbol_runs.specs.Opening.{Opens, opened}
 
 -- the outputs can be made, and Report is open; none of them is written at Report
@@ -39,6 +39,7 @@ PortsOnly old new = new ≡ record old {
   report = record old.report { written = new.report.written };
   read_faults = new.read_faults;
   write_faults = new.write_faults;
+  close_faults = new.close_faults;
   report_faults = new.report_faults;
 }
 
@@ -88,7 +89,7 @@ pub record RunsBehind (w : Work) (most : ℕ) (names : Names) (old new : Meaning
   pub others : PortsOnly old mid
   pub cells_asked : mid.cells.asked ≡ old.cells.asked
   pub asks : AsksOutputs names old mid
-  pub cause : HasCause old mid outcome
+  pub cause : HasEndCause (old.tells ≡ true → EndsWithin w most old.cells.left) old mid outcome
   pub reason : HasReason w outcome
   pub later_report : old.report_faults ≤ mid.report_faults
   pub ran : RanBehind w most names old mid outcome

@@ -1,5 +1,5 @@
 -- Why the work on cells stops, and the counts of faults then.
-use Rattle.std.specs.Prelude.{◌≡◌, ◌≤◌, ℕ, Option, None, Some, Result, Ok, Err}
+use Rattle.std.specs.Prelude.{◌≡◌, ◌≤◌, ◌⊎◌, ℕ, Option, None, Some, Result, Ok, Err}
 use Rattle.station_core.specs.Causes.{Rose}
 use Rattle.station_core.specs.Meaning.{Meaning}
 use Rattle.run_clauses.specs.declared.work.Refusal.{Refusal}
@@ -19,11 +19,25 @@ abbrev pub refusal_in : ℕ → Result (Unit {0}) Stop → Option Refusal
 refusal_in most (Ok u) = None
 refusal_in most (Err stop) = Some (stop_refusal most stop)
 
--- A fault is answered only where its count rose. Where the work goes on no count has changed; where it is
--- refused an output that is then closed may fail, and be counted.
+-- A fault is answered only where its count rose. Where the work goes on no count has changed.
 abbrev pub HasCause : {T : Type 0} → Meaning → Meaning → Result T Stop → Type 0
 HasCause old new (Ok value) = (new.read_faults ≡ old.read_faults) × (new.write_faults ≡ old.write_faults)
 HasCause old new (Err ReadFault) = Rose old.read_faults new.read_faults × (old.read_faults ≤ new.read_faults) × (old.write_faults ≤ new.write_faults)
 HasCause old new (Err WriteFault) = (new.read_faults ≡ old.read_faults) × Rose old.write_faults new.write_faults × (old.write_faults ≤ new.write_faults)
 HasCause old new (Err Limit) = (new.read_faults ≡ old.read_faults) × (old.write_faults ≤ new.write_faults)
 HasCause old new (Err (Work refusal)) = (new.read_faults ≡ old.read_faults) × (old.write_faults ≤ new.write_faults)
+
+-- The same behind the closing of the outputs: it may fail, and is counted. A write fault is answered where a write has
+-- failed or, behind work that is whole, where an output could not be closed.
+abbrev pub HasEndCause : {T : Type 0} → Type 0 → Meaning → Meaning → Result T Stop → Type 0
+HasEndCause whole old new (Ok value) = (new.read_faults ≡ old.read_faults) × (new.write_faults ≡ old.write_faults) × (new.close_faults ≡ old.close_faults)
+HasEndCause whole old new (Err ReadFault) = Rose old.read_faults new.read_faults × (old.read_faults ≤ new.read_faults) × (old.write_faults ≤ new.write_faults)
+HasEndCause whole old new (Err WriteFault) =
+    (new.read_faults ≡ old.read_faults) × (Rose old.write_faults new.write_faults ⊎ (Rose old.close_faults new.close_faults × whole)) × (old.write_faults ≤ new.write_faults)
+HasEndCause whole old new (Err Limit) = (new.read_faults ≡ old.read_faults) × (old.write_faults ≤ new.write_faults)
+HasEndCause whole old new (Err (Work refusal)) = (new.read_faults ≡ old.read_faults) × (old.write_faults ≤ new.write_faults)
+
+-- a closing fails only where its count rose
+abbrev pub HasCloseCause : {T : Type 0} → Meaning → Meaning → Result T Stop → Type 0
+HasCloseCause old new (Ok value) = new.close_faults ≡ old.close_faults
+HasCloseCause old new (Err stop) = Rose old.close_faults new.close_faults

@@ -2,7 +2,7 @@
 ghost use Rattle.std.specs.Prelude.{◌≡◌, ℕ, List, Option, Some, None, true, false, is_some};
 ghost use Rattle.std.specs.Option.{option_copied};
 ghost use Rattle.station_core.specs.declared.ports.OutPort.{OutPort};
-ghost use Rattle.symbol_runs.specs.Stops.{HasCause};
+ghost use Rattle.symbol_runs.specs.Stops.{HasCause, HasCloseCause};
 ghost use Rattle.symbol_runs.specs.Work.{AreOpen};
 ghost use Rattle.symbol_runs.specs.Outputs.{AreClosed, AreUntouched, ClosesLp, IsWriting, Makes, Names, cell_names, stream_names};
 
@@ -23,7 +23,7 @@ pub trait OutputFiles<'a, S: Station<'a>> {
     /// Closes them all, also where one was not closed well.
     fn close(&self, station: &mut S) -> Result<(), Stop>
         requires open { AreOpen (λ port. is_some (names self.now port)) (S.meaning station.old) }
-        ensures cause { HasCause (S.meaning station.old) (S.meaning station.new) result }
+        ensures cause { HasCloseCause (S.meaning station.old) (S.meaning station.new) result }
         ensures kind { IsWriting result }
         ensures closes { AreClosed (names self.now) (S.meaning station.old) (S.meaning station.new) };
 }
@@ -98,7 +98,7 @@ fn close_lp<'a, S: Station<'a>>(lp: Option<&'a str>, station: &mut S) -> Result<
     requires made { is_some (option_copied lp) ≡ true → (S.meaning station.old).lp_out.created ≡ true }
     requires open { is_some (option_copied lp) ≡ true → (S.meaning station.old).lp_out.closed ≡ false }
     ensures kind { IsWriting result }
-    ensures cause { HasCause (S.meaning station.old) (S.meaning station.new) result }
+    ensures cause { HasCloseCause (S.meaning station.old) (S.meaning station.new) result }
     ensures closes { ClosesLp (is_some (option_copied lp.entry)) (S.meaning station.old) (S.meaning station.new) }
 {
     if lp.is_none() {

@@ -1,9 +1,9 @@
 // A run of a command that reads cells, behind its settings.
 ghost use Rattle.std.specs.Prelude.{◌≡◌, ◌≤◌, ◌<◌, ◌+◌, ◌*◌, true, length, is_some};
 ghost use Rattle.station_core.specs.declared.ports.OutPort.{OutPort};
-ghost use Rattle.symbol_runs.specs.Stops.{HasCause};
+ghost use Rattle.symbol_runs.specs.Stops.{HasEndCause};
 ghost use Rattle.symbol_runs.specs.Work.{HasReason};
-ghost use Rattle.symbol_runs.specs.Cells.{TakesAtMost};
+ghost use Rattle.symbol_runs.specs.Cells.{EndsWithin, TakesAtMost};
 ghost use Rattle.symbol_runs.specs.Runs.{AsksOutputs, CanBegin, IsReady, PortsOnly, RanBehind, RunsBehind, RunsCells};
 
 use crate::cells::work_on_cells;
@@ -32,7 +32,7 @@ fn run_behind<'a, F: OutputFiles<'a, S>, X: SymbolWork<'a, S>, S: Station<'a>>(
     ensures others { PortsOnly (S.meaning station.old) (S.meaning station.new) }
     ensures cells_asked { (S.meaning station.new).cells.asked ≡ (S.meaning station.old).cells.asked }
     ensures asks { AsksOutputs (F.names files.now) (S.meaning station.old) (S.meaning station.new) }
-    ensures cause { HasCause (S.meaning station.old) (S.meaning station.new) result }
+    ensures cause { HasEndCause ((S.meaning station.old).tells ≡ true → EndsWithin (X.work (X.setup work.old)) max_symbols (S.meaning station.old).cells.left) (S.meaning station.old) (S.meaning station.new) result }
     ensures reason { HasReason (X.work (X.setup work.old)) result }
     ensures later_report { (S.meaning station.old).report_faults ≤ (S.meaning station.new).report_faults }
     ensures ran { RanBehind (X.work (X.setup work.old)) max_symbols (F.names files.now) (S.meaning station.old) (S.meaning station.new) result }

@@ -142,7 +142,7 @@ module _ (limit : ℕ) (name : List ℕ) (number : ℕ) (start mid : Meaning) (l
       input_is ins.Lp other is = true≢false (sym is)
       input_is ins.Cells other is = true≢false (sym is)
 
-      ended : (r : Option Refusal) → is_among (status_of r) c.statuses ≡ true → IsCaused start end r → start.write_faults ≤ end.write_faults → start.report_faults ≤ end.report_faults
+      ended : (r : Option Refusal) → is_among (status_of r) c.statuses ≡ true → IsCaused c limit start end r → start.write_faults ≤ end.write_faults → start.report_faults ≤ end.report_faults
           → IsExact c limit start r → Leaves c limit start end r → Ended c limit start end r
       ended r known caused writes reports exact leaves = record {
         known = known;
@@ -182,6 +182,9 @@ module _ (limit : ℕ) (name : List ℕ) (number : ℕ) (start mid : Meaning) (l
       same_reads : end.read_faults ≡ start.read_faults
       same_reads = ap (λ (x : Meaning). x.read_faults) others ∙ accepts.0
 
+      same_closes : end.close_faults ≡ start.close_faults
+      same_closes = ap (λ (x : Meaning). x.close_faults) others ∙ ap (λ (x : Meaning). x.close_faults) asks.others
+
       empty : start.tells ≡ true → (l : List ℕ) → mid.report.written ++ l ≡ l
       empty t l = ap (λ (x : Meaning). x.report.written ++ l) asks.others ∙ ap (λ (w : List ℕ). w ++ l) (fresh.report_empty t)
 
@@ -200,7 +203,7 @@ module _ (limit : ℕ) (name : List ℕ) (number : ℕ) (start mid : Meaning) (l
       limit_refused n few t = refusal_is t ∙ sym from_zero ∙ few
 
       by_outcome : (o : Result (Unit {0}) Refusal) → HasCause mid end o → Ran (at_zero s) number mid end o → Ended c limit start end (refusal_in o)
-      by_outcome (Ok u) cause ran = ended end others None refl (same_reads, cause.writes ∙ same_writes) (omega (arith, cause.writes, same_writes)) (omega (arith, ran.writes.later_report, same_reports))
+      by_outcome (Ok u) cause ran = ended end others None refl (same_reads, cause.writes ∙ same_writes, same_closes) (omega (arith, cause.writes, same_writes)) (omega (arith, ran.writes.later_report, same_reports))
           (nothing_refused ran.enough)
           (record {
             made = λ out is. absurd (true≢false (sym is));
@@ -216,7 +219,7 @@ module _ (limit : ℕ) (name : List ℕ) (number : ℕ) (start mid : Meaning) (l
       by_outcome (Err (Cells reason)) cause ran = absurd ran
       by_outcome (Err (Settings reason)) cause ran = absurd ran
       by_outcome (Err ReadFault) cause ran = absurd ran
-      by_outcome (Err WriteFault) cause ran = ended end others (Some WriteFault) refl (same_reads, omega (arith, cause.1, same_writes)) (omega (arith, cause.2, same_writes)) (omega (arith, ran.writes.later_report, same_reports))
+      by_outcome (Err WriteFault) cause ran = ended end others (Some WriteFault) refl (same_reads, inl (omega (arith, cause.1, same_writes))) (omega (arith, cause.2, same_writes)) (omega (arith, ran.writes.later_report, same_reports))
           tt
           (record {
             outputs = λ t out is. absurd (true≢false (sym is));

@@ -1,4 +1,4 @@
-use Rattle.std.proofs.Common.{◌≡◌, ◌∙◌, inl, ℕ, Bool, List, Option, None, Ok, refl, ap, sym, subst}
+use Rattle.std.proofs.Common.{◌≡◌, ◌∙◌, inl, true, ℕ, Bool, List, Option, None, Ok, refl, ap, sym, subst}
 use Rattle.std.specs.Prelude.{is_some, IsTrue}
 use Rattle.std.specs.Option.{option_copied}
 use Rattle.station_core.specs.Meaning.{Meaning}
@@ -10,9 +10,12 @@ use Rattle.modulate_run.specs.declared.inputs.PacketInputs.{PacketInputs}
 use Rattle.modulate_run.specs.Seen.{Seen}
 use Rattle.modulate_run.specs.Work.{AreOpen, AreWithin, IsAtWork}
 use Rattle.modulate_run.specs.Reporting.{Finishes}
-use Rattle.modulate_run.specs.Steps.{OpensAll, Ran, first_inputs}
+use Rattle.modulate_run.specs.Steps.{IsAccepted, OpensAll, Ran, first_inputs}
 use Rattle.run_steps.proofs.Fitting.{copied_some}
 use Rattle.run_steps.proofs.HandedOn.{handed_on}
+use Rattle.run_steps.specs.Causes.{HasEndCause}
+use Rattle.run_steps.proofs.EndCauses.{finished_cause, refused_cause}
+use Rattle.modulate_run.specs.declared.counts.TransmissionCounts.{TransmissionCounts}
 use Rattle.modulate_run.proofs.Endings.{starts, unwritten, refused_with, finished, lp_exists, first_open, first_within}
 use Rattle.modulate_run.proofs.run.modulate_all.Goals as goal
 
@@ -92,3 +95,48 @@ returns-in-Err-clause-ran g c =
     let start' = subst (λ (i : PacketInputs). IsAtWork limit files mid i t put) (sym first) start in
     refused_with t.settings limit hp lp cells old mid c.in_ok-open.ensures.opened fin new c.send_file.ensures.others c.in-Err.refusal
     (λ told. c.in-Err.ensures.modulates told files start' (unwritten t.settings limit hp lp cells old mid c.in_ok-open.ensures.opened)) c.close_refused.ensures.closed
+
+pub returns-in_err-open-clause-cause : goal.returns-in_err-open-clause-cause
+returns-in_err-open-clause-cause g c =
+    let old : Meaning = g.S.Station.meaning c.args.station.now in
+    let mid : Meaning = g.S.Station.meaning c.open.new.station in
+    let files : Stream → List ℕ = files_of old.file c.args.names.hp.now (option_copied c.args.names.lp) in
+    let whole : Type 0 = old.tells ≡ true → IsAccepted (g.T.Transmitter.seen c.args.tx.now).settings c.args.limits.now.packets files in
+    handed_on c.from_residual.result c.in_err-open.field-0.0 (HasEndCause whole old mid) c.from_residual.ensures.1
+    (refused_cause (Unit {0}) TransmissionCounts whole old old mid mid c.in_err-open.field-0.0 (record { reads = refl; writes = refl }) c.in_err-open.ensures.cause refl refl)
+
+pub returns-in-Ok-clause-cause : goal.returns-in-Ok-clause-cause
+returns-in-Ok-clause-cause g c =
+    let old : Meaning = g.S.Station.meaning c.args.station.now in
+    let mid : Meaning = g.S.Station.meaning c.open.new.station in
+    let fin : Meaning = g.S.Station.meaning c.send_file.new.station in
+    let new : Meaning = g.S.Station.meaning c.finish.new.station in
+    let t : Seen = g.T.Transmitter.seen c.args.tx.now in
+    let put = g.T.Transmitter.stands c.args.tx.now in
+    let hp : List ℕ = c.args.names.hp.now in
+    let lp : Option (List ℕ) = option_copied c.args.names.lp in
+    let cells : List ℕ = c.args.names.cells.now in
+    let limit : ℕ = c.args.limits.now.packets in
+    let files : Stream → List ℕ = files_of old.file hp lp in
+    let opened : OpensAll hp lp cells old mid (Ok tt) = c.in_ok-open.ensures.opened in
+    let two : c.is_some-two.result ≡ is_some lp = c.is_some-two.ensures ∙ copied_some c.args.names.lp in
+    let first : c.first.result ≡ first_inputs (is_some lp) = c.first.ensures ∙ ap first_inputs two in
+    let start = starts t.settings limit hp lp cells old mid opened c.work.ensures.begins c.requires.ready.lp_attached t put c.requires.new (c.requires.stands (inputs_of files)) in
+    let start' = subst (λ (i : PacketInputs). IsAtWork limit files mid i t put) (sym first) start in
+    let work = c.in-Ok.ensures in
+    finished_cause TransmissionCounts (old.tells ≡ true → IsAccepted t.settings limit files) old fin new c.finish.result
+    (record { reads = work.cause.reads ∙ c.in_ok-open.ensures.cause.reads; writes = work.cause.writes ∙ c.in_ok-open.ensures.cause.writes })
+    (ap (λ (x : Meaning). x.close_faults) c.send_file.ensures.others ∙ ap (λ (x : Meaning). x.close_faults) opened)
+    (λ told. (work.modulates (ap (λ (x : Meaning). x.tells) opened ∙ told) files start' (unwritten t.settings limit hp lp cells old mid opened)).3)
+    c.finish.ensures.cause
+
+pub returns-in-Err-clause-cause : goal.returns-in-Err-clause-cause
+returns-in-Err-clause-cause g c =
+    let old : Meaning = g.S.Station.meaning c.args.station.now in
+    let mid : Meaning = g.S.Station.meaning c.open.new.station in
+    let fin : Meaning = g.S.Station.meaning c.send_file.new.station in
+    let new : Meaning = g.S.Station.meaning c.close_refused.new.station in
+    let files : Stream → List ℕ = files_of old.file c.args.names.hp.now (option_copied c.args.names.lp) in
+    let shut = c.close_refused.ensures.closed in
+    refused_cause TransmissionCounts TransmissionCounts (old.tells ≡ true → IsAccepted (g.T.Transmitter.seen c.args.tx.now).settings c.args.limits.now.packets files) old mid fin new c.in-Err.refusal
+    c.in_ok-open.ensures.cause c.in-Err.ensures.cause (ap (λ (x : Meaning). x.read_faults) shut.closed) (ap (λ (x : Meaning). x.write_faults) shut.closed)

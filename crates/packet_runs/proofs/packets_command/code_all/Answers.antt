@@ -1,5 +1,10 @@
+use Rattle.std.proofs.Common.{◌≡◌, ◌∙◌, ℕ, List, true, Ok, refl, ap, subst}
 use Rattle.station_core.specs.Meaning.{Meaning}
-use Rattle.run_clauses.specs.Packets.{first_packets}
+use Rattle.run_clauses.specs.declared.work.Counts.{Counts}
+use Rattle.run_steps.specs.Causes.{HasEndCause}
+use Rattle.run_steps.proofs.EndCauses.{finished_cause, refused_cause}
+use Rattle.run_steps.proofs.HandedOn.{handed_on}
+use Rattle.run_clauses.specs.Packets.{AcceptsFirst, first_packets, whole_packets}
 use Rattle.packet_runs.proofs.Progress.{ends_first}
 use Rattle.packet_runs.proofs.Endings.{finished, refused_end}
 use Rattle.packet_runs.proofs.Keeping.{keeps_again, works_closed, works_finished, later_closed, later_finished, asks_worked}
@@ -57,3 +62,54 @@ returns-in-Err-write_end-clause-asks g c =
     asks_worked c.args.input.now c.args.output.now (g.S.Station.meaning c.args.station.now) mid new c.in_ok-open.ensures.opened
     (works_closed mid fin new keeps c.close_refused.ensures.closed)
     (later_closed mid fin new keeps c.close_refused.ensures.closed)
+
+pub returns-in_err-open-clause-cause : goal.returns-in_err-open-clause-cause
+returns-in_err-open-clause-cause g c =
+    let old : Meaning = g.S.Station.meaning c.args.station.now in
+    let mid : Meaning = g.S.Station.meaning c.open.new.station in
+    let file : List ℕ = old.file c.args.input.now in
+    let whole : Type 0 = old.tells ≡ true → AcceptsFirst c.args.limits.now.packets file (whole_packets file) in
+    handed_on c.from_residual.result c.in_err-open.field-0.0 (HasEndCause whole old mid) c.from_residual.ensures.1
+    (refused_cause (Unit {0}) Counts whole old old mid mid c.in_err-open.field-0.0 (record { reads = refl; writes = refl }) c.in_err-open.ensures.cause refl refl)
+
+pub returns-in-Ok-write_end-clause-cause : goal.returns-in-Ok-write_end-clause-cause
+returns-in-Ok-write_end-clause-cause g c =
+    let old : Meaning = g.S.Station.meaning c.args.station.now in
+    let mid : Meaning = g.S.Station.meaning c.open.new.station in
+    let fin : Meaning = g.S.Station.meaning c.write_end.new.station in
+    let new : Meaning = g.S.Station.meaning c.finish.new.station in
+    let limit : ℕ = c.args.limits.now.packets in
+    let file : List ℕ = old.file c.args.input.now in
+    let opened = c.in_ok-open.ensures in
+    let work = c.in-Ok.ensures in
+    let end = c.in-Ok-write_end.ensures in
+    finished_cause Counts (old.tells ≡ true → AcceptsFirst limit file (whole_packets file)) old fin new c.finish.result
+    (record { reads = end.cause.reads ∙ work.cause.reads ∙ opened.cause.reads; writes = end.cause.writes ∙ work.cause.writes ∙ opened.cause.writes })
+    (ap (λ (x : Meaning). x.close_faults) end.others ∙ ap (λ (x : Meaning). x.close_faults) work.others ∙ ap (λ (x : Meaning). x.close_faults) opened.opened)
+    (λ t. subst (λ (l : List ℕ). AcceptsFirst limit l (whole_packets l)) (ap (λ (x : Meaning). x.hp.left) opened.opened) (work.contents (ap (λ (x : Meaning). x.tells) opened.opened ∙ t)).1)
+    c.finish.ensures.cause
+
+pub returns-in-Err-write_end-clause-cause : goal.returns-in-Err-write_end-clause-cause
+returns-in-Err-write_end-clause-cause g c =
+    let old : Meaning = g.S.Station.meaning c.args.station.now in
+    let done : Meaning = g.S.Station.meaning c.code_packets.new.station in
+    let fin : Meaning = g.S.Station.meaning c.write_end.new.station in
+    let new : Meaning = g.S.Station.meaning c.close_refused.new.station in
+    let file : List ℕ = old.file c.args.input.now in
+    let opened = c.in_ok-open.ensures in
+    let work = c.in-Ok.ensures in
+    let shut = c.close_refused.ensures.closed in
+    refused_cause (Unit {0}) Counts (old.tells ≡ true → AcceptsFirst c.args.limits.now.packets file (whole_packets file)) old done fin new c.in-Err-write_end.fault
+    (record { reads = work.cause.reads ∙ opened.cause.reads; writes = work.cause.writes ∙ opened.cause.writes })
+    c.in-Err-write_end.ensures.cause (ap (λ (x : Meaning). x.read_faults) shut.closed) (ap (λ (x : Meaning). x.write_faults) shut.closed)
+
+pub returns-in-Err-clause-cause : goal.returns-in-Err-clause-cause
+returns-in-Err-clause-cause g c =
+    let old : Meaning = g.S.Station.meaning c.args.station.now in
+    let mid : Meaning = g.S.Station.meaning c.open.new.station in
+    let fin : Meaning = g.S.Station.meaning c.code_packets.new.station in
+    let new : Meaning = g.S.Station.meaning c.close_refused-in-Err.new.station in
+    let file : List ℕ = old.file c.args.input.now in
+    let shut = c.close_refused-in-Err.ensures.closed in
+    refused_cause Counts Counts (old.tells ≡ true → AcceptsFirst c.args.limits.now.packets file (whole_packets file)) old mid fin new c.in-Err.refusal
+    c.in_ok-open.ensures.cause c.in-Err.ensures.cause (ap (λ (x : Meaning). x.read_faults) shut.closed) (ap (λ (x : Meaning). x.write_faults) shut.closed)

@@ -1,10 +1,13 @@
-use Rattle.std.proofs.Common.{Result, subst, sym}
+use Rattle.std.proofs.Common.{◌≡◌, true, Result, subst, sym}
 use Rattle.std.specs.Result.{result_and}
 use Rattle.station_core.specs.Meaning.{Meaning}
 use Rattle.symbol_runs.specs.Work.{Work}
 use Rattle.symbol_runs.specs.Outputs.{Names}
 use Rattle.symbol_runs.specs.declared.stop.Stop.{Stop}
+use Rattle.symbol_runs.specs.Stops.{HasEndCause}
+use Rattle.symbol_runs.specs.Cells.{EndsWithin}
 use Rattle.symbol_runs.specs.Runs.{RanBehind}
+use Rattle.symbol_runs.proofs.Causes.{end_cause}
 use Rattle.symbol_runs.proofs.Runs.{worked, works_then_closed}
 use Rattle.symbol_runs.proofs.run.run_behind.Goals as goal
 
@@ -21,3 +24,16 @@ returns-clause-ran g c =
     subst (λ (r : Result (Unit {0}) Stop). RanBehind w c.args.max_symbols names old new r) (sym c.and.ensures)
     (worked names old m1 c.in_ok-create.ensures.makes c.requires.begin w c.args.max_symbols m2 new e.others closes (result_and c.work_on_cells-worked.result c.close-closed.result)
     (works_then_closed w c.args.max_symbols m1.cells.left m1 m2 new closes.others c.work_on_cells-worked.result c.close-closed.result c.close-closed.ensures.kind e.works))
+
+pub returns-clause-cause : goal.returns-clause-cause
+returns-clause-cause g c =
+    let old : Meaning = g.S.Station.meaning c.args.station.now in
+    let m1 : Meaning = g.S.Station.meaning c.create.new.station in
+    let m2 : Meaning = g.S.Station.meaning c.work_on_cells-worked.new.station in
+    let new : Meaning = g.S.Station.meaning c.close-closed.new.station in
+    let names : Names = g.F.OutputFiles.names c.args.files.now in
+    let w : Work = g.X.SymbolWork.work (g.X.SymbolWork.setup c.args.work.now) in
+    let e = c.work_on_cells-worked.ensures in
+    let shut = c.close-closed.ensures in
+    subst (λ (r : Result (Unit {0}) Stop). HasEndCause (old.tells ≡ true → EndsWithin w c.args.max_symbols old.cells.left) old new r) (sym c.and.ensures)
+    (end_cause w c.args.max_symbols names old m1 m2 new c.in_ok-create.ensures.cause c.in_ok-create.ensures.makes e.others shut.closes.others c.work_on_cells-worked.result c.close-closed.result shut.kind e.cause e.works shut.cause)
