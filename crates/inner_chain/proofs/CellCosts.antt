@@ -1,9 +1,8 @@
 -- The costs of cells.
-use Rattle.std.proofs.Common.{◌≡◌, ℕ, ◌+◌, ◌-◌, ◌*◌, ◌/◌, ◌%◌, ◌<◌, ◌≤◌, ◌⊎◌, inl, inr, List, length, get_or, min, sym, ap, ap₂, ◌∙◌, subst, arith}
+use Rattle.std.proofs.Common.{◌≡◌, ℕ, ◌+◌, ◌*◌, ◌/◌, ◌%◌, ◌<◌, ◌≤◌, ◌⊎◌, inl, inr, List, length, get_or, min, sym, ap, ap₂, ◌∙◌, subst, arith}
 use Rattle.std.specs.Prelude.{◌≢◌, slice_index, slice_index_or, slice_set}
 use Rattle.std.proofs.lemmas.Bool.{cases_lt, cases_eq}
 use Rattle.std.proofs.lemmas.List.{get_or_default, get_or-set_same, get_or-set_other, length-set}
-use Rattle.std.proofs.Math.Nat.{mul-le-mul_right}
 use Rattle.mode_set.specs.StreamTable.{carriers, payload, label_bits}
 use Rattle.mode_set.specs.declared.modes.Mode.{Mode}
 use Rattle.mode_set.specs.declared.modes.Mode.TheVariants.{M2k, M8k}

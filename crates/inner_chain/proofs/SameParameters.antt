@@ -1,5 +1,5 @@
 -- Entries of the same parameters.
-use Rattle.std.proofs.Common.{◌≡◌, Bool, true, not, Option, refl, ap, subst}
+use Rattle.std.proofs.Common.{◌≡◌, true, not, Option, ap, subst}
 use Rattle.std.specs.Prelude.{is_some}
 use Rattle.mode_set.specs.Kept.{IsKeptEntry, is_flat, is_qpsk}
 use Rattle.mode_set.specs.Entries.{with_entry}

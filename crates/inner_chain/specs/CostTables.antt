@@ -15,10 +15,9 @@ use Rattle.puncture.specs.Steps.{number_of}
 use Rattle.bit_interleave.specs.Place.{place_in_label, word_of_bit}
 use Rattle.symbol_interleave.specs.Carried.{place_of_word}
 use Rattle.pilots.specs.Carriers.{payload_carriers}
-use Rattle.soft_metric.specs.Costs.{costs_at_place}
 use Rattle.qam_map.specs.declared.cell.Cell.{Cell}
 use Rattle.soft_metric.specs.Squares.{IsSmallPair}
-use Rattle.soft_metric.specs.Weights.{full_weight, weighted}
+use Rattle.soft_metric.specs.Weights.{full_weight}
 use Rattle.qam_map.specs.Cells.{cell_of}
 use Rattle.inner_chain.specs.CostPairs.{weight_of, weighted_costs_on}
 use Rattle.inner_chain.specs.Tables.{most_steps}

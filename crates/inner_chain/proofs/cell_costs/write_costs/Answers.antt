@@ -1,5 +1,4 @@
-use Rattle.std.proofs.Common.{◌≡◌, arith, length, sym, ◌∙◌}
-use Rattle.mode_set.specs.StreamTable.{payload}
+use Rattle.std.proofs.Common.{arith, sym, ◌∙◌}
 use Rattle.inner_chain.proofs.CellCosts.{costs_all, room_for, room_kept}
 use Rattle.inner_chain.proofs.cell_costs.write_costs.Goals as goal
 

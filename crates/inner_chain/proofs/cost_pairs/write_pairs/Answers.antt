@@ -1,4 +1,4 @@
-use Rattle.std.proofs.Common.{◌≡◌, ℕ, ◌<◌, [], ◌∙◌, arith, length, length-set}
+use Rattle.std.proofs.Common.{ℕ, ◌<◌, [], ◌∙◌, arith, length, length-set}
 use Rattle.std.proofs.lemmas.List.{take_more_set, drop-set-lt}
 use Rattle.inner_chain.proofs.CostReading.{read_more}
 use Rattle.inner_chain.proofs.cost_pairs.write_pairs.Goals as goal

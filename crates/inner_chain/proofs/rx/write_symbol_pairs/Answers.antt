@@ -1,4 +1,3 @@
-use Rattle.std.proofs.Common.{◌≡◌, ℕ}
 use Rattle.mode_set.specs.declared.modes.Stream.TheVariants.{Hp, Lp}
 use Rattle.inner_chain.proofs.Fronts.{begins_with}
 use Rattle.inner_chain.proofs.rx.write_symbol_pairs.Goals as goal
