@@ -7,13 +7,22 @@ use std::test::Fail;
 use std::thread::Threads;
 
 /// What is to be found: the status, the report, how many bytes stand, and their sum.
-pub(crate) type Found<'a> = (u8, &'a str, usize, u32);
+pub(crate) type Found = (u8, &'static str, usize, u32);
 
 /// A call that fails, the limit of packets, and the most bytes that a read gives.
 pub(crate) type Terms = (Option<Failing>, u64, u32);
 
 /// No call fails, and nothing is in short supply.
 pub(crate) const FREE: Terms = (None, 100, u32::MAX);
+
+/// A run: its words, the settings, the transport file, the terms, and what is to be found.
+pub(crate) type Case = (
+    &'static str,
+    (&'static str, &'static str),
+    File,
+    Terms,
+    Found,
+);
 
 /// Runs the words over the settings and this file.
 pub(crate) fn run_on<R: Abort + Threads + Sync>(
@@ -35,35 +44,77 @@ pub(crate) fn run_on<R: Abort + Threads + Sync>(
     run_files(rt, alloc, text, settings, files, limit, conditions)
 }
 
-/// The same, and compares what stands.
-pub(crate) fn expect<R: Abort + Threads + Sync>(
+// Runs a case, and tells whether what is to be found stands.
+fn is_found<R: Abort + Threads + Sync>(
     rt: &R,
     alloc: Global,
-    text: &str,
-    settings: (&str, &str),
-    file: File,
-    terms: Terms,
-    found: Found<'_>,
-) -> Result<(), AllocError> {
+    case: &Case,
+) -> Result<bool, AllocError> {
+    let (text, settings, file, terms, found) = *case;
     let settings = text_bytes(alloc, settings.0, settings.1)?;
     let ran = run_on(rt, alloc, text, settings, file, terms)?;
     let is_told = ran.status == found.0 && ran.report.as_slice() == found.1.as_bytes();
-    assert!(rt; is_told, "{text}: status or report beside {}", found.1);
-    let stands = ran.bytes.len() == found.2 && checksum(&ran.bytes) == found.3;
-    assert!(rt; stands, "{text}: bytes beside {}", found.1);
-    Ok(())
+    Ok(is_told && ran.bytes.len() == found.2 && checksum(&ran.bytes) == found.3)
 }
+
+/// The number, from 0, of the first run that leaves something else.
+pub(crate) fn first_wrong<R: Abort + Threads + Sync>(
+    rt: &R,
+    alloc: Global,
+    cases: &[Case],
+) -> Result<Option<usize>, AllocError> {
+    for (number, case) in cases.iter().enumerate() {
+        if !is_found(rt, alloc, case)? {
+            return Ok(Some(number));
+        }
+    }
+    Ok(None)
+}
+
+/// A part of the bytes that a run writes: where it stands, and its bytes.
+pub(crate) type Part = (usize, &'static [u8]);
+
+// Does this part stand in these bytes?
+fn is_in(bytes: &[u8], part: &Part) -> bool {
+    part.0 <= bytes.len() && bytes[part.0..].starts_with(part.1)
+}
+
+/// Runs the words over the settings and null packets. The status, the output's length, whether this is reported, and the
+/// number, from 0, of the first part that does not stand in the output.
+pub(crate) fn parts_of<R: Abort + Threads + Sync>(
+    rt: &R,
+    alloc: Global,
+    (text, packets): (&str, usize),
+    report: &str,
+    parts: &[Part],
+) -> Result<(u8, usize, bool, Option<usize>), AllocError> {
+    let settings = text_bytes(alloc, BASE, "")?;
+    let ran = run_on(rt, alloc, text, settings, File::Nulls(packets, 0), FREE)?;
+    let missing = parts.iter().position(|part| !is_in(&ran.bytes, part));
+    let is_told = ran.report.as_slice() == report.as_bytes();
+    Ok((ran.status, ran.bytes.len(), is_told, missing))
+}
+
+static BEGINS: [Part; 1] = [(0, &[0xB8, 0, 0, 0, 0, 0, 0, 0, 0, 0, 0, 0, 0x8C])];
+
+static SAMPLE: [Case; 1] = [(
+    "outer a out",
+    (BASE, ""),
+    File::Counted(100, 0),
+    FREE,
+    (0, "hp packets 100 tail 0\n", 20_400, 499_727_075),
+)];
 
 #[test]
 fn one_null_packet_and_a_sample(rt: HostRuntime) -> Result<(), Fail> {
-    let alloc = rt.alloc();
-    let settings = text_bytes(alloc, BASE, "")?;
-    let ran = run_on(&rt, alloc, "outer a out", settings, File::Nulls(1, 0), FREE)?;
-    assert_eq!(rt; (ran.status, ran.bytes.len()), (0, 204));
-    let begins = [0xB8u8, 0, 0, 0, 0, 0, 0, 0, 0, 0, 0, 0, 0x8C];
-    assert_eq!(rt; &ran.bytes[..13], begins.as_slice());
-    let found = (0, "hp packets 100 tail 0\n", 20_400, 499_727_075);
-    let sample = File::Counted(100, 0);
-    expect(&rt, alloc, "outer a out", (BASE, ""), sample, FREE, found)?;
+    let left = parts_of(
+        &rt,
+        rt.alloc(),
+        ("outer a out", 1),
+        "hp packets 1 tail 0\n",
+        &BEGINS,
+    )?;
+    assert_eq!(rt; left, (0, 204, true, None));
+    assert_eq!(rt; first_wrong(&rt, rt.alloc(), &SAMPLE)?, None);
     Ok(())
 }
