@@ -28,7 +28,7 @@ fn nine_null_packets(rt: HostRuntime) -> Result<(), Fail> {
 /// Two null packets, and five bytes of one more.
 const PART: File = File::Nulls(2, 5);
 
-static CASES: [Case; 10] = [
+static CASES: [Case; 11] = [
     (
         "receive",
         (BASE, ""),
@@ -63,6 +63,14 @@ static CASES: [Case; 10] = [
         (BASE, ""),
         File::Unsynced(1, 1),
         (None, 9, 100),
+        (4, "hp packet 1\n", 188, 3_363_878_293),
+    ),
+    // an output that fails as it is closed behind a refusal
+    (
+        FORM,
+        (BASE, ""),
+        File::Unsynced(1, 1),
+        (Some(Failing::Close(OutPort::Bytes, 1)), 9, 100),
         (4, "hp packet 1\n", 188, 3_363_878_293),
     ),
     (
