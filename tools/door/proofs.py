@@ -24,8 +24,8 @@ PARTS = ("src", "specs", "proofs")
 ROW = re.compile(r"\| (\w+) \| (\d+) \|")
 # Of a crate that the table does not have: the seconds that a check takes whatever its crate has, and the lines that it does in one.
 EACH, LINES = 15, 20
-# More jobs than these at one crate win little.
-MOST_JOBS = 4
+# More jobs than these at one crate win nothing, since each reads all that lies below: dvbt_top took 90 seconds by four, and 47 by one.
+MOST_JOBS = 2
 
 
 def lines_of(top, crate):
