@@ -1,13 +1,12 @@
 """Proves and builds the program from the sources: out/dvbt.
 
-The libraries are proved side by side (`proofs`), and `rt run` proves, compiles and links the program over that work. The old
-program goes first, so that a failed proof leaves none.
+The libraries are proved side by side (`proofs`), and the program over them. The old program goes first, so that a failed proof
+leaves none.
 """
 import contextlib
 import fcntl
 import os
 import shutil
-import subprocess
 import sys
 import time
 
@@ -50,14 +49,11 @@ def built(top, level, is_quiet=False):
         remove(f"{top}/out/{name}")
     toolchain, sums = program.toolchain_of(), program.sums_of(top)
     began = time.monotonic()
-    prove(top, is_quiet)
-    made = link(top, level)
+    target = f"{top}/out/dvbt"
+    link(prove(top, is_quiet), level, f"{target}.new")
     if program.sums_of(top) != sums:
         fail(126, "the sources changed while the program was built; run the command again")
     seconds = round(time.monotonic() - began)
-    target = f"{top}/out/dvbt"
-    shutil.copyfile(made, f"{target}.new")
-    os.chmod(f"{target}.new", 0o755)
     os.replace(f"{target}.new", target)
     write(f"{top}/out/dvbt.sources", program.written(sums, toolchain))
     write(f"{top}/out/dvbt.by", f"{program.sum_of(target)}\n{program.stat_of_rt()}\n")
@@ -68,12 +64,10 @@ def built(top, level, is_quiet=False):
 
 
 def prove(top, is_quiet):
-    """Proves the libraries that the program stands on, side by side, as processors and memory allow."""
-    uses = program.uses_of(top)
-    libraries = {crate: named for crate, named in uses.items() if crate != "dvbt"}
-    processors = len(os.sched_getaffinity(0))
+    """Proves the libraries that the program stands on, side by side, as processors and memory allow; answers what `link` goes on with."""
+    number, processors = len(program.uses_of(top)), len(os.sched_getaffinity(0))
     if not is_quiet:
-        say(f"proving and building the program from its sources, {len(uses)} crates. {last_time(top, processors)}")
+        say(f"proving and building the program from its sources, {number} crates. {last_time(top, processors)}")
     began, is_terminal = time.monotonic(), sys.stderr.isatty() and not is_quiet
     with open(f"{top}/out/build.log", "w", encoding="utf-8") as log:
 
@@ -81,44 +75,38 @@ def prove(top, is_quiet):
             log.write(f"== {crate}\n{said}")
             log.flush()
             if not is_quiet:
-                last = "; now the program itself" if done == len(libraries) else ""
-                shown = f"{done} of {len(uses)} crates, {crate} done, after {clock(time.monotonic() - began)}{last}"
+                last = "; now the program itself" if done == number - 1 else ""
+                shown = f"{done} of {number} crates, {crate} done, after {clock(time.monotonic() - began)}{last}"
                 sys.stderr.write(f"\rdvbt: {shown}\033[K" if is_terminal else f"dvbt: {shown}\n")
                 sys.stderr.flush()
 
-        room = max(1, free_memory() // EACH)
-        failed = proofs.Proofs(top, libraries, processors, min(processors, room), tell).run()
+        work = proofs.Proofs(top, processors, min(processors, max(1, free_memory() // EACH)), tell)
+        failed = work.run()
+        if failed:
+            log.write("== {}\n{}".format(*failed))
     if is_terminal:
         sys.stderr.write("\r\033[K")
     if failed:
         show_failure(*failed)
         fail(126, "the program could not be built: its proof failed. The whole log is out/build.log")
+    return work
 
 
 def show_failure(crate, said):
     """Prints the end of what is said of the crate that failed."""
-    kept = [line for line in said.splitlines(True) if not line.startswith(("rt: chose", "progress"))]
-    sys.stderr.write(f"{crate}: failed\n" + "".join(kept[-40:]))
+    sys.stderr.write(f"{crate}: failed\n" + "".join(said.splitlines(True)[-40:]))
 
 
-def link(top, level):
-    """Proves, compiles and links the program over its libraries; answers its path."""
-    made = f"{top}/crates/dvbt/out/dvbt"
-    for path in (made, f"{made}.stamp", f"{made}.o"):
-        remove(path)
-    cpu = [f"--cpu={level}"] if level == "x86-64-v3" else []
-    with open(f"{top}/out/build.log", "ab") as log:
-        # rt run ends with the program's own status, which is 2 without words: whether there is a program says if it was built
-        how = {"cwd": f"{top}/crates/dvbt", "stdin": subprocess.DEVNULL, "stdout": log, "stderr": subprocess.STDOUT}
-        at = log.tell()
-        status = subprocess.run(proofs.rt("run", *cpu), **how).returncode
-    if not os.access(made, os.X_OK) or status != 2:
-        with open(f"{top}/out/build.log", "rb") as log:
-            log.seek(at)
-            sys.stderr.write("".join(log.read().decode(errors="replace").splitlines(True)[-40:]))
-        remove(made)
+def link(work, level, to):
+    """Proves, compiles and links the program over its libraries, to the file `to`."""
+    status, said = work.link(level, to)
+    remove(f"{to}.o")
+    with open(f"{work.top}/out/build.log", "a", encoding="utf-8") as log:
+        log.write(f"== dvbt\n{said}")
+    if status or not os.access(to, os.X_OK):
+        show_failure("dvbt", said)
+        remove(to)
         fail(126, "the program could not be proved or built. The whole log is out/build.log")
-    return made
 
 
 def last_time(top, processors):

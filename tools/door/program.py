@@ -16,21 +16,26 @@ V3 = {"avx2", "bmi1", "bmi2", "fma", "movbe", "f16c", "abm"}
 LEVELS = ("x86-64-v3", "x86-64-v2")
 
 
-def uses_of(top):
-    """The crates that `dvbt` stands on and itself, lowest first, each with those of them that it names, by crates.txt."""
-    uses = {}
+def named_of(top):
+    """Of each crate of crates.txt, the libraries that it names: those of the repository and those of the toolchain."""
+    named = {}
     with open(f"{top}/crates.txt", encoding="utf-8") as file:
         for line in file:
             name, _, used = line.partition("#")[0].partition(":")
             if name.strip():
-                uses[name.split()[0]] = used.split()
-    found = {}
+                named[name.split()[0]] = used.split()
+    return named
+
+
+def uses_of(top):
+    """The crates that `dvbt` stands on and itself, lowest first, each with those of them that it names."""
+    named, found = named_of(top), {}
 
     def add(name):
-        named = [used for used in uses.get(name, []) if used in uses]
-        for used in named:
-            add(used)
-        found.setdefault(name, named)
+        used = [it for it in named.get(name, []) if it in named]
+        for it in used:
+            add(it)
+        found.setdefault(name, used)
 
     add("dvbt")
     return found
@@ -41,15 +46,20 @@ def crates_of(top):
     return list(uses_of(top))
 
 
-def sums_of(top):
-    """The checksum of each file that the program is built from, by its path from the top."""
-    files = ["crates.txt", "HANDLES"]
-    for crate in crates_of(top):
-        for part in ("src", "specs", "proofs"):
-            for at, _, names in os.walk(f"{top}/crates/{crate}/{part}"):
-                files += [os.path.relpath(f"{at}/{name}", top) for name in names if name.endswith((".rt", ".antt"))]
+def sources_of(top, crate):
+    """The paths of the files that a crate is built from."""
+    files = []
+    for part in ("src", "specs", "proofs"):
+        for at, _, names in os.walk(f"{top}/crates/{crate}/{part}"):
+            files += [os.path.relpath(f"{at}/{name}", top) for name in names if name.endswith((".rt", ".antt"))]
+    return files
+
+
+def sums_of(top, *crates):
+    """The checksum of each file that the program is built from, or these crates of it alone, by its path from the top."""
+    files = [it for crate in crates or crates_of(top) for it in sources_of(top, crate)]
     sums = {}
-    for path in sorted(files):
+    for path in sorted(files + ([] if crates else ["crates.txt", "HANDLES"])):
         with open(f"{top}/{path}", "rb") as file:
             sums[path] = hashlib.sha256(file.read()).hexdigest()
     return sums

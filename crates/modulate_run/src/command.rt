@@ -29,10 +29,10 @@ fn modulate_in<'a, M: Carriers, S: Station<'a>>(
     requires ready { IsReady (S.meaning station.old) }
     ensures { RunsOrLacks settings.now limits.now.packets names.entry.hp.now (option_copied names.entry.lp) names.entry.cells.now (S.meaning station.old) (S.meaning station.new) result }
 {
-    let Ok(mut tx) = Modulator::<M>::new(alloc, settings) else {
+    let Ok(mut bytes) = vec![in alloc; 0u8; 5 * M::K as usize] else {
         return refuse(&Refusal::Memory, station);
     };
-    let Ok(mut bytes) = vec![in alloc; 0u8; 5 * M::K as usize] else {
+    let Ok(mut tx) = Modulator::<M>::new(alloc, settings) else {
         return refuse(&Refusal::Memory, station);
     };
     run_modulation(names, limits, settings, &mut tx, &mut bytes, station)

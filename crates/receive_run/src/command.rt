@@ -75,13 +75,13 @@ fn receive_in<'a, M: Carriers, R: Threads + Sync, G: Gate, S: Station<'a>>(
     requires ready { IsReady (stream_names files.hp.now (option_copied files.lp)) (S.meaning station.old) }
     ensures { RunsOrLacks reception_work settings.now files.entry.cells.now files.entry.hp.now (option_copied files.entry.lp) (S.meaning station.old) (S.meaning station.new) result }
 {
-    let Ok(receiver) = Receiver::<M>::new(alloc, settings) else {
-        return refuse(&Refusal::Memory, station);
-    };
     let Ok(out) = RxOut::new(alloc) else {
         return refuse(&Refusal::Memory, station);
     };
     let Ok(mut symbol) = vec![in alloc; 0u8; 5 * M::K as usize] else {
+        return refuse(&Refusal::Memory, station);
+    };
+    let Ok(receiver) = Receiver::<M>::new(alloc, settings) else {
         return refuse(&Refusal::Memory, station);
     };
     let feeder = |receiver: &mut Receiver<M>, piece: &[u8], out: &mut RxOut| -> usize

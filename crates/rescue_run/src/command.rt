@@ -62,13 +62,13 @@ fn rescue_in<'a, M: Carriers, R: Threads + Sync, S: Station<'a>>(
     requires ready { IsReady (stream_names files.hp.now (option_copied files.lp)) (S.meaning station.old) }
     ensures { RunsOrLacks rescue_work settings.now files.entry.cells.now files.entry.hp.now (option_copied files.entry.lp) (S.meaning station.old) (S.meaning station.new) result }
 {
-    let Ok(receiver) = Rescue::<M>::new(alloc, settings) else {
-        return refuse(&Refusal::Memory, station);
-    };
     let Ok(out) = RescueOut::new(alloc) else {
         return refuse(&Refusal::Memory, station);
     };
     let Ok(mut symbol) = vec![in alloc; 0u8; 5 * M::K as usize] else {
+        return refuse(&Refusal::Memory, station);
+    };
+    let Ok(receiver) = Rescue::<M>::new(alloc, settings) else {
         return refuse(&Refusal::Memory, station);
     };
     rescue_by(rt, receiver, out, settings, &mut symbol, files, station)

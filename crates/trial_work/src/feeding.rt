@@ -31,8 +31,8 @@ impl<M: Carriers> SummedReceiver<M> {
         ensures given { IfOk result (λ x. HasGiven x.receiver [] x.hp x.lp) }
     {
         Ok(SummedReceiver {
-            receiver: Receiver::new(alloc, settings)?,
             out: RxOut::new(alloc)?,
+            receiver: Receiver::new(alloc, settings)?,
             hp: 0,
             lp: 0,
         })

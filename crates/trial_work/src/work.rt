@@ -66,9 +66,9 @@ impl<M: Carriers> Work<M> {
         transmission::laws::packets();
         Ok(Work {
             draws: Draws::start(settings, number),
-            tx: Modulator::new(alloc, settings)?,
             sent: Vec::with_capacity(alloc, 5 * M::K as usize)?,
             fed: Vec::with_capacity(alloc, 5 * M::K as usize)?,
+            tx: Modulator::new(alloc, settings)?,
             rx: SummedReceiver::new(alloc, settings)?,
             cells: 0,
         })

@@ -76,13 +76,13 @@ fn tune_in_mode<'a, M: Carriers, R: Threads + Sync, G: Gate, S: Station<'a>>(
     requires ready { IsReady (stream_names files.hp.now (option_copied files.lp)) (S.meaning station.old) }
     ensures { RunsOrLacks tuning_work settings.now files.entry.cells.now files.entry.hp.now (option_copied files.entry.lp) (S.meaning station.old) (S.meaning station.new) result }
 {
-    let Ok(tuner) = Tuner::<M>::new(alloc) else {
+    let Ok(mut symbol) = vec![in alloc; 0u8; 5 * M::K as usize] else {
         return refuse(&Refusal::Memory, station);
     };
     let Ok(room) = SymbolIn::<M>::new(alloc) else {
         return refuse(&Refusal::Memory, station);
     };
-    let Ok(mut symbol) = vec![in alloc; 0u8; 5 * M::K as usize] else {
+    let Ok(tuner) = Tuner::<M>::new(alloc) else {
         return refuse(&Refusal::Memory, station);
     };
     let feeder = |receiver: &mut Receiver<M>, piece: &[u8], out: &mut RxOut| -> usize

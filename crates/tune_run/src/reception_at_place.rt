@@ -84,10 +84,10 @@ impl<
     ghost able = { λ x. IsFeeder T.state F.Fn x.feeder.now };
 
     fn make(&self, settings: &Settings) -> Option<ReceiverWithOutput<'r, R, F, T>> {
-        let receiver = T::made(self.alloc, settings)?;
         let Ok(out) = RxOut::new(self.alloc) else {
             return None;
         };
+        let receiver = T::made(self.alloc, settings)?;
         Some(ReceiverWithOutput {
             rt: self.rt,
             feeder: self.feeder,

@@ -6,7 +6,7 @@ use Rattle.modulate_run.proofs.command.modulate_in.Goals as goal
 
 pub run_modulation-requires : goal.run_modulation-requires
 run_modulation-requires g c κs =
-    let e = c.in-Ok.ensures in
+    let e = c.in-Ok-new.ensures in
     let lp : Option (List ℕ) = option_copied c.args.names.lp in (
       (refl, tt),
       (
@@ -17,7 +17,7 @@ run_modulation-requires g c κs =
             e.settings,
             (
               ap (λ (s : Settings). fits_form s lp) e.settings ∙ c.requires.form,
-              (record { made = e.made; hp = e.hp; lp = e.lp }, (e.put, omega (arith, c.deref_mut.ensures.len, c.in-Ok-vec.ensures.len, c.K.ensures))),
+              (record { made = e.made; hp = e.hp; lp = e.lp }, (e.put, omega (arith, c.deref_mut.ensures.len, c.in-Ok.ensures.len, c.K.ensures))),
             ),
           ),
         ),

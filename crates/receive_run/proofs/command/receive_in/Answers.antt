@@ -18,7 +18,7 @@ receive_by-requires-sync-R g c κs within =
             );
             feeds = λ x y piece out made n h. h;
           },
-          (c.in-Ok.ensures.stands, (c.in-Ok.ensures.settings, (omega (arith, c.deref_mut.ensures.len, c.in-Ok-vec.ensures.len, c.K.ensures, many), c.requires.ready))),
+          (c.in-Ok-new.ensures.stands, (c.in-Ok-new.ensures.settings, (omega (arith, c.deref_mut.ensures.len, c.in-Ok-vec.ensures.len, c.K.ensures, many), c.requires.ready))),
         ),
       ),
     )

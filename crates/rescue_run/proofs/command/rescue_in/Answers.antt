@@ -10,7 +10,7 @@ rescue_by-requires g c = λ k.
       record { shared = c.type_bounds.sync-R.shared },
       (
         (refl, tt),
-        (c.in-Ok.ensures.stands, (c.in-Ok.ensures.settings, (omega (arith, c.deref_mut.ensures.len, c.in-Ok-vec.ensures.len, c.K.ensures, many), c.requires.ready))),
+        (c.in-Ok-new.ensures.stands, (c.in-Ok-new.ensures.settings, (omega (arith, c.deref_mut.ensures.len, c.in-Ok-vec.ensures.len, c.K.ensures, many), c.requires.ready))),
       ),
     )
 

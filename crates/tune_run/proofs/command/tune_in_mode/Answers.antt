@@ -18,9 +18,9 @@ tune_by-requires g c = λ k.
         record { shared = c.type_bounds.sync-R.shared },
         (
           record {
-            stands = subst (λ (l : List (List Cell)). StandsFor s.mode c.in-Ok.tuner l) (sym (no_symbols s (symbols_none s))) (subst (λ (m : Mode). StandsFor m c.in-Ok.tuner []) (sym c.requires.mode) c.in-Ok.ensures.stands);
-            searching = c.in-Ok.ensures.searching;
-            number = c.in-Ok.ensures.symbols ∙ sym (symbols_none s);
+            stands = subst (λ (l : List (List Cell)). StandsFor s.mode c.in-Ok-new-2.tuner l) (sym (no_symbols s (symbols_none s))) (subst (λ (m : Mode). StandsFor m c.in-Ok-new-2.tuner []) (sym c.requires.mode) c.in-Ok-new-2.ensures.stands);
+            searching = c.in-Ok-new-2.ensures.searching;
+            number = c.in-Ok-new-2.ensures.symbols ∙ sym (symbols_none s);
             empty = c.in-Ok-new.ensures;
             none = no_place s;
           },
@@ -36,7 +36,7 @@ tune_by-requires g c = λ k.
                   );
                   feeds = λ x y piece out made n h. h;
                 },
-                (omega (arith, c.deref_mut.ensures.len, c.in-Ok-vec.ensures.len, c.K.ensures, many), c.requires.ready),
+                (omega (arith, c.deref_mut.ensures.len, c.in-Ok.ensures.len, c.K.ensures, many), c.requires.ready),
               ),
             ),
           ),
