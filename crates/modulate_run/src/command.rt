@@ -32,6 +32,7 @@ fn modulate_in<'a, M: Carriers, S: Station<'a>>(
     let Ok(mut bytes) = vec![in alloc; 0u8; 5 * M::K as usize] else {
         return refuse(&Refusal::Memory, station);
     };
+    // It comes last: a value of so many parts is dear to prove on each path that lets it go.
     let Ok(mut tx) = Modulator::<M>::new(alloc, settings) else {
         return refuse(&Refusal::Memory, station);
     };

@@ -81,6 +81,7 @@ fn receive_in<'a, M: Carriers, R: Threads + Sync, G: Gate, S: Station<'a>>(
     let Ok(mut symbol) = vec![in alloc; 0u8; 5 * M::K as usize] else {
         return refuse(&Refusal::Memory, station);
     };
+    // It comes last: a value of so many parts is dear to prove on each path that lets it go.
     let Ok(receiver) = Receiver::<M>::new(alloc, settings) else {
         return refuse(&Refusal::Memory, station);
     };

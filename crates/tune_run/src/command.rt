@@ -82,6 +82,7 @@ fn tune_in_mode<'a, M: Carriers, R: Threads + Sync, G: Gate, S: Station<'a>>(
     let Ok(room) = SymbolIn::<M>::new(alloc) else {
         return refuse(&Refusal::Memory, station);
     };
+    // It comes last: a value of so many parts is dear to prove on each path that lets it go.
     let Ok(tuner) = Tuner::<M>::new(alloc) else {
         return refuse(&Refusal::Memory, station);
     };
