@@ -14,7 +14,7 @@ from door import program, proofs
 from door.explain import clock, fail, say, spoken
 
 # Seconds that the proof and build of the program took when it was measured, from nothing, by processors.
-MEASURED = {4: 1050}
+MEASURED = {4: 864}
 # Memory that one check takes at most, in bytes.
 EACH = 2_000_000_000
 
@@ -118,7 +118,7 @@ def last_time(top, processors):
         pass
     if processors in MEASURED:
         return f"On another machine of {processors} processors it took {spoken(MEASURED[processors])}."
-    return "That is about an hour and a quarter of one processor's work, less where several share it."
+    return "That is about three quarters of an hour of one processor's work, less where several share it."
 
 
 def free_memory():
