@@ -6,7 +6,7 @@ rt itself keeps of its crate, with the sum of all that it was made from: its sou
 were built.
 
 First come the crates with the longest chain of others above them. A crate has two processors where its chain would last longer than
-all that is left to do.
+all that is left to do, or nothing else is left.
 """
 import functools
 import hashlib
@@ -24,7 +24,8 @@ from door import program
 ROW, ITEM = re.compile(r"\| (\w+) \| (\d+) \|[^|]*\|[^|]*\|$"), re.compile(r"\b(\w+) (\d+)(?=[,.])")
 # Seconds of a crate that docs/GATE.md does not have.
 UNKNOWN = 20
-# A crate of fewer seconds wins nothing by a second processor: it mostly reads what lies below, which each of the two does.
+# A crate of fewer seconds wins too little by a second processor, where another one could use it: it mostly reads what lies below, which
+# each of the two does.
 WORTH_TWO = 60
 
 
@@ -128,7 +129,7 @@ class Proofs:
         """Proves, compiles and links the program, for processors of this level; answers the status and what was printed."""
         toolchain = ["--toolchain", f"{kit()}/toolchain"]
         cpu = [f"--cpu={level}"] if level == "x86-64-v3" else []
-        status, said = self.call("dvbt", self.words("dvbt", "--jobs", "1", "--backend", "llvm", *toolchain, *cpu, "-o", f"{to}.o"))
+        status, said = self.call("dvbt", self.words("dvbt", "--jobs", str(min(2, self.processors)), "--backend", "llvm", *toolchain, *cpu, "-o", f"{to}.o"))
         if status:
             return status, said
         foreign = [f"{kit()}/c/libos_c.a", f"{kit()}/c/liblibc_c.a"]
@@ -143,8 +144,9 @@ class Proofs:
             if free < 1 or len(running) == self.places:
                 return
             left = sum(self.seconds[it] for it in self.uses if it not in self.done)
-            is_last = self.longest[crate] * self.processors > left and self.seconds[crate] >= WORTH_TWO
-            jobs = min(2, free) if is_last else 1
+            is_last = self.longest[crate] * self.processors > left
+            is_alone = not running and self.waiting == [crate]
+            jobs = min(2, free) if is_last and (is_alone or self.seconds[crate] >= WORTH_TWO) else 1
             self.waiting.remove(crate)
             running[pool.submit(self.prove, crate, jobs)] = crate, jobs
 
