@@ -36,7 +36,9 @@ def seconds_of(top, uses):
         with open(f"{top}/docs/GATE.md", encoding="utf-8") as file:
             for line in map(str.rstrip, file):
                 found = [ROW.match(line)] if line.startswith("| ") else ITEM.finditer(line) if line.startswith("Below ") else []
-                measured.update((it[1], int(it[2])) for it in found if it)
+                for it in filter(None, found):
+                    # (rows of a later table tell of tests)
+                    measured.setdefault(it[1], int(it[2]))
     except OSError:
         pass
     return {it: measured.get(it, UNKNOWN) for it in uses}
