@@ -1,5 +1,5 @@
 -- Least totals to each state and from each state, a step further (EN 300 744, 4.3.3).
-use Rattle.std.specs.Prelude.{◌≡◌, ℕ, ◌+◌, ◌*◌, ◌<◌, min, Bool, true, false, List, slice_index}
+use Rattle.std.specs.Prelude.{◌≡◌, ℕ, ◌+◌, ◌*◌, ◌<◌, min, true, false, List, slice_index}
 use Rattle.code_paths.specs.declared.costs.CostPair.{CostPair}
 use Rattle.acs_lanes.specs.Lanes.{cost_from}
 

@@ -3,7 +3,6 @@ use crate::cells::SUPER_FRAME;
 use run_tools::{BASE, Conditions, File, LAYERED, ample, checksum, run_files, text_bytes};
 use station_core::{Failing, InPort, OutPort};
 use std::alloc::{AllocError, Global};
-use std::process::Abort;
 use std::test::Fail;
 use std::thread::Threads;
 
@@ -17,18 +16,18 @@ const ONE: &str = "modulate s a cells";
 const TWO: &str = "modulate s a b cells";
 
 // What is to be found: the status, the report, how many bytes of cells stand, and their sum.
-type Found<'a> = (u8, &'a str, usize, u32);
+type Found = (u8, &'static str, usize, u32);
 
-// Modulates two transport files, at most 100 packets of each, and compares what stands.
-fn expect<R: Abort + Threads + Sync>(
+// Modulates two transport files, at most 100 packets of each, and tells whether what is to be found stands.
+fn is_found<R: Threads + Sync>(
     rt: &R,
     alloc: Global,
     text: &str,
     settings: (&str, &str),
     inputs: (File, File),
     failing: Option<Failing>,
-    found: Found<'_>,
-) -> Result<(), AllocError> {
+    found: Found,
+) -> Result<bool, AllocError> {
     let settings = text_bytes(alloc, settings.0, settings.1)?;
     let files = (inputs.0.bytes(alloc)?, inputs.1.bytes(alloc)?);
     let conditions = Conditions {
@@ -37,10 +36,7 @@ fn expect<R: Abort + Threads + Sync>(
     };
     let ran = run_files(rt, alloc, text, settings, files, 100, conditions)?;
     let is_told = ran.status == found.0 && ran.report.as_slice() == found.1.as_bytes();
-    assert!(rt; is_told, "{text}: status or report beside {}", found.1);
-    let stands = ran.cells.len() == found.2 && checksum(&ran.cells) == found.3;
-    assert!(rt; stands, "{text}: cells beside {}", found.1);
-    Ok(())
+    Ok(is_told && ran.cells.len() == found.2 && checksum(&ran.cells) == found.3)
 }
 
 // The super-frame that carries null packets: how it begins, its first scattered pilot past carrier 0, and a TPS
@@ -71,142 +67,175 @@ fn null_super_frame(rt: HostRuntime) -> Result<(), Fail> {
     Ok(())
 }
 
-// One stream, two streams, and a part packet behind the last whole one.
+const HUNDRED: &str = "hp packets 100 tail 0\nsuperframes 1\n";
+
+const TWO_STREAMS: &str = "hp packets 100 tail 0\nlp packets 20 tail 5\nsuperframes 1\n";
+
+const PART: &str = "hp packets 5 tail 7\nsuperframes 1\n";
+
+/// A hundred packets.
+const COUNTED: File = File::Counted(100, 0);
+
+/// One stream, two streams, and a part packet behind the last whole one: the report, and the sum of the cells.
+static WHOLE: [(&str, &str, (File, File), (&str, u32)); 4] = [
+    (ONE, BASE, (NONE, NONE), (NULLS, 2_468_371_442)),
+    (ONE, BASE, (COUNTED, NONE), (HUNDRED, 720_243_768)),
+    (
+        TWO,
+        LAYERED,
+        (COUNTED, File::Nulls(20, 5)),
+        (TWO_STREAMS, 682_362_670),
+    ),
+    (ONE, BASE, (File::Nulls(5, 7), NONE), (PART, 2_468_371_442)),
+];
+
 #[test]
 fn whole_runs(rt: HostRuntime) -> Result<(), Fail> {
     let alloc = rt.alloc();
-    let counted = File::Counted(100, 0);
-    let one = "hp packets 100 tail 0\nsuperframes 1\n";
-    let two = "hp packets 100 tail 0\nlp packets 20 tail 5\nsuperframes 1\n";
-    let part = "hp packets 5 tail 7\nsuperframes 1\n";
-    let cases = [
-        (ONE, BASE, (NONE, NONE), (NULLS, 2_468_371_442)),
-        (ONE, BASE, (counted, NONE), (one, 720_243_768)),
-        (
-            TWO,
-            LAYERED,
-            (counted, File::Nulls(20, 5)),
-            (two, 682_362_670),
-        ),
-        (ONE, BASE, (File::Nulls(5, 7), NONE), (part, 2_468_371_442)),
-    ];
-    for (text, settings, inputs, (report, sum)) in cases {
-        let found = (0, report, SUPER_FRAME, sum);
-        expect(&rt, alloc, text, (settings, ""), inputs, None, found)?;
+    for (text, settings, inputs, (report, sum)) in &WHOLE {
+        let found = (0, *report, SUPER_FRAME, *sum);
+        let stands = is_found(&rt, alloc, *text, (*settings, ""), *inputs, None, found)?;
+        assert!(rt; stands, "{report}");
     }
     Ok(())
 }
 
-// A packet without its sync byte, the fourth of five among them, which HP is asked for before LP, and the
-// limits.
+/// A packet without its sync byte, the fourth of five among them, and the limits.
+static REFUSED: [(&str, File, Found); 3] = [
+    (
+        "",
+        File::Unsynced(3, 1),
+        (4, "hp packet 3\n", 25_583, 3_642_937_220),
+    ),
+    (
+        "max_symbols = 271\n",
+        NONE,
+        (8, "limit 271\n", 2_310_283, 1_827_462_168),
+    ),
+    (
+        "",
+        File::Nulls(101, 0),
+        (8, "limit 100\n", 912_183, 2_503_620_961),
+    ),
+];
+
+/// The same of two streams: HP is asked for before LP.
+static REFUSED_OF_TWO: [(File, File, Found); 2] = [
+    (
+        NONE,
+        File::Unsynced(2, 0),
+        (4, "lp packet 2\n", 8_533, 1_411_197_320),
+    ),
+    (
+        File::Unsynced(0, 0),
+        File::Unsynced(0, 0),
+        (4, "hp packet 0\n", 8, 4_029_675_199),
+    ),
+];
+
 #[test]
 fn refused_packets_and_limits(rt: HostRuntime) -> Result<(), Fail> {
     let alloc = rt.alloc();
-    let limited = "max_symbols = 271\n";
-    let bad = File::Unsynced(0, 0);
-    let cases = [
-        (
-            "",
-            (File::Unsynced(3, 1), NONE),
-            (4, "hp packet 3\n", 25_583, 3_642_937_220),
-        ),
-        (
-            limited,
-            (NONE, NONE),
-            (8, "limit 271\n", 2_310_283, 1_827_462_168),
-        ),
-        (
-            "",
-            (File::Nulls(101, 0), NONE),
-            (8, "limit 100\n", 912_183, 2_503_620_961),
-        ),
-    ];
-    for (lines, inputs, found) in cases {
-        expect(&rt, alloc, ONE, (BASE, lines), inputs, None, found)?;
+    for (line, hp, found) in &REFUSED {
+        let stands = is_found(&rt, alloc, ONE, (BASE, *line), (*hp, NONE), None, *found)?;
+        assert!(rt; stands, "{}", found.1);
     }
-    let cases = [
-        (
-            (NONE, File::Unsynced(2, 0)),
-            (4, "lp packet 2\n", 8_533, 1_411_197_320),
-        ),
-        ((bad, bad), (4, "hp packet 0\n", 8, 4_029_675_199)),
-    ];
-    for (inputs, found) in cases {
-        expect(&rt, alloc, TWO, (LAYERED, ""), inputs, None, found)?;
+    for (hp, lp, found) in &REFUSED_OF_TWO {
+        let stands = is_found(&rt, alloc, TWO, (LAYERED, ""), (*hp, *lp), None, *found)?;
+        assert!(rt; stands, "{}", found.1);
     }
     Ok(())
 }
 
-// Words of no form, settings that do not fit the form, and a file that is not there: no cells are made.
+/// Words of no form, settings that do not fit the form, and a file that is not there: no cells are made.
+static UNMADE: [(&str, &str, Found); 5] = [
+    (ONE, LAYERED, (3, "settings form\n", 0, 0)),
+    (TWO, BASE, (3, "settings form\n", 0, 0)),
+    ("modulate s gone cells", BASE, (5, "read fault\n", 0, 0)),
+    ("modulate s a", BASE, (2, "usage\n", 0, 0)),
+    ("modulate s a b cells more", LAYERED, (2, "usage\n", 0, 0)),
+];
+
 #[test]
 fn refused_words_and_settings(rt: HostRuntime) -> Result<(), Fail> {
     let alloc = rt.alloc();
-    let cases = [
-        (ONE, LAYERED, (3, "settings form\n")),
-        (TWO, BASE, (3, "settings form\n")),
-        ("modulate s gone cells", BASE, (5, "read fault\n")),
-        ("modulate s a", BASE, (2, "usage\n")),
-        ("modulate s a b cells more", LAYERED, (2, "usage\n")),
-    ];
-    for (text, settings, (status, report)) in cases {
-        let found = (status, report, 0, 0);
-        expect(&rt, alloc, text, (settings, ""), (NONE, NONE), None, found)?;
+    for (text, settings, found) in &UNMADE {
+        let stands = is_found(
+            &rt,
+            alloc,
+            *text,
+            (*settings, ""),
+            (NONE, NONE),
+            None,
+            *found,
+        )?;
+        assert!(rt; stands, "{text}");
     }
     Ok(())
 }
 
-// One call of the station fails, and this stands.
+const READ: &str = "read fault\n";
+
+const WRITE: &str = "write fault\n";
+
+/// The closing lines, of which the second was half written, or behind which a close failed.
+const HALF_LINE: &str = "hp packets 0 tail 0\nsuperfrwrite fault\n";
+
+const CLOSED: &str = "hp packets 0 tail 0\nsuperframes 1\nwrite fault\n";
+
+/// One call of the station fails, and this stands of so many null packets.
+static FAULTS: [(Failing, usize, Found); 8] = [
+    (Failing::Read(InPort::Settings, 1), 2, (5, READ, 0, 0)),
+    (Failing::Attach(InPort::Hp, 1), 2, (5, READ, 0, 0)),
+    (
+        Failing::Read(InPort::Hp, 3),
+        2,
+        (5, READ, 17_058, 455_134_520),
+    ),
+    (Failing::Create(OutPort::Cells, 1), 2, (6, WRITE, 0, 0)),
+    (
+        Failing::Write(OutPort::Cells, 1),
+        2,
+        (6, WRITE, 4, 2_111_105),
+    ),
+    (
+        Failing::Write(OutPort::Cells, 2),
+        2,
+        (6, WRITE, 4_270, 4_149_754_026),
+    ),
+    (
+        Failing::Write(OutPort::Report, 2),
+        0,
+        (6, HALF_LINE, SUPER_FRAME, 2_468_371_442),
+    ),
+    (
+        Failing::Close(OutPort::Cells, 1),
+        0,
+        (6, CLOSED, SUPER_FRAME, 2_468_371_442),
+    ),
+];
+
+/// One fails at LP, and this stands of three null packets of each stream.
+static FAULTS_OF_LP: [(Failing, Found); 2] = [
+    (Failing::Read(InPort::Lp, 1), (5, READ, 8, 4_029_675_199)),
+    (
+        Failing::Read(InPort::Lp, 3),
+        (5, READ, 8_533, 1_411_197_320),
+    ),
+];
+
 #[test]
 fn faults_of_the_station(rt: HostRuntime) -> Result<(), Fail> {
     let alloc = rt.alloc();
-    let closing = "hp packets 0 tail 0\nsuperframes 1\nwrite fault\n";
-    let half = "hp packets 0 tail 0\nsuperfrwrite fault\n";
-    let read = "read fault\n";
-    let write = "write fault\n";
-    let cases = [
-        (Failing::Read(InPort::Settings, 1), 2, (5, read, 0, 0)),
-        (Failing::Attach(InPort::Hp, 1), 2, (5, read, 0, 0)),
-        (
-            Failing::Read(InPort::Hp, 3),
-            2,
-            (5, read, 17_058, 455_134_520),
-        ),
-        (Failing::Create(OutPort::Cells, 1), 2, (6, write, 0, 0)),
-        (
-            Failing::Write(OutPort::Cells, 1),
-            2,
-            (6, write, 4, 2_111_105),
-        ),
-        (
-            Failing::Write(OutPort::Cells, 2),
-            2,
-            (6, write, 4_270, 4_149_754_026),
-        ),
-        (
-            Failing::Write(OutPort::Report, 2),
-            0,
-            (6, half, SUPER_FRAME, 2_468_371_442),
-        ),
-        (
-            Failing::Close(OutPort::Cells, 1),
-            0,
-            (6, closing, SUPER_FRAME, 2_468_371_442),
-        ),
-    ];
-    for (call, packets, found) in cases {
-        let inputs = (File::Nulls(packets, 0), NONE);
-        expect(&rt, alloc, ONE, (BASE, ""), inputs, Some(call), found)?;
+    for (call, packets, found) in &FAULTS {
+        let inputs = (File::Nulls(*packets, 0), NONE);
+        let stands = is_found(&rt, alloc, ONE, (BASE, ""), inputs, Some(*call), *found)?;
+        assert!(rt; stands, "{call:?}");
     }
-    let cases = [
-        (Failing::Read(InPort::Lp, 1), (5, read, 8, 4_029_675_199)),
-        (
-            Failing::Read(InPort::Lp, 3),
-            (5, read, 8_533, 1_411_197_320),
-        ),
-    ];
-    for (call, found) in cases {
+    for (call, found) in &FAULTS_OF_LP {
         let inputs = (File::Nulls(3, 0), File::Nulls(3, 0));
-        expect(&rt, alloc, TWO, (LAYERED, ""), inputs, Some(call), found)?;
+        let stands = is_found(&rt, alloc, TWO, (LAYERED, ""), inputs, Some(*call), *found)?;
+        assert!(rt; stands, "{call:?}");
     }
     Ok(())
 }

@@ -1,4 +1,6 @@
 // The command `receive` of one stream. The expected reports and lengths are those of an independent program.
+ghost use Rattle.std.specs.Prelude.{◌≤◌};
+
 use crate::cells::{HEADER, SUPER_FRAME, SYMBOL, number_at, put_number, zero_cells};
 use mode_set::Mode;
 use pilots::tps_carriers;
@@ -22,29 +24,72 @@ const CLOSED: &str =
 const UNPHASED: &str =
     "symbols 272 tail 0\ntps read 0 bad 4\nhp words 241 clean 241 corrected 0 bad 0 unphased 241 unmerged 0\n";
 
-// What is to be found: the status, the report, and how many bytes of null packets stand at HP.
-type Found<'a> = (u8, &'a str, usize);
+const ERASED: &str =
+    "symbols 272 tail 0\ntps read 4 bad 0\nhp words 241 clean 241 corrected 0 bad 0 unphased 241 unmerged 0\n";
 
-// Receives these cells, and compares what stands.
-fn expect<R: Abort + Threads + Sync>(
+/// A symbol and a byte of it, no symbol, and symbols that are cut within a cell and before its weight.
+const PART: &str =
+    "symbols 1 tail 1\ntps read 0 bad 0\nhp words 0 clean 0 corrected 0 bad 0 unphased 0 unmerged 0\n";
+
+const EMPTY: &str =
+    "symbols 0 tail 0\ntps read 0 bad 0\nhp words 0 clean 0 corrected 0 bad 0 unphased 0 unmerged 0\n";
+
+const WITHIN_A_CELL: &str =
+    "symbols 0 tail 8523\ntps read 0 bad 0\nhp words 0 clean 0 corrected 0 bad 0 unphased 0 unmerged 0\n";
+
+const BEFORE_A_WEIGHT: &str =
+    "symbols 0 tail 8524\ntps read 0 bad 0\nhp words 0 clean 0 corrected 0 bad 0 unphased 0 unmerged 0\n";
+
+/// QPSK at 1/2 in the 8K mode.
+const EIGHT: &str =
+    "mode = \"8k\"\nconstellation = \"qpsk\"\nrate_hp = \"1/2\"\nguard = \"1/32\"\n";
+
+// What is to be found: the status, the report, and how many bytes of null packets stand at HP.
+type Found = (u8, &'static str, usize);
+
+/// Null packets in all words.
+const NULLS: Found = (0, WHOLE_NULLS, 45_308);
+
+// Cells, from the file of the super-frame that carries null packets.
+#[derive(Clone, Copy)]
+enum Cells {
+    // All of them.
+    Whole,
+    // So many bytes of the file.
+    Front(usize),
+    // The file, and its first symbol once more.
+    OneMore,
+    // The file without its header.
+    Headless,
+    // The header of version 1, and a front of the file.
+    OtherVersion,
+}
+
+// Receives these cells, and tells whether what is to be found stands.
+fn leaves<R: Threads + Sync>(
     rt: &R,
     alloc: Global,
     text: &str,
     settings: (&str, &str),
-    cells: &[u8],
+    cells: Vec<u8>,
     conditions: Conditions,
-    found: Found<'_>,
-) -> Result<(), AllocError> {
-    assert!(rt; 1 <= conditions.most);
+    found: Found,
+) -> Result<bool, AllocError>
+    requires { 1 ≤ conditions.most }
+{
     let settings = text_bytes(alloc, settings.0, settings.1)?;
-    let files = (Vec::from_slice(alloc, cells)?, Vec::new(alloc));
-    let ran = run_files(rt, alloc, text, settings, files, 1, conditions)?;
+    let ran = run_files(
+        rt,
+        alloc,
+        text,
+        settings,
+        (cells, Vec::new(alloc)),
+        1,
+        conditions,
+    )?;
     let is_told = ran.status == found.0 && ran.report.as_slice() == found.1.as_bytes();
-    assert!(rt; is_told, "{text}: status or report beside {}", found.1);
     let nulls = File::Nulls(found.2 / 188, found.2 % 188).bytes(alloc)?;
-    let stands = ran.hp == nulls && ran.lp.is_empty();
-    assert!(rt; stands, "{text}: packets beside {}", found.1);
-    Ok(())
+    Ok(is_told && ran.hp == nulls && ran.lp.is_empty())
 }
 
 // The cells of the super-frame that carries null packets.
@@ -60,143 +105,175 @@ fn null_cells<R: Abort + Threads + Sync>(rt: &R, alloc: Global) -> Result<Vec<u8
         1,
         ample(2_318_808),
     )?;
-    assert!(rt; ran.status == 0 && checksum(&ran.cells) == 2_468_371_442);
+    let is_sent = ran.cells.len() == SUPER_FRAME && checksum(&ran.cells) == 2_468_371_442;
+    assert!(rt; ran.status == 0 && is_sent);
     Ok(ran.cells)
 }
 
-// The cells, and their first symbol once more.
-fn one_symbol_more(rt: &impl Abort, alloc: Global, cells: &[u8]) -> Result<Vec<u8>, AllocError> {
-    assert!(rt; 8 + SYMBOL <= cells.len());
-    let mut more = Vec::from_slice(alloc, cells)?;
-    more.extend_from_slice(&cells[8..8 + SYMBOL])?;
-    Ok(more)
-}
-
-fn failing(call: Failing) -> Conditions {
-    Conditions {
-        failing: Some(call),
-        ..ample(50_000)
+// The bytes of these cells.
+fn bytes_of(alloc: Global, file: &[u8], cells: Cells) -> Result<Vec<u8>, AllocError> {
+    let header = 8.min(file.len());
+    match cells {
+        Cells::Whole => Vec::from_slice(alloc, file),
+        Cells::Front(count) => Vec::from_slice(alloc, &file[..count.min(file.len())]),
+        Cells::OneMore => {
+            let mut bytes = Vec::from_slice(alloc, file)?;
+            bytes.extend_from_slice(&file[header..(8 + SYMBOL).min(file.len())])?;
+            Ok(bytes)
+        }
+        Cells::Headless => Vec::from_slice(alloc, &file[header..]),
+        Cells::OtherVersion => {
+            let mut bytes = Vec::from_slice(alloc, &HEADER[..])?;
+            bytes[4] = 1;
+            bytes.extend_from_slice(&file[..100.min(file.len())])?;
+            Ok(bytes)
+        }
     }
 }
 
-// The first bytes of the cells.
-fn front<'c>(rt: &impl Abort, cells: &'c [u8], count: usize) -> &'c [u8] {
-    assert!(rt; count <= cells.len());
-    &cells[..count]
+// Receives these cells of the file, each read of which gives at most so many bytes, and tells whether what is to be found stands.
+fn is_found<R: Abort + Threads + Sync>(
+    rt: &R,
+    alloc: Global,
+    file: &[u8],
+    settings: (&str, &str),
+    (cells, most): (Cells, u32),
+    found: Found,
+) -> Result<bool, AllocError> {
+    assert!(rt; 1 <= most);
+    let conditions = Conditions {
+        most,
+        ..ample(50_000)
+    };
+    let cells = bytes_of(alloc, file, cells)?;
+    leaves(rt, alloc, ONE, settings, cells, conditions, found)
 }
 
-// The null super-frame: whole, a byte at each read, within the limit of symbols and past it.
+/// A read gives all that it is asked for.
+const WIDE: u32 = u32::MAX;
+
+const LIMIT: &str = "max_symbols = 272\n";
+
+/// The null super-frame: whole, a byte at each read, within the limit of symbols and past it. A line of the settings, the cells,
+/// and what is to be found.
+static WHOLE: [(&str, (Cells, u32), Found); 4] = [
+    ("", (Cells::Whole, WIDE), NULLS),
+    ("", (Cells::Whole, 1), NULLS),
+    (LIMIT, (Cells::Whole, WIDE), NULLS),
+    (LIMIT, (Cells::OneMore, WIDE), (8, "limit 272\n", 45_120)),
+];
+
 #[test]
 fn null_super_frame(rt: HostRuntime) -> Result<(), Fail> {
     let alloc = rt.alloc();
-    let cells = null_cells(&rt, alloc)?;
-    assert_eq!(rt; cells.len(), SUPER_FRAME);
-    let more = one_symbol_more(&rt, alloc, &cells)?;
-    let wide = ample(50_000);
-    let narrow = Conditions { most: 1, ..wide };
-    let limit = "max_symbols = 272\n";
-    let cases = [
-        ("", &cells[..], wide, (0, WHOLE_NULLS, 45_308)),
-        ("", &cells[..], narrow, (0, WHOLE_NULLS, 45_308)),
-        (limit, &cells[..], wide, (0, WHOLE_NULLS, 45_308)),
-        (limit, &more[..], wide, (8, "limit 272\n", 45_120)),
-    ];
-    for (lines, bytes, conditions, found) in cases {
-        expect(&rt, alloc, ONE, (BASE, lines), bytes, conditions, found)?;
+    let file = null_cells(&rt, alloc)?;
+    for (place, (line, cells, found)) in WHOLE.iter().enumerate() {
+        let stands = is_found(&rt, alloc, &file, (BASE, *line), *cells, *found)?;
+        assert!(rt; stands, "run {place}");
     }
     Ok(())
 }
 
-// The header, a symbol and a byte of it, and the header alone. Cut within a cell or before its weight a symbol is
-// none.
+/// The header, a symbol and a byte of it, and the header alone. Cut within a cell or before its weight a symbol is none.
+static PARTS: [((Cells, u32), &str); 6] = [
+    ((Cells::Front(8 + SYMBOL + 1), WIDE), PART),
+    ((Cells::Front(8 + SYMBOL + 1), 1), PART),
+    ((Cells::Front(8), WIDE), EMPTY),
+    ((Cells::Front(8), 1), EMPTY),
+    ((Cells::Front(8 + SYMBOL - 2), WIDE), WITHIN_A_CELL),
+    ((Cells::Front(8 + SYMBOL - 1), WIDE), BEFORE_A_WEIGHT),
+];
+
 #[test]
 fn parts_of_the_null_super_frame(rt: HostRuntime) -> Result<(), Fail> {
     let alloc = rt.alloc();
-    let cells = null_cells(&rt, alloc)?;
-    let part =
-        "symbols 1 tail 1\ntps read 0 bad 0\nhp words 0 clean 0 corrected 0 bad 0 unphased 0 unmerged 0\n";
-    let empty =
-        "symbols 0 tail 0\ntps read 0 bad 0\nhp words 0 clean 0 corrected 0 bad 0 unphased 0 unmerged 0\n";
-    let wide = ample(50_000);
-    let narrow = Conditions { most: 1, ..wide };
-    let symbol_and_byte = front(&rt, &cells, 8 + SYMBOL + 1);
-    let within_a_cell =
-        "symbols 0 tail 8523\ntps read 0 bad 0\nhp words 0 clean 0 corrected 0 bad 0 unphased 0 unmerged 0\n";
-    let before_a_weight =
-        "symbols 0 tail 8524\ntps read 0 bad 0\nhp words 0 clean 0 corrected 0 bad 0 unphased 0 unmerged 0\n";
-    let cases = [
-        (symbol_and_byte, wide, (0, part, 0)),
-        (symbol_and_byte, narrow, (0, part, 0)),
-        (front(&rt, &cells, 8), wide, (0, empty, 0)),
-        (front(&rt, &cells, 8), narrow, (0, empty, 0)),
-        (
-            front(&rt, &cells, 8 + SYMBOL - 2),
-            wide,
-            (0, within_a_cell, 0),
-        ),
-        (
-            front(&rt, &cells, 8 + SYMBOL - 1),
-            wide,
-            (0, before_a_weight, 0),
-        ),
-    ];
-    for (bytes, conditions, found) in cases {
-        expect(&rt, alloc, ONE, (BASE, ""), bytes, conditions, found)?;
+    let file = null_cells(&rt, alloc)?;
+    for (place, (cells, report)) in PARTS.iter().enumerate() {
+        let stands = is_found(&rt, alloc, &file, (BASE, ""), *cells, (0, *report, 0))?;
+        assert!(rt; stands, "run {place}");
     }
     Ok(())
 }
 
-// One call of the station fails, and this stands of the null super-frame.
+const HALF_LINE: &str = "symbols 2write fault\n";
+
+/// One call of the station fails, and this stands of the null super-frame.
+static FAULTS: [(Failing, Found); 9] = [
+    (Failing::Attach(InPort::Cells, 1), (5, "read fault\n", 0)),
+    (Failing::Read(InPort::Cells, 1), (5, "read fault\n", 0)),
+    (Failing::Read(InPort::Cells, 2), (5, "read fault\n", 0)),
+    (Failing::Read(InPort::Cells, 32), (5, "read fault\n", 3_008)),
+    (Failing::Create(OutPort::Hp, 1), (6, "write fault\n", 0)),
+    (Failing::Write(OutPort::Hp, 1), (6, "write fault\n", 94)),
+    (Failing::Write(OutPort::Hp, 2), (6, "write fault\n", 282)),
+    (Failing::Write(OutPort::Report, 1), (6, HALF_LINE, 45_308)),
+    (Failing::Close(OutPort::Hp, 1), (6, CLOSED, 45_308)),
+];
+
 #[test]
 fn faults_of_the_station(rt: HostRuntime) -> Result<(), Fail> {
     let alloc = rt.alloc();
-    let cells = null_cells(&rt, alloc)?;
-    let read = "read fault\n";
-    let write = "write fault\n";
-    let faults = [
-        (Failing::Attach(InPort::Cells, 1), (5, read, 0)),
-        (Failing::Read(InPort::Cells, 1), (5, read, 0)),
-        (Failing::Read(InPort::Cells, 2), (5, read, 0)),
-        (Failing::Read(InPort::Cells, 32), (5, read, 3_008)),
-        (Failing::Create(OutPort::Hp, 1), (6, write, 0)),
-        (Failing::Write(OutPort::Hp, 1), (6, write, 94)),
-        (Failing::Write(OutPort::Hp, 2), (6, write, 282)),
-        (
-            Failing::Write(OutPort::Report, 1),
-            (6, "symbols 2write fault\n", 45_308),
-        ),
-        (Failing::Close(OutPort::Hp, 1), (6, CLOSED, 45_308)),
-    ];
-    for (call, found) in faults {
-        expect(&rt, alloc, ONE, (BASE, ""), &cells, failing(call), found)?;
+    let file = null_cells(&rt, alloc)?;
+    for (call, found) in &FAULTS {
+        let conditions = Conditions {
+            failing: Some(*call),
+            ..ample(50_000)
+        };
+        let cells = Vec::from_slice(alloc, &file)?;
+        let stands = leaves(&rt, alloc, ONE, (BASE, ""), cells, conditions, *found)?;
+        assert!(rt; stands, "{call:?}");
     }
     Ok(())
 }
 
-// A file that does not begin with the header of its mode is refused, before an output is made: shorter ones,
-// one of the other mode, one without a header, and one whose header has another version.
+/// A file that does not begin with the header of its mode is refused, before an output is made: shorter ones, one without a
+/// header, one whose header has another version, and one of the other mode. The settings, and the cells.
+static HEADERS: [(&str, (Cells, u32)); 6] = [
+    (BASE, (Cells::Front(0), WIDE)),
+    (BASE, (Cells::Front(7), WIDE)),
+    (BASE, (Cells::Front(7), 1)),
+    (BASE, (Cells::Headless, WIDE)),
+    (BASE, (Cells::OtherVersion, WIDE)),
+    (EIGHT, (Cells::Whole, WIDE)),
+];
+
 #[test]
 fn refused_headers(rt: HostRuntime) -> Result<(), Fail> {
     let alloc = rt.alloc();
-    let cells = null_cells(&rt, alloc)?;
-    let eight = "mode = \"8k\"\nconstellation = \"qpsk\"\nrate_hp = \"1/2\"\nguard = \"1/32\"\n";
-    let wide = ample(50_000);
-    let narrow = Conditions { most: 1, ..wide };
-    assert!(rt; cells.len() >= 8);
-    let mut old = Vec::from_slice(alloc, &HEADER[..])?;
-    old[4] = 1;
-    old.extend_from_slice(front(&rt, &cells, 100))?;
-    let cases = [
-        (BASE, front(&rt, &cells, 0), wide),
-        (BASE, front(&rt, &cells, 7), wide),
-        (BASE, front(&rt, &cells, 7), narrow),
-        (BASE, &cells[8..], wide),
-        (BASE, &old[..], wide),
-        (eight, &cells[..], wide),
-    ];
-    for (settings, bytes, conditions) in cases {
+    let file = null_cells(&rt, alloc)?;
+    for (place, (settings, cells)) in HEADERS.iter().enumerate() {
         let found = (9, "cells header\n", 0);
-        expect(&rt, alloc, ONE, (settings, ""), bytes, conditions, found)?;
+        let stands = is_found(&rt, alloc, &file, (*settings, ""), *cells, found)?;
+        assert!(rt; stands, "run {place}");
+    }
+    Ok(())
+}
+
+/// Words of no form, a file that is not there, and settings that do not fit the form: no packet is written.
+static REFUSED: [(&str, &str, Found); 6] = [
+    ("receive s a", BASE, (2, "usage\n", 0)),
+    ("receive s a hp lp more", LAYERED, (2, "usage\n", 0)),
+    ("Receive s a hp", BASE, (2, "usage\n", 0)),
+    ("receive s gone hp", BASE, (5, "read fault\n", 0)),
+    (ONE, LAYERED, (3, "settings form\n", 0)),
+    ("receive s a hp lp", BASE, (3, "settings form\n", 0)),
+];
+
+#[test]
+fn refused_words_and_settings(rt: HostRuntime) -> Result<(), Fail> {
+    let alloc = rt.alloc();
+    for (text, settings, found) in &REFUSED {
+        let none = Vec::new(alloc);
+        let stands = leaves(
+            &rt,
+            alloc,
+            *text,
+            (*settings, ""),
+            none,
+            ample(50_000),
+            *found,
+        )?;
+        assert!(rt; stands, "{text}");
     }
     Ok(())
 }
@@ -223,30 +300,10 @@ fn weighted(
 fn weights_of_the_null_super_frame(rt: HostRuntime) -> Result<(), Fail> {
     let alloc = rt.alloc();
     let cells = null_cells(&rt, alloc)?;
-    let erased =
-        "symbols 272 tail 0\ntps read 4 bad 0\nhp words 241 clean 241 corrected 0 bad 0 unphased 241 unmerged 0\n";
-    let whole = (0, WHOLE_NULLS, 45_308);
-    for (weight, found) in [(1, whole), (255, whole), (0, (0, erased, 0))] {
+    for (weight, found) in [(1, NULLS), (255, NULLS), (0, (0, ERASED, 0))] {
         let bytes = weighted(&rt, alloc, &cells, weight)?;
-        expect(&rt, alloc, ONE, (BASE, ""), &bytes, ample(50_000), found)?;
-    }
-    Ok(())
-}
-
-// Words of no form, a file that is not there, and settings that do not fit the form: no packet is written.
-#[test]
-fn refused_words_and_settings(rt: HostRuntime) -> Result<(), Fail> {
-    let alloc = rt.alloc();
-    let cases = [
-        ("receive s a", BASE, (2, "usage\n", 0)),
-        ("receive s a hp lp more", LAYERED, (2, "usage\n", 0)),
-        ("Receive s a hp", BASE, (2, "usage\n", 0)),
-        ("receive s gone hp", BASE, (5, "read fault\n", 0)),
-        (ONE, LAYERED, (3, "settings form\n", 0)),
-        ("receive s a hp lp", BASE, (3, "settings form\n", 0)),
-    ];
-    for (text, settings, found) in cases {
-        expect(&rt, alloc, text, (settings, ""), &[], ample(50_000), found)?;
+        let stands = leaves(&rt, alloc, ONE, (BASE, ""), bytes, ample(50_000), found)?;
+        assert!(rt; stands, "weight {weight}");
     }
     Ok(())
 }
@@ -268,32 +325,18 @@ fn negate_tps(rt: &impl Abort, bytes: &mut [u8], symbol: usize) {
 #[test]
 fn turned_tps_bits(rt: HostRuntime) -> Result<(), Fail> {
     let alloc = rt.alloc();
+    let wide = ample(50_000);
     let mut cells = null_cells(&rt, alloc)?;
     for symbol in 5..60usize {
         negate_tps(&rt, &mut cells, symbol);
     }
-    expect(
-        &rt,
-        alloc,
-        ONE,
-        (BASE, ""),
-        &cells,
-        ample(50_000),
-        (0, WHOLE_NULLS, 45_308),
-    )?;
+    assert!(rt; leaves(&rt, alloc, ONE, (BASE, ""), cells, wide, NULLS)?);
     let mut cells = null_cells(&rt, alloc)?;
     for symbol in [60usize, 61, 62, 63, 67] {
         negate_tps(&rt, &mut cells, symbol);
     }
-    expect(
-        &rt,
-        alloc,
-        ONE,
-        (BASE, ""),
-        &cells,
-        ample(50_000),
-        (0, ONE_BAD, 45_308),
-    )?;
+    let found = (0, ONE_BAD, 45_308);
+    assert!(rt; leaves(&rt, alloc, ONE, (BASE, ""), cells, wide, found)?);
     Ok(())
 }
 
@@ -308,15 +351,8 @@ fn unmerged_at_2049(rt: HostRuntime) -> Result<(), Fail> {
     let report =
         "hp unmerged at 2049\nsymbols 2 tail 0\ntps read 0 bad 0\nhp words 0 clean 0 corrected 0 bad 0 unphased 0 unmerged 1\n";
     let settings = (BASE, "start = \"any\"\n");
-    expect(
-        &rt,
-        alloc,
-        ONE,
-        settings,
-        &cells,
-        ample(50_000),
-        (0, report, 0),
-    )?;
+    let found = (0, report, 0);
+    assert!(rt; leaves(&rt, alloc, ONE, settings, cells, ample(50_000), found)?);
     Ok(())
 }
 
@@ -325,10 +361,11 @@ fn unmerged_at_2049(rt: HostRuntime) -> Result<(), Fail> {
 #[test]
 fn cells_of_zeros(rt: HostRuntime) -> Result<(), Fail> {
     let alloc = rt.alloc();
-    let cells = zero_cells(alloc)?;
     for lines in ["", "start = \"any\"\n"] {
+        let cells = zero_cells(alloc)?;
         let found = (0, UNPHASED, 0);
-        expect(&rt, alloc, ONE, (BASE, lines), &cells, ample(50_000), found)?;
+        let stands = leaves(&rt, alloc, ONE, (BASE, lines), cells, ample(50_000), found)?;
+        assert!(rt; stands, "{lines}");
     }
     Ok(())
 }

@@ -156,28 +156,30 @@ fn zero_cells(rt: HostRuntime) -> Result<(), Fail> {
     Ok(())
 }
 
+/// Settings, the mode of the header, how many bytes follow it, and of what is left the report, the length and the sum.
+static LENGTHS: [(&str, u8, u32, &str, usize, u32); 6] = [
+    (BASE, 0, 0, "symbols 0 tail 0\n", 8, HEADER),
+    (BASE, 0, 8_524, "symbols 0 tail 8524\n", 8, HEADER),
+    (BASE, 0, 8_525, "symbols 1 tail 0\n", 8_533, ONE_SYMBOL),
+    (LAYERED, 0, 8_526, "symbols 1 tail 1\n", 8_533, ONE_SYMBOL),
+    (BASE, 0, 25_580, "symbols 3 tail 5\n", 25_583, 1_057_960_316),
+    (WIDE, 1, 34_088, "symbols 1 tail 3\n", 34_093, 2_002_112_095),
+];
+
 // Whole symbols and parts of one, in both modes, whatever else is set, read as a whole and by single bytes: the
 // second super-frame's first symbols are at the phases of the first ones.
 #[test]
 fn whole_symbols_and_parts(rt: HostRuntime) -> Result<(), Fail> {
     let alloc = rt.alloc();
-    let cases = [
-        (BASE, 0, 0, "symbols 0 tail 0\n", 8, HEADER),
-        (BASE, 0, 8_524, "symbols 0 tail 8524\n", 8, HEADER),
-        (BASE, 0, 8_525, "symbols 1 tail 0\n", 8_533, ONE_SYMBOL),
-        (LAYERED, 0, 8_526, "symbols 1 tail 1\n", 8_533, ONE_SYMBOL),
-        (BASE, 0, 25_580, "symbols 3 tail 5\n", 25_583, 1_057_960_316),
-        (WIDE, 1, 34_088, "symbols 1 tail 3\n", 34_093, 2_002_112_095),
-    ];
     for most in [u32::MAX, 1] {
-        for (settings, mode, count, report, long, sum) in cases {
+        for (settings, mode, count, report, long, sum) in &LENGTHS {
             let conditions = Conditions {
                 most,
                 ..ample(40_000)
             };
-            let old_cells = cell_file(alloc, mode, count)?;
-            let ran = equalised(&rt, alloc, (settings, ""), old_cells, conditions)?;
-            stands(&rt, &ran, (0, report, long, sum));
+            let old_cells = cell_file(alloc, *mode, *count)?;
+            let ran = equalised(&rt, alloc, (*settings, ""), old_cells, conditions)?;
+            stands(&rt, &ran, (0, *report, *long, *sum));
         }
     }
     Ok(())
@@ -225,90 +227,100 @@ fn limits_of_symbols(rt: HostRuntime) -> Result<(), Fail> {
     Ok(())
 }
 
+const HEADLESS: &str = "cells header\n";
+
+/// Words, settings, the mode of the header, the length of the file, the status and its text.
+static REFUSED: [(&str, &str, u8, usize, u8, &str); 11] = [
+    ("equalise s a", BASE, 0, 8_533, 2, "usage\n"),
+    ("equalise s a b cells", LAYERED, 0, 8_533, 2, "usage\n"),
+    (EQUALISE, "mode =", 0, 8_533, 3, "settings not toml\n"),
+    (
+        EQUALISE,
+        "colour = 1\n",
+        0,
+        8_533,
+        3,
+        "settings unknown 0\n",
+    ),
+    (EQUALISE, "", 0, 8_533, 3, "settings missing mode\n"),
+    ("equalise gone a cells", BASE, 0, 8_533, 5, "read fault\n"),
+    ("equalise s gone cells", BASE, 0, 8_533, 5, "read fault\n"),
+    (EQUALISE, BASE, 0, 0, 9, HEADLESS),
+    (EQUALISE, BASE, 0, 7, 9, HEADLESS),
+    (EQUALISE, BASE, 1, 8_533, 9, HEADLESS),
+    (EQUALISE, WIDE, 0, 34_093, 9, HEADLESS),
+];
+
 // Words of no form, settings that are refused, a file that is not there, and cells without the header of the
 // mode: no new file is made.
 #[test]
 fn refused_words_settings_and_cells(rt: HostRuntime) -> Result<(), Fail> {
     let alloc = rt.alloc();
-    let header = "cells header\n";
-    let cases = [
-        ("equalise s a", BASE, 0, 8_533, 2, "usage\n"),
-        ("equalise s a b cells", LAYERED, 0, 8_533, 2, "usage\n"),
-        (EQUALISE, "mode =", 0, 8_533, 3, "settings not toml\n"),
-        (
-            EQUALISE,
-            "colour = 1\n",
-            0,
-            8_533,
-            3,
-            "settings unknown 0\n",
-        ),
-        (EQUALISE, "", 0, 8_533, 3, "settings missing mode\n"),
-        ("equalise gone a cells", BASE, 0, 8_533, 5, "read fault\n"),
-        ("equalise s gone cells", BASE, 0, 8_533, 5, "read fault\n"),
-        (EQUALISE, BASE, 0, 0, 9, header),
-        (EQUALISE, BASE, 0, 7, 9, header),
-        (EQUALISE, BASE, 1, 8_533, 9, header),
-        (EQUALISE, WIDE, 0, 34_093, 9, header),
-    ];
-    for (text, settings, mode, length, status, report) in cases {
+    for (text, settings, mode, length, status, report) in &REFUSED {
         let settings = text_bytes(alloc, settings, "")?;
-        let mut old_cells = cell_file(alloc, mode, 34_085)?;
-        old_cells.truncate(length);
+        let mut old_cells = cell_file(alloc, *mode, 34_085)?;
+        old_cells.truncate(*length);
         let inputs = (old_cells, Vec::new(alloc));
         let ran = run_files(&rt, alloc, text, settings, inputs, 1, ample(40_000))?;
-        stands(&rt, &ran, (status, report, 0, 0));
+        stands(&rt, &ran, (*status, *report, 0, 0));
     }
     Ok(())
 }
+
+const READ: &str = "read fault\n";
+
+const WRITE: &str = "write fault\n";
+
+/// The closing line, of which the write or behind which a close failed.
+const HALF_LINE: &str = "symbols write fault\n";
+
+const CLOSED: &str = "symbols 2 tail 0\nwrite fault\n";
+
+/// A call that fails in the work on two symbols, and what stands.
+static FAULTS: [(Failing, Found<'static>); 11] = [
+    (Failing::Read(InPort::Settings, 1), (5, READ, 0, 0)),
+    (Failing::Attach(InPort::Cells, 1), (5, READ, 0, 0)),
+    (Failing::Read(InPort::Cells, 1), (5, READ, 0, 0)),
+    (Failing::Read(InPort::Cells, 2), (5, READ, 8, HEADER)),
+    (
+        Failing::Read(InPort::Cells, 3),
+        (5, READ, 8_533, ONE_SYMBOL),
+    ),
+    (
+        Failing::Read(InPort::Cells, 4),
+        (5, READ, 17_058, TWO_SYMBOLS),
+    ),
+    (Failing::Create(OutPort::Cells, 1), (6, WRITE, 0, 0)),
+    (
+        Failing::Write(OutPort::Cells, 1),
+        (6, WRITE, 4, HALF_HEADER),
+    ),
+    (
+        Failing::Write(OutPort::Cells, 2),
+        (6, WRITE, 4_270, 1_023_285_492),
+    ),
+    (
+        Failing::Write(OutPort::Report, 1),
+        (6, HALF_LINE, 17_058, TWO_SYMBOLS),
+    ),
+    (
+        Failing::Close(OutPort::Cells, 1),
+        (6, CLOSED, 17_058, TWO_SYMBOLS),
+    ),
+];
 
 // One call of the station fails in a correction of two symbols, and this stands.
 #[test]
 fn faults_of_the_station(rt: HostRuntime) -> Result<(), Fail> {
     let alloc = rt.alloc();
-    let read = "read fault\n";
-    let write = "write fault\n";
-    let half_line = "symbols write fault\n";
-    let closing = "symbols 2 tail 0\nwrite fault\n";
-    let cases = [
-        (Failing::Read(InPort::Settings, 1), (5, read, 0, 0)),
-        (Failing::Attach(InPort::Cells, 1), (5, read, 0, 0)),
-        (Failing::Read(InPort::Cells, 1), (5, read, 0, 0)),
-        (Failing::Read(InPort::Cells, 2), (5, read, 8, HEADER)),
-        (
-            Failing::Read(InPort::Cells, 3),
-            (5, read, 8_533, ONE_SYMBOL),
-        ),
-        (
-            Failing::Read(InPort::Cells, 4),
-            (5, read, 17_058, TWO_SYMBOLS),
-        ),
-        (Failing::Create(OutPort::Cells, 1), (6, write, 0, 0)),
-        (
-            Failing::Write(OutPort::Cells, 1),
-            (6, write, 4, HALF_HEADER),
-        ),
-        (
-            Failing::Write(OutPort::Cells, 2),
-            (6, write, 4_270, 1_023_285_492),
-        ),
-        (
-            Failing::Write(OutPort::Report, 1),
-            (6, half_line, 17_058, TWO_SYMBOLS),
-        ),
-        (
-            Failing::Close(OutPort::Cells, 1),
-            (6, closing, 17_058, TWO_SYMBOLS),
-        ),
-    ];
-    for (call, found) in cases {
+    for (call, found) in &FAULTS {
         let conditions = Conditions {
-            failing: Some(call),
+            failing: Some(*call),
             ..ample(40_000)
         };
         let old_cells = cell_file(alloc, 0, 17_050)?;
         let ran = equalised(&rt, alloc, (BASE, ""), old_cells, conditions)?;
-        stands(&rt, &ran, found);
+        stands(&rt, &ran, *found);
     }
     Ok(())
 }

@@ -1,5 +1,5 @@
 -- Plans of documents, accepted and refused, computed on the definitions.
-use Rattle.std.proofs.Common.{◌≡◌, ℕ, [], ◌∷◌, List, Option, map, refl, true, false}
+use Rattle.std.proofs.Common.{◌≡◌, ℕ, [], ◌∷◌, List, Option, map, refl, false}
 use Rattle.std.specs.Prelude.{codes, pos, Some, is_some, option_map}
 use Rattle.toml.specs.Data.{Data, string, integer, array, table, no_items, item, no_members, member}
 use Rattle.mode_set.specs.PlanKey.{a_plan}

@@ -129,9 +129,7 @@ impl Settings {
         ensures byte_order { result ≢ Err SettingsError.Memory
             → IfSome (document bytes.now) (λ ms. IsStrictlySortedBy (slice_cmp nat_cmp) (keys_of ms)) }
     {
-        match table_of(alloc, bytes) {
-            Ok(table) => settings_of(&table),
-            Err(error) => Err(error),
-        }
+        let table = table_of(alloc, bytes)?;
+        settings_of(&table)
     }
 }

@@ -10,7 +10,7 @@ use Rattle.mode_set.specs.declared.settings.Settings.{Settings as TheSettings}
 use Rattle.outer_chain.specs.Sent.{packet_at}
 use Rattle.transmission.specs.Transmission.{Inputs, by_stream}
 use Rattle.transmission.specs.SuperFrames.{packets_for, symbols_of}
-use Rattle.transmission.specs.Agenda.{IsEnoughFor, first_refusal, next_stream, packet_refusal, symbols_sent}
+use Rattle.transmission.specs.Agenda.{next_stream, packet_refusal}
 use Rattle.transmission.specs.Agenda as agenda
 use Rattle.transmission.specs.AgendaLaws.{IsAt, StopsAt, TakesOfHp, TakesOfLp, StopsAtPacket, SentSoFar, SentAtFault}
 use Rattle.run_clauses.specs.declared.work.Refusal.{Refusal}

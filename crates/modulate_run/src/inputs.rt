@@ -85,13 +85,9 @@ impl PacketInputs {
             → GoesOn limit files (S.meaning station.new) self.new (T.seen tx.new) (T.stands tx.new) result }
     {
         work();
-        match self.next_packet(stream, limit, station) {
-            Ok(packet) => {
-                tx.put(&packet);
-                Ok(())
-            }
-            Err(refusal) => Err(refusal),
-        }
+        let packet = self.next_packet(stream, limit, station)?;
+        tx.put(&packet);
+        Ok(())
     }
 
     /// What was counted, once all inputs have ended and just the super-frames were sent that carry them.

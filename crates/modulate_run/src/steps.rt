@@ -85,10 +85,8 @@ fn write_lp_and_frames<'a, S: Station<'a>>(
     ensures kind { IsWriting result }
     ensures writes { WritesLines ((if two then packets_line Lp counts.now.lp else []) ++ super_frames_line counts.now.super_frames) (S.meaning station.old) (S.meaning station.new) result }
 {
-    match write_lp_line(two, &counts.lp, station) {
-        Ok(()) => write_line(&super_frames_line_of(counts.super_frames), station),
-        Err(refusal) => Err(refusal),
-    }
+    write_lp_line(two, &counts.lp, station)?;
+    write_line(&super_frames_line_of(counts.super_frames), station)
 }
 
 // Writes the closing lines.
@@ -103,10 +101,8 @@ fn write_lines<'a, S: Station<'a>>(
     ensures kind { IsWriting result }
     ensures writes { WritesLines (transmission_lines two counts.now) (S.meaning station.old) (S.meaning station.new) result }
 {
-    match write_line(&packets_line_of(Stream::Hp, &counts.hp), station) {
-        Ok(()) => write_lp_and_frames(two, counts, station),
-        Err(refusal) => Err(refusal),
-    }
+    write_line(&packets_line_of(Stream::Hp, &counts.hp), station)?;
+    write_lp_and_frames(two, counts, station)
 }
 
 /// Writes the closing lines and closes the output, also where a line was not written.

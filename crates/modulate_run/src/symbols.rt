@@ -113,10 +113,8 @@ fn next_symbol<'a, T: Transmitter, S: Station<'a>>(
 {
     work();
     symbols();
-    match put_wanted(limit, inputs, tx, station) {
-        Ok(()) => send_symbol(tx, bytes, station),
-        Err(refusal) => Err(refusal),
-    }
+    put_wanted(limit, inputs, tx, station)?;
+    send_symbol(tx, bytes, station)
 }
 
 // Sends all symbols of the transmission: it ends with the first super-frame at whose end all inputs
@@ -189,8 +187,6 @@ pub(crate) fn send_file<'a, T: Transmitter, S: Station<'a>>(
         → Modulates (T.seen tx.old).settings limits.now.packets files (S.meaning station.new) result }
 {
     symbols();
-    match write_header(settings.mode, station) {
-        Ok(()) => send_all(limits, settings, inputs, tx, bytes, station),
-        Err(refusal) => Err(refusal),
-    }
+    write_header(settings.mode, station)?;
+    send_all(limits, settings, inputs, tx, bytes, station)
 }

@@ -1,7 +1,7 @@
 -- The command of a kind is a command on cells: what it comes to is what its work gives.
-use Rattle.std.proofs.Common.{◌≡◌, inl, inr, true, false, ℕ, zero, suc, ◌≤◌, Bool, List, [], ◌∷◌, ◌++◌, length, take, drop, Option, Some, None, refl, ◌∙◌, sym, ap, subst, arith, append_assoc, if◌then◌else◌}
+use Rattle.std.proofs.Common.{◌≡◌, inl, inr, true, false, ℕ, zero, suc, ◌≤◌, Bool, List, [], ◌∷◌, ◌++◌, take, drop, Option, Some, None, refl, ◌∙◌, sym, ap, subst, arith, append_assoc, if◌then◌else◌}
 use Rattle.std.proofs.lemmas.List.{drop_all, length-take, take-append-drop}
-use Rattle.std.specs.Prelude.{◌⊎◌, is_some, flat_map, option_and_then}
+use Rattle.std.specs.Prelude.{is_some, flat_map, option_and_then}
 use Rattle.std.proofs.lemmas.Bool.{lt-ltb, le-ltb, true≢false}
 use Rattle.std.proofs.Math.Nat.{div-eq_of_lt}
 use Rattle.station_core.specs.Meaning.{Meaning}

@@ -1,5 +1,5 @@
 -- There are four closing lines at most.
-use Rattle.std.specs.Prelude.{◌≡◌, ◌∷◌, ℕ, List, take, Option, None, Some, refl}
+use Rattle.std.specs.Prelude.{◌≡◌, ◌∷◌, take, Option, None, Some, refl}
 use Rattle.mode_set.specs.declared.modes.Stream.TheVariants.{Hp}
 use Rattle.rx_report.specs.Text.{closing_lines, lp_lines, stream_line, symbols_line, tps_line}
 use Rattle.rx_report.specs.declared.counts.Counts.{Counts}

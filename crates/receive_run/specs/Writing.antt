@@ -1,7 +1,6 @@
 -- What is written behind what the outputs of a reception hold.
 use Rattle.std.specs.Prelude.{◌≡◌, ◌⊎◌, ℕ, Bool, true, false, if◌then◌else◌, List, [], ◌++◌, take, flat_map, Result, Ok, Err}
 use Rattle.station_core.specs.Meaning.{Meaning}
-use Rattle.station_core.specs.declared.ports.OutPort.{OutPort}
 use Rattle.station_core.specs.declared.ports.OutPort.TheVariants as outs
 use Rattle.rx_report.specs.Text.{event_line}
 use Rattle.rx_report.specs.declared.counts.Event.{Event}

@@ -50,10 +50,8 @@ impl<'a, S: Station<'a>, X: CellReceiver> SymbolWork<'a, S> for ReceptionWork<X>
     fn finish(&mut self, station: &mut S) -> Result<(), Stop> {
         reception::laws::receptions();
         self.receiver.finish();
-        match write_out(self.two, self.receiver.out(), station) {
-            Ok(()) => write_lines(&self.receiver.counts(), station),
-            Err(stop) => Err(stop),
-        }
+        write_out(self.two, self.receiver.out(), station)?;
+        write_lines(&self.receiver.counts(), station)
     }
 
     fn law(&self) {

@@ -50,14 +50,10 @@ fn push_line<'a, S: Station<'a>>(
         text.push_str(line.as_str());
         return Ok(());
     }
-    match write_some(OutPort::Report, text.as_str().as_bytes(), station) {
-        Ok(()) => {
-            text.clear();
-            text.push_str(line.as_str());
-            Ok(())
-        }
-        Err(stop) => Err(stop),
-    }
+    write_some(OutPort::Report, text.as_str().as_bytes(), station)?;
+    text.clear();
+    text.push_str(line.as_str());
+    Ok(())
 }
 
 // Writes the lines of the events of a symbol, by one write.

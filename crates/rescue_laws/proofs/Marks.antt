@@ -1,10 +1,10 @@
 -- Margins that are known are one list, and begin those of more pairs.
-use Rattle.std.proofs.Common.{◌≡◌, ℕ, ◌+◌, ◌-◌, ◌*◌, ◌/◌, ◌%◌, ◌<◌, ◌≤◌, Bool, List, ◌++◌, length, take, drop, sym, ap, ap₂, ◌∙◌, subst, arith, slice_index, length-append, length-take-le, take-append-drop}
+use Rattle.std.proofs.Common.{◌≡◌, ℕ, ◌+◌, ◌*◌, ◌/◌, ◌%◌, ◌<◌, ◌≤◌, Bool, List, ◌++◌, length, take, drop, sym, ap, ap₂, ◌∙◌, subst, arith, slice_index, length-append, length-take-le, take-append-drop}
 use Rattle.std.specs.Prelude.{Option}
 use Rattle.std.specs.Int.{abs_diff}
 use Rattle.std.proofs.lemmas.List.{ext_get_or, get_or-take}
 use Rattle.code_paths.specs.declared.costs.CostPair.{CostPair}
-use Rattle.bit_margin.specs.Margin.{LeastWith, IsMargin, IsMarginAt, AreMargins}
+use Rattle.bit_margin.specs.Margin.{LeastWith, IsMargin, IsMarginAt}
 use Rattle.bit_margin.specs.Laws.{MarginsOnce, MarginsStay}
 use Rattle.rescue_words.specs.ByteMargins.{byte_margins}
 use Rattle.rescue_words.specs.Laws.{MoreByteMargins}

@@ -1,5 +1,5 @@
 -- Bytes have one rescue output at a moment, and longer bytes only add to it.
-use Rattle.std.proofs.Common.{◌≡◌, ℕ, ◌+◌, ◌<◌, Bool, List, [], ◌++◌, length, take, drop, refl, sym, ap, ap₂, ◌∙◌, subst, arith, take-append-drop, append-nil, append_assoc}
+use Rattle.std.proofs.Common.{◌≡◌, ℕ, Bool, List, [], ◌++◌, length, take, drop, refl, sym, ap, ◌∙◌, subst, arith, take-append-drop, append-nil, append_assoc}
 use Rattle.std.specs.Prelude.{Option}
 use Rattle.code_paths.specs.declared.costs.CostPair.{CostPair}
 use Rattle.code_paths.specs.Streams.{IsPrefix, Given, Reports}
@@ -23,9 +23,9 @@ use Rattle.reception.specs.Streams.{memory, start_of, Moment, so_far, at_end, Is
 use Rattle.reception.specs.Laws.{CostsGrow, CostsAreSteps, SameCosts, NewReportsAreLater, NothingGiven, NoCosts}
 use Rattle.reception.proofs.Nothing.{nothing_reported}
 use Rattle.reception_laws.proofs.Beginnings.{lines_begin}
-use Rattle.rescue_reception.specs.Known.{settled_blocks, AreSettled, AreKnown}
-use Rattle.rescue_reception.specs.Streams.{Rescue, RescuesAt, RescuesSoFar, RescuesAtEnd, no_words, nothing}
-use Rattle.rescue_laws.specs.Laws.{AreSame, OneSoFar, OneAtEnd, Ends, AtEndEndsSoFar, NothingSoFar, Begins, SoFarBeginsSoFar, SoFarBeginsAtEnd, WholeSymbolsGive}
+use Rattle.rescue_reception.specs.Known.{AreSettled}
+use Rattle.rescue_reception.specs.Streams.{Rescue, RescuesAt, RescuesSoFar, no_words}
+use Rattle.rescue_laws.specs.Laws.{AreSame, OneSoFar, OneAtEnd, AtEndEndsSoFar, NothingSoFar, Begins, SoFarBeginsSoFar, SoFarBeginsAtEnd, WholeSymbolsGive}
 use Rattle.rescue_laws.proofs.Marks.{known_once, marks_begin}
 
 pub is_start : (start : Start) → IsStart (start_of start)

@@ -1,6 +1,6 @@
 -- Each step of a stream has a margin.
-use Rattle.std.proofs.Common.{◌≡◌, ℕ, zero, suc, ◌+◌, ◌-◌, ◌*◌, ◌/◌, ◌%◌, ◌<◌, ◌≤◌, ◌==◌, Bool, true, false, cond, List, [], ◌∷◌, ◌++◌, length, take, drop, ◌⊎◌, inl, inr, refl, sym, ap, ◌∙◌, subst, arith, get_or, slice_index, length-append, length-drop}
-use Rattle.std.specs.Prelude.{Option, replicate, min}
+use Rattle.std.proofs.Common.{◌≡◌, ℕ, zero, suc, ◌+◌, ◌*◌, ◌/◌, ◌%◌, ◌<◌, ◌≤◌, ◌==◌, Bool, true, false, cond, List, [], ◌∷◌, ◌++◌, length, take, drop, ◌⊎◌, inl, inr, refl, sym, ap, ◌∙◌, arith, get_or, slice_index, length-append, length-drop}
+use Rattle.std.specs.Prelude.{Option, replicate}
 use Rattle.std.specs.Int.{abs_diff}
 use Rattle.std.specs.declared.option.Option.TheVariants.{None, Some}
 use Rattle.std.proofs.lemmas.Bool.{cases_lt}
@@ -10,7 +10,7 @@ use Rattle.code_paths.specs.declared.costs.CostPair.{CostPair}
 use Rattle.code_paths.specs.Paths.{total, Starts, IsPath}
 use Rattle.path_laws.specs.Laws.{IsStart}
 use Rattle.path_laws.proofs.Deciding.{Decided, same_bit, same_list}
-use Rattle.bit_margin.specs.Margin.{LeastWith, IsMargin, IsMarginAt, AreMargins, window, window_start}
+use Rattle.bit_margin.specs.Margin.{LeastWith, IsMargin, IsMarginAt, window, window_start}
 use Rattle.reception_laws.proofs.Searching.{both}
 use Rattle.reception.specs.Streams.{Moment, so_far, at_end}
 use Rattle.rescue_reception.specs.Known.{settled_blocks, AreKnown}

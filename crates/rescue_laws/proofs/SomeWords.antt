@@ -1,8 +1,8 @@
 -- Each word is recovered, or lost, so bytes and margins give packets and counts.
-use Rattle.std.proofs.Common.{◌≡◌, ℕ, ◌<◌, ◌≤◌, List, length, take, ◌⊎◌, inl, inr, refl, sym, subst, arith, length-take-le}
+use Rattle.std.proofs.Common.{◌≡◌, ℕ, ◌<◌, ◌≤◌, List, take, ◌⊎◌, inl, inr, refl, subst, arith, length-take-le}
 use Rattle.std.specs.Prelude.{Option, Some, None}
 use Rattle.std.proofs.lemmas.Bool.{cases_lt}
-use Rattle.rs204.specs.Codes.{AreBytes, IsCodeword, codeword}
+use Rattle.rs204.specs.Codes.{codeword}
 use Rattle.rs204.specs.Laws.{MessageHasCodeword, CodewordIsOne}
 use Rattle.rs204.proofs.Horner.{take_bytes}
 use Rattle.rs_erasure.specs.Outside.{distance_outside, IsFarOutside}
@@ -13,7 +13,7 @@ use Rattle.reception_laws.proofs.NearWords.{near_of}
 use Rattle.bit_margin.specs.Laws.{SomeAreLeast}
 use Rattle.bit_margin.specs.Places.{AreLeast}
 use Rattle.rescue_words.specs.ByteMargins.{margins_at}
-use Rattle.rescue_words.specs.Recovery.{Recovery, IsRecovery, IsSaved}
+use Rattle.rescue_words.specs.Recovery.{Recovery, IsRecovery}
 use Rattle.rescue_words.specs.Recovery.Recovery.{Nearest, Rescued, Lost}
 use Rattle.rescue_words.specs.Rescued.{RescueTally, Rescues, codewords, tally_to, known_words}
 

@@ -1,5 +1,5 @@
 -- Receptions that rescue words as a kind: their laws, what a piece gives, and what a part of a symbol leaves.
-use Rattle.std.proofs.Common.{◌≡◌, ℕ, ◌+◌, ◌≤◌, List, ◌++◌, length, sym, subst}
+use Rattle.std.proofs.Common.{ℕ, ◌+◌, ◌≤◌, List, ◌++◌, length, sym, subst}
 use Rattle.code_paths.specs.declared.costs.CostPair.{CostPair}
 use Rattle.code_paths.specs.Streams.{Given, Reports}
 use Rattle.mode_set.specs.declared.settings.Settings.{Settings}

@@ -1,5 +1,5 @@
 -- There are three closing lines at most.
-use Rattle.std.specs.Prelude.{◌≡◌, ◌∷◌, ℕ, List, take, Option, None, Some, refl}
+use Rattle.std.specs.Prelude.{◌≡◌, ◌∷◌, take, Option, None, Some, refl}
 use Rattle.mode_set.specs.declared.modes.Stream.TheVariants.{Hp}
 use Rattle.rescue_report.specs.Text.{closing_lines, lp_lines, stream_line, symbols_line}
 use Rattle.rescue_report.specs.declared.counts.Counts.{Counts}

@@ -82,13 +82,9 @@ impl<'a, 'r, S: Station<'a>, R: Threads + Sync, T: ModeRescue> SymbolWork<'a, S>
     fn finish(&mut self, station: &mut S) -> Result<(), Stop> {
         rescue_laws::laws::receptions();
         self.receiver.finish(&mut self.out);
-        match write_out(self.two, &self.out, station) {
-            Ok(()) => {
-                let counts = self.receiver.counts();
-                write_lines(&LastCounts { counts }, station)
-            }
-            Err(stop) => Err(stop),
-        }
+        write_out(self.two, &self.out, station)?;
+        let counts = self.receiver.counts();
+        write_lines(&LastCounts { counts }, station)
     }
 
     fn law(&self) {

@@ -94,47 +94,50 @@ fn leaves<R: Threads + Sync>(
     Ok(stands(&ran, found))
 }
 
+const ANY: &str = "start = \"any\"\n";
+
+/// A file with noise, the line of the settings' start, and what is left of it.
+static CASES: [(Noisy<'static>, &str, Found<'static>); 4] = [
+    (
+        (QPSK, 20, 12_460),
+        ANY,
+        (0, ALL_THREE, (3_948, 1_716_182_877), NONE),
+    ),
+    (
+        (SIXTY_FOUR, 14, 2_875),
+        ANY,
+        (0, THREE_OF_FIVE, (10_716, 3_641_308_779), NONE),
+    ),
+    ((SIXTEEN, 20, 7_380), "", (0, FOUR_OF_18, ALL, NONE)),
+    (
+        (LAYERED, 30, 2_680),
+        "",
+        (
+            0,
+            TWO_OF_NINE,
+            (3_008, 2_915_110_544),
+            (5_640, 3_964_788_347),
+        ),
+    ),
+];
+
 // QPSK and 64-QAM from any register, 16-QAM from the register zero, and two streams; whole reads, and reads of few bytes.
 #[test]
 fn words_come_back(rt: HostRuntime) -> Result<(), Fail> {
     let alloc = rt.alloc();
-    let any = "start = \"any\"\n";
     let pieces = Conditions {
         most: 997,
         ..ample(SUPER_FRAME)
     };
-    let cases = [
-        (
-            (QPSK, 20, 12_460),
-            any,
-            (0, ALL_THREE, (3_948, 1_716_182_877), NONE),
-        ),
-        (
-            (SIXTY_FOUR, 14, 2_875),
-            any,
-            (0, THREE_OF_FIVE, (10_716, 3_641_308_779), NONE),
-        ),
-        ((SIXTEEN, 20, 7_380), "", (0, FOUR_OF_18, ALL, NONE)),
-        (
-            (LAYERED, 30, 2_680),
-            "",
-            (
-                0,
-                TWO_OF_NINE,
-                (3_008, 2_915_110_544),
-                (5_640, 3_964_788_347),
-            ),
-        ),
-    ];
-    for (sent, start, found) in cases {
+    for (sent, start, found) in &CASES {
         let two = found.3 != NONE;
         let words = if two {
             "rescue s a hp lp"
         } else {
             "rescue s a hp"
         };
-        let file = disturbed(&rt, alloc, sent, two)?;
-        let settings = (sent.0, start);
+        let file = disturbed(&rt, alloc, *sent, two)?;
+        let settings = (sent.0, *start);
         let whole = leaves(
             &rt,
             alloc,
@@ -142,9 +145,9 @@ fn words_come_back(rt: HostRuntime) -> Result<(), Fail> {
             settings,
             &file,
             ample(SUPER_FRAME),
-            found,
+            *found,
         )?;
-        let cut = leaves(&rt, alloc, words, settings, &file, pieces, found)?;
+        let cut = leaves(&rt, alloc, words, settings, &file, pieces, *found)?;
         assert!(rt; whole && cut, "{}", found.1);
     }
     Ok(())
@@ -171,35 +174,37 @@ fn limits_of_symbols(rt: HostRuntime) -> Result<(), Fail> {
     Ok(())
 }
 
+/// A call that fails, and what stands.
+static FAULTS: [(Failing, Found<'static>); 6] = [
+    (
+        Failing::Attach(InPort::Cells, 1),
+        (5, "read fault\n", NONE, NONE),
+    ),
+    (
+        Failing::Read(InPort::Cells, 21),
+        (5, "read fault\n", ALL_BUT_ONE, NONE),
+    ),
+    (
+        Failing::Create(OutPort::Hp, 1),
+        (6, "write fault\n", NONE, NONE),
+    ),
+    (
+        Failing::Write(OutPort::Hp, 1),
+        (6, "write fault\n", HALF, NONE),
+    ),
+    (
+        Failing::Write(OutPort::Report, 1),
+        (6, "symbols 2write fault\n", ALL, NONE),
+    ),
+    (Failing::Close(OutPort::Hp, 1), (6, CLOSED, ALL, NONE)),
+];
+
 // One call of the station fails. A write that fails writes the first half of its bytes.
 #[test]
 fn faults_of_the_station(rt: HostRuntime) -> Result<(), Fail> {
     let alloc = rt.alloc();
     let file = disturbed(&rt, alloc, (SIXTEEN, 20, 7_380), false)?;
-    let cases = [
-        (
-            Failing::Attach(InPort::Cells, 1),
-            (5, "read fault\n", NONE, NONE),
-        ),
-        (
-            Failing::Read(InPort::Cells, 21),
-            (5, "read fault\n", ALL_BUT_ONE, NONE),
-        ),
-        (
-            Failing::Create(OutPort::Hp, 1),
-            (6, "write fault\n", NONE, NONE),
-        ),
-        (
-            Failing::Write(OutPort::Hp, 1),
-            (6, "write fault\n", HALF, NONE),
-        ),
-        (
-            Failing::Write(OutPort::Report, 1),
-            (6, "symbols 2write fault\n", ALL, NONE),
-        ),
-        (Failing::Close(OutPort::Hp, 1), (6, CLOSED, ALL, NONE)),
-    ];
-    for (place, (call, found)) in cases.iter().enumerate() {
+    for (place, (call, found)) in FAULTS.iter().enumerate() {
         let conditions = Conditions {
             failing: Some(*call),
             ..ample(SUPER_FRAME)

@@ -10,7 +10,6 @@ use lib.Bits.{xor_assoc, xor_self, xor_zero_r}
 use Rattle.gf256.specs.Field.{mul, power}
 use Rattle.gf256.proofs.FieldLaws.{mul_comm, mul_small, mul_zero_left, mul_zero_right, mul_assoc, one_left, power_zero, mul_xor_right, one_right, xor_equal, power_small}
 use Rattle.rs204.proofs.Independent as terms
-use Rattle.rs204.proofs.Independent.{Term}
 use Rattle.rs204.specs.Codes.{plus, AreBytes, IsCodeword, distance}
 use Rattle.rs204.specs.Polynomials.{value_at, along, weight}
 use Rattle.rs204.specs.Decoding.{Differ, AllDiffer, raise, moment, Solves, chosen, is_root, corrected, IsLocator, IsSolution, AreSyndromes, DifferAtRoots}

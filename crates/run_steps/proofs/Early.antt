@@ -13,13 +13,13 @@ use Rattle.station_core.specs.declared.ports.OutPort.TheVariants as outs
 use Rattle.run_clauses.specs.declared.work.Refusal.{Refusal}
 use Rattle.run_clauses.specs.declared.work.SettingsRefusal.{SettingsRefusal}
 use Rattle.run_clauses.specs.declared.work.Refusal.TheVariants.{Usage, Settings, ReadFault, WriteFault, NotSync, Memory, Limit, Cells}
-use Rattle.run_clauses.specs.Command.{Command, Files, IsInput, IsOutput, is_among, refusal_of, input_file, named, Unread, unread}
+use Rattle.run_clauses.specs.Command.{Command, Files, IsOutput, is_among, refusal_of, input_file, named, Unread, unread}
 use Rattle.run_clauses.specs.Header.{header_refusal}
 use Rattle.run_clauses.specs.Run.{AsksSettingsAlone}
 use Rattle.run_clauses.specs.SettingsFile.{most_settings, settings_refusal}
 use Rattle.run_clauses.specs.Text.{status_of}
 use Rattle.run_steps.specs.SettingsStep.{AsksSettings, ReadsSettings}
-use Rattle.run_steps.specs.Ended.{Ended, IsCaused, IsExact, Leaves, HoldNothing, HoldSoFar, AreMade}
+use Rattle.run_steps.specs.Ended.{Ended, IsCaused, IsExact, Leaves, HoldNothing}
 
 -- how a run is refused before another port is asked: for its words or settings, for want of memory, or where
 -- the settings could not be read; where reading stops and no other input was opened, no line was printed

@@ -22,14 +22,9 @@ pub fn read_fitting<'a, S: Station<'a>>(
     ensures asks { AsksSettings name.now (S.meaning station.old) (S.meaning station.new) }
     ensures accepts { Accepts name.now (option_copied lp.entry) (S.meaning station.old) (S.meaning station.new) result }
 {
-    match read_settings(alloc, name, station) {
-        Ok(settings) => {
-            if lp.is_some() != settings.has_lp() {
-                Err(Refusal::Settings(SettingsRefusal::Form))
-            } else {
-                Ok(settings)
-            }
-        }
-        Err(refusal) => Err(refusal),
+    let settings = read_settings(alloc, name, station)?;
+    if lp.is_some() != settings.has_lp() {
+        return Err(Refusal::Settings(SettingsRefusal::Form));
     }
+    Ok(settings)
 }

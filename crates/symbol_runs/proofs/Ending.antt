@@ -21,7 +21,6 @@ use Rattle.run_clauses.specs.Header.{IsHeaderTaken, behind_header, header_refusa
 use Rattle.run_clauses.specs.Run.{IsUntaken, Run}
 use Rattle.run_clauses.specs.Text.{refusal_status, refusal_text, status_of}
 use Rattle.run_steps.specs.Report.{WritesText}
-use Rattle.run_steps.proofs.Taken.{all_unread}
 use Rattle.run_steps.specs.Ended.{AreMade, Ended, Hold, HoldFronts, HoldSoFar, HoldUnheaded, IsCaused, IsExact, IsWriteFault, Leaves}
 use Rattle.run_steps.proofs.Whole.{run_done, run_refused}
 use Rattle.symbol_runs.specs.declared.stop.Stop.{Stop}

@@ -1,7 +1,7 @@
 -- The opening of a file of cells, up to its first symbol: `header` are the bytes with which it must begin, if it
 -- must begin with some.
 use Rattle.std.specs.Prelude.{◌≡◌, ◌⊎◌, ◌≤◌, ℕ, true, false, List, drop, Option, None, Some, is_some, Result, Ok, Err}
-use Rattle.station_core.specs.Meaning.{Meaning, asked_source}
+use Rattle.station_core.specs.Meaning.{Meaning}
 use Rattle.station_core.specs.Causes.{Rose}
 use Rattle.run_clauses.specs.declared.work.Refusal.{Refusal}
 use Rattle.run_clauses.specs.declared.work.Refusal.TheVariants.{ReadFault, Cells}

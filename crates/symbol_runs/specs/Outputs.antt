@@ -3,7 +3,6 @@
 use Rattle.std.specs.Prelude.{◌≡◌, ◌⊎◌, ℕ, Bool, true, false, List, [], Option, Some, None, is_some, if◌then◌else◌, Result, Ok, Err}
 use Rattle.station_core.specs.Meaning.{Meaning, Sink, sink_at, IsUntouched}
 use Rattle.station_core.specs.declared.ports.OutPort.{OutPort}
-use Rattle.station_core.specs.declared.ports.OutPort.TheVariants as outs
 pub use Rattle.run_clauses.specs.Ports.{cell_names, stream_names}
 use Rattle.symbol_runs.specs.declared.stop.Stop.{Stop}
 use Rattle.symbol_runs.specs.declared.stop.Stop.TheVariants.{WriteFault}

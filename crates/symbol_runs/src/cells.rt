@@ -41,10 +41,8 @@ fn take_next<'a, X: SymbolWork<'a, S>, S: Station<'a>>(
         Ok(filled) => filled,
         Err(_) => return Err(Stop::ReadFault),
     };
-    match work.take(&symbol[..filled], station) {
-        Ok(()) => Ok(filled == symbol.len()),
-        Err(stop) => Err(stop),
-    }
+    work.take(&symbol[..filled], station)?;
+    Ok(filled == symbol.len())
 }
 
 // Behind as many symbols as the limit: hands in the bytes that are left of the cells, where they are no whole

@@ -57,10 +57,8 @@ fn write_streams<'a, S: Station<'a>>(counts: &TrialCounts, station: &mut S) -> R
     ensures kind { IsWriting result }
     ensures writes { WritesLines (return_line Hp counts.now.hp ++ lp_return_line counts.now.lp) (S.meaning station.old) (S.meaning station.new) result }
 {
-    match write_line(&return_line_of(Stream::Hp, &counts.hp), station) {
-        Ok(()) => write_lp(&counts.lp, station),
-        Err(refusal) => Err(refusal),
-    }
+    write_line(&return_line_of(Stream::Hp, &counts.hp), station)?;
+    write_lp(&counts.lp, station)
 }
 
 /// Writes the closing lines of a trial, each by one write.
@@ -74,8 +72,6 @@ pub(crate) fn write_lines<'a, S: Station<'a>>(
     ensures kind { IsWriting result }
     ensures writes { WritesLines (trial_lines counts.now) (S.meaning station.old) (S.meaning station.new) result }
 {
-    match write_line(&cells_line_of(counts), station) {
-        Ok(()) => write_streams(counts, station),
-        Err(refusal) => Err(refusal),
-    }
+    write_line(&cells_line_of(counts), station)?;
+    write_streams(counts, station)
 }

@@ -95,44 +95,46 @@ fn is_found<R: Threads + Sync>(
     Ok(stands(&ran, case.2))
 }
 
+/// Each constellation without a hierarchy.
+static CONSTELLATIONS: [Announced<'static>; 3] = [
+    (
+        BASE,
+        163,
+        (
+            0,
+            "tune at 41 frame 4\nsymbols 24 tail 0\ntps read 0 bad 0\nhp words 11 clean 11 corrected 0 bad 0 unphased 0 unmerged 0\n",
+            PACKETS,
+            NONE,
+        ),
+    ),
+    (
+        "mode = \"2k\"\nconstellation = \"16qam\"\nrate_hp = \"2/3\"\nguard = \"1/32\"\n",
+        155,
+        (
+            0,
+            "tune at 49 frame 4\nsymbols 24 tail 0\ntps read 0 bad 0\nhp words 48 clean 48 corrected 0 bad 0 unphased 0 unmerged 0\n",
+            (9_024, 2_591_075_248),
+            NONE,
+        ),
+    ),
+    (
+        "mode = \"2k\"\nconstellation = \"64qam\"\nrate_hp = \"7/8\"\nguard = \"1/32\"\n",
+        197,
+        (
+            0,
+            "tune at 7 frame 4\nsymbols 24 tail 0\ntps read 0 bad 0\nhp words 105 clean 105 corrected 0 bad 0 unphased 0 unmerged 0\n",
+            (19_740, 1_859_297_745),
+            NONE,
+        ),
+    ),
+];
+
 // Each constellation without a hierarchy.
 #[test]
 fn each_constellation(rt: HostRuntime) -> Result<(), Fail> {
-    let cases = [
-        (
-            BASE,
-            163,
-            (
-                0,
-                "tune at 41 frame 4\nsymbols 24 tail 0\ntps read 0 bad 0\nhp words 11 clean 11 corrected 0 bad 0 unphased 0 unmerged 0\n",
-                PACKETS,
-                NONE,
-            ),
-        ),
-        (
-            "mode = \"2k\"\nconstellation = \"16qam\"\nrate_hp = \"2/3\"\nguard = \"1/32\"\n",
-            155,
-            (
-                0,
-                "tune at 49 frame 4\nsymbols 24 tail 0\ntps read 0 bad 0\nhp words 48 clean 48 corrected 0 bad 0 unphased 0 unmerged 0\n",
-                (9_024, 2_591_075_248),
-                NONE,
-            ),
-        ),
-        (
-            "mode = \"2k\"\nconstellation = \"64qam\"\nrate_hp = \"7/8\"\nguard = \"1/32\"\n",
-            197,
-            (
-                0,
-                "tune at 7 frame 4\nsymbols 24 tail 0\ntps read 0 bad 0\nhp words 105 clean 105 corrected 0 bad 0 unphased 0 unmerged 0\n",
-                (19_740, 1_859_297_745),
-                NONE,
-            ),
-        ),
-    ];
-    for case in cases {
+    for case in &CONSTELLATIONS {
         assert!(rt;
-            is_found(&rt, rt.alloc(), case)?,
+            is_found(&rt, rt.alloc(), *case)?,
             "found from symbol {}",
             case.1
         );
@@ -140,74 +142,76 @@ fn each_constellation(rt: HostRuntime) -> Result<(), Fail> {
     Ok(())
 }
 
+/// Each hierarchy, in 16-QAM and in 64-QAM.
+static HIERARCHIES: [Announced<'static>; 6] = [
+    (
+        "mode = \"2k\"\nconstellation = \"16qam\"\nhierarchy = \"1\"\nrate_hp = \"1/2\"\nrate_lp = \"5/6\"\nguard = \"1/32\"\n",
+        182,
+        (
+            0,
+            "tune at 22 frame 4\nsymbols 24 tail 0\ntps read 0 bad 0\nhp words 11 clean 11 corrected 0 bad 0 unphased 0 unmerged 0\nlp words 26 clean 26 corrected 0 bad 0 unphased 0 unmerged 0\n",
+            PACKETS,
+            (4_888, 4_088_119_466),
+        ),
+    ),
+    (
+        "mode = \"2k\"\nconstellation = \"16qam\"\nhierarchy = \"4\"\nrate_hp = \"3/4\"\nrate_lp = \"7/8\"\nguard = \"1/32\"\n",
+        165,
+        (
+            0,
+            "tune at 39 frame 4\nsymbols 24 tail 0\ntps read 0 bad 0\nhp words 22 clean 22 corrected 0 bad 0 unphased 0 unmerged 0\nlp words 27 clean 27 corrected 0 bad 0 unphased 0 unmerged 0\n",
+            (4_136, 3_451_673_862),
+            (5_076, 1_359_295_699),
+        ),
+    ),
+    (
+        "mode = \"2k\"\nconstellation = \"64qam\"\nhierarchy = \"2\"\nrate_hp = \"7/8\"\nrate_lp = \"2/3\"\nguard = \"1/32\"\n",
+        203,
+        (
+            0,
+            "tune at 1 frame 4\nsymbols 24 tail 0\ntps read 0 bad 0\nhp words 27 clean 27 corrected 0 bad 0 unphased 0 unmerged 0\nlp words 48 clean 48 corrected 0 bad 0 unphased 0 unmerged 0\n",
+            (5_076, 1_359_295_699),
+            (9_024, 2_591_075_248),
+        ),
+    ),
+    (
+        "mode = \"2k\"\nconstellation = \"16qam\"\nhierarchy = \"2\"\nrate_hp = \"2/3\"\nrate_lp = \"1/2\"\nguard = \"1/16\"\n",
+        171,
+        (
+            0,
+            "tune at 33 frame 4\nsymbols 24 tail 0\ntps read 0 bad 0\nhp words 18 clean 18 corrected 0 bad 0 unphased 0 unmerged 0\nlp words 11 clean 11 corrected 0 bad 0 unphased 0 unmerged 0\n",
+            (3_384, 4_260_053_346),
+            PACKETS,
+        ),
+    ),
+    (
+        "mode = \"2k\"\nconstellation = \"64qam\"\nhierarchy = \"1\"\nrate_hp = \"5/6\"\nrate_lp = \"3/4\"\nguard = \"1/8\"\n",
+        190,
+        (
+            0,
+            "tune at 14 frame 4\nsymbols 24 tail 0\ntps read 0 bad 0\nhp words 26 clean 26 corrected 0 bad 0 unphased 0 unmerged 0\nlp words 55 clean 55 corrected 0 bad 0 unphased 0 unmerged 0\n",
+            (4_888, 4_088_119_466),
+            (10_340, 613_633_103),
+        ),
+    ),
+    (
+        "mode = \"2k\"\nconstellation = \"64qam\"\nhierarchy = \"4\"\nrate_hp = \"1/2\"\nrate_lp = \"7/8\"\nguard = \"1/4\"\n",
+        150,
+        (
+            0,
+            "tune at 54 frame 4\nsymbols 24 tail 0\ntps read 0 bad 0\nhp words 11 clean 11 corrected 0 bad 0 unphased 0 unmerged 0\nlp words 66 clean 66 corrected 0 bad 0 unphased 0 unmerged 0\n",
+            PACKETS,
+            (12_408, 3_813_088_530),
+        ),
+    ),
+];
+
 // Each hierarchy in 16-QAM and in 64-QAM.
 #[test]
 fn each_hierarchy(rt: HostRuntime) -> Result<(), Fail> {
-    let cases = [
-        (
-            "mode = \"2k\"\nconstellation = \"16qam\"\nhierarchy = \"1\"\nrate_hp = \"1/2\"\nrate_lp = \"5/6\"\nguard = \"1/32\"\n",
-            182,
-            (
-                0,
-                "tune at 22 frame 4\nsymbols 24 tail 0\ntps read 0 bad 0\nhp words 11 clean 11 corrected 0 bad 0 unphased 0 unmerged 0\nlp words 26 clean 26 corrected 0 bad 0 unphased 0 unmerged 0\n",
-                PACKETS,
-                (4_888, 4_088_119_466),
-            ),
-        ),
-        (
-            "mode = \"2k\"\nconstellation = \"16qam\"\nhierarchy = \"4\"\nrate_hp = \"3/4\"\nrate_lp = \"7/8\"\nguard = \"1/32\"\n",
-            165,
-            (
-                0,
-                "tune at 39 frame 4\nsymbols 24 tail 0\ntps read 0 bad 0\nhp words 22 clean 22 corrected 0 bad 0 unphased 0 unmerged 0\nlp words 27 clean 27 corrected 0 bad 0 unphased 0 unmerged 0\n",
-                (4_136, 3_451_673_862),
-                (5_076, 1_359_295_699),
-            ),
-        ),
-        (
-            "mode = \"2k\"\nconstellation = \"64qam\"\nhierarchy = \"2\"\nrate_hp = \"7/8\"\nrate_lp = \"2/3\"\nguard = \"1/32\"\n",
-            203,
-            (
-                0,
-                "tune at 1 frame 4\nsymbols 24 tail 0\ntps read 0 bad 0\nhp words 27 clean 27 corrected 0 bad 0 unphased 0 unmerged 0\nlp words 48 clean 48 corrected 0 bad 0 unphased 0 unmerged 0\n",
-                (5_076, 1_359_295_699),
-                (9_024, 2_591_075_248),
-            ),
-        ),
-        (
-            "mode = \"2k\"\nconstellation = \"16qam\"\nhierarchy = \"2\"\nrate_hp = \"2/3\"\nrate_lp = \"1/2\"\nguard = \"1/16\"\n",
-            171,
-            (
-                0,
-                "tune at 33 frame 4\nsymbols 24 tail 0\ntps read 0 bad 0\nhp words 18 clean 18 corrected 0 bad 0 unphased 0 unmerged 0\nlp words 11 clean 11 corrected 0 bad 0 unphased 0 unmerged 0\n",
-                (3_384, 4_260_053_346),
-                PACKETS,
-            ),
-        ),
-        (
-            "mode = \"2k\"\nconstellation = \"64qam\"\nhierarchy = \"1\"\nrate_hp = \"5/6\"\nrate_lp = \"3/4\"\nguard = \"1/8\"\n",
-            190,
-            (
-                0,
-                "tune at 14 frame 4\nsymbols 24 tail 0\ntps read 0 bad 0\nhp words 26 clean 26 corrected 0 bad 0 unphased 0 unmerged 0\nlp words 55 clean 55 corrected 0 bad 0 unphased 0 unmerged 0\n",
-                (4_888, 4_088_119_466),
-                (10_340, 613_633_103),
-            ),
-        ),
-        (
-            "mode = \"2k\"\nconstellation = \"64qam\"\nhierarchy = \"4\"\nrate_hp = \"1/2\"\nrate_lp = \"7/8\"\nguard = \"1/4\"\n",
-            150,
-            (
-                0,
-                "tune at 54 frame 4\nsymbols 24 tail 0\ntps read 0 bad 0\nhp words 11 clean 11 corrected 0 bad 0 unphased 0 unmerged 0\nlp words 66 clean 66 corrected 0 bad 0 unphased 0 unmerged 0\n",
-                PACKETS,
-                (12_408, 3_813_088_530),
-            ),
-        ),
-    ];
-    for case in cases {
+    for case in &HIERARCHIES {
         assert!(rt;
-            is_found(&rt, rt.alloc(), case)?,
+            is_found(&rt, rt.alloc(), *case)?,
             "found from symbol {}",
             case.1
         );
@@ -288,77 +292,81 @@ fn wrong_votes(rt: HostRuntime) -> Result<(), Fail> {
     Ok(())
 }
 
+/// A line of the settings, and what stands.
+static LIMITS: [(&str, Found<'static>); 6] = [
+    ("max_symbols = 60\n", (8, "limit 60\n", NONE, NONE)),
+    ("max_symbols = 71\n", (8, "limit 71\n", NONE, NONE)),
+    (
+        "max_symbols = 72\n",
+        (8, "tune at 4 frame 4\nlimit 72\n", NONE, NONE),
+    ),
+    (
+        "max_symbols = 73\n",
+        (8, "tune at 4 frame 4\nlimit 73\n", NONE, NONE),
+    ),
+    (
+        "max_symbols = 95\n",
+        (8, "tune at 4 frame 4\nlimit 95\n", ALL_BUT_ONE, NONE),
+    ),
+    ("max_symbols = 96\n", (0, RECEIVED, PACKETS, NONE)),
+];
+
 // The limit counts all symbols of the file: within the frame of the place, behind it, and in the reception.
 #[test]
 fn limits_of_symbols(rt: HostRuntime) -> Result<(), Fail> {
     let alloc = rt.alloc();
     let nulls = late_nulls(&rt, alloc)?;
-    let cases = [
-        ("max_symbols = 60\n", (8, "limit 60\n", NONE, NONE)),
-        ("max_symbols = 71\n", (8, "limit 71\n", NONE, NONE)),
-        (
-            "max_symbols = 72\n",
-            (8, "tune at 4 frame 4\nlimit 72\n", NONE, NONE),
-        ),
-        (
-            "max_symbols = 73\n",
-            (8, "tune at 4 frame 4\nlimit 73\n", NONE, NONE),
-        ),
-        (
-            "max_symbols = 95\n",
-            (8, "tune at 4 frame 4\nlimit 95\n", ALL_BUT_ONE, NONE),
-        ),
-        ("max_symbols = 96\n", (0, RECEIVED, PACKETS, NONE)),
-    ];
-    for (limit, found) in cases {
+    for (limit, found) in &LIMITS {
         let file = Vec::from_slice(alloc, &nulls)?;
-        let ran = tuned(&rt, alloc, (BASE, limit), file, false, ample(SUPER_FRAME))?;
-        assert!(rt; stands(&ran, found), "{}", limit);
+        let ran = tuned(&rt, alloc, (BASE, *limit), file, false, ample(SUPER_FRAME))?;
+        assert!(rt; stands(&ran, *found), "{}", limit);
     }
     Ok(())
 }
+
+/// A call that fails, and what stands.
+static FAULTS: [(Failing, Found<'static>); 9] = [
+    (
+        Failing::Read(InPort::Settings, 1),
+        (5, "read fault\n", NONE, NONE),
+    ),
+    (
+        Failing::Attach(InPort::Cells, 1),
+        (5, "read fault\n", NONE, NONE),
+    ),
+    (
+        Failing::Read(InPort::Cells, 1),
+        (5, "read fault\n", NONE, NONE),
+    ),
+    (
+        Failing::Read(InPort::Cells, 73),
+        (5, "read fault\n", NONE, NONE),
+    ),
+    (
+        Failing::Read(InPort::Cells, 74),
+        (5, "tune at 4 frame 4\nread fault\n", NONE, NONE),
+    ),
+    (
+        Failing::Read(InPort::Cells, 97),
+        (5, "tune at 4 frame 4\nread fault\n", ALL_BUT_ONE, NONE),
+    ),
+    (
+        Failing::Create(OutPort::Hp, 1),
+        (6, "write fault\n", NONE, NONE),
+    ),
+    (
+        Failing::Write(OutPort::Report, 1),
+        (6, "tune at 4write fault\n", NONE, NONE),
+    ),
+    (Failing::Close(OutPort::Hp, 1), (6, CLOSED, PACKETS, NONE)),
+];
 
 // One call of the station fails, before the place and behind it. A write that fails writes the first half of its bytes.
 #[test]
 fn faults_of_the_station(rt: HostRuntime) -> Result<(), Fail> {
     let alloc = rt.alloc();
     let nulls = late_nulls(&rt, alloc)?;
-    let cases = [
-        (
-            Failing::Read(InPort::Settings, 1),
-            (5, "read fault\n", NONE, NONE),
-        ),
-        (
-            Failing::Attach(InPort::Cells, 1),
-            (5, "read fault\n", NONE, NONE),
-        ),
-        (
-            Failing::Read(InPort::Cells, 1),
-            (5, "read fault\n", NONE, NONE),
-        ),
-        (
-            Failing::Read(InPort::Cells, 73),
-            (5, "read fault\n", NONE, NONE),
-        ),
-        (
-            Failing::Read(InPort::Cells, 74),
-            (5, "tune at 4 frame 4\nread fault\n", NONE, NONE),
-        ),
-        (
-            Failing::Read(InPort::Cells, 97),
-            (5, "tune at 4 frame 4\nread fault\n", ALL_BUT_ONE, NONE),
-        ),
-        (
-            Failing::Create(OutPort::Hp, 1),
-            (6, "write fault\n", NONE, NONE),
-        ),
-        (
-            Failing::Write(OutPort::Report, 1),
-            (6, "tune at 4write fault\n", NONE, NONE),
-        ),
-        (Failing::Close(OutPort::Hp, 1), (6, CLOSED, PACKETS, NONE)),
-    ];
-    for (place, (call, found)) in cases.iter().enumerate() {
+    for (place, (call, found)) in FAULTS.iter().enumerate() {
         let conditions = Conditions {
             failing: Some(*call),
             ..ample(SUPER_FRAME)

@@ -105,27 +105,29 @@ fn null_super_frame(rt: HostRuntime) -> Result<(), Fail> {
     Ok(())
 }
 
+/// Settings, how many bytes of old cells there are, and of what is left the report, the length and the sum.
+static LENGTHS: [(&str, u32, &str, usize, u32); 6] = [
+    (BASE, 0, "symbols 0 tail 0\n", 8, HEADER),
+    (BASE, 6_819, "symbols 0 tail 6819\n", 8, HEADER),
+    (BASE, 6_820, "symbols 1 tail 0\n", 8_533, ONE_SYMBOL),
+    (LAYERED, 6_821, "symbols 1 tail 1\n", 8_533, ONE_SYMBOL),
+    (BASE, 20_465, "symbols 3 tail 5\n", 25_583, 3_216_819_601),
+    (WIDE, 27_271, "symbols 1 tail 3\n", 34_093, 330_508_231),
+];
+
 // Whole symbols and parts of one, in both modes, whatever else is set, read as a whole and by single bytes.
 #[test]
 fn whole_symbols_and_parts(rt: HostRuntime) -> Result<(), Fail> {
     let alloc = rt.alloc();
-    let cases = [
-        (BASE, 0, "symbols 0 tail 0\n", 8, HEADER),
-        (BASE, 6_819, "symbols 0 tail 6819\n", 8, HEADER),
-        (BASE, 6_820, "symbols 1 tail 0\n", 8_533, ONE_SYMBOL),
-        (LAYERED, 6_821, "symbols 1 tail 1\n", 8_533, ONE_SYMBOL),
-        (BASE, 20_465, "symbols 3 tail 5\n", 25_583, 3_216_819_601),
-        (WIDE, 27_271, "symbols 1 tail 3\n", 34_093, 330_508_231),
-    ];
     for most in [u32::MAX, 1] {
-        for (settings, count, report, long, sum) in cases {
+        for (settings, count, report, long, sum) in &LENGTHS {
             let conditions = Conditions {
                 most,
                 ..ample(40_000)
             };
-            let old_cells = old_bytes(alloc, count)?;
-            let ran = upgraded(&rt, alloc, (settings, ""), old_cells, conditions)?;
-            stands(&rt, &ran, (0, report, long, sum));
+            let old_cells = old_bytes(alloc, *count)?;
+            let ran = upgraded(&rt, alloc, (*settings, ""), old_cells, conditions)?;
+            stands(&rt, &ran, (0, *report, *long, *sum));
         }
     }
     Ok(())
@@ -149,74 +151,83 @@ fn limits_of_symbols(rt: HostRuntime) -> Result<(), Fail> {
     Ok(())
 }
 
+/// Words, settings, the status and its text.
+static REFUSED: [(&str, &str, u8, &str); 7] = [
+    ("upgrade s a", BASE, 2, "usage\n"),
+    ("upgrade s a b cells", LAYERED, 2, "usage\n"),
+    (UPGRADE, "mode =", 3, "settings not toml\n"),
+    (UPGRADE, "colour = 1\n", 3, "settings unknown 0\n"),
+    (UPGRADE, "", 3, "settings missing mode\n"),
+    ("upgrade gone a cells", BASE, 5, "read fault\n"),
+    ("upgrade s gone cells", BASE, 5, "read fault\n"),
+];
+
 // Words of no form, settings that are refused, and a file that is not there: no new file is made.
 #[test]
 fn refused_words_and_settings(rt: HostRuntime) -> Result<(), Fail> {
     let alloc = rt.alloc();
-    let cases = [
-        ("upgrade s a", BASE, 2, "usage\n"),
-        ("upgrade s a b cells", LAYERED, 2, "usage\n"),
-        (UPGRADE, "mode =", 3, "settings not toml\n"),
-        (UPGRADE, "colour = 1\n", 3, "settings unknown 0\n"),
-        (UPGRADE, "", 3, "settings missing mode\n"),
-        ("upgrade gone a cells", BASE, 5, "read fault\n"),
-        ("upgrade s gone cells", BASE, 5, "read fault\n"),
-    ];
-    for (text, settings, status, report) in cases {
+    for (text, settings, status, report) in &REFUSED {
         let settings = text_bytes(alloc, settings, "")?;
         let inputs = (old_bytes(alloc, 6_820)?, Vec::new(alloc));
         let ran = run_files(&rt, alloc, text, settings, inputs, 1, ample(40_000))?;
-        stands(&rt, &ran, (status, report, 0, 0));
+        stands(&rt, &ran, (*status, *report, 0, 0));
     }
     Ok(())
 }
+
+const READ: &str = "read fault\n";
+
+const WRITE: &str = "write fault\n";
+
+/// The closing line, of which the write or behind which a close failed.
+const HALF_LINE: &str = "symbols write fault\n";
+
+const CLOSED: &str = "symbols 2 tail 0\nwrite fault\n";
+
+/// A call that fails in the work on two symbols, and what stands.
+static FAULTS: [(Failing, Found<'static>); 10] = [
+    (Failing::Read(InPort::Settings, 1), (5, READ, 0, 0)),
+    (Failing::Attach(InPort::Cells, 1), (5, READ, 0, 0)),
+    (Failing::Read(InPort::Cells, 1), (5, READ, 8, HEADER)),
+    (
+        Failing::Read(InPort::Cells, 2),
+        (5, READ, 8_533, ONE_SYMBOL),
+    ),
+    (
+        Failing::Read(InPort::Cells, 3),
+        (5, READ, 17_058, TWO_SYMBOLS),
+    ),
+    (Failing::Create(OutPort::Cells, 1), (6, WRITE, 0, 0)),
+    (
+        Failing::Write(OutPort::Cells, 1),
+        (6, WRITE, 4, HALF_HEADER),
+    ),
+    (
+        Failing::Write(OutPort::Cells, 2),
+        (6, WRITE, 4_270, 2_017_724_778),
+    ),
+    (
+        Failing::Write(OutPort::Report, 1),
+        (6, HALF_LINE, 17_058, TWO_SYMBOLS),
+    ),
+    (
+        Failing::Close(OutPort::Cells, 1),
+        (6, CLOSED, 17_058, TWO_SYMBOLS),
+    ),
+];
 
 // One call of the station fails in an upgrade of two symbols, and this stands.
 #[test]
 fn faults_of_the_station(rt: HostRuntime) -> Result<(), Fail> {
     let alloc = rt.alloc();
-    let read = "read fault\n";
-    let write = "write fault\n";
-    let half_line = "symbols write fault\n";
-    let closing = "symbols 2 tail 0\nwrite fault\n";
-    let cases = [
-        (Failing::Read(InPort::Settings, 1), (5, read, 0, 0)),
-        (Failing::Attach(InPort::Cells, 1), (5, read, 0, 0)),
-        (Failing::Read(InPort::Cells, 1), (5, read, 8, HEADER)),
-        (
-            Failing::Read(InPort::Cells, 2),
-            (5, read, 8_533, ONE_SYMBOL),
-        ),
-        (
-            Failing::Read(InPort::Cells, 3),
-            (5, read, 17_058, TWO_SYMBOLS),
-        ),
-        (Failing::Create(OutPort::Cells, 1), (6, write, 0, 0)),
-        (
-            Failing::Write(OutPort::Cells, 1),
-            (6, write, 4, HALF_HEADER),
-        ),
-        (
-            Failing::Write(OutPort::Cells, 2),
-            (6, write, 4_270, 2_017_724_778),
-        ),
-        (
-            Failing::Write(OutPort::Report, 1),
-            (6, half_line, 17_058, TWO_SYMBOLS),
-        ),
-        (
-            Failing::Close(OutPort::Cells, 1),
-            (6, closing, 17_058, TWO_SYMBOLS),
-        ),
-    ];
-    for (call, found) in cases {
+    for (call, found) in &FAULTS {
         let conditions = Conditions {
-            failing: Some(call),
+            failing: Some(*call),
             ..ample(40_000)
         };
         let old_cells = old_bytes(alloc, 13_640)?;
         let ran = upgraded(&rt, alloc, (BASE, ""), old_cells, conditions)?;
-        stands(&rt, &ran, found);
+        stands(&rt, &ran, *found);
     }
     Ok(())
 }

@@ -1,5 +1,5 @@
 -- Each form of the words is run as the command that it is.
-use Rattle.std.proofs.Common.{◌≡◌, ℕ, List, refl, ◌∙◌, sym, ap, subst, Option, Some, None}
+use Rattle.std.proofs.Common.{ℕ, refl, ◌∙◌, sym, ap, subst, Option, Some}
 use Rattle.station_core.specs.Meaning.{Meaning}
 use Rattle.run_clauses.specs.Run.{Run}
 use Rattle.run_clauses.specs.declared.work.Refusal.TheVariants.{Usage}

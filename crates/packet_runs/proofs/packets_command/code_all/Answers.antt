@@ -1,4 +1,4 @@
-use Rattle.std.proofs.Common.{◌≡◌, ◌∙◌, ℕ, List, true, Ok, refl, ap, subst}
+use Rattle.std.proofs.Common.{◌≡◌, ◌∙◌, ℕ, List, true, refl, ap, subst}
 use Rattle.station_core.specs.Meaning.{Meaning}
 use Rattle.run_clauses.specs.declared.work.Counts.{Counts}
 use Rattle.run_steps.specs.Causes.{HasEndCause}

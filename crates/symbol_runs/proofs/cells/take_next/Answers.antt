@@ -2,7 +2,10 @@ use Rattle.std.proofs.Common.{◌≡◌, ◌+◌, ◌<◌, ◌≤◌, ℕ, List,
 use Rattle.std.specs.Prelude.{◌==◌}
 use Rattle.station_core.specs.Meaning.{Meaning}
 use Rattle.symbol_runs.specs.Symbols.{symbols, tail}
+use Rattle.symbol_runs.specs.declared.stop.Stop.{Stop}
+use Rattle.symbol_runs.specs.Cells.{Next}
 use Rattle.symbol_runs.specs.Work.{Work}
+use Rattle.run_steps.proofs.HandedOn.{handed_on}
 use Rattle.symbol_runs.proofs.Counting.{little_longer, no_tail, whole_or_less}
 use Rattle.symbol_runs.proofs.Steps.{goes_on, fails, stopped, next_of, at_end}
 use Rattle.symbol_runs.proofs.cells.take_next.Goals as goal
@@ -17,8 +20,8 @@ returns-in-Err-clause-next g c = λ most file bytes given start within size was 
     stopped w some c.law.ensures.part most file bytes given (g.X.SymbolWork.stands c.args.work.now) start m m' c.args.number e.0
     (omega (arith, within)) was size (omega (arith, e.1, c.requires.size)) e.2 e.3 t
 
-pub returns-in-Err-take-clause-next : goal.returns-in-Err-take-clause-next
-returns-in-Err-take-clause-next g c = λ most file bytes given start within size was.
+pub returns-in_err-take-clause-next : goal.returns-in_err-take-clause-next
+returns-in_err-take-clause-next g c = λ most file bytes given start within size was.
     let m : Meaning = g.S.Station.meaning c.args.station.now in
     let m' : Meaning = g.S.Station.meaning c.fill.new.station in
     let m'' : Meaning = g.S.Station.meaning c.take.new.station in
@@ -32,14 +35,16 @@ returns-in-Err-take-clause-next g c = λ most file bytes given start within size
     let some : 0 < w.size = omega (arith, c.requires.some, c.requires.size) in
     let count : length piece ≡ k = length-take-le k buffer bound in
     let none : tail w.size bytes ≡ 0 = no_tail w.size some bytes c.args.number size in
-    let takes = c.in-Err-take.ensures.takes bytes given was.stands was.gives none (omega (arith, count, bound, whole)) in
+    let takes = c.in_err-take.ensures.takes bytes given was.stands was.gives none (omega (arith, count, bound, whole)) in
     let front = c.in-Ok.ensures.bytes in
     let more : symbols w.size (bytes ++ piece) ≤ c.args.number + 1 = little_longer w.size some bytes piece c.args.number size (omega (arith, count, bound, whole)) in
-    fails w most file bytes given (g.X.SymbolWork.stands c.take.new.self) start m m' m'' k was.are was.holds c.in-Ok.ensures.ok piece (λ t. (front t).front) c.in-Err-take.ensures.others
-    c.in-Err-take.stop (omega (arith, more, within)) takes
+    let stop : Stop = c.in_err-take.field-0.0 in
+    handed_on c.from_residual.result stop (Next w (g.X.SymbolWork.stands c.take.new.self) most file c.args.number start m'') c.from_residual.ensures.1
+    (fails w most file bytes given (g.X.SymbolWork.stands c.take.new.self) start m m' m'' k was.are was.holds c.in-Ok.ensures.ok piece (λ t. (front t).front) c.in_err-take.ensures.others
+    stop (omega (arith, more, within)) takes)
 
-pub returns-in-Ok-take-clause-next : goal.returns-in-Ok-take-clause-next
-returns-in-Ok-take-clause-next g c = λ most file bytes given start within size was.
+pub returns-clause-next : goal.returns-clause-next
+returns-clause-next g c = λ most file bytes given start within size was.
     let m : Meaning = g.S.Station.meaning c.args.station.now in
     let m' : Meaning = g.S.Station.meaning c.fill.new.station in
     let m'' : Meaning = g.S.Station.meaning c.take.new.station in
@@ -54,9 +59,9 @@ returns-in-Ok-take-clause-next g c = λ most file bytes given start within size 
     let count : length piece ≡ k = length-take-le k buffer bound in
     let none : tail w.size bytes ≡ 0 = no_tail w.size some bytes c.args.number size in
     let standing' = g.X.SymbolWork.stands c.take.new.self in
-    let takes = c.in-Ok-take.ensures.takes bytes given was.stands was.gives none (omega (arith, count, bound, whole)) in
+    let takes = c.in_ok-take.ensures.takes bytes given was.stands was.gives none (omega (arith, count, bound, whole)) in
     let front = c.in-Ok.ensures.bytes in
-    let others = c.in-Ok-take.ensures.others in
+    let others = c.in_ok-take.ensures.others in
     let cases = whole_or_less k (length buffer) bound in
     next_of w some standing' most file c.args.number k start m'' bytes piece takes.after size count
     (goes_on w most file bytes given standing' start m m' m'' k was.are was.holds c.in-Ok.ensures.ok piece (λ t. (front t).front) others takes)

@@ -1,4 +1,4 @@
-use Rattle.std.proofs.Common.{◌≡◌, ℕ, List, Option, Some, refl, sym, subst, arith}
+use Rattle.std.proofs.Common.{ℕ, List, Option, Some, refl, subst, arith}
 use Rattle.std.specs.Option.{option_copied}
 use Rattle.station_core.specs.Meaning.{Meaning}
 use Rattle.symbol_runs.specs.Outputs.{stream_names}

@@ -1,5 +1,5 @@
 -- Pieces of the symbol were fed.
-use Rattle.std.proofs.Common.{◌≡◌, ◌≤◌, ◌+◌, ◌-◌, ◌++◌, ℕ, List, length, take, false}
+use Rattle.std.proofs.Common.{◌≡◌, ◌≤◌, ◌-◌, ◌++◌, ℕ, List, length, take, false}
 use Rattle.reception.specs.Cells.{tail}
 use Rattle.trial_work.specs.Feeding.{HasGiven}
 use Rattle.trial_work.proofs.PieceSteps.{IsFeeding}
