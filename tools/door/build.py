@@ -14,7 +14,7 @@ from door import program, proofs
 from door.explain import clock, fail, say, spoken
 
 # Seconds that the proof and build of the program took when it was measured, from nothing, by processors.
-MEASURED = {2: 1102, 4: 864}
+MEASURED = {2: 1102, 4: 684}
 # Memory that one check takes at most, in bytes.
 EACH = 2_000_000_000
 

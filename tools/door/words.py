@@ -52,8 +52,8 @@ MORE = {
 back. Null packets fill the rest. LP is given exactly where the settings have a hierarchy, at the top or in their plan.""",
     "receive": """Reads cells from the first symbol of a super-frame on and writes packets as they are decided. A
 packet that could not be corrected is written with transport_error_indicator set. LP is given exactly where the
-settings have a hierarchy, at the top or in their plan. Set start = "any" where the cells do not begin at the start of a transmission. Each cell has
-a weight of 0 to 15, by which its costs count.""",
+settings have a hierarchy, at the top or in their plan. Set start = "any" where the cells do not begin at the start of
+a transmission. Each cell has a weight of 0 to 15, by which its costs count.""",
     "rescue": """Reads cells and writes packets as `receive` does. Where a word of 204 bytes has more than eight errors, its eight
 least sure bytes are erased, and it is decoded once more: with up to four errors among the others it comes back, and
 is counted as rescued. Packets come later than those of `receive`, and no line `tps` is printed.""",
@@ -105,7 +105,7 @@ STATUSES = [
 ]
 OF_THE_DOOR = [
     (64, "bin/dvbt itself refused: one file is named twice, and would be destroyed"),
-    (126, "the program could not be built, or its proof failed"),
+    (126, "the program could not be built, or its proof failed, or the one that $DVBT_PROGRAM names can't be run"),
     (127, "the program is not built, and the toolchain's command rt is not on the PATH"),
 ]
 
