@@ -2,7 +2,7 @@
 ghost use Rattle.std.specs.Prelude.{◌≡◌, ◌≤◌, ◌<◌, ℕ, ◌+◌, ◌++◌, ◌∷◌, [], true, IsTrue, ◌||◌, slice_index, if◌then◌else◌};
 ghost use Rattle.code_paths.specs.Paths.{step_cost};
 ghost use Rattle.code_paths.specs.States.{register, even_of, odd_of};
-ghost use Rattle.acs_plain.specs.Steps.{IsStep, alive, way, takes_odd};
+ghost use Rattle.acs_plain.specs.Steps.{alive, way, takes_odd};
 
 use crate::sums::with_bit;
 use crate::{Acs, Sums};

@@ -1,5 +1,5 @@
 // From a coded bit to its place, and back.
-ghost use Rattle.std.specs.Prelude.{◌≡◌, ◌+◌, ◌*◌, ◌<◌, ◌≤◌, ℕ, IsTrue};
+ghost use Rattle.std.specs.Prelude.{◌≡◌, ◌+◌, ◌*◌, ◌<◌, IsTrue};
 ghost use Rattle.mode_set.specs.Kept.{is_flat, is_qpsk};
 ghost use Rattle.mode_set.specs.StreamTable.{has_stream, label_bits, payload, width};
 ghost use Rattle.mode_set.specs.declared.modes.Mode.{Mode};
@@ -42,7 +42,8 @@ fn first_of(hierarchy: Hierarchy, stream: Stream) -> u32
 /// word before symbol interleaving (EN 300 744, 4.3.4.1).
 ///
 /// `bit` counts the coded bits of `stream` within the symbol from 0. The bit numbers of a 2K symbol
-/// are the first quarter of those of an 8K symbol.
+/// are the first quarter of those of an 8K symbol, below which it stands. QPSK has no hierarchy, and
+/// the stream exists.
 pub fn place(shape: Shape, hierarchy: Hierarchy, stream: Stream, bit: u32) -> (u8, u32)
     requires qpsk_is_flat { IsTrue (is_qpsk shape) → IsTrue (is_flat hierarchy) }
     requires exists { IsTrue (has_stream hierarchy stream) }
@@ -65,7 +66,8 @@ pub fn place(shape: Shape, hierarchy: Hierarchy, stream: Stream, bit: u32) -> (u
 }
 
 /// The coded bit that stands at place `e` of the label of word `word`: its stream, and its number
-/// within the symbol. It is the inverse of [`place`].
+/// within the symbol. It is the inverse of [`place`]. QPSK has no hierarchy, the label has a place `e`,
+/// and `word` is below `MOST_WORDS`.
 pub fn bit_at(shape: Shape, hierarchy: Hierarchy, e: u8, word: u32) -> (Stream, u32)
     requires qpsk_is_flat { IsTrue (is_qpsk shape) → IsTrue (is_flat hierarchy) }
     requires in_label { e < label_bits shape }

@@ -1,5 +1,5 @@
 // The cells of the first symbols of a transmission.
-ghost use Rattle.std.specs.Prelude.{◌≡◌, ℕ, ◌<◌, ◌^◌, get_or};
+ghost use Rattle.std.specs.Prelude.{ℕ, ◌<◌, ◌^◌, get_or};
 ghost use Rattle.mode_set.specs.StreamTable.{label_bits};
 ghost use Rattle.mode_set.specs.declared.modes.Shape.{Shape as AnyShape};
 

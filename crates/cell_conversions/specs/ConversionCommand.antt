@@ -45,6 +45,7 @@ conversion_command by statuses laws settings old new = record {
   writes = cell_names new;
   statuses = statuses;
   memory_at_work = false;
+  LacksAtWork = λ limit file. ⊥;
   early_refusal = λ file. settings_refusal (file settings);
   header = λ file. option_and_then (λ s. (by s.mode).old_header) (settings_of (file settings));
   work_refusal = λ limit file. option_and_then (λ s. limit_refusal (by s.mode) s.max_symbols (old_cells (by s.mode) (file old))) (settings_of (file settings));

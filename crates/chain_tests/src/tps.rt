@@ -7,7 +7,6 @@ use qam_map::Cell;
 use std::alloc::Global;
 use std::process::Abort;
 use std::rt::HostRuntime;
-use std::test::Fail;
 use tps_bch::{TpsOutcome, correct, parity};
 use tps_word::{TpsWord, vote};
 

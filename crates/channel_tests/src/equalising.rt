@@ -1,5 +1,5 @@
 // Symbols against cases from outside: a quarter turn, nothing received, and drawn cells beside another program's answers.
-ghost use Rattle.std.specs.Prelude.{◌≡◌, ℕ, ◌+◌, ◌*◌, ◌<◌, ◌≤◌, length, IfOk, vec_len, vec_capacity};
+ghost use Rattle.std.specs.Prelude.{◌≡◌, ◌+◌, ◌*◌, ◌<◌, length};
 ghost use Rattle.mode_set.specs.StreamTable.{carriers};
 
 use cell_equal::equalise;

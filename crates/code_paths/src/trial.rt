@@ -1,7 +1,7 @@
 // Least paths by trying all: the program of the definition, for small inputs.
-ghost use Rattle.std.specs.Prelude.{◌≡◌, ◌+◌, ◌*◌, ◌<◌, ◌≤◌, ◌^◌, ℕ, Bool, List, length, drop, IsTrue, IsFalse, ◌↔◌};
+ghost use Rattle.std.specs.Prelude.{◌≡◌, ◌+◌, ◌<◌, ◌≤◌, ◌^◌, Bool, List, length, IsTrue, IsFalse, ◌↔◌};
 ghost use Rattle.code_paths.specs.Paths as paths;
-ghost use Rattle.code_paths.specs.Paths.{parity_x, parity_y, IsPath, Least, LeastTo, Unreached, Starts};
+ghost use Rattle.code_paths.specs.Paths.{IsPath, Least, LeastTo, Unreached, Starts};
 ghost use Rattle.code_paths.specs.Trial.{weight, Ends, IsFirst, BestBelow};
 ghost use Rattle.std.specs.declared.option.Option.{Option};
 

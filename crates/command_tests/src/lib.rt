@@ -1,7 +1,7 @@
 //! The commands `modulate` and `receive` over a station in memory: whole runs with known outcomes, among
 //! them the null super-frame both ways, refusals, faults and limits with what stands after them, both
-//! streams of a hierarchy, noise, turned TPS bits, a transmission that is entered late, and trials,
-//! and one of them beside `receive` of its cells.
+//! streams of a hierarchy, noise, turned TPS bits, a transmission that is entered late, transmissions with
+//! a plan, of which `rescue` runs too, and trials, and one of them beside `receive` of its cells.
 //!
 //! The crate has tests alone.
 #![tactic(auto)]

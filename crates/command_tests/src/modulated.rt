@@ -147,8 +147,13 @@ fn refused_packets_and_limits(rt: HostRuntime) -> Result<(), Fail> {
     Ok(())
 }
 
-/// Words of no form, settings that do not fit the form, and a file that is not there: no cells are made.
-static UNMADE: [(&str, &str, Found); 5] = [
+/// Words of no form, settings that do not fit the form or are refused, and a file that is not there: no cells are made.
+static UNMADE: [(&str, &str, Found); 6] = [
+    (
+        "modulate s gone cells",
+        "colour = \"red\"\n",
+        (3, "settings unknown 0\n", 0, 0),
+    ),
     (ONE, LAYERED, (3, "settings form\n", 0, 0)),
     (TWO, BASE, (3, "settings form\n", 0, 0)),
     ("modulate s gone cells", BASE, (5, "read fault\n", 0, 0)),

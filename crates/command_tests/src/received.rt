@@ -249,8 +249,13 @@ fn refused_headers(rt: HostRuntime) -> Result<(), Fail> {
     Ok(())
 }
 
-/// Words of no form, a file that is not there, and settings that do not fit the form: no packet is written.
-static REFUSED: [(&str, &str, Found); 6] = [
+/// Words of no form, a file that is not there, and settings that do not fit the form or are refused: no packet is written.
+static REFUSED: [(&str, &str, Found); 7] = [
+    (
+        "receive s gone hp",
+        "colour = \"red\"\n",
+        (3, "settings unknown 0\n", 0),
+    ),
     ("receive s a", BASE, (2, "usage\n", 0)),
     ("receive s a hp lp more", LAYERED, (2, "usage\n", 0)),
     ("Receive s a hp", BASE, (2, "usage\n", 0)),

@@ -1,6 +1,6 @@
 // The command `trial` over a station in memory. The expected lines are those of an independent program.
 use run_tools::{BASE, Conditions, LAYERED, ample, run_files, text_bytes};
-use station_core::{Failing, OutPort};
+use station_core::{Failing, InPort, OutPort};
 use std::alloc::{AllocError, Global};
 use std::process::Abort;
 use std::test::Fail;
@@ -27,6 +27,11 @@ fn expect<R: Abort + Threads + Sync>(
     Ok(())
 }
 
+/// LP comes with the second super-frame.
+const LP_COMES: &str =
+    "max_symbols = 543\nplan = [{ after = 1, constellation = \"16qam\", hierarchy = \"4\", rate_hp = \"1/2\", rate_lp = \"3/4\" }]\n";
+
+// The packets of LP take two super-frames, which are 544 symbols.
 #[test]
 fn one_stream_and_its_refusals(rt: HostRuntime) -> Result<(), Fail> {
     let alloc = rt.alloc();
@@ -36,11 +41,15 @@ fn one_stream_and_its_refusals(rt: HostRuntime) -> Result<(), Fail> {
         ("trial s 7", "", 0, lines),
         ("trial s 0000000007", from_any, 0, lines),
         ("trial s 7", "max_symbols = 271\n", 8, "limit 271\n"),
+        ("trial s 7", LP_COMES, 8, "limit 543\n"),
         ("trial s 7", "colour = \"red\"\n", 3, "settings unknown 0\n"),
         ("trial gone 7", "", 5, "read fault\n"),
     ] {
         expect(&rt, alloc, words, (BASE, more), None, (status, report))?;
     }
+    let unread = Some(Failing::Read(InPort::Settings, 1));
+    let fault = (5, "read fault\n");
+    expect(&rt, alloc, "trial s 7", (BASE, ""), unread, fault)?;
     Ok(())
 }
 

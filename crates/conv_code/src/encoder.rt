@@ -1,5 +1,5 @@
 // The encoder, and the coded bits of a branch of the trellis.
-ghost use Rattle.std.specs.Prelude.{◌≡◌, ◌+◌, ◌<◌, ◌^◌, ℕ, Bool, List, [], ◌∷◌, ◌++◌, drop, false};
+ghost use Rattle.std.specs.Prelude.{◌≡◌, ◌+◌, ◌<◌, ◌^◌, ℕ, Bool, List, [], ◌∷◌, ◌++◌, drop};
 ghost use Rattle.spec_words.specs.Bits.{is_set, xor, spelled};
 ghost use Rattle.code_paths.specs.Paths.{parity_x, parity_y};
 ghost use Rattle.code_paths.specs.States.{register};

@@ -1,5 +1,5 @@
 // Runs of a decoder, and of the definition by trying all paths.
-ghost use Rattle.std.specs.Prelude.{◌≡◌, ◌+◌, ◌*◌, ◌<◌, ◌≤◌, ◌^◌, ℕ, length, false, IfOk};
+ghost use Rattle.std.specs.Prelude.{◌≡◌, ◌+◌, ◌*◌, ◌<◌, ◌≤◌, ◌^◌, length, false, IfOk};
 
 use acs_plain::Acs;
 use bit_pack::WaitBuf;

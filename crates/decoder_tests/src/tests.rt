@@ -1,5 +1,5 @@
 // Tables of small cost lists.
-ghost use Rattle.std.specs.Prelude.{◌≡◌, ◌<◌, ◌≤◌, ℕ, length};
+ghost use Rattle.std.specs.Prelude.{◌≡◌, ◌<◌, ◌≤◌, length};
 
 use crate::decoding::{
     Outcome, by_steps, by_symbols, decoded, defined, long_stream, pairs_of, unmerged,

@@ -19,6 +19,7 @@ no_command = record {
   writes = λ port. None;
   statuses = 2 ∷ [];
   memory_at_work = false;
+  LacksAtWork = λ limit file. ⊥;
   early_refusal = λ file. Some Usage;
   header = λ file. None;
   work_refusal = λ limit file. None;

@@ -88,12 +88,14 @@ fn is_front(part: &[u8], whole: &[u8], count: usize) -> bool {
     part == &whole[..most]
 }
 
-// The text of a status of faults.
+// The text of a status of faults, or of a limit of 32 symbols.
 fn text_of(status: u8) -> &'static str {
     if status == 5 {
         "read fault\n"
-    } else {
+    } else if status == 6 {
         "write fault\n"
+    } else {
+        "limit 32\n"
     }
 }
 

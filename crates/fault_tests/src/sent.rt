@@ -8,6 +8,10 @@ use station_core::{Failing, InPort, OutPort};
 use std::alloc::{AllocError, Global};
 use std::test::Fail;
 
+/// `BASE` with a limit of 32 symbols.
+const LIMITED: &str =
+    "mode = \"2k\"\nconstellation = \"qpsk\"\nrate_hp = \"1/2\"\nguard = \"1/32\"\nmax_symbols = 32\n";
+
 const ONE_LINES: &str = "hp packets 40 tail 0\nsuperframes 1\n";
 
 const TWO_LINES: &str = "hp packets 40 tail 0\nlp packets 70 tail 0\nsuperframes 1\n";
@@ -67,6 +71,7 @@ fn shared() -> [(Failing, Stands); 9] {
 }
 
 // A symbol takes 1512 of the 1632 bits of a packet: thirty packets suffice for 32 symbols, and forty for 43.
+// Where the limit is 32 symbols no packet is read for another one.
 #[test]
 fn one_stream(rt: HostRuntime) -> Result<(), Fail> {
     let alloc = rt.alloc();
@@ -82,6 +87,12 @@ fn one_stream(rt: HostRuntime) -> Result<(), Fail> {
     ];
     each_fails(&rt, alloc, &work, &whole, shared().as_slice())?;
     each_fails(&rt, alloc, &work, &whole, own.as_slice())?;
+    let limited = work_of(alloc, "modulate s a cells", LIMITED, "", 0)?;
+    let at_limit = [
+        (Read(InPort::Hp, 30), read(31)),
+        (Read(InPort::Hp, 31), (8, 0, (symbols(32), 0))),
+    ];
+    each_fails(&rt, alloc, &limited, &whole, at_limit.as_slice())?;
     Ok(())
 }
 

@@ -1,5 +1,5 @@
 // What each carrier of a symbol sends.
-ghost use Rattle.std.specs.Prelude.{◌≡◌, ◌≢◌, ℕ, ◌+◌, ◌<◌};
+ghost use Rattle.std.specs.Prelude.{◌≡◌, ◌≢◌, ◌+◌, ◌<◌};
 ghost use Rattle.mode_set.specs.StreamTable.{carriers};
 ghost use Rattle.pilots.specs.Carriers.{kind};
 ghost use Rattle.pilots.specs.Reference.{reference};

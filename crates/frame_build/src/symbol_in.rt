@@ -1,5 +1,5 @@
 // From bytes that were cut anywhere to the cells of symbols and their weights.
-ghost use Rattle.std.specs.Prelude.{◌≡◌, ℕ, ◌+◌, ◌*◌, ◌≢◌, ◌<◌, ◌≤◌, ◌++◌, ◌↔◌, [], ◌-◌, min, take, drop, length, slice_index, IfOk, IsTrue};
+ghost use Rattle.std.specs.Prelude.{◌≡◌, ℕ, ◌+◌, ◌*◌, ◌≢◌, ◌<◌, ◌≤◌, ◌++◌, ◌↔◌, [], ◌-◌, min, take, length, slice_index, IfOk, IsTrue};
 ghost use Rattle.frame_build.specs.Symbol.{cell_from, cells_from, weight_from, weights_from};
 
 use byteorder::{BigEndian, ByteOrder};
@@ -84,7 +84,7 @@ impl<M: Carriers> SymbolIn<M> {
         })
     }
 
-    /// The bytes of the current symbol taken so far.
+    /// How many bytes of the current symbol were taken so far.
     pub fn waiting(&self) -> u32
         ensures is { result ≡ length self.now }
         ensures most { result ≤ 5 * M.K }

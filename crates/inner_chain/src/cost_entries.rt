@@ -1,5 +1,5 @@
 // Which costs of a symbol's cells are those of each step.
-ghost use Rattle.std.specs.Prelude.{◌≡◌, ◌+◌, ◌*◌, ◌<◌, ◌≤◌, ◌++◌, ◌∷◌, [], ℕ, IfOk, Some, None, if◌then◌else◌, vec_capacity, vec_len};
+ghost use Rattle.std.specs.Prelude.{◌≡◌, ◌+◌, ◌*◌, ◌<◌, ◌≤◌, IfOk, Some, None, if◌then◌else◌, vec_capacity, vec_len};
 ghost use Rattle.mode_set.specs.StreamTable.{coded, payload};
 ghost use Rattle.puncture.specs.Steps.{has_x, has_y};
 ghost use Rattle.inner_chain.specs.CostTables.{AppendsTwo, AreCarriers, IsCostTable, IsPlaced, IsSmallEntry, count_of, entry_at, most_places, second};

@@ -1,5 +1,5 @@
 // The entries of the tables from which labels are gathered.
-ghost use Rattle.std.specs.Prelude.{◌≡◌, ◌+◌, ◌*◌, ◌<◌, ◌≤◌, ℕ, IfOk, vec_capacity, vec_len};
+ghost use Rattle.std.specs.Prelude.{◌≡◌, ◌+◌, ◌*◌, ◌<◌, ◌≤◌, IfOk, vec_capacity, vec_len};
 ghost use Rattle.mode_set.specs.StreamTable.{label_bits, need, payload};
 ghost use Rattle.inner_chain.specs.Tables.{AppendsEntries, IsEntry, IsLabelTable, first_step};
 

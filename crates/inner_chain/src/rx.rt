@@ -195,7 +195,8 @@ impl<M: Carriers> InnerRx<M> {
     /// each sent bit the costs of its cell at its place by the cell's weight, and nothing for a bit
     /// that is not sent. `entry` has the parameters of the symbol.
     ///
-    /// `cells` are those of all carriers of the symbol, and `weights` theirs, each at most 15.
+    /// `cells` are those of all carriers of the symbol, and `weights` theirs, each at most 15. `l` is below
+    /// 68, the stream exists in the symbol, and the spare of `to` has room for the pairs that `steps` tells.
     pub fn pairs(
         &mut self,
         entry: &Entry,

@@ -1,5 +1,5 @@
 // Which parity of which step a sent bit is.
-ghost use Rattle.std.specs.Prelude.{◌≡◌, ◌+◌, ◌*◌, ◌<◌, ◌≤◌, ℕ, Bool, if◌then◌else◌, slice_index_or, false, true};
+ghost use Rattle.std.specs.Prelude.{◌≡◌, ◌+◌, ◌*◌, ◌<◌, ℕ, Bool, if◌then◌else◌, slice_index_or, false, true};
 ghost use Rattle.mode_set.specs.StreamTable.{sent_in_period, steps_in_period};
 ghost use Rattle.puncture.specs.SentBits.{X, Y, sent, sent_bit};
 ghost use Rattle.inner_chain.specs.Labels.{parity_at};

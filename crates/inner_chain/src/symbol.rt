@@ -1,5 +1,5 @@
 // The two steps of the inner coding of a symbol: all parities, and the labels that they make.
-ghost use Rattle.std.specs.Prelude.{◌≡◌, ◌+◌, ◌*◌, ◌≤◌, ℕ, take, drop, length, vec_capacity, vec_len};
+ghost use Rattle.std.specs.Prelude.{◌≡◌, ◌+◌, ◌*◌, ◌≤◌, take, drop, length, vec_capacity, vec_len};
 ghost use Rattle.mode_set.specs.StreamTable.{need, payload};
 ghost use Rattle.mode_set.specs.declared.modes.Stream.TheVariants.{Hp, Lp};
 ghost use Rattle.mode_set.specs.declared.settings.Settings.{Settings as AnySettings};

@@ -1,5 +1,5 @@
 // From the waiting bits of the streams to the labels of a symbol.
-ghost use Rattle.std.specs.Prelude.{◌≡◌, ◌+◌, ◌≤◌, ℕ, IfOk, take, drop, length, vec_capacity, vec_len};
+ghost use Rattle.std.specs.Prelude.{◌≡◌, ◌+◌, ◌≤◌, IfOk, take, drop, length, vec_capacity, vec_len};
 ghost use Rattle.mode_set.specs.Entries.{with_entry};
 ghost use Rattle.mode_set.specs.StreamTable.{need, payload};
 ghost use Rattle.mode_set.specs.declared.modes.Stream.TheVariants.{Hp, Lp};
@@ -88,6 +88,9 @@ impl<M: Carriers> InnerTx<M> {
 
     /// Takes the bits of the next symbol of each stream, and appends the symbol's labels in carrier
     /// order. `entry` has its parameters, and `odd` says whether its number is odd.
+    ///
+    /// In each queue wait at least the bits that `need` tells, and the spare of `to` has room for a label a
+    /// payload cell.
     ///
     /// Bit e of a label is y_e of EN 300 744, 4.3.5.
     pub fn labels(

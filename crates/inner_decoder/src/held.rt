@@ -1,5 +1,4 @@
 // Survivors in a box.
-ghost use Rattle.std.specs.Prelude.{ℕ, Bool, List};
 
 use bit_pack::WaitBuf;
 use std::alloc::{AllocError, Global};

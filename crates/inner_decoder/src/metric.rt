@@ -1,5 +1,5 @@
 // Path metrics that never leave 32 bits.
-ghost use Rattle.std.specs.Prelude.{◌≡◌, ◌<◌, ◌≤◌, ◌-◌, ◌^◌, ℕ, IsTrue, length, slice_index};
+ghost use Rattle.std.specs.Prelude.{◌≡◌, ◌<◌, ◌-◌, ◌^◌, ℕ, IsTrue, length, slice_index};
 ghost use Rattle.acs_plain.specs.Steps.{IsStep, AreSteps, SomeAlive, alive};
 ghost use Rattle.inner_decoder.specs.Metrics.{IsBest};
 

@@ -52,7 +52,7 @@ impl Load {
         100 + self.draw() % 100
     }
 
-    /// A shift of a cell's part, from `-delta` to `delta`. Draws one word.
+    /// A shift of a cell's part, from `-delta` to `delta`, which is at most 5792. Draws one word.
     pub fn shift(&mut self, delta: u16) -> i16
         requires { delta ≤ 5792 }
         ensures value { result ≡ shift_of delta self.old }

@@ -1,5 +1,5 @@
 // The seven constellations as types.
-ghost use Rattle.std.specs.Prelude.{◌≡◌, ℕ, refl, length, ◌*◌, ◌^◌, IsTrue};
+ghost use Rattle.std.specs.Prelude.{◌≡◌, ℕ, refl, IsTrue};
 ghost use Rattle.mode_set.specs.StreamTable.{label_bits};
 ghost use Rattle.mode_set.specs.Levels.{levels};
 ghost use Rattle.mode_set.specs.Kept.{is_flat, is_qpsk};

@@ -1,20 +1,31 @@
 // The keys of a settings document.
-ghost use Rattle.std.specs.Prelude.{◌≡◌, is_some};
+ghost use Rattle.std.specs.Prelude.{◌≡◌};
 ghost use Rattle.mode_set.specs.Keys.{key_text, is_key};
 
 /// A key of a settings document, in the order in which the keys are tried.
 #[derive(Clone, Copy, Debug, PartialEq, Eq)]
 pub enum Key {
+    /// The transmission mode.
     Mode,
+    /// The constellation of the data cells.
     Constellation,
+    /// The hierarchy, with its α.
     Hierarchy,
+    /// The rate of the inner code of HP.
     RateHp,
+    /// The rate of the inner code of LP.
     RateLp,
+    /// The guard interval.
     Guard,
+    /// The identifier of the cell.
     CellId,
+    /// What the receiver takes the register of the inner code to be.
     Start,
+    /// The workers of the receiver.
     Workers,
+    /// The limit of symbols.
     MaxSymbols,
+    /// The entries from which on other parameters hold.
     Plan,
 }
 

@@ -37,19 +37,28 @@ pub enum Hierarchy {
 /// The rate of the punctured inner code: input bits over coded bits (EN 300 744, 4.3.3).
 #[derive(Clone, Copy, Debug, PartialEq, Eq)]
 pub enum Rate {
+    /// 1/2.
     R1of2,
+    /// 2/3.
     R2of3,
+    /// 3/4.
     R3of4,
+    /// 5/6.
     R5of6,
+    /// 7/8.
     R7of8,
 }
 
 /// The guard interval as a fraction of the useful symbol, which is signalled only (EN 300 744, 4.6).
 #[derive(Clone, Copy, Debug, PartialEq, Eq)]
 pub enum Guard {
+    /// 1/32.
     G1of32,
+    /// 1/16.
     G1of16,
+    /// 1/8.
     G1of8,
+    /// 1/4.
     G1of4,
 }
 
@@ -66,6 +75,8 @@ pub enum Start {
 /// with a hierarchy alone.
 #[derive(Clone, Copy, Debug, PartialEq, Eq)]
 pub enum Stream {
+    /// High priority.
     Hp,
+    /// Low priority.
     Lp,
 }

@@ -1,5 +1,5 @@
 // The entries of a plan.
-ghost use Rattle.std.specs.Prelude.{◌≡◌, ◌+◌, ◌<◌, ◌≤◌, ◌++◌, ◌∷◌, ℕ, [], List, length, get_or, nat_lt, nat_le, IsTrue, IsFalse, find, reverse, is_some, None};
+ghost use Rattle.std.specs.Prelude.{◌≡◌, ◌+◌, ◌<◌, ◌≤◌, ◌++◌, ◌∷◌, [], length, get_or, nat_lt, nat_le, IsTrue, IsFalse, find, reverse, is_some, None};
 ghost use Rattle.std.specs.List.{list_all, list_any};
 ghost use Rattle.mode_set.specs.PlanList.{filler, may_follow};
 ghost use Rattle.mode_set.specs.Plans.{entries_of, no_plan};
@@ -66,7 +66,7 @@ impl Plan {
         self.count as usize
     }
 
-    /// Entry number `i`.
+    /// Entry number `i`, from 0 and below `len`.
     pub fn get(&self, i: usize) -> Entry
         requires { i < length (entries_of self.now) }
         ensures { (d : AnyEntry) → result ≡ get_or (entries_of self.now) i d }

@@ -3,7 +3,7 @@ use Rattle.std.proofs.Common.{◌≡◌, ◌≢◌, ◌⊎◌, inl, inr, true, f
 use Rattle.std.specs.Prelude.{IsTrue, is_some, option_and_then}
 use Rattle.std.specs.Option.{option_or}
 use Rattle.std.proofs.lemmas.Bool.{true≢false}
-use Rattle.station_core.specs.Meaning.{Meaning, Source, IsFresh, source_at, sink_at}
+use Rattle.station_core.specs.Meaning.{Meaning, Source, IsFresh, IsUntouched, source_at, sink_at}
 use Rattle.station_core.specs.Causes.{Rose}
 use Rattle.station_core.specs.declared.ports.InPort.{InPort}
 use Rattle.station_core.specs.declared.ports.InPort.TheVariants as ins
@@ -77,7 +77,7 @@ record Ports (limit : ℕ) (hp : List ℕ) (lp : Option (List ℕ)) (cells : Lis
   hp_asked : end.hp.asked ≡ Some hp
   lp_asked : (end.lp.asked ≡ None) ⊎ (end.lp.asked ≡ lp)
   lp_behind_hp : (end.lp.asked ≡ None) ⊎ (end.hp.attached ≡ true)
-  cells_asked : (end.cells_out.asked ≡ None) ⊎ (end.cells_out.asked ≡ Some cells)
+  cells_asked : IsUntouched end.cells_out ⊎ (end.cells_out.asked ≡ Some cells)
   behind_inputs : (end.cells_out.asked ≡ None) ⊎ ((end.hp.attached ≡ true) × (IsTrue (is_some lp) → end.lp.attached ≡ true))
   closed : end.cells_out.created ≡ true → end.cells_out.closed ≡ true
   whole : (end.cells_out.created ≡ true) ⊎ (IsWhole end.hp (start.file hp) × IsWhole end.lp (named start.file lp))
@@ -104,7 +104,7 @@ module _ (limit : ℕ) (hp : List ℕ) (lp : Option (List ℕ)) (cells : List �
   -- ---- the output was not made
   module _ (unmade : end.cells_out.created ≡ false) (hp_whole : IsWhole end.hp (start.file hp)) (lp_whole : IsWhole end.lp (named start.file lp)) where
     ports_unmade : KeepsElse old end → start.report_faults ≤ end.report_faults → end.hp.asked ≡ Some hp → (end.lp.asked ≡ None) ⊎ (end.lp.asked ≡ lp)
-        → (end.lp.asked ≡ None) ⊎ (end.hp.attached ≡ true) → (end.cells_out.asked ≡ None) ⊎ (end.cells_out.asked ≡ Some cells)
+        → (end.lp.asked ≡ None) ⊎ (end.hp.attached ≡ true) → IsUntouched end.cells_out ⊎ (end.cells_out.asked ≡ Some cells)
         → (end.cells_out.asked ≡ None) ⊎ ((end.hp.attached ≡ true) × (IsTrue (is_some lp) → end.lp.attached ≡ true)) → Ports limit hp lp cells start at end
     ports_unmade others later hp_asked lp_asked lp_behind_hp cells_asked behind_inputs = record {
       others = others;
@@ -126,11 +126,11 @@ module _ (limit : ℕ) (hp : List ℕ) (lp : Option (List ℕ)) (cells : List �
   fails_at_hp : FailsAtHp hp old end → Ports limit hp lp cells start at end
   fails_at_hp e =
       let lp_none : end.lp.asked ≡ None = ap (λ (x : Meaning). x.lp.asked) e ∙ fresh.lp.asked in
-      let cells_none : end.cells_out.asked ≡ None = ap (λ (x : Meaning). x.cells_out.asked) e ∙ fresh.cells_out.asked in
+      let none : IsUntouched end.cells_out = subst (λ (x : Meaning). IsUntouched x.cells_out) (sym e) fresh.cells_out in
       ports_unmade (unmade_as (ap (λ (x : Meaning). x.cells_out.created) e))
       (inl (ap (λ (x : Meaning). x.hp.attached) e ∙ fresh.hp.attached)) (inl (ap (λ (x : Meaning). x.lp.attached) e ∙ fresh.lp.attached))
       (subst (λ (x : Meaning). KeepsElse old x) (sym e) refl) (omega (arith, ap (λ (x : Meaning). x.report_faults) e))
-      (ap (λ (x : Meaning). x.hp.asked) e) (inl lp_none) (inl lp_none) (inl cells_none) (inl cells_none)
+      (ap (λ (x : Meaning). x.hp.asked) e) (inl lp_none) (inl lp_none) (inl none) (inl none.asked)
 
   fails_at_lp : FailsAtLp hp lp old end → Ports limit hp lp cells start at end
   fails_at_lp fails = go lp refl fails
@@ -138,12 +138,12 @@ module _ (limit : ℕ) (hp : List ℕ) (lp : Option (List ℕ)) (cells : List �
       go : (o : Option (List ℕ)) → lp ≡ o → FailsAtLp hp o old end → Ports limit hp lp cells start at end
       go None is e = absurd e
       go (Some name) is e =
-          let cells_none : end.cells_out.asked ≡ None = ap (λ (x : Meaning). x.cells_out.asked) e ∙ fresh.cells_out.asked in
+          let none : IsUntouched end.cells_out = subst (λ (x : Meaning). IsUntouched x.cells_out) (sym e) fresh.cells_out in
           let hp_open : end.hp.attached ≡ true = ap (λ (x : Meaning). x.hp.attached) e in
           ports_unmade (unmade_as (ap (λ (x : Meaning). x.cells_out.created) e))
           (inr (hp_open, ap (λ (x : Meaning). x.hp.left) e)) (inl (ap (λ (x : Meaning). x.lp.attached) e ∙ fresh.lp.attached))
           (subst (λ (x : Meaning). KeepsElse old x) (sym e) refl) (omega (arith, ap (λ (x : Meaning). x.report_faults) e))
-          (ap (λ (x : Meaning). x.hp.asked) e) (inr (ap (λ (x : Meaning). x.lp.asked) e ∙ sym is)) (inr hp_open) (inl cells_none) (inl cells_none)
+          (ap (λ (x : Meaning). x.hp.asked) e) (inr (ap (λ (x : Meaning). x.lp.asked) e ∙ sym is)) (inr hp_open) (inl none) (inl none.asked)
 
   fails_at_cells : FailsAtCells hp lp cells old end → Ports limit hp lp cells start at end
   fails_at_cells e =
@@ -224,7 +224,7 @@ module _ (limit : ℕ) (name hp : List ℕ) (lp : Option (List ℕ)) (cells : Li
     sources_asked ins.Cells = inl cells_unasked
 
     sinks_asked : (port : OutPort) → ((sink_at port end).asked ≡ None) ⊎ ((sink_at port end).asked ≡ c.writes port)
-    sinks_asked outs.Cells = ports.cells_asked
+    sinks_asked outs.Cells = elim ports.cells_asked [ inl none ↦ inl none.asked | inr is ↦ inr is ]
     sinks_asked outs.Hp = inl (ap (λ (x : Meaning). x.hp_out.asked) ports.others ∙ fresh.hp_out.asked)
     sinks_asked outs.Lp = inl (ap (λ (x : Meaning). x.lp_out.asked) ports.others ∙ fresh.lp_out.asked)
     sinks_asked outs.Bytes = inl (ap (λ (x : Meaning). x.bytes_out.asked) ports.others ∙ fresh.bytes_out.asked)
@@ -242,6 +242,9 @@ module _ (limit : ℕ) (name hp : List ℕ) (lp : Option (List ℕ)) (cells : Li
     behind outs.Lp = inl (ap (λ (x : Meaning). x.lp_out.asked) ports.others ∙ fresh.lp_out.asked)
     behind outs.Bytes = inl (ap (λ (x : Meaning). x.bytes_out.asked) ports.others ∙ fresh.bytes_out.asked)
     behind outs.Report = inl (ap (λ (x : Meaning). x.report.asked) ports.others ∙ fresh.report_asked)
+
+    unasked : end.cells_out.asked ≡ None → IsUntouched end.cells_out
+    unasked none = elim ports.cells_asked [ inl yet ↦ yet | inr is ↦ absurd (let e : Some cells ≡ None = sym is ∙ none in cc) ]
 
     untaken : IsWhole end.hp (start.file hp) × IsWhole end.lp (named start.file lp) → (port : InPort) → port ≢ ins.Settings → IsInput c port → IsUntaken c end port
     untaken whole ins.Settings other is = absurd (other refl)
@@ -279,6 +282,7 @@ module _ (limit : ℕ) (name hp : List ℕ) (lp : Option (List ℕ)) (cells : Li
       settings_first = λ is. inr (ap (λ (x : Source). x.attached) settings_is ∙ settings.attached, λ t. (ap (λ (x : Source). x.left) settings_is ∙ settings.left t, early_none t));
       lp_behind_hp = ports.lp_behind_hp;
       outputs_behind_inputs = behind;
+      unasked = only (λ out. (sink_at out end).asked ≡ None → IsUntouched (sink_at out end)) unasked;
       outputs_behind_header = λ t out. inr tt;
       lp_made_behind_hp = inl (ap (λ (x : Meaning). x.lp_out.asked) ports.others ∙ fresh.lp_out.asked);
       work_behind_outputs = λ t port other is. work_behind port other is;

@@ -114,6 +114,7 @@ module _ (at_packet : StopsAtPacket) (so_far : SentSoFar) (at_fault : SentAtFaul
           (before (taken_of files (left_of m) σ) (by_stream t.hp t.lp σ) (packets_for t.settings σ (t.made + 1)) (put_is σ tail_is) (is_short t.settings t.made t.hp t.lp σ is_wanted));
       is = refl;
       in_order = so_far t.settings limit (inputs_of files) t.made t.hp t.lp at (at_most t.made (symbols_of t.settings (inputs_of files)) due.more);
+      within = due.within;
       accepted = λ τ p l. at.accepted τ p (within τ p l);
     }
 

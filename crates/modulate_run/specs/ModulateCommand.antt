@@ -84,6 +84,8 @@ pub record HoldsSymbolsSoFar (s : TheSettings) (limit : ℕ) (files left : Strea
   pub enough : IsEnoughFor s (taken_of files left) met symbols
   pub is : written ≡ file_of_symbols s (inputs_of files) symbols
   pub in_order : symbols ≤ symbols_sent s limit (inputs_of files)
+  -- the limit is asked before the packets of a symbol are taken
+  pub within : symbols < s.max_symbols
   pub accepted : (σ : Stream) (p : ℕ) → p < taken_of files left σ → packet_refusal limit (inputs_of files) σ p ≡ None
 
 -- modulate SETTINGS HP CELLS, or modulate SETTINGS HP LP CELLS. Cells is the only output, so what it comes to is said
@@ -94,6 +96,7 @@ modulate_command settings hp lp cells = record {
   writes = cell_names cells;
   statuses = 0 ∷ 3 ∷ 4 ∷ 5 ∷ 6 ∷ 7 ∷ 8 ∷ [];
   memory_at_work = false;
+  LacksAtWork = λ limit file. ⊥;
   early_refusal = λ file. fitting_refusal (file settings) lp;
   header = λ file. None;
   work_refusal = λ limit file. option_and_then (λ s. modulation_refusal s limit (inputs_of (files_of file hp lp))) (settings_of (file settings));

@@ -1,5 +1,5 @@
 // The transport file of a stream, packet by packet.
-ghost use Rattle.std.specs.Prelude.{◌≡◌, ◌≤◌, ◌*◌, ◌<◌, ℕ, List, Some, None, drop, length, true, IsTrue};
+ghost use Rattle.std.specs.Prelude.{◌≡◌, ◌≤◌, ◌<◌, ℕ, List, Some, None, drop, true, IsTrue};
 ghost use Rattle.station_core.specs.Meaning.{source_at};
 ghost use Rattle.mode_set.specs.declared.modes.Stream.{Stream as AnyStream};
 ghost use Rattle.run_steps.specs.Causes.{HasCause};

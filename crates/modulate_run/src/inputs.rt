@@ -1,6 +1,5 @@
 // The transport files of both streams.
-ghost use Rattle.std.specs.Prelude.{◌≡◌, ◌≤◌, ◌<◌, ◌*◌, ◌+◌, ℕ, List, Some, None, IsTrue, OnOk, OnErr};
-ghost use Rattle.transmission.specs.Transmission.{Inputs};
+ghost use Rattle.std.specs.Prelude.{◌≡◌, ◌<◌, ℕ, List, Some, None, IsTrue, OnOk, OnErr};
 ghost use Rattle.mode_set.specs.declared.modes.Stream.{Stream as AnyStream};
 ghost use Rattle.run_steps.specs.Causes.{HasCause};
 ghost use Rattle.modulate_run.specs.Seen.{Seen, wanted, with_one};

@@ -1,5 +1,5 @@
 // A whole run behind its settings.
-ghost use Rattle.std.specs.Prelude.{◌≡◌, ◌≤◌, ◌*◌, ℕ, true, length};
+ghost use Rattle.std.specs.Prelude.{◌≡◌, ◌≤◌, true, length};
 ghost use Rattle.std.specs.Option.{option_copied};
 ghost use Rattle.transmission.specs.Transmission.{Inputs};
 ghost use Rattle.run_clauses.specs.StreamForm.{fits_form};

@@ -1,5 +1,5 @@
 // What the work asks of a transmitter.
-ghost use Rattle.std.specs.Prelude.{◌≡◌, ◌≢◌, ◌+◌, ◌^◌, ◌<◌, ◌≤◌, ℕ, Some, None, IfSome, length};
+ghost use Rattle.std.specs.Prelude.{◌≡◌, ◌≢◌, ◌+◌, ◌^◌, ◌<◌, ◌≤◌, ℕ, None, IfSome, length};
 ghost use Rattle.outer_chain.specs.Sent.{packet_at};
 ghost use Rattle.transmission.specs.Transmission.{Inputs, by_stream, tx_symbol};
 ghost use Rattle.transmission.specs.SuperFrames.{super_frames};

@@ -1,5 +1,5 @@
 // From packets to symbols.
-ghost use Rattle.std.specs.Prelude.{◌≡◌, ◌≢◌, ◌+◌, ◌*◌, ◌^◌, ◌<◌, ◌≤◌, ◌++◌, ℕ, Some, None, IfOk, length, vec_capacity, vec_len};
+ghost use Rattle.std.specs.Prelude.{◌≡◌, ◌≢◌, ◌+◌, ◌*◌, ◌^◌, ◌<◌, ◌≤◌, ◌++◌, Some, None, IfOk, length, vec_capacity, vec_len};
 ghost use Rattle.mode_set.specs.StreamTable.{need};
 ghost use Rattle.mode_set.specs.declared.modes.Stream.TheVariants as streams;
 ghost use Rattle.transmission.specs.Transmission.{Inputs, by_stream, tx_symbol};
@@ -11,7 +11,7 @@ ghost use Rattle.modulator.specs.Wants.{stream_of};
 use crate::laws::other_streams;
 use crate::next_labels::next_labels;
 use crate::stream::StreamTx;
-use crate::super_frames::frames_for;
+use crate::super_frames::super_frames_for;
 use crate::want::Want;
 use bit_pack::WaitBuf;
 use frame_build::{SymbolOut, symbols_follow_labels, symbols_repeat};
@@ -131,8 +131,8 @@ impl<M: Carriers> Modulator<M> {
     }
 
     /// Makes the next symbol of the transmission and appends its bytes, five for each carrier: its cell
-    /// and the weight 15. They are those behind the header of a cell file. The spare of `to` has room for
-    /// them.
+    /// and the weight 15. They are those behind the header of a cell file. It is called where `wants`
+    /// answers `Symbol` and fewer than 2^32 symbols are made, and the spare of `to` has room for the bytes.
     pub fn symbol(&mut self, to: &mut Vec<u8>)
         requires wanted { wanted self.old ≡ None }
         requires few { self.old.made < 2 ^ 32 }
@@ -168,7 +168,8 @@ impl<M: Carriers> Modulator<M> {
     }
 
     /// Makes the next symbol, and writes its bytes over the slice, which has five for each carrier: those
-    /// that [`symbol`](Modulator::symbol) appends. It is the faster of the two.
+    /// that [`symbol`](Modulator::symbol) appends, on the same conditions but for the room. It is the faster
+    /// of the two.
     pub fn symbol_into(&mut self, to: &mut [u8])
         requires wanted { wanted self.old ≡ None }
         requires few { self.old.made < 2 ^ 32 }
@@ -211,7 +212,7 @@ impl<M: Carriers> Modulator<M> {
 
     /// The super-frames of a transmission of so many packets: the least number, at least 1, that carries
     /// the packets of each stream and eleven words more. It is `None` exactly where no number does, since
-    /// a stream is absent from some super-frame on.
+    /// a stream is absent from some super-frame on. Each stream has at most 100,000,000 packets.
     pub fn super_frames(settings: &Settings, n_hp: u64, n_lp: u64) -> Option<u64>
         requires hp { n_hp ≤ 100000000 }
         requires lp { n_lp ≤ 100000000 }
@@ -221,11 +222,11 @@ impl<M: Carriers> Modulator<M> {
         super_frames_are_least();
         super_frame_settings();
         words();
-        let hp = frames_for(settings, Stream::Hp, n_hp + 11)?;
+        let hp = super_frames_for(settings, Stream::Hp, n_hp + 11)?;
         if !settings.has_lp() {
             return Some(hp);
         }
-        let lp = frames_for(settings, Stream::Lp, n_lp + 11)?;
+        let lp = super_frames_for(settings, Stream::Lp, n_lp + 11)?;
         Some(hp.max(lp))
     }
 }

@@ -1,5 +1,5 @@
 // The labels of the next symbol.
-ghost use Rattle.std.specs.Prelude.{◌≡◌, ◌+◌, ◌-◌, ◌*◌, ◌%◌, ◌^◌, ◌<◌, ◌≤◌, ◌==◌, ℕ, List, [], drop, take, length, get_or, vec_capacity};
+ghost use Rattle.std.specs.Prelude.{◌≡◌, ◌^◌, ◌<◌, ◌≤◌, ℕ, drop, take, length, get_or, vec_capacity};
 ghost use Rattle.mode_set.specs.Entries.{with_entry};
 ghost use Rattle.mode_set.specs.StreamTable.{label_bits, need, payload};
 ghost use Rattle.mode_set.specs.declared.modes.Stream.TheVariants.{Hp, Lp};

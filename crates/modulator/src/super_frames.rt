@@ -1,5 +1,5 @@
 // How many super-frames carry the words of a stream.
-ghost use Rattle.std.specs.Prelude.{◌≡◌, ◌+◌, ◌*◌, ◌<◌, ◌≤◌, ℕ, IfSome, IfNone};
+ghost use Rattle.std.specs.Prelude.{◌≡◌, ◌+◌, ◌*◌, ◌<◌, ◌≤◌, IfSome, IfNone};
 ghost use Rattle.spec_words.specs.Words.{rounded_up};
 ghost use Rattle.modulator.specs.Carrying.{IsLeastFor};
 
@@ -8,7 +8,7 @@ use symbol_spans::laws::{settings as super_frame_settings, words as words_of_sup
 
 // The least number of super-frames that carry so many words, where each carries `words`; none where they
 // carry nothing.
-fn frames_of(wanted: u64, words: u32) -> Option<u64>
+fn super_frames_of(wanted: u64, words: u32) -> Option<u64>
     requires some { 0 < wanted }
     requires few { wanted ≤ 100000011 }
     ensures found { IfSome result (λ n. (0 < words) × (n ≡ rounded_up wanted words)) }
@@ -21,13 +21,13 @@ fn frames_of(wanted: u64, words: u32) -> Option<u64>
 }
 
 // The same among the next `span` super-frames.
-fn frames_within(wanted: u64, words: u32, span: u32) -> Option<u64>
+fn super_frames_within(wanted: u64, words: u32, span: u32) -> Option<u64>
     requires some { 0 < wanted }
     requires few { wanted ≤ 100000011 }
     ensures found { IfSome result (λ n. (0 < words) × (n ≡ rounded_up wanted words) × (n ≤ span)) }
     ensures none { IfNone result (span * words < wanted) }
 {
-    let more = frames_of(wanted, words)?;
+    let more = super_frames_of(wanted, words)?;
     if more > span as u64 {
         return None;
     }
@@ -36,7 +36,7 @@ fn frames_within(wanted: u64, words: u32, span: u32) -> Option<u64>
 
 /// The least number of super-frames that carry so many words of a stream; none where no number does. It
 /// goes from change to change of the parameters, since between them all super-frames carry as much.
-pub(crate) fn frames_for(settings: &Settings, stream: Stream, wanted: u64) -> Option<u64>
+pub(crate) fn super_frames_for(settings: &Settings, stream: Stream, wanted: u64) -> Option<u64>
     requires some { 0 < wanted }
     requires few { wanted ≤ 100000011 }
     ensures { IsLeastFor settings.now stream wanted result }
@@ -50,7 +50,7 @@ pub(crate) fn frames_for(settings: &Settings, stream: Stream, wanted: u64) -> Op
             .with_entry(&settings.entry(start))
             .words_per_super_frame(stream);
         let span = settings.plan.get(i).after - start;
-        if let Some(more) = frames_within(wanted - carried, words, span) {
+        if let Some(more) = super_frames_within(wanted - carried, words, span) {
             return Some(start as u64 + more);
         }
         carried += span as u64 * words as u64;
@@ -59,6 +59,6 @@ pub(crate) fn frames_for(settings: &Settings, stream: Stream, wanted: u64) -> Op
     let words = settings
         .with_entry(&settings.entry(start))
         .words_per_super_frame(stream);
-    let more = frames_of(wanted - carried, words)?;
+    let more = super_frames_of(wanted - carried, words)?;
     Some(start as u64 + more)
 }

@@ -1,6 +1,6 @@
 // The receiver of the outer code.
 
-ghost use Rattle.std.specs.Prelude.{◌≡◌, ◌<◌, ◌≤◌, ◌+◌, ◌-◌, ◌*◌, ◌%◌, ◌↔◌, ℕ, List, [], ◌∷◌, ◌++◌, length, take, drop, Some, IfOk, IfSome, IsSome, IsTrue, vec_len, vec_capacity};
+ghost use Rattle.std.specs.Prelude.{◌≡◌, ◌<◌, ◌≤◌, ◌+◌, ◌-◌, ◌*◌, ◌%◌, ◌↔◌, ℕ, List, [], ◌∷◌, ◌++◌, length, take, drop, Some, IfOk, IfSome, IsSome, vec_len, vec_capacity};
 ghost use Rattle.outer_chain.specs.Words.{word_at, word_count, phase_of, given_packet, packet_of, has, IsNear};
 ghost use Rattle.outer_chain.specs.Nears.{near_of};
 ghost use Rattle.outer_chain.specs.Receiving.{EndsWord, Receives, undecoded};
@@ -79,10 +79,7 @@ fn phase_after(slot: &WordSlot, before: Option<u8>) -> Option<u8>
     if is_near(slot.outcome) && slot.word[0] == INVERTED_SYNC {
         return Some(0);
     }
-    match before {
-        Some(phase) => Some((phase + 1) % GROUP),
-        None => None,
-    }
+    Some((before? + 1) % GROUP)
 }
 
 // The packet of a word at its phase.
@@ -226,9 +223,6 @@ impl OuterRx {
     {
         let phase = phase_after(slot, self.phase);
         self.phase = phase;
-        match phase {
-            Some(phase) => Some(packet_at(slot, phase)),
-            None => None,
-        }
+        Some(packet_at(slot, phase?))
     }
 }

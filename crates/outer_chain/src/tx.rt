@@ -1,6 +1,6 @@
 // The sender of the outer code.
 
-ghost use Rattle.std.specs.Prelude.{◌≡◌, ◌<◌, ◌+◌, ◌*◌, ◌%◌, ℕ, List, [], ◌∷◌, ◌++◌, length, IfOk};
+ghost use Rattle.std.specs.Prelude.{◌≡◌, ◌<◌, ◌+◌, ◌*◌, ℕ, List, [], ◌∷◌, ◌++◌, length, IfOk};
 ghost use Rattle.forney.specs.Values.{values, stream_of};
 ghost use Rattle.forney.specs.Interleaving.{interleaved};
 ghost use Rattle.forney.specs.Delays.{Interleaves};

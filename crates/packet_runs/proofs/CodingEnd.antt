@@ -4,7 +4,7 @@ use Rattle.std.specs.Prelude.{IsTrue, is_some, if◌then◌else◌, ◌==◌}
 use Rattle.std.specs.Option.{option_or}
 use Rattle.std.proofs.lemmas.List.{append-nil, drop_all}
 use Rattle.std.proofs.lemmas.Bool.{true≢false, eq-eqb, eqb-true}
-use Rattle.station_core.specs.Meaning.{Meaning, Source, Sink, IsFresh, source_at, sink_at}
+use Rattle.station_core.specs.Meaning.{Meaning, Source, Sink, IsFresh, IsUntouched, source_at, sink_at}
 use Rattle.station_core.specs.Causes.{Rose}
 use Rattle.station_core.specs.declared.ports.InPort.{InPort}
 use Rattle.station_core.specs.declared.ports.InPort.TheVariants as ins
@@ -269,6 +269,13 @@ module _ (settings : Option (List ℕ)) (statuses : List ℕ) (knows : KnowsStat
     ]
     behind_inputs outs.Report = inl (ap (λ (x : Meaning). x.report.asked) asks.others ∙ fresh.report_asked)
 
+    -- an output that was not asked for is as it was
+    unasked : mid.bytes_out.asked ≡ None → IsUntouched mid.bytes_out
+    unasked none = elim asks.bytes [
+      | inl unmade ↦ subst IsUntouched (sym unmade) fresh.bytes_out
+      | inr is ↦ absurd (let e : Some output ≡ None = sym is.0 ∙ none in cc)
+    ]
+
     -- an output that was made stands behind an input that was opened
     opened_before : mid.bytes_out.created ≡ true → mid.hp.attached ≡ true
     opened_before made = elim asks.bytes [
@@ -430,6 +437,7 @@ module _ (settings : Option (List ℕ)) (statuses : List ℕ) (knows : KnowsStat
       );
       lp_behind_hp = inl (ap (λ (x : Meaning). x.lp.asked) asks.others ∙ fresh.lp.asked);
       outputs_behind_inputs = behind_inputs;
+      unasked = only (λ out. (sink_at out mid).asked ≡ None → IsUntouched (sink_at out mid)) unasked;
       outputs_behind_header = λ t out. inr tt;
       lp_made_behind_hp = inl (ap (λ (x : Meaning). x.lp_out.asked) asks.others ∙ fresh.lp_out.asked);
       work_behind_outputs = λ t port other is. work_of port other is;

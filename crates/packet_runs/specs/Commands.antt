@@ -78,6 +78,7 @@ coding_command settings statuses k input output = record {
   writes = byte_names output;
   statuses = statuses;
   memory_at_work = false;
+  LacksAtWork = λ limit file. ⊥;
   early_refusal = coding_early settings;
   header = λ file. None;
   work_refusal = λ limit file. packet_refusal limit (file input);

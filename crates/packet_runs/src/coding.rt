@@ -1,5 +1,5 @@
 // The work of a command that codes the packets of HP.
-ghost use Rattle.std.specs.Prelude.{◌≡◌, ◌≤◌, ◌<◌, ◌%◌, ◌+◌, ℕ, List, [], true, false, IsTrue, IfOk, IfSome, ◌∷◌, ◌++◌, take};
+ghost use Rattle.std.specs.Prelude.{◌≡◌, ◌<◌, ◌+◌, ℕ, List, [], true, false, IsTrue, IfOk, IfSome, ◌∷◌, ◌++◌, take};
 ghost use Rattle.run_steps.specs.Causes.{HasCause};
 ghost use Rattle.packet_runs.specs.Coding.{KeepsOthers, OnTaken, Step, EndsAtLimit, Codes, EndsCoding};
 ghost use Rattle.run_clauses.specs.Packets.{first_packets};

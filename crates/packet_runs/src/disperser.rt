@@ -1,5 +1,5 @@
 // The command `disperse`.
-ghost use Rattle.std.specs.Prelude.{◌≡◌, ◌%◌, ◌++◌, ◌∷◌, [], List, ℕ, length, if◌then◌else◌};
+ghost use Rattle.std.specs.Prelude.{◌≡◌, ◌%◌, [], length, if◌then◌else◌};
 ghost use Rattle.packet_runs.specs.DispersedPackets.{dispersed_packets};
 
 use crate::coder::Coder;

@@ -1,5 +1,5 @@
 // The inner code of a stream of bytes, in bytes.
-ghost use Rattle.std.specs.Prelude.{◌≡◌, ◌≤◌, ◌+◌, ◌-◌, ◌*◌, ℕ, List, [], ◌∷◌, ◌++◌, length, max, replicate, false};
+ghost use Rattle.std.specs.Prelude.{◌≡◌, ◌≤◌, ◌+◌, ◌-◌, ℕ, List, [], ◌∷◌, ◌++◌, length, max, replicate, false};
 ghost use Rattle.arrayvec.specs.ArrayVec.{array_vec_len};
 ghost use Rattle.mode_set.specs.declared.modes.Rate.{Rate as AnyRate};
 ghost use Rattle.outer_chain.specs.Bits.{bytes_of};
@@ -15,10 +15,7 @@ use puncture::{
 };
 use std::marker::Model;
 
-/// The most bytes that one packet gives: 204 at rate 1/2.
-pub const PIECE_LEN: usize = 408;
-
-/// The bytes that one packet gives.
+/// The bytes that one packet gives: at most 408, those of its word at rate 1/2.
 pub type Piece = ArrayVec<u8, 408>;
 
 // Puts the first whole byte of the bits into the piece, if there is one. There must be room for it.

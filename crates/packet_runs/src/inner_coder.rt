@@ -1,5 +1,5 @@
 // The coding of the command `inner`.
-ghost use Rattle.std.specs.Prelude.{◌≡◌, ◌≤◌, ◌++◌, ◌∷◌, [], List, ℕ};
+ghost use Rattle.std.specs.Prelude.{◌≡◌, ◌++◌, [], List, ℕ};
 ghost use Rattle.mode_set.specs.declared.modes.Rate.{Rate as AnyRate};
 ghost use Rattle.outer_chain.specs.Sent.{sent_bytes};
 ghost use Rattle.outer_chain.specs.Sending.{Sends};

@@ -1,5 +1,5 @@
 // The command `outer`.
-ghost use Rattle.std.specs.Prelude.{◌≡◌, ◌++◌, ◌∷◌, [], List, ℕ, if◌then◌else◌};
+ghost use Rattle.std.specs.Prelude.{◌≡◌, [], if◌then◌else◌};
 ghost use Rattle.outer_chain.specs.Sent.{sent_bytes};
 ghost use Rattle.outer_chain.specs.Sending.{Sends};
 

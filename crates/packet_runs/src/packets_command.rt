@@ -1,5 +1,5 @@
 // A whole run of a command that codes the packets of HP.
-ghost use Rattle.std.specs.Prelude.{◌≡◌, ℕ, List, [], true};
+ghost use Rattle.std.specs.Prelude.{◌≡◌, [], true};
 ghost use Rattle.run_steps.specs.Causes.{HasEndCause};
 ghost use Rattle.run_clauses.specs.Packets.{AcceptsFirst, whole_packets};
 ghost use Rattle.packet_runs.specs.Steps.{IsReady, AsksPorts, Ran, RunsCoding};

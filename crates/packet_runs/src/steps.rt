@@ -1,5 +1,5 @@
 // The steps of a run: the ports are opened, and closed behind the work.
-ghost use Rattle.std.specs.Prelude.{◌≡◌, ◌≤◌, ℕ, true, false, None};
+ghost use Rattle.std.specs.Prelude.{◌≡◌, true, false, None};
 ghost use Rattle.run_steps.specs.Causes.{HasCause, HasEndCause};
 ghost use Rattle.packet_runs.specs.Steps.{OpensAll, Finishes, ClosesRefused};
 

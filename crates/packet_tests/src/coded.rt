@@ -97,24 +97,37 @@ pub(crate) fn parts_of<R: Abort + Threads + Sync>(
 
 static BEGINS: [Part; 1] = [(0, &[0xB8, 0, 0, 0, 0, 0, 0, 0, 0, 0, 0, 0, 0x8C])];
 
-static SAMPLE: [Case; 1] = [(
-    "outer a out",
-    (BASE, ""),
-    File::Counted(100, 0),
-    FREE,
-    (0, "hp packets 100 tail 0\n", 20_400, 499_727_075),
-)];
+const FORM: &str = "outer a out";
+
+/// A sample, a packet without its sync byte, and a packet past the limit.
+static CASES: [Case; 3] = [
+    (
+        FORM,
+        (BASE, ""),
+        File::Counted(100, 0),
+        FREE,
+        (0, "hp packets 100 tail 0\n", 20_400, 499_727_075),
+    ),
+    (
+        FORM,
+        (BASE, ""),
+        File::Unsynced(1, 1),
+        FREE,
+        (4, "hp packet 1\n", 204, 2_722_950_962),
+    ),
+    (
+        FORM,
+        (BASE, ""),
+        File::Nulls(3, 0),
+        (None, 2, u32::MAX),
+        (8, "limit 2\n", 408, 151_037_055),
+    ),
+];
 
 #[test]
-fn one_null_packet_and_a_sample(rt: HostRuntime) -> Result<(), Fail> {
-    let left = parts_of(
-        &rt,
-        rt.alloc(),
-        ("outer a out", 1),
-        "hp packets 1 tail 0\n",
-        &BEGINS,
-    )?;
+fn one_null_packet_a_sample_and_refusals(rt: HostRuntime) -> Result<(), Fail> {
+    let left = parts_of(&rt, rt.alloc(), (FORM, 1), "hp packets 1 tail 0\n", &BEGINS)?;
     assert_eq!(rt; left, (0, 204, true, None));
-    assert_eq!(rt; first_wrong(&rt, rt.alloc(), &SAMPLE)?, None);
+    assert_eq!(rt; first_wrong(&rt, rt.alloc(), &CASES)?, None);
     Ok(())
 }

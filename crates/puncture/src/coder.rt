@@ -1,10 +1,10 @@
 // Encoder and puncturer in one, a byte at a time.
-ghost use Rattle.std.specs.Prelude.{◌≡◌, ◌+◌, ◌*◌, ◌<◌, ◌≤◌, ◌%◌, ℕ, Bool, List, [], ◌∷◌, ◌++◌, length};
-ghost use Rattle.spec_words.specs.Bits.{is_set, spelled};
+ghost use Rattle.std.specs.Prelude.{◌≡◌, ◌+◌, ◌*◌, ◌<◌, ◌≤◌, ℕ, Bool, [], ◌++◌, length};
+ghost use Rattle.spec_words.specs.Bits.{spelled};
 ghost use Rattle.mode_set.specs.StreamTable.{steps_in_period};
 ghost use Rattle.mode_set.specs.declared.modes.Rate.{Rate as AnyRate};
 ghost use Rattle.puncture.specs.SentBits.{path_of, bits_from, sent_bits};
-ghost use Rattle.puncture.specs.Steps.{sent_before, bits_sent, bits_of_step, bits_of_steps, has_x, has_y, IsAtPath};
+ghost use Rattle.puncture.specs.Steps.{sent_before, IsAtPath};
 
 use crate::eight_steps::{Bits, bit_of};
 use crate::periods::PeriodTable;

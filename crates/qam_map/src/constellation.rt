@@ -67,7 +67,8 @@ fn bit(label: u8, place: u8) -> bool
 }
 
 /// The cell of a label: bit e of the label is y_e of EN 300 744, 4.3.5. y0, y2 and y4 choose the
-/// real part, y1, y3 and y5 the imaginary part; the first of them is the sign.
+/// real part, y1, y3 and y5 the imaginary part; the first of them is the sign. The label is below 2^v,
+/// where v is the number of bits a cell.
 pub fn map(shape: Shape, hierarchy: Hierarchy, label: u8) -> Cell
     requires { label < 2 ^ label_bits shape }
     ensures { result ≡ map_cell shape hierarchy (is_set label) }

@@ -6,7 +6,8 @@ use Rattle.mode_set.specs.declared.settings.Settings.{Settings}
 use Rattle.reception.specs.Cells.{symbols}
 use Rattle.reception.specs.Streams.{Reception, Live, Final}
 use Rattle.reception.specs.Lines.{event_lines, closing_lines}
-use Rattle.own_cell_laws.specs.Laws.{NoiseLaw, CleanLaw}
+use Rattle.code_paths.specs.Laws.{SharedBeginsLeast}
+use Rattle.own_cell_laws.specs.Laws.{NoiseLaw, CleanLaw, PacketsThenNulls}
 use Rattle.worker_laws.specs.Alike.{DifferInWorkers, SameLive, SameFinal, SameLines}
 use Rattle.receive_run.specs.Received.{cells_in, IsAll, IsCutOff, IsSoFar, within_limit}
 use Rattle.receive_run.specs.OwnLaws.{AreAlike, ReceiveLaws}
@@ -15,8 +16,10 @@ use Rattle.receive_run.proofs.OfKinds.{KindLaws}
 
 pub record Laws : Type 0 where
   pub receptions : KindLaws plain
+  pub begins_least : SharedBeginsLeast
   pub noise : NoiseLaw
   pub clean : CleanLaw
+  pub packets_then_nulls : PacketsThenNulls
   pub live : SameLive
   pub final : SameFinal
   pub lines : SameLines
@@ -73,9 +76,11 @@ module _ (laws : Laws) (s t : Settings) (file : List ℕ) (d : DifferInWorkers s
 
 pub own_laws : Laws → (stated : Option Settings) (file : List ℕ) → ReceiveLaws stated file
 own_laws laws stated file = record {
+  begins_least = laws.begins_least;
   returns = λ s is. record {
     own = λ inputs zero have same r all. laws.clean s inputs r zero have (subst (λ (l : List ℕ). Final s l r) same all.final);
     noise = λ inputs zero have near r all. laws.noise s inputs (cells_in file) r zero have near all.final;
   };
+  packets_then_nulls = laws.packets_then_nulls;
   alike = λ s t is d. are_alike laws s t file d;
 }

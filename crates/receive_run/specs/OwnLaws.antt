@@ -1,10 +1,12 @@
--- Laws of what `receive` comes to: it returns the packets of own cells, and the number of workers changes nothing.
+-- Laws of what `receive` comes to: the bits given begin the least path, own cells give their packets back, and the number of workers changes nothing.
 use Rattle.std.specs.Prelude.{◌≡◌, ℕ, List, Option, Some}
 use Rattle.station_core.specs.declared.ports.OutPort.{OutPort}
 use Rattle.mode_set.specs.declared.modes.Start.TheVariants.{Zero}
 use Rattle.mode_set.specs.declared.settings.Settings.{Settings}
 use Rattle.transmission.specs.Transmission.{Inputs}
 use Rattle.transmission.specs.SuperFrames.{tx}
+use Rattle.code_paths.specs.Laws.{SharedBeginsLeast}
+use Rattle.own_cell_laws.specs.Laws.{PacketsThenNulls}
 use Rattle.own_cell_laws.specs.Returned.{HavePackets, IsReturned, IsWithin}
 use Rattle.reception.specs.Streams.{Reception, Final}
 use Rattle.worker_laws.specs.Alike.{DifferInWorkers}
@@ -28,7 +30,11 @@ pub record AreAlike (s t : Settings) (file : List ℕ) : Type 0 where
 
 -- the laws, by the settings that are stated, if any are, and the file of cells
 pub record ReceiveLaws (stated : Option Settings) (file : List ℕ) : Type 0 where
+  -- The bits that all least paths share begin the least path over everything received, and over anything that may follow.
+  pub begins_least : SharedBeginsLeast
   -- Own cells, and cells near them, give their packets back.
   pub returns : (s : Settings) → stated ≡ Some s → Returns s (cells_in file)
+  -- What comes back of a stream are all its packets, and null packets behind them.
+  pub packets_then_nulls : PacketsThenNulls
   -- By settings that differ from the stated ones in the number of workers alone, all is the same.
   pub alike : (s t : Settings) → stated ≡ Some s → DifferInWorkers s t → AreAlike s t file

@@ -18,6 +18,7 @@ ghost use Rattle.receive_run.specs.ReceiveCommand.{receive_command};
 use crate::receivers::{ModeReceiver, ReceiverWithOutput};
 use crate::reception_work::ReceptionWork;
 use crate::running::ReceptionFiles;
+use code_paths::shared_begins_least;
 use mode_set::{Carriers, Mode, Mode2k, Mode8k, Settings};
 use receiver::{Receiver, RxOut};
 use run_clauses::{Limits, Refusal};
@@ -124,8 +125,8 @@ fn receive_accepted<'a, R: Threads + Sync, G: Gate, S: Station<'a>>(
 ///
 /// What it promises is `Run` of its definition, `receive_command`. The settings are read and checked, and
 /// then all memory is taken, before another port is asked; the cells are opened, and their header is read,
-/// before an output is made. The
-/// workers of the receiver enter the gate, of which no clause speaks: they hold for every one.
+/// before an output is made. The receiver is fed through the gate, of which no clause speaks: they hold for
+/// every one. What its end decodes passes no gate.
 pub fn receive<'a, R: Threads + Sync, G: Gate, S: Station<'a>>(
     rt: &R,
     alloc: Global,
@@ -148,6 +149,8 @@ pub fn receive<'a, R: Threads + Sync, G: Gate, S: Station<'a>>(
     reception_laws::laws::existence();
     reception_laws::laws::beginnings();
     own_cell_laws::laws::own_cells();
+    own_cell_laws::laws::packets_then_nulls();
+    shared_begins_least();
     match read_fitting(alloc, settings, lp, station) {
         Ok(accepted) => {
             let files = ReceptionFiles { cells, hp, lp };

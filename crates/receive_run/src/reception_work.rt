@@ -1,5 +1,4 @@
 // The work of `receive` on the symbols of a file of cells.
-ghost use Rattle.std.specs.Prelude.{◌≡◌, ◌≤◌, ℕ, List};
 
 use crate::cell_receiver::CellReceiver;
 use crate::writing::{write_lines, write_out};

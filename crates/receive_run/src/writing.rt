@@ -1,7 +1,6 @@
 // What the receiver gave is written behind what was written before.
-ghost use Rattle.std.specs.Prelude.{◌≡◌, ◌≤◌, ◌↔◌, ℕ, List, true, false, IfSome, IsNone, IsTrue, Some, length, slice_get, take};
+ghost use Rattle.std.specs.Prelude.{◌≡◌, ◌≤◌, ◌↔◌, ℕ, List, IfSome, IsNone, IsTrue, Some, length, slice_get, take};
 ghost use Rattle.std.specs.List.{concat};
-ghost use Rattle.arrayvec.specs.ArrayString.{array_string_len};
 ghost use Rattle.rx_report.specs.Text.{closing_lines};
 ghost use Rattle.symbol_runs.specs.Stops.{HasCause};
 ghost use Rattle.symbol_runs.specs.Outputs.{IsWriting};

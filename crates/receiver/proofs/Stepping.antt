@@ -1,10 +1,7 @@
 -- What a stream stands for, from symbol to symbol.
 use Rattle.std.proofs.Common.{◌≡◌, ℕ, suc, ◌+◌, ◌*◌, ◌^◌, ◌<◌, ◌≤◌, Bool, List, [], ◌∷◌, ◌++◌, length, refl, sym, ap, ◌∙◌, subst, arith, length-append, append_assoc}
 use Rattle.std.specs.Prelude.{Option, All}
-use Rattle.mode_set.specs.declared.modes.Stream.{Stream}
-use Rattle.mode_set.specs.declared.settings.Settings.{Settings}
 use Rattle.std.proofs.lemmas.List.Elements.{All-nil, All-append, All-head, All-tail}
-use Rattle.std.proofs.lemmas.Nat.{mul-lt}
 use Rattle.spec_words.specs.Bits.{spelled}
 use Rattle.bit_pack.specs.Queue.{bits_of_bytes}
 use Rattle.code_paths.specs.declared.costs.CostPair.{CostPair}
@@ -24,8 +21,8 @@ use Rattle.receiver.specs.Words.{Gives, AreFew}
 use Rattle.receiver.specs.Ready.{IsReady, MayGive, IsKeptStream}
 use Rattle.receiver.specs.declared.stream.StreamRx.{StreamRx}
 use Rattle.receiver.proofs.Pending.{few_more}
-use Rattle.stream_decoders.specs.Branches.{HasGiven, HasTaken, HasEnded, MayTake}
-use Rattle.stream_decoders.specs.Rooms.{most_pairs}
+use Rattle.stream_decoders.specs.Branches.{HasGiven, HasTaken, HasEnded}
+use Rattle.word_workers.specs.Symbols.{MayRunOver}
 use Rattle.receiver.specs.Standing.{StreamStands, StreamGave}
 
 bits_append : (a b : List ℕ) → bits_of_bytes (a ++ b) ≡ bits_of_bytes a ++ bits_of_bytes b
@@ -140,34 +137,26 @@ length_ats (e ∷ es) = ap suc (length_ats es)
 
 -- ---- what a stream keeps
 
--- the steps of a reception are few
-few_steps : (taken steps : ℕ) → taken < 2 ^ 32 → steps ≤ 31752 → taken * steps < 2 ^ 61
-few_steps taken steps l m = omega (arith, mul-lt taken steps (2 ^ 32) 31753 l (omega (arith, m)))
-
-pub may_take : (x : StreamRx) (xs : List CostPair) (steps taken : ℕ) → IsKeptStream x steps taken → taken < 2 ^ 32 → length xs ≤ steps → MayTake xs x.branch
-may_take x xs steps taken h l few = record {
+pub may_take : (x : StreamRx) (xs : List CostPair) (taken : ℕ) → IsKeptStream x taken → taken < 2 ^ 32 → length xs ≤ 31752 → MayRunOver xs x.branch
+may_take x xs taken h l few = record {
   going = h.ready.going;
   loaded = h.ready.loaded;
   wait = h.ready.wait;
-  room = omega (arith, h.most, few);
-  most = omega (arith, h.most, h.few_steps);
-  steps = omega (arith, h.steps_were, few_steps taken steps l h.few_steps);
+  few = few;
+  steps = omega (arith, h.steps_were, l);
 }
 
 pub may_give : (x : StreamRx) (ran : BranchState) (xs : List CostPair) → IsReady x → HasTaken xs x.branch ran → MayGive (record x { branch = ran })
 may_give x ran xs h run = record { going = run.going; loaded = run.loaded; none = h.none; slots = h.slots; started = h.started }
 
-pub keeps : (x y : StreamRx) (ran : BranchState) (xs : List CostPair) (steps taken : ℕ) → IsKeptStream x steps taken → length xs ≤ steps → HasTaken xs x.branch ran
-    → y.branch ≡ record ran { wait = y.branch.wait } → IsReady y → ((n : ℕ) → AreFew x.counts n → AreFew y.counts (n + 40)) → IsKeptStream y steps (taken + 1)
-keeps x y ran xs steps taken h long run rest ready few = record {
+pub keeps : (x y : StreamRx) (ran : BranchState) (xs : List CostPair) (taken : ℕ) → IsKeptStream x taken → length xs ≤ 31752 → HasTaken xs x.branch ran
+    → y.branch ≡ record ran { wait = y.branch.wait } → IsReady y → ((n : ℕ) → AreFew x.counts n → AreFew y.counts (n + 40)) → IsKeptStream y (taken + 1)
+keeps x y ran xs taken h long run rest ready few = record {
   ready = ready;
-  most = ap (λ (z : BranchState). z.most) rest ∙ run.most ∙ h.most;
-  few_steps = h.few_steps;
   steps_were = omega (arith, ap (λ (z : BranchState). z.decoder.steps) rest, run.steps, long, h.steps_were);
   counts = few_more _ (40 * taken + 40) (40 * (taken + 1)) (omega arith) (few (40 * taken) h.counts);
 }
 
 -- at first
-pub first_kept : (x : StreamRx) (s t : Settings) (σ : Stream) (taken : ℕ) → s ≡ t → IsReady x → x.branch.most ≡ most_pairs t σ → most_pairs t σ ≤ 31752 → x.branch.decoder.steps ≡ 0 → AreFew x.counts 0 → taken ≡ 0 → IsKeptStream x (most_pairs s σ) taken
-first_kept x s t σ taken same ready most few none counts e =
-    subst (λ (z : Settings). IsKeptStream x (most_pairs z σ) taken) (sym same) (record { ready = ready; most = most; few_steps = few; steps_were = omega (arith, none); counts = few_more _ 0 (40 * taken) (omega arith) counts })
+pub first_kept : (x : StreamRx) (taken : ℕ) → IsReady x → x.branch.decoder.steps ≡ 0 → AreFew x.counts 0 → IsKeptStream x taken
+first_kept x taken ready none counts = record { ready = ready; steps_were = omega (arith, none); counts = few_more _ 0 (40 * taken) (omega arith) counts }

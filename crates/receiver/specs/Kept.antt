@@ -1,16 +1,13 @@
 -- What a receiver keeps.
 use Rattle.std.specs.Prelude.{◌≡◌, ℕ, ◌+◌, ◌^◌, ◌<◌, ◌≤◌, Bool, false}
-use Rattle.mode_set.specs.declared.modes.Stream.TheVariants.{Hp, Lp}
-use Rattle.mode_set.specs.declared.settings.Settings.{Settings}
-use Rattle.stream_decoders.specs.Rooms.{most_pairs}
 use Rattle.receiver.specs.Ready.{IsKeptStream}
 use Rattle.receiver.specs.declared.frames.FrameReader.{FrameReader}
 use Rattle.receiver.specs.declared.stream.StreamRx.{StreamRx}
 
 -- until the end both streams and the reader of TPS words have had the symbols taken
-pub record IsReceiving (settings : Settings) (taken : ℕ) (hp lp : StreamRx) (frames : FrameReader) (ended : Bool) : Type 0 where
-  pub hp_kept : ended ≡ false → IsKeptStream hp (most_pairs settings Hp) taken
-  pub lp_kept : ended ≡ false → IsKeptStream lp (most_pairs settings Lp) taken
+pub record IsReceiving (taken : ℕ) (hp lp : StreamRx) (frames : FrameReader) (ended : Bool) : Type 0 where
+  pub hp_kept : ended ≡ false → IsKeptStream hp taken
+  pub lp_kept : ended ≡ false → IsKeptStream lp taken
   pub few_taken : taken ≤ 2 ^ 32
   pub symbol : frames.symbol < 68
   pub few_frames : frames.read + frames.bad ≤ taken

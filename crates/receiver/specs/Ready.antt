@@ -24,10 +24,8 @@ pub record MayGive (x : StreamRx) : Type 0 where
   pub slots : 24 ≤ vec_capacity x.slots
   pub started : Started x.outer
 
--- a stream after so many symbols of at most so many steps each, before it has ended
-pub record IsKeptStream (x : StreamRx) (steps taken : ℕ) : Type 0 where
+-- a stream after so many symbols, each of at most 31,752 steps, before it has ended
+pub record IsKeptStream (x : StreamRx) (taken : ℕ) : Type 0 where
   pub ready : IsReady x
-  pub most : x.branch.most ≡ steps
-  pub few_steps : steps ≤ 31752
-  pub steps_were : x.branch.decoder.steps ≤ taken * steps
+  pub steps_were : x.branch.decoder.steps ≤ 31752 * taken
   pub counts : AreFew x.counts (40 * taken)

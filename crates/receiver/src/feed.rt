@@ -1,5 +1,5 @@
 // The receiver.
-ghost use Rattle.std.specs.Prelude.{◌≡◌, ◌+◌, ◌-◌, ◌*◌, ◌<◌, ◌≤◌, ◌^◌, ◌++◌, [], ℕ, List, IsTrue, true, false, min, take, length, IfOk};
+ghost use Rattle.std.specs.Prelude.{◌≡◌, ◌+◌, ◌-◌, ◌*◌, ◌<◌, ◌≤◌, ◌^◌, [], ℕ, List, IsTrue, true, false, min, take, length, IfOk};
 ghost use Rattle.mode_set.specs.declared.modes.Stream.TheVariants.{Hp, Lp};
 ghost use Rattle.symbol_spans.specs.Spans.{exists_in};
 ghost use Rattle.reception.specs.Streams.{so_far, at_end, start_of, Moment, Reception};
@@ -21,7 +21,7 @@ use rx_report::Counts;
 use std::alloc::{AllocError, Global};
 use std::marker::Model;
 use std::thread::Threads;
-use stream_decoders::{SymbolCosts, most_pairs, take_symbol};
+use stream_decoders::{SymbolCosts, take_symbol};
 use survivor_ring::RingSurvivors;
 use word_workers::{Gate, OpenGate};
 
@@ -55,7 +55,7 @@ impl<M: Carriers> Model for Receiver<M> {
       ended = x.ended;
     } };
 
-    ghost invariant = { λ x. IsReceiving x.cells.settings x.cells.taken x.hp x.lp x.frames x.ended };
+    ghost invariant = { λ x. IsReceiving x.cells.taken x.hp x.lp x.frames x.ended };
 }
 
 impl<M: Carriers> Receiver<M> {
@@ -72,8 +72,8 @@ impl<M: Carriers> Receiver<M> {
         reception::laws::costs();
         Ok(Receiver {
             cells: SymbolCosts::new(alloc, settings)?,
-            hp: StreamRx::new(alloc, settings.start, most_pairs(settings, Stream::Hp))?,
-            lp: StreamRx::new(alloc, settings.start, most_pairs(settings, Stream::Lp))?,
+            hp: StreamRx::new(alloc, settings.start)?,
+            lp: StreamRx::new(alloc, settings.start)?,
             frames: FrameReader::new(),
             ended: false,
         })

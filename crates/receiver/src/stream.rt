@@ -47,18 +47,16 @@ fn no_counts() -> StreamCounts
 }
 
 impl StreamRx {
-    /// A stream of which nothing was received, with room for the pairs of a symbol. The only error is want
-    /// of memory.
-    pub(crate) fn new(alloc: Global, start: Start, most: u32) -> Result<Self, AllocError>
+    /// A stream of which nothing was received. The only error is want of memory.
+    pub(crate) fn new(alloc: Global, start: Start) -> Result<Self, AllocError>
         ensures ready { IfOk result (λ x. IsReady x) }
         ensures steps { IfOk result (λ x. x.branch.decoder.steps ≡ 0) }
-        ensures most { IfOk result (λ x. x.branch.most ≡ most) }
         ensures counts { IfOk result (λ x. AreFew x.counts 0) }
         ensures stands { IfOk result (λ x. StreamStands so_far (seen x) (start_of start) [] [] no_words []) }
     {
         outer_chain::laws::receiving();
         Ok(StreamRx {
-            branch: begin(alloc, start, most)?,
+            branch: begin(alloc, start)?,
             outer: OuterRx::new(alloc)?,
             slots: Vec::with_capacity(alloc, WORDS)?,
             counts: no_counts(),
@@ -136,7 +134,6 @@ impl StreamRx {
         requires room { vec_len to.old + 4512 ≤ vec_capacity to.old }
         ensures ended { self.new.branch.decoder.ended ≡ true }
         ensures steps { self.new.branch.decoder.steps ≡ self.old.branch.decoder.steps }
-        ensures most { self.new.branch.most ≡ self.old.branch.most }
         ensures counts { (n : ℕ) → AreFew self.old.counts n → AreFew self.new.counts (n + 40) }
         ensures capacity { vec_capacity to.new ≡ vec_capacity to.old }
         ensures ended_stream { (a : Option (List Bool)) (c : List Pair) (given : List ℕ) (tally : Tally) (reports : List ℕ) → StreamStands so_far (seen self.old) a c given tally reports

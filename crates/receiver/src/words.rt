@@ -1,5 +1,5 @@
 // From the bits that a decoder gives to packets.
-ghost use Rattle.std.specs.Prelude.{◌≡◌, ◌+◌, ◌-◌, ◌*◌, ◌/◌, ◌<◌, ◌≤◌, ◌^◌, ◌++◌, ◌∷◌, [], ℕ, List, Bool, not, cond, length, vec_len, vec_capacity};
+ghost use Rattle.std.specs.Prelude.{◌≡◌, ◌+◌, ◌-◌, ◌*◌, ◌/◌, ◌<◌, ◌≤◌, ◌^◌, ◌++◌, [], ℕ, List, not, cond, length, vec_len, vec_capacity};
 ghost use Rattle.rs204.specs.Decoded.{Decoded};
 ghost use Rattle.outer_chain.specs.Words.{Tally, word_at, word_count};
 ghost use Rattle.outer_chain.specs.Running.{Finished, bytes_given, is_clean_outcome, is_corrected_outcome, is_bad_outcome};

@@ -1,13 +1,10 @@
 -- What a receiver that rescues words keeps.
 use Rattle.std.specs.Prelude.{◌≡◌, ℕ, ◌*◌, ◌^◌, ◌≤◌, Bool, false, List, Option, vec_capacity}
 use Rattle.code_paths.specs.declared.costs.CostPair.{CostPair}
-use Rattle.mode_set.specs.declared.modes.Stream.TheVariants.{Hp, Lp}
-use Rattle.mode_set.specs.declared.settings.Settings.{Settings}
 use Rattle.reception.specs.Streams.{so_far}
 use Rattle.rescue_words.specs.Rescued.{RescueTally}
 use Rattle.inner_decoder.specs.Running.{BranchState}
 use Rattle.stream_decoders.specs.Branches.{HasTaken}
-use Rattle.stream_decoders.specs.Rooms.{most_pairs}
 use Rattle.rescue.specs.Seen.{StreamState}
 use Rattle.rescue.specs.Standing.{StreamStands}
 use Rattle.rescue.specs.declared.stream.StreamRx.{StreamRx}
@@ -48,16 +45,14 @@ pub record IsReady (x : StreamRx) : Type 0 where
   pub room : HasRoom x
   pub some : StandsForSome (seen x)
 
--- a stream after so many symbols of at most so many steps each, before it has ended
-pub record IsKeptStream (x : StreamRx) (steps taken : ℕ) : Type 0 where
+-- a stream after so many symbols, each of at most 31,752 steps, before it has ended
+pub record IsKeptStream (x : StreamRx) (taken : ℕ) : Type 0 where
   pub ready : IsReady x
-  pub most : x.branch.most ≡ steps
-  pub few_steps : steps ≤ 31752
-  pub steps_were : x.branch.decoder.steps ≤ taken * steps
+  pub steps_were : x.branch.decoder.steps ≤ 31752 * taken
   pub counts : AreFew (seen x) (4400 * taken)
 
 -- until the end both streams have had the symbols taken
-pub record IsRescuing (settings : Settings) (taken : ℕ) (hp lp : StreamRx) (ended : Bool) : Type 0 where
-  pub hp_kept : ended ≡ false → IsKeptStream hp (most_pairs settings Hp) taken
-  pub lp_kept : ended ≡ false → IsKeptStream lp (most_pairs settings Lp) taken
+pub record IsRescuing (taken : ℕ) (hp lp : StreamRx) (ended : Bool) : Type 0 where
+  pub hp_kept : ended ≡ false → IsKeptStream hp taken
+  pub lp_kept : ended ≡ false → IsKeptStream lp taken
   pub few_taken : taken ≤ 2 ^ 32

@@ -1,5 +1,5 @@
 // The margins of bytes, block by block.
-ghost use Rattle.std.specs.Prelude.{◌≡◌, ◌+◌, ◌*◌, ◌<◌, ◌≤◌, ℕ, [], ◌∷◌, false, true, length, vec_len, vec_capacity};
+ghost use Rattle.std.specs.Prelude.{◌≡◌, ◌+◌, ◌*◌, ◌<◌, ◌≤◌, [], ◌∷◌, false, true, length, vec_len, vec_capacity};
 ghost use Rattle.rescue.specs.Moves.{Pushes, EndsMargins};
 
 use bit_margin::Margins;

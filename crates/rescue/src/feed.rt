@@ -16,7 +16,7 @@ use rescue_report::Counts;
 use std::alloc::{AllocError, Global};
 use std::marker::Model;
 use std::thread::Threads;
-use stream_decoders::{SymbolCosts, most_pairs, take_symbol};
+use stream_decoders::{SymbolCosts, take_symbol};
 use word_workers::OpenGate;
 
 /// Receives the cells of a transmission, as bytes that are cut anywhere, and gives the packets of its streams as far as they are
@@ -46,7 +46,7 @@ impl<M: Carriers> Model for Rescue<M> {
       ended = x.ended;
     } };
 
-    ghost invariant = { λ x. IsRescuing x.cells.settings x.cells.taken x.hp x.lp x.ended };
+    ghost invariant = { λ x. IsRescuing x.cells.taken x.hp x.lp x.ended };
 }
 
 impl<M: Carriers> Rescue<M> {
@@ -64,8 +64,8 @@ impl<M: Carriers> Rescue<M> {
         rescue_words::laws::receiving();
         Ok(Rescue {
             cells: SymbolCosts::new(alloc, settings)?,
-            hp: StreamRx::new(alloc, settings.start, most_pairs(settings, Stream::Hp))?,
-            lp: StreamRx::new(alloc, settings.start, most_pairs(settings, Stream::Lp))?,
+            hp: StreamRx::new(alloc, settings.start)?,
+            lp: StreamRx::new(alloc, settings.start)?,
             ended: false,
         })
     }

@@ -1,5 +1,5 @@
 // Bytes and their margins, which wait for one another.
-ghost use Rattle.std.specs.Prelude.{◌≡◌, ◌+◌, ◌*◌, ◌/◌, ◌<◌, ◌≤◌, ◌^◌, ◌++◌, ◌∷◌, [], drop, length, vec_len, vec_capacity};
+ghost use Rattle.std.specs.Prelude.{◌≡◌, ◌+◌, ◌/◌, ◌<◌, ◌≤◌, ◌^◌, ◌++◌, ◌∷◌, [], drop, length, vec_len, vec_capacity};
 ghost use Rattle.rescue.specs.Moves.{Passes, FinishesWords, GivesWords};
 
 use rescue_words::RescueWords;

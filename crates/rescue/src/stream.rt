@@ -1,5 +1,5 @@
 // The receiving of one stream whose words are rescued, symbol by symbol.
-ghost use Rattle.std.specs.Prelude.{◌≡◌, ◌+◌, ◌<◌, ◌≤◌, ◌^◌, ◌++◌, [], ℕ, List, Bool, false, true, drop, length, min, vec_len, vec_capacity, IfOk};
+ghost use Rattle.std.specs.Prelude.{◌≡◌, ◌+◌, ◌<◌, ◌≤◌, ◌^◌, ◌++◌, [], ℕ, List, Bool, false, length, vec_len, vec_capacity, IfOk};
 ghost use Rattle.std.specs.declared.option.Option.{Option};
 ghost use Rattle.code_paths.specs.declared.costs.CostPair.{CostPair as Pair};
 ghost use Rattle.inner_decoder.specs.Events.{ats};
@@ -42,16 +42,15 @@ pub(crate) struct StreamRx {
 }
 
 impl StreamRx {
-    /// A stream of which nothing was received, with room for so many pairs of a symbol. The only error is want of memory.
-    pub(crate) fn new(alloc: Global, start: Start, most: u32) -> Result<Self, AllocError>
+    /// A stream of which nothing was received. The only error is want of memory.
+    pub(crate) fn new(alloc: Global, start: Start) -> Result<Self, AllocError>
         ensures ready { IfOk result (λ x. IsReady x) }
-        ensures most { IfOk result (λ x. x.branch.most ≡ most) }
         ensures steps { IfOk result (λ x. x.branch.decoder.steps ≡ 0) }
         ensures counts { IfOk result (λ x. AreFew (seen x) 0) }
         ensures stands { IfOk result (λ x. StreamStands so_far (seen x) (start_of start) [] [] no_words []) }
     {
         Ok(StreamRx {
-            branch: begin(alloc, start, most)?,
+            branch: begin(alloc, start)?,
             margins: Margins::new(alloc, start_state(start))?,
             block: Vec::with_capacity(alloc, BLOCK)?,
             bytes: Vec::with_capacity(alloc, BYTES)?,

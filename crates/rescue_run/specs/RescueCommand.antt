@@ -18,6 +18,7 @@ rescue_command settings cells hp lp = record {
   writes = stream_names hp lp;
   statuses = 0 ∷ 3 ∷ 5 ∷ 6 ∷ 7 ∷ 8 ∷ 9 ∷ [];
   memory_at_work = false;
+  LacksAtWork = λ limit file. ⊥;
   early_refusal = λ file. fitting_refusal (file settings) lp;
   header = λ file. header_by (settings_of (file settings));
   work_refusal = λ limit file. option_and_then (λ s. reception_refusal s (cells_in (file cells))) (settings_of (file settings));

@@ -1,5 +1,4 @@
 // The work of `rescue` on the symbols of a file of cells.
-ghost use Rattle.std.specs.Prelude.{◌≡◌, ◌≤◌, ℕ, List};
 ghost use Rattle.rescue_report.specs.Text.{closing_lines};
 ghost use Rattle.rescue_run.specs.Closing.{few_lines};
 

@@ -49,6 +49,10 @@ const ALL_THREE: &str =
 const TWO_OF_NINE: &str =
     "symbols 30 tail 0\nhp words 16 clean 16 corrected 0 rescued 0 bad 0 unphased 0 unmerged 0\nlp words 30 clean 0 corrected 21 rescued 2 bad 7 unphased 0 unmerged 0\n";
 
+/// The lines of them all, behind which a close failed.
+const CLOSED_OF_TWO: &str =
+    "symbols 30 tail 0\nhp words 16 clean 16 corrected 0 rescued 0 bad 0 unphased 0 unmerged 0\nlp words 30 clean 0 corrected 21 rescued 2 bad 7 unphased 0 unmerged 0\nwrite fault\n";
+
 /// The super-frame of null packets in `BASE`, and none of its symbols.
 const WHOLE_NULLS: &str =
     "symbols 272 tail 0\nhp words 241 clean 241 corrected 0 rescued 0 bad 0 unphased 0 unmerged 0\n";
@@ -175,9 +179,20 @@ fn limits_of_symbols(rt: HostRuntime) -> Result<(), Fail> {
 }
 
 /// A call that fails, and what stands.
-static FAULTS: [(Failing, Found<'static>); 6] = [
+type Fault<'a> = (Failing, Found<'a>);
+
+/// Those of one stream.
+static FAULTS: [Fault<'static>; 8] = [
+    (
+        Failing::Read(InPort::Settings, 1),
+        (5, "read fault\n", NONE, NONE),
+    ),
     (
         Failing::Attach(InPort::Cells, 1),
+        (5, "read fault\n", NONE, NONE),
+    ),
+    (
+        Failing::Read(InPort::Cells, 1),
         (5, "read fault\n", NONE, NONE),
     ),
     (
@@ -199,32 +214,82 @@ static FAULTS: [(Failing, Found<'static>); 6] = [
     (Failing::Close(OutPort::Hp, 1), (6, CLOSED, ALL, NONE)),
 ];
 
+/// Those of two streams at LP, whose first two packets come with the tenth symbol.
+static FAULTS_OF_LP: [Fault<'static>; 3] = [
+    (
+        Failing::Create(OutPort::Lp, 1),
+        (6, "write fault\n", NONE, NONE),
+    ),
+    (
+        Failing::Write(OutPort::Lp, 1),
+        (6, "write fault\n", NONE, (188, 2_061_598_505)),
+    ),
+    (
+        Failing::Close(OutPort::Lp, 1),
+        (
+            6,
+            CLOSED_OF_TWO,
+            (3_008, 2_915_110_544),
+            (5_640, 3_964_788_347),
+        ),
+    ),
+];
+
+// The number, from 0, of the first call of which this file leaves something else where it fails.
+fn first_wrong<R: Threads + Sync>(
+    rt: &R,
+    alloc: Global,
+    (words, settings): (&str, &str),
+    file: &[u8],
+    faults: &[Fault<'_>],
+) -> Result<Option<usize>, AllocError> {
+    for (number, (call, found)) in faults.iter().enumerate() {
+        let conditions = Conditions {
+            failing: Some(*call),
+            ..ample(SUPER_FRAME)
+        };
+        if !leaves(rt, alloc, words, (settings, ""), file, conditions, *found)? {
+            return Ok(Some(number));
+        }
+    }
+    Ok(None)
+}
+
 // One call of the station fails. A write that fails writes the first half of its bytes.
 #[test]
 fn faults_of_the_station(rt: HostRuntime) -> Result<(), Fail> {
     let alloc = rt.alloc();
     let file = disturbed(&rt, alloc, (SIXTEEN, 20, 7_380), false)?;
-    for (place, (call, found)) in FAULTS.iter().enumerate() {
-        let conditions = Conditions {
-            failing: Some(*call),
-            ..ample(SUPER_FRAME)
-        };
-        let settings = (SIXTEEN, "");
-        let is_so = leaves(
+    let run = ("rescue s a hp", SIXTEEN);
+    assert_eq!(rt; first_wrong(&rt, alloc, run, &file, &FAULTS)?, None);
+    let layered = disturbed(&rt, alloc, (LAYERED, 30, 2_680), true)?;
+    let run = ("rescue s a hp lp", LAYERED);
+    assert_eq!(rt;
+        first_wrong(&rt, alloc, run, &layered, &FAULTS_OF_LP)?,
+        None
+    );
+    // within the header of the cells
+    let pieces = Conditions {
+        most: 5,
+        failing: Some(Failing::Read(InPort::Cells, 2)),
+        ..ample(SUPER_FRAME)
+    };
+    let found = (5, "read fault\n", NONE, NONE);
+    assert!(rt;
+        leaves(
             &rt,
             alloc,
             "rescue s a hp",
-            settings,
+            (SIXTEEN, ""),
             &file,
-            conditions,
-            *found,
-        )?;
-        assert!(rt; is_so, "fault {}", place);
-    }
+            pieces,
+            found
+        )?
+    );
     Ok(())
 }
 
-// The super-frame of null packets, its header and parts of it, and forms that do not fit.
+// The super-frame of null packets, its header and parts of it, forms that do not fit, and refused settings.
 #[test]
 fn null_super_frame(rt: HostRuntime) -> Result<(), Fail> {
     let alloc = rt.alloc();
@@ -233,6 +298,7 @@ fn null_super_frame(rt: HostRuntime) -> Result<(), Fail> {
     let one = "rescue s a hp";
     let two = "rescue s a hp lp";
     let form = (3, "settings form\n", NONE, NONE);
+    let unknown = (3, "settings unknown 0\n", NONE, NONE);
     let header = (9, "cells header\n", NONE, NONE);
     let packets = (45_308, 481_694_105);
     let cases = [
@@ -241,6 +307,7 @@ fn null_super_frame(rt: HostRuntime) -> Result<(), Fail> {
         (one, BASE, 7, header),
         (two, BASE, 8, form),
         (one, LAYERED, 8, form),
+        (one, "colour = \"red\"\n", 8, unknown),
         ("rescue s a", BASE, 8, (2, "usage\n", NONE, NONE)),
     ];
     for (words, settings, length, found) in cases {

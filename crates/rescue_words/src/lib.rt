@@ -14,6 +14,6 @@ mod words;
 
 pub use bytes::push_byte_margins;
 pub use counts::{RescueCounts, WordKind};
-pub use lines::{MarginLines, MarginRx};
+pub use lines::MarginRx;
 pub use recovery::recover;
 pub use words::RescueWords;

@@ -1,6 +1,6 @@
 // Division of a word by the generator, four bytes at a time.
 
-ghost use Rattle.std.specs.Prelude.{◌≡◌, ℕ, List};
+ghost use Rattle.std.specs.Prelude.{ℕ, List};
 ghost use Rattle.rs204.specs.Codes.{rest_of};
 ghost use Rattle.rs204.specs.Division.{Holds, divided};
 

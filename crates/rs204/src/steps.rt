@@ -1,7 +1,7 @@
 // The steps of decoding, for each decoder of this code: the syndromes, a locator of the errors, and
 // the word put right where the locator is 0.
 
-ghost use Rattle.std.specs.Prelude.{◌≡◌, [], ◌∷◌, ◌≢◌, ◌+◌, ◌-◌, ◌<◌, ◌≤◌, ℕ, List, length, map, slice_index, bit_xor, take, IsTrue, ◌↔◌};
+ghost use Rattle.std.specs.Prelude.{◌≡◌, ◌+◌, ◌-◌, ◌<◌, ◌≤◌, ℕ, List, length, map, slice_index, bit_xor, take, IsTrue, ◌↔◌};
 ghost use Rattle.gf256.specs.Field as field;
 ghost use Rattle.rs204.specs.Codes.{AreBytes, IsCodeword, distance, plus, rest_of};
 ghost use Rattle.rs204.specs.Polynomials.{IsNonzero, along};
@@ -202,7 +202,7 @@ pub fn places_apart(a: &[u8; 204], b: &[u8; 204]) -> u8
 /// Takes a place out of the values of errors. `place` is the power of λ that stands for it.
 ///
 /// Each value but the last becomes the next one plus `place` times itself. What an error at this
-/// place adds to them is gone. The last value means nothing afterwards.
+/// place adds to them is gone. The last value means nothing afterwards. There is at least one value.
 pub fn take_out(moments: &mut [u8], place: u8)
     requires { 0 < length moments.old }
     ensures size { length moments.new ≡ length moments.old }

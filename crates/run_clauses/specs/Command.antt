@@ -24,6 +24,8 @@ pub record Command : Type 1 where
   pub statuses : List ℕ
   -- it takes memory within its work too, and not only before another file than the settings is asked for
   pub memory_at_work : Bool
+  -- what is so of the files where it lacks memory there; the number is that of `work_refusal`
+  pub LacksAtWork : ℕ → Files → Type 0
   -- why its words or its settings are refused, if they are
   pub early_refusal : Files → Option Refusal
   -- the header with which the cells that it reads must begin, if they must begin with one

@@ -70,6 +70,8 @@ pub record Run (c : Command) (limit : ℕ) (old new : Meaning) (status : ℕ) : 
   -- LP's input is asked for only where HP's was opened, and an output only where every input was.
   pub lp_behind_hp : (new.lp.asked ≡ None) ⊎ (new.hp.attached ≡ true)
   pub outputs_behind_inputs : (out : OutPort) → ((sink_at out new).asked ≡ None) ⊎ ((port : InPort) → IsInput c port → (source_at port new).attached ≡ true)
+  -- An output that was not asked for was not made.
+  pub unasked : (out : OutPort) → IsOutput c out → (sink_at out new).asked ≡ None → IsUntouched (sink_at out new)
   -- LP's output is asked for only where HP's was made.
   pub lp_made_behind_hp : (new.lp_out.asked ≡ None) ⊎ (new.hp_out.created ≡ true)
   -- And (where contents are told) only where the cells begin with their header, and it was read.
@@ -95,9 +97,11 @@ pub record Run (c : Command) (limit : ℕ) (old new : Meaning) (status : ℕ) : 
   pub done : old.tells ≡ true → status ≡ 0 → (out : OutPort) → IsOutput c out → c.Comes limit old.file out (sink_at out new).written
   pub done_report : old.tells ≡ true → status ≡ 0 → c.Prints limit old.file new.report.written
   -- AT 2, 3 AND 7: words of no form, refused settings, want of memory
-  -- No file but the settings was asked for. (At 7 every output may stand made and empty, if the work takes memory.) Report holds the text.
+  -- No file but the settings was asked for. (At 7 every output may stand made and empty, if the work takes memory and, where contents are told, the files
+  -- are such that it may lack it.) Report holds the text.
   pub early : is_among status (2 ∷ 3 ∷ []) ≡ true → AsksSettingsAlone new
   pub lacking : status ≡ 7 → AsksSettingsAlone new ⊎ ((c.memory_at_work ≡ true) × AreMadeEmpty c new)
+  pub lacking_at_work : old.tells ≡ true → status ≡ 7 → AsksSettingsAlone new ⊎ c.LacksAtWork limit old.file
   pub early_report : old.tells ≡ true → is_among status (2 ∷ 3 ∷ 7 ∷ []) ≡ true → Reports old new [] (text_at c limit old.file status)
   -- AT 9: cells without their header
   -- No output was asked for or made. Of the cells no more was taken than the header. Report holds the text.

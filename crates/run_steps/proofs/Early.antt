@@ -4,7 +4,7 @@ use Rattle.std.proofs.Common.{◌≡◌, ◌≢◌, ◌⊎◌, inl, inr, true, f
 use Rattle.std.specs.Prelude.{is_some, if◌then◌else◌}
 use Rattle.std.specs.Option.{option_or}
 use Rattle.std.proofs.lemmas.Bool.{true≢false}
-use Rattle.station_core.specs.Meaning.{Meaning, Source, Sink, IsFresh, source_at, sink_at}
+use Rattle.station_core.specs.Meaning.{Meaning, Source, Sink, IsFresh, IsUntouched, source_at, sink_at}
 use Rattle.station_core.specs.Causes.{Rose}
 use Rattle.station_core.specs.declared.ports.InPort.{InPort}
 use Rattle.station_core.specs.declared.ports.InPort.TheVariants as ins
@@ -74,12 +74,15 @@ module _ (c : Command) (limit : ℕ) (name : List ℕ) (old mid : Meaning) (no_r
   unasked outs.Bytes = ap (λ (s : Sink). s.asked) (sink_same outs.Bytes) ∙ fresh.bytes_out.asked
   unasked outs.Report = ap (λ (s : Sink). s.asked) (sink_same outs.Report) ∙ fresh.report_asked
 
+  untouched : (port : OutPort) → IsOutput c port → IsUntouched (sink_at port mid)
+  untouched outs.Cells is = subst IsUntouched (sym (sink_same outs.Cells)) fresh.cells_out
+  untouched outs.Hp is = subst IsUntouched (sym (sink_same outs.Hp)) fresh.hp_out
+  untouched outs.Lp is = subst IsUntouched (sym (sink_same outs.Lp)) fresh.lp_out
+  untouched outs.Bytes is = subst IsUntouched (sym (sink_same outs.Bytes)) fresh.bytes_out
+  untouched outs.Report is = absurd (true≢false (sym is ∙ ap is_some no_report))
+
   unmade : (port : OutPort) → IsOutput c port → (sink_at port mid).created ≡ true → ⊥
-  unmade outs.Cells is made = true≢false (sym made ∙ ap (λ (s : Sink). s.created) (sink_same outs.Cells) ∙ fresh.cells_out.created)
-  unmade outs.Hp is made = true≢false (sym made ∙ ap (λ (s : Sink). s.created) (sink_same outs.Hp) ∙ fresh.hp_out.created)
-  unmade outs.Lp is made = true≢false (sym made ∙ ap (λ (s : Sink). s.created) (sink_same outs.Lp) ∙ fresh.lp_out.created)
-  unmade outs.Bytes is made = true≢false (sym made ∙ ap (λ (s : Sink). s.created) (sink_same outs.Bytes) ∙ fresh.bytes_out.created)
-  unmade outs.Report is made = true≢false (sym is ∙ ap is_some no_report)
+  unmade port is made = true≢false (sym made ∙ (untouched port is).created)
 
   unopened : (port : InPort) → port ≢ ins.Settings → (source_at port mid).attached ≡ false
   unopened ins.Settings other = absurd (other refl)
@@ -195,6 +198,7 @@ module _ (c : Command) (limit : ℕ) (name : List ℕ) (old mid : Meaning) (no_r
     settings_first = λ is. inl alone;
     lp_behind_hp = inl (alone.sources ins.Lp (λ is. cc));
     outputs_behind_inputs = λ out. inl (unasked out);
+    unasked = λ out is none. untouched out is;
     outputs_behind_header = λ t out. inl (unasked out);
     lp_made_behind_hp = inl (unasked outs.Lp);
     work_behind_outputs = λ t port other is. inl (0, omega arith, whole port other ∙ ap (λ (f : Files). input_file f c port) (sym files_same));

@@ -34,6 +34,7 @@ run_done c limit old new e = record {
   settings_first = e.settings_first;
   lp_behind_hp = e.lp_behind_hp;
   outputs_behind_inputs = e.outputs_behind_inputs;
+  unasked = e.unasked;
   outputs_behind_header = e.outputs_behind_header;
   lp_made_behind_hp = e.lp_made_behind_hp;
   work_behind_outputs = e.work_behind_outputs;
@@ -49,6 +50,7 @@ run_done c limit old new e = record {
   done_report = λ t is. e.leaves.report t;
   early = λ is. absurd (true≢false (sym is));
   lacking = λ is. absurd (omega arith);
+  lacking_at_work = λ t is. absurd (omega arith);
   early_report = λ t is. absurd (true≢false (sym is));
   unheaded = λ is. absurd (omega arith);
   unheaded_taken = λ t is. absurd (omega arith);
@@ -162,7 +164,7 @@ module _ (c : Command) (limit : ℕ) (old mid new : Meaning) (text : List ℕ) (
         → (is_among status (0 ∷ 4 ∷ 8 ∷ 10 ∷ 11 ∷ []) ≡ true → Hold c limit old mid)
         → (is_among status (4 ∷ 8 ∷ 10 ∷ 11 ∷ []) ≡ true → Hold c limit old mid)
         → (is_among status (2 ∷ 3 ∷ []) ≡ true → HoldNothing old mid)
-        → (status ≡ 7 → HoldNothing old mid ⊎ HoldEmpty c old mid)
+        → (status ≡ 7 → HoldNothing old mid ⊎ HoldEmpty c limit old mid)
         → (status ≡ 5 → HoldSoFar c limit old mid)
         → (status ≡ 6 → HoldFronts c limit old mid)
         → (status ≡ 9 → HoldUnheaded c old mid)
@@ -183,6 +185,7 @@ module _ (c : Command) (limit : ℕ) (old mid new : Meaning) (text : List ℕ) (
       lp_behind_hp = subst (λ (s : Source). (s.asked ≡ None) ⊎ (new.hp.attached ≡ true)) (sym (source_same ins.Lp))
           (subst (λ (s : Source). (mid.lp.asked ≡ None) ⊎ (s.attached ≡ true)) (sym (source_same ins.Hp)) e.lp_behind_hp);
       outputs_behind_inputs = λ out. behind out (e.outputs_behind_inputs out);
+      unasked = λ out is none. subst IsUntouched (sym (sink_same e.no_report out is)) (e.unasked out is (sym (asked_same out) ∙ none));
       outputs_behind_header = λ t out. headed t out (e.outputs_behind_header t out);
       lp_made_behind_hp = subst (λ (m : Meaning). (m.lp_out.asked ≡ None) ⊎ (m.hp_out.created ≡ true)) (sym tells.others) e.lp_made_behind_hp;
       work_behind_outputs = λ t port other is. untaken port (e.work_behind_outputs t port other is);
@@ -198,6 +201,7 @@ module _ (c : Command) (limit : ℕ) (old mid new : Meaning) (text : List ℕ) (
       done_report = λ t is. absurd (undone is);
       early = λ is. alone_same (nothing is).asks;
       lacking = λ is. lacking (lacks is);
+      lacking_at_work = λ t is. elim (lacks is) [ inl none ↦ inl (alone_same none.asks) | inr empty ↦ inr (empty.lacks t) ];
       early_report = λ t is. told_after t e.same_telling e.later_report [] (none_printed t is (cases_early status is)) (text_at c limit old.file status) (named t);
       unheaded = λ is out output. subst IsUntouched (sym (sink_same e.no_report out output)) ((unheaded is).outputs out output);
       unheaded_taken = λ t is port other reads. untaken_same port ((unheaded is).taken t port other reads);
@@ -228,7 +232,7 @@ module _ (c : Command) (limit : ℕ) (old mid new : Meaning) (text : List ℕ) (
       own = e.own;
     }
       where
-        lacking : HoldNothing old mid ⊎ HoldEmpty c old mid → AsksSettingsAlone new ⊎ ((c.memory_at_work ≡ true) × AreMadeEmpty c new)
+        lacking : HoldNothing old mid ⊎ HoldEmpty c limit old mid → AsksSettingsAlone new ⊎ ((c.memory_at_work ≡ true) × AreMadeEmpty c new)
         lacking (inl none) = inl (alone_same none.asks)
         lacking (inr empty) = inr (
           empty.at_work,

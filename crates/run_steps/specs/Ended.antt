@@ -78,9 +78,10 @@ pub record HoldUnheaded (c : Command) (old mid : Meaning) : Type 0 where
   pub taken : old.tells ≡ true → (port : InPort) → port ≢ ins.Settings → IsInput c port → IsUntaken c mid port
   pub report : old.tells ≡ true → mid.report.written ≡ []
 
--- or, of a command that takes memory within its work: every output was made and none holds a byte, nor does Report
-pub record HoldEmpty (c : Command) (old mid : Meaning) : Type 0 where
+-- or, of a command that takes memory within its work, and files with which it may lack it: every output was made and none holds a byte, nor does Report
+pub record HoldEmpty (c : Command) (limit : ℕ) (old mid : Meaning) : Type 0 where
   pub at_work : c.memory_at_work ≡ true
+  pub lacks : old.tells ≡ true → c.LacksAtWork limit old.file
   pub outputs : AreMadeEmpty c mid
   pub report : old.tells ≡ true → mid.report.written ≡ []
 
@@ -92,7 +93,7 @@ Leaves c limit old mid (Some ReadFault) = HoldSoFar c limit old mid
 Leaves c limit old mid (Some WriteFault) = HoldFronts c limit old mid
 Leaves c limit old mid (Some Usage) = HoldNothing old mid
 Leaves c limit old mid (Some (Settings reason)) = HoldNothing old mid
-Leaves c limit old mid (Some Memory) = HoldNothing old mid ⊎ HoldEmpty c old mid
+Leaves c limit old mid (Some Memory) = HoldNothing old mid ⊎ HoldEmpty c limit old mid
 Leaves c limit old mid (Some (Cells Header)) = HoldUnheaded c old mid
 Leaves c limit old mid (Some (Cells NoPlace)) = Hold c limit old mid
 Leaves c limit old mid (Some (Cells AnnouncedForm)) = Hold c limit old mid
@@ -112,6 +113,7 @@ pub record Ended (c : Command) (limit : ℕ) (old mid : Meaning) (r : Option Ref
       ⊎ ((mid.settings.attached ≡ true) × (old.tells ≡ true → (mid.settings.left ≡ []) × (c.early_refusal old.file ≡ None)))
   pub lp_behind_hp : (mid.lp.asked ≡ None) ⊎ (mid.hp.attached ≡ true)
   pub outputs_behind_inputs : (out : OutPort) → ((sink_at out mid).asked ≡ None) ⊎ ((port : InPort) → IsInput c port → (source_at port mid).attached ≡ true)
+  pub unasked : (out : OutPort) → IsOutput c out → (sink_at out mid).asked ≡ None → IsUntouched (sink_at out mid)
   pub outputs_behind_header : old.tells ≡ true → (out : OutPort) → ((sink_at out mid).asked ≡ None) ⊎ IsHeaderTaken (c.header old.file) (input_file old.file c ins.Cells) (unread c mid ins.Cells)
   pub lp_made_behind_hp : (mid.lp_out.asked ≡ None) ⊎ (mid.hp_out.created ≡ true)
   pub work_behind_outputs : old.tells ≡ true → (port : InPort) → port ≢ ins.Settings → IsInput c port → IsUntaken c mid port ⊎ AreMade c mid

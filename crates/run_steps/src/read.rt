@@ -1,5 +1,5 @@
 // Reading a port until a buffer is full or the input ends.
-ghost use Rattle.std.specs.Prelude.{◌≡◌, ◌≤◌, ◌<◌, ℕ, true, take, drop, length, IfOk, OnErr, OnOk, IsTrue};
+ghost use Rattle.std.specs.Prelude.{◌≡◌, ◌≤◌, ◌<◌, ℕ, true, length, IfOk, OnErr, IsTrue};
 ghost use Rattle.station_core.specs.Causes.{Rose};
 ghost use Rattle.station_core.specs.Meaning.{source_at, with_source, read_source, with_read_faults};
 ghost use Rattle.run_steps.specs.Reading.{ReadsFront};

@@ -14,9 +14,6 @@ pub const LAYERED: &str =
 pub const WHOLE_NULLS: &str =
     "symbols 272 tail 0\ntps read 4 bad 0\nhp words 241 clean 241 corrected 0 bad 0 unphased 0 unmerged 0\n";
 
-/// Two inputs without a packet.
-pub const NO_FILES: (File, File) = (File::Nulls(0, 0), File::Nulls(0, 0));
-
 /// A transport file.
 #[derive(Clone, Copy)]
 pub enum File {

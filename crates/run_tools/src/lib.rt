@@ -10,6 +10,6 @@ mod meeting;
 mod runs;
 
 pub use cells::{Found, NONE, SUPER_FRAME, SYMBOL, noisy, null_cells, stands};
-pub use files::{BASE, File, LAYERED, NO_FILES, WHOLE_NULLS, checksum, text_bytes};
+pub use files::{BASE, File, LAYERED, WHOLE_NULLS, checksum, text_bytes};
 pub use meeting::{Flags, Meeting};
-pub use runs::{Conditions, Ran, ample, run_files, run_gated_files, station_of, words_of};
+pub use runs::{Conditions, Ran, ample, run_files, run_gated_files, words_of};

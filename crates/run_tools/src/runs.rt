@@ -86,7 +86,7 @@ fn named(
 
 /// A station for one run, with the settings under the name `s` and two files under the names `a` and `b`.
 /// At least one byte a read is asked for. The only error is want of memory.
-pub fn station_of<'a>(
+fn station_of<'a>(
     alloc: Global,
     settings: Vec<u8>,
     inputs: (Vec<u8>, Vec<u8>),

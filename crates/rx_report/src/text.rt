@@ -1,7 +1,6 @@
 // The lines of a reception's report.
-ghost use Rattle.std.specs.Prelude.{◌≡◌, ◌≤◌, ◌<◌, ◌+◌, ◌++◌, ◌↔◌, Some, IsNone, IfSome, codes, decimal, length, slice_get};
-ghost use Rattle.arrayvec.specs.ArrayString.{array_string_len};
-ghost use Rattle.rx_report.specs.Text.{symbols_line, tps_line, stream_line, lp_lines, closing_lines, event_line};
+ghost use Rattle.std.specs.Prelude.{◌≡◌, ◌≤◌, ◌<◌, ◌↔◌, Some, IsNone, IfSome, length, slice_get};
+ghost use Rattle.rx_report.specs.Text.{symbols_line, tps_line, stream_line, closing_lines, event_line};
 
 use crate::{Counts, Event, StreamCounts};
 use mode_set::Stream;

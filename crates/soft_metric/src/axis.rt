@@ -20,12 +20,12 @@ pub struct AxisMetric {
     shape: Shape,
     hierarchy: Hierarchy,
     // from the outermost to the innermost
-    rings: [u16; 4],
+    levels: [u16; 4],
 }
 
 impl Model for AxisMetric {
     ghost use Rattle.std.specs.Prelude.{◌≡◌};
-    ghost use Rattle.mode_set.specs.Levels.{levels};
+    ghost use Rattle.mode_set.specs.Levels.{levels as levels_of};
     ghost use Rattle.mode_set.specs.declared.modes.Shape.{Shape};
     ghost use Rattle.mode_set.specs.declared.modes.Hierarchy.{Hierarchy};
     ghost use Rattle.soft_metric.specs.Costs.{four_levels};
@@ -34,11 +34,11 @@ impl Model for AxisMetric {
 
     ghost view = { λ m. (m.shape, m.hierarchy) };
 
-    ghost invariant = { λ m. m.rings ≡ four_levels (levels m.shape m.hierarchy) };
+    ghost invariant = { λ m. m.levels ≡ four_levels (levels_of m.shape m.hierarchy) };
 }
 
 // Four levels: each of one or two levels again for the bits that choose none.
-fn rings_of(shape: Shape, hierarchy: Hierarchy) -> [u16; 4]
+fn four_levels(shape: Shape, hierarchy: Hierarchy) -> [u16; 4]
     ensures { result ≡ four_levels (levels_of shape hierarchy) }
 {
     let levels = levels(shape, hierarchy);
@@ -112,7 +112,7 @@ impl AxisMetric {
         AxisMetric {
             shape,
             hierarchy,
-            rings: rings_of(shape, hierarchy),
+            levels: four_levels(shape, hierarchy),
         }
     }
 
@@ -123,7 +123,7 @@ impl AxisMetric {
         ensures costs { (e : ℕ) → e < label_bits self.now.0 → slice_index_or result (e / 2) (0, 0) ≡ (cost self.now.0 self.now.1 x e false, cost self.now.0 self.now.1 x e true) }
         ensures small { (k : ℕ) → k < 3 → IsSmallPair (slice_index_or result k (0, 0)) }
     {
-        costs_of(self.rings, x >= 0, x.unsigned_abs() as u32)
+        costs_of(self.levels, x >= 0, x.unsigned_abs() as u32)
     }
     /// The costs of the values 0 and 1 at a place of the label of each of sixteen cells.
     pub fn costs_lanes(&self, cells: &[Cell; 16], place: u8) -> [(u16, u16); 16]
@@ -131,7 +131,7 @@ impl AxisMetric {
         ensures costs { (k : ℕ) (d : AnyCell) → k < 16 → slice_index_or result k (0, 0) ≡ costs_at_place self.now.0 self.now.1 (slice_index_or cells.now k d) place }
         ensures small { (k : ℕ) → k < 16 → IsSmallPair (slice_index_or result k (0, 0)) }
     {
-        costs_by_lanes(self.shape, self.hierarchy, self.rings, cells, place)
+        costs_by_lanes(self.shape, self.hierarchy, self.levels, cells, place)
     }
 
     /// Writes the costs of the values 0 and 1 at each place of the label of each of many cells, by the
@@ -146,6 +146,6 @@ impl AxisMetric {
         ensures rest { (k : ℕ) → label_bits self.now.0 * length cells.now ≤ k → slice_index_or to.new k (0, 0) ≡ slice_index_or to.old k (0, 0) }
         ensures long { length to.new ≡ length to.old }
     {
-        write_planes(self.shape, self.hierarchy, self.rings, cells, weights, to);
+        write_planes(self.shape, self.hierarchy, self.levels, cells, weights, to);
     }
 }

@@ -1,5 +1,5 @@
 // The costs of single bits.
-ghost use Rattle.std.specs.Prelude.{◌≡◌, ◌<◌, ◌≤◌, ℕ, slice_index_or, true, false};
+ghost use Rattle.std.specs.Prelude.{◌≡◌, ◌<◌, ℕ, slice_index_or, true, false};
 ghost use Rattle.mode_set.specs.StreamTable.{label_bits};
 ghost use Rattle.qam_map.specs.Points.{on_axis};
 ghost use Rattle.qam_map.specs.declared.cell.Cell.{Cell as AnyCell};
@@ -13,7 +13,8 @@ use qam_map::Cell;
 /// The costs of the values 0 and 1 of the bit at a place of the label that a cell carries.
 ///
 /// The cost of a value is the least squared distance of the cell, on the place's axis, to the
-/// points whose label has the value there, divided by 2^18 and rounded down, and at most 4095.
+/// points whose label has the value there, divided by 2^18 and rounded down, and at most 4095. The place
+/// is below the number of bits a cell.
 pub fn costs(shape: Shape, hierarchy: Hierarchy, cell: Cell, place: u8) -> (u16, u16)
     requires { place < label_bits shape }
     ensures zero { result.0 ≡ cost shape hierarchy (on_axis cell place) place false }

@@ -1,18 +1,11 @@
 // Costs by the weight of their cell.
-ghost use Rattle.std.specs.Prelude.{◌≡◌, ◌*◌, ◌/◌, ◌%◌, ◌^◌, ◌<◌, ◌≤◌, ℕ, slice_index, slice_index_or};
+ghost use Rattle.std.specs.Prelude.{◌≡◌, ◌*◌, ◌/◌, ◌%◌, ◌^◌, ◌≤◌};
 ghost use Rattle.std.specs.Simd.Lanes.{zip2};
-ghost use Rattle.mode_set.specs.Levels.{levels as levels_of};
-ghost use Rattle.mode_set.specs.StreamTable.{label_bits};
-ghost use Rattle.qam_map.specs.declared.cell.Cell.{Cell as AnyCell};
-ghost use Rattle.soft_metric.specs.Costs.{costs_at_place, four_levels};
-ghost use Rattle.soft_metric.specs.Squares.{IsSmallPair, pair_at};
+ghost use Rattle.soft_metric.specs.Squares.{IsSmallPair};
 ghost use Rattle.soft_metric.specs.Weights.{weighted as weighted_by};
 
-use crate::lanes::{in_pairs, lane_costs, values_of};
-use mode_set::{Hierarchy, Shape};
-use qam_map::Cell;
 use std::simd::num::SimdUint;
-use std::simd::{u8x16, u16x16, u32x16};
+use std::simd::{u16x16, u32x16};
 
 /// The costs of the values 0 and 1 of a bit, weighed by how far its cell can be trusted: each is
 /// multiplied by the weight and divided by 15, rounded down.

@@ -10,10 +10,15 @@ use std::alloc::{AllocError, Global};
 /// A call that is to fail: the n-th, from 1, of its kind at its port.
 #[derive(Clone, Copy, Debug, PartialEq, Eq)]
 pub enum Failing {
+    /// The opening of a file to be read.
     Attach(InPort, u64),
+    /// A read.
     Read(InPort, u64),
+    /// The making of an output.
     Create(OutPort, u64),
+    /// A write.
     Write(OutPort, u64),
+    /// The close of an output.
     Close(OutPort, u64),
 }
 

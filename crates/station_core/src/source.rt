@@ -1,5 +1,5 @@
 // A port of a station in memory that is read, and the files that it reads.
-ghost use Rattle.std.specs.Prelude.{◌≡◌, ◌≤◌, ◌<◌, ◌↔◌, ◌⊎◌, min, length, take, is_some, true, false, IfSome, IsNone, OnOk, OnErr, IfOk, IsTrue, IsErr};
+ghost use Rattle.std.specs.Prelude.{◌≡◌, ◌≤◌, ◌<◌, ◌↔◌, ◌⊎◌, min, length, take, is_some, true, false, IfSome, IsNone, OnOk, OnErr, IsTrue, IsErr};
 ghost use Rattle.station_core.specs.Causes.{Rose, greatest_count};
 ghost use Rattle.station_core.specs.Files.{Files, content_at, found, has_file};
 
@@ -53,7 +53,7 @@ impl<'a> Reading<'a> {
     ghost use Rattle.station_core.specs.Meaning.{attached_source, asked_source, no_source};
     ghost use Rattle.station_core.specs.Sources.{source_of, Reads, ReadsOrFails};
     ghost use Rattle.station_core.specs.Files.{Files, found, has_file};
-    ghost use Rattle.std.specs.Prelude.{◌≡◌, ◌≤◌, ◌<◌, ◌↔◌, ◌⊎◌, length, is_some, true, false, OnOk, OnErr, IfOk, IsTrue, IsErr};
+    ghost use Rattle.std.specs.Prelude.{◌≡◌, ◌≤◌, ◌<◌, ◌↔◌, ◌⊎◌, length, is_some, true, false, OnOk, OnErr, IsTrue, IsErr};
     ghost use Rattle.station_core.specs.Causes.{Rose, greatest_count};
 
     // A port at which nothing was asked.

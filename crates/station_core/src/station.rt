@@ -1,5 +1,5 @@
 // The trait of the outside.
-ghost use Rattle.std.specs.Prelude.{◌≡◌, ◌<◌, ◌≤◌, ◌↔◌, ◌≢◌, ℕ, true, false, [], List, length, take, None, Some, IfOk, OnOk, OnErr, IsTrue};
+ghost use Rattle.std.specs.Prelude.{◌≡◌, ◌<◌, ◌≤◌, ◌≢◌, ℕ, true, false, [], length, take, None, IfOk, OnOk, OnErr, IsTrue};
 ghost use Rattle.station_core.specs.Causes.{Rose, greatest_count};
 ghost use Rattle.station_core.specs.Meaning.{Meaning, source_at, sink_at, with_source, with_sink, with_read_faults, with_write_faults, with_close_faults, with_failed_write, asked_source, attached_source, read_source, asked_sink, created_sink, written_sink, closed_sink};
 ghost use Rattle.station_core.specs.declared.ports.OutPort.TheVariants.{Report};

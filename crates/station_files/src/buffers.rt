@@ -7,13 +7,21 @@ pub const BUFFER: usize = 32768;
 /// Memory for the eight ports of a station.
 #[derive(Drop)]
 pub struct Buffers {
+    /// What was read of the settings.
     pub settings: Vec<u8>,
+    /// What was read of HP.
     pub hp: Vec<u8>,
+    /// What was read of LP.
     pub lp: Vec<u8>,
+    /// What was read of the cells.
     pub cells: Vec<u8>,
+    /// What is to be written to the cells.
     pub cells_out: Vec<u8>,
+    /// What is to be written to HP.
     pub hp_out: Vec<u8>,
+    /// What is to be written to LP.
     pub lp_out: Vec<u8>,
+    /// What is to be written to the bytes of `disperse`, `outer` and `inner`.
     pub bytes_out: Vec<u8>,
 }
 

@@ -1,5 +1,5 @@
 // Calls of the system that are tried again where a signal interrupts them.
-ghost use Rattle.std.specs.Prelude.{◌≤◌, length, IfOk, IfErr};
+ghost use Rattle.std.specs.Prelude.{◌≤◌, length, IfOk};
 
 use station_core::Failed;
 use std::io::{ErrorKind, Read, Write};

@@ -18,7 +18,7 @@ pub struct FileReading<'a, F> {
 impl<'a, F: Read + Write + OpenFile + Drop> FileReading<'a, F> {
     ghost use Rattle.std.specs.Prelude.{◌≡◌, ◌≤◌, length, IfOk};
     ghost use Rattle.station_core.specs.Meaning.{no_source};
-    ghost use Rattle.station_files.specs.Ports.{source_of, sink_of};
+    ghost use Rattle.station_files.specs.Ports.{source_of};
     ghost use Rattle.station_files.specs.Outputs.{AllOut, SameSinks};
 
     /// A port at which nothing was asked.
@@ -45,10 +45,8 @@ impl<'a, F: Read + Write + OpenFile + Drop> FileReading<'a, F> {
         if buf.len() >= self.buffer.room() {
             return read_patiently(file, buf);
         }
-        match self.buffer.fill(file) {
-            Ok(()) => Ok(self.buffer.hand_out(buf)),
-            Err(_) => Err(Failed),
-        }
+        self.buffer.fill(file)?;
+        Ok(self.buffer.hand_out(buf))
     }
 
     /// Reads some bytes, none at the end of the file. Before it asks the file, all that the outputs

@@ -1,5 +1,5 @@
 // Calls on a station over files, and what each answers.
-ghost use Rattle.std.specs.Prelude.{◌≡◌, ◌<◌, length, true};
+ghost use Rattle.std.specs.Prelude.{◌<◌, length, true};
 ghost use Rattle.station_core.specs.Meaning.{IsFresh};
 ghost use Rattle.station_tests.specs.Ports.{AreTrue};
 

@@ -15,8 +15,8 @@ use Rattle.inner_decoder.specs.Running.{BranchState}
 use Rattle.reception.specs.Laws.{NothingGiven}
 use Rattle.reception.specs.Lines.{event_at}
 use Rattle.reception.specs.Streams.{memory, start_of, so_far}
-use Rattle.word_workers.specs.Symbols.{MayRunOver, HasRunOver}
-use Rattle.stream_decoders.specs.Branches.{HasGiven, GaveMore, MayTake, HasTaken, HasEnded}
+use Rattle.word_workers.specs.Symbols.{HasRunOver}
+use Rattle.stream_decoders.specs.Branches.{HasGiven, GaveMore, HasTaken, HasEnded}
 
 pub events_more : (σ : Stream) (reports : List Unmerged) (i : ℕ) (r : Unmerged) → i < length reports → r ≡ get_or reports i r
     → map (event_at σ) (ats (take (i + 1) reports)) ≡ map (event_at σ) (ats (take i reports)) ++ event_at σ r.at ∷ []
@@ -25,9 +25,6 @@ events_more σ reports i r l e =
     ∙ ap (map (event_at σ)) (map-append (λ (u : Unmerged). u.at) (take i reports) (get_or reports i r ∷ []))
     ∙ map-append (event_at σ) (ats (take i reports)) (ats (get_or reports i r ∷ []))
     ∙ ap (λ (u : Unmerged). map (event_at σ) (ats (take i reports)) ++ event_at σ u.at ∷ []) (sym e)
-
-pub may_run : (x : BranchState) (xs : List CostPair) → MayTake xs x → MayRunOver xs x
-may_run x xs h = record { going = h.going; loaded = h.loaded; few = omega (arith, h.room, h.most); wait = h.wait; steps = h.steps }
 
 -- a symbol more
 ran : (old new : BranchState) (xs : List CostPair) → HasRunOver xs old new → (a : Option (List Bool)) (c : List CostPair) (bits : List Bool) (steps : List ℕ) → HasGiven so_far old.decoder a c bits steps → GaveMore so_far old new a (c ++ xs) bits (steps ++ ats new.events)

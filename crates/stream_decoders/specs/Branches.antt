@@ -1,5 +1,5 @@
 -- What the decoder of a stream stands for, from symbol to symbol.
-use Rattle.std.specs.Prelude.{◌≡◌, ℕ, ◌+◌, ◌<◌, ◌≤◌, ◌^◌, Bool, true, false, List, [], ◌++◌, Option, length}
+use Rattle.std.specs.Prelude.{◌≡◌, ℕ, ◌+◌, Bool, true, false, List, [], ◌++◌, Option, length}
 use Rattle.code_paths.specs.declared.costs.CostPair.{CostPair}
 use Rattle.code_paths.specs.Streams.{Reports}
 use Rattle.inner_decoder.specs.Events.{ats}
@@ -27,15 +27,6 @@ pub record GaveMore (moment : Moment) (old new : BranchState) (a : Option (List 
   pub more : List Bool
   pub appended : new.wait ≡ old.wait ++ more
   pub given : HasGiven moment new.decoder a c (bits ++ more) steps
-
--- it goes on, no pair is loaded, fewer than eight bits wait, and there is room for the pairs of a symbol
-pub record MayTake (pairs : List CostPair) (x : BranchState) : Type 0 where
-  pub going : x.decoder.ended ≡ false
-  pub loaded : x.loaded ≡ []
-  pub wait : length x.wait < 8
-  pub room : length pairs ≤ x.most
-  pub most : x.most ≤ 31752
-  pub steps : x.decoder.steps < 2 ^ 61
 
 -- it made a step for each of these pairs, and gave all that is shared
 pub record HasTaken (pairs : List CostPair) (old new : BranchState) : Type 0 where

@@ -1,12 +1,12 @@
 // The decoders of the streams, symbol by symbol.
-ghost use Rattle.std.specs.Prelude.{◌≡◌, ◌+◌, ◌<◌, ◌≤◌, ◌^◌, ◌++◌, [], ℕ, map, length, vec_len, vec_capacity, IfOk, false};
+ghost use Rattle.std.specs.Prelude.{◌≡◌, ◌+◌, ◌<◌, ◌≤◌, ◌++◌, [], map, length, vec_len, vec_capacity, IfOk, false};
 ghost use Rattle.mode_set.specs.declared.modes.Stream.TheVariants.{Hp, Lp};
 ghost use Rattle.inner_decoder.specs.Events.{ats};
 ghost use Rattle.inner_decoder.specs.Starts as inner;
 ghost use Rattle.word_workers.specs.Symbols.{MayRunOver, HasRunOver};
 ghost use Rattle.reception.specs.Streams.{so_far, start_of};
 ghost use Rattle.reception.specs.Lines.{event_at};
-ghost use Rattle.stream_decoders.specs.Branches.{HasGiven, MayTake, HasTaken, HasEnded};
+ghost use Rattle.stream_decoders.specs.Branches.{HasGiven, HasTaken, HasEnded};
 
 use acs_lanes::LaneAcs;
 use conv_code::CostPair;
@@ -31,11 +31,11 @@ pub fn start_state(start: Start) -> StartState
     }
 }
 
-/// The decoder of a stream of which nothing was received, with room for so many pairs of a symbol. The only error is want of
-/// memory.
-pub fn begin(alloc: Global, start: Start, most: u32) -> Result<StreamBranch, AllocError>
+/// The decoder of a stream of which nothing was received. It has no room for pairs, since it steps through those of a symbol where
+/// they lie. The only error is want of memory.
+pub fn begin(alloc: Global, start: Start) -> Result<StreamBranch, AllocError>
     ensures going { IfOk result (λ x. x.decoder.ended ≡ false) }
-    ensures most { IfOk result (λ x. x.most ≡ most) }
+    ensures most { IfOk result (λ x. x.most ≡ 0) }
     ensures loaded { IfOk result (λ x. x.loaded ≡ []) }
     ensures wait { IfOk result (λ x. x.wait ≡ []) }
     ensures steps { IfOk result (λ x. x.decoder.steps ≡ 0) }
@@ -43,7 +43,7 @@ pub fn begin(alloc: Global, start: Start, most: u32) -> Result<StreamBranch, All
 {
     reception::laws::nothing();
     let start = start_state(start);
-    let branch = StreamBranch::new(alloc, start, most)?;
+    let branch = StreamBranch::new(alloc, start, 0)?;
     Ok(branch)
 }
 
@@ -89,7 +89,8 @@ fn push_events(stream: Stream, reports: &[Unmerged], to: &mut Vec<Event>)
 /// the reports, those of HP before those of LP. The bits that are decided by then wait in the decoders. A stream that the symbol
 /// does not have has no pair: its decoder makes no step and reports nothing.
 ///
-/// Fewer than eight bits wait in each, and there is room for 32 reports.
+/// Neither decoder has ended or has a pair loaded. There are at most 31,752 pairs of each stream, the steps of the largest symbol;
+/// fewer than eight bits wait and fewer than 2^61 steps were made in each, and there is room for 32 reports.
 pub fn take_symbol<R: Threads + Sync, G: Gate>(
     rt: &R,
     gate: &G,
@@ -100,8 +101,8 @@ pub fn take_symbol<R: Threads + Sync, G: Gate>(
     lp: &mut StreamBranch,
     events: &mut Vec<Event>,
 )
-    requires hp { MayTake hp_pairs.now hp.old }
-    requires lp { MayTake lp_pairs.now lp.old }
+    requires hp { MayRunOver hp_pairs.now hp.old }
+    requires lp { MayRunOver lp_pairs.now lp.old }
     requires room { vec_len events.old + 32 ≤ vec_capacity events.old }
     ensures hp { HasTaken hp_pairs.now hp.old hp.new }
     ensures lp { HasTaken lp_pairs.now lp.old lp.new }

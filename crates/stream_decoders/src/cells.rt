@@ -146,6 +146,7 @@ impl<M: Carriers> SymbolCosts<M> {
     pub fn pairs(&self, stream: Stream) -> &[CostPair]
         ensures pairs { result.now ≡ pairs_of self.now stream }
         ensures few { length result.now ≤ most_pairs self.now.settings stream }
+        ensures largest { length result.now ≤ 31752 }
     {
         match stream {
             Stream::Hp => &self.hp[..self.hp_used],

@@ -13,4 +13,3 @@ mod pairs;
 pub use branches::{StreamBranch, begin, end, start_state, take_symbol};
 pub use cells::SymbolCosts;
 pub use out::ReceiverOut;
-pub use pairs::most_pairs;

@@ -17,7 +17,7 @@ use symbol_spans::parameters_of_symbol;
 
 /// The most cost pairs of a stream in a symbol, whatever its parameters: none where the stream does not exist in the
 /// transmission.
-pub fn most_pairs(settings: &Settings, stream: Stream) -> u32
+fn most_pairs(settings: &Settings, stream: Stream) -> u32
     ensures most { result ≡ most_pairs settings.now stream }
     ensures few { result ≤ 31752 }
 {

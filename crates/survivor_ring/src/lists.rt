@@ -1,8 +1,6 @@
 // Survivors as lists of bits.
-ghost use Rattle.std.specs.Prelude.{◌≡◌, ◌≢◌, ◌+◌, ◌-◌, ◌<◌, ◌≤◌, ℕ, Bool, List, [], ◌∷◌, ◌++◌, length, take, drop, IfOk, IsTrue, ◌↔◌};
+ghost use Rattle.std.specs.Prelude.{◌≡◌, ◌+◌, ◌-◌, ◌<◌, ◌≤◌, ℕ, [], ◌∷◌, ◌++◌, length, take, drop, IfOk, IsTrue, ◌↔◌};
 ghost use Rattle.spec_words.specs.Bits.{is_set};
-ghost use Rattle.code_paths.specs.States.{before};
-ghost use Rattle.survivor_ring.specs.Survivors.{AreAlike, IsAlike};
 ghost use Rattle.survivor_ring.specs.Rows.{AreSized, EachPushed, EachShifted, Agree, bits_of_row};
 
 use crate::Survivors;

@@ -1,8 +1,8 @@
 // Survivors as decision words.
-ghost use Rattle.std.specs.Prelude.{◌≡◌, ◌≢◌, ◌+◌, ◌-◌, ◌*◌, ◌/◌, ◌%◌, ◌<◌, ◌≤◌, ◌==◌, ℕ, Bool, List, [], ◌∷◌, ◌++◌, ◌&&◌, ◌||◌, not, cond, length, take, drop, IfOk, IsTrue, ◌↔◌};
+ghost use Rattle.std.specs.Prelude.{◌≡◌, ◌≢◌, ◌+◌, ◌-◌, ◌*◌, ◌/◌, ◌%◌, ◌<◌, ◌≤◌, ◌==◌, ℕ, Bool, List, [], ◌∷◌, ◌++◌, ◌&&◌, ◌||◌, length, take, drop, IsTrue};
 ghost use Rattle.spec_words.specs.Bits.{is_set, spelled};
 ghost use Rattle.code_paths.specs.States.{before};
-ghost use Rattle.survivor_ring.specs.Survivors.{AreAlike, IsAlike};
+ghost use Rattle.survivor_ring.specs.Survivors.{IsAlike};
 ghost use Rattle.survivor_ring.specs.Ring.{TraceFollows, root, trace, IsTraced, moved, AreBefore, IsSplit, IsUniform, IsSingle, Chosen};
 ghost use Rattle.std.specs.Prelude.{slice_index, IsFalse, ◌^◌};
 ghost use Rattle.bit_pack.specs.Queue.{bits_of_bytes};
@@ -64,7 +64,7 @@ fn word_at(words: &HeapCircularBuffer<u64>, index: usize) -> u64
 {
     match words.get(index) {
         Some(word) => *word,
-        None => 0,
+        None => unreachable!(),
     }
 }
 

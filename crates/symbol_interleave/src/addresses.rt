@@ -1,7 +1,6 @@
 // The list H, and its inverse.
 ghost use Rattle.std.specs.Prelude.{◌≡◌, ◌+◌, ◌-◌, ◌*◌, ◌^◌, ◌<◌, ◌≤◌, ◌++◌, [], ◌∷◌, ℕ, filter, nat_lt, IfOk, length, slice_index};
 ghost use Rattle.std.specs.Int.{bit_at};
-ghost use Rattle.mode_set.specs.StreamTable.{payload};
 ghost use Rattle.symbol_interleave.specs.Carried.{IsInverse, IsPermutationBelow, address, bits, feedback, h as list_h, moved, next_word, wiring};
 
 use mode_set::{Carriers, Mode};

@@ -205,15 +205,23 @@ module _ (c : Command) (limit : ℕ) (name cells : List ℕ) (header : Option (L
   record InOrder : Type 0 where
     behind_inputs : (out : OutPort) → ((sink_at out mid).asked ≡ None) ⊎ ((port : InPort) → IsInput c port → (source_at port mid).attached ≡ true)
     behind_header : start.tells ≡ true → (out : OutPort) → ((sink_at out mid).asked ≡ None) ⊎ IsHeaderTaken (c.header start.file) (input_file start.file c ins.Cells) (unread c mid ins.Cells)
+    unasked : (out : OutPort) → IsOutput c out → (sink_at out mid).asked ≡ None → IsUntouched (sink_at out mid)
     made_behind_hp : (mid.lp_out.asked ≡ None) ⊎ (mid.hp_out.created ≡ true)
     behind_outputs : start.tells ≡ true → IsUntaken c mid ins.Cells ⊎ AreMade c mid
     closed : (out : OutPort) → IsOutput c out → (sink_at out mid).created ≡ true → (sink_at out mid).closed ≡ true
+
+  -- an output that was asked for has its name
+  asked_for : (out : OutPort) → IsOutput c out → (sink_at out mid).asked ≡ names out → (sink_at out mid).asked ≡ None → ⊥
+  asked_for out is asked absent = true≢false (sym (is_output out is) ∙ ap (λ (o : Option (List ℕ)). is_some o) (sym asked ∙ absent))
+
+  untouched_at : (out : OutPort) → IsOutput c out → sink_at out mid ≡ sink_at out start → IsUntouched (sink_at out mid)
+  untouched_at out is same = subst IsUntouched (sym same) (untouched start fresh out (not_report names command.no_report out (is_output out is)))
 
   same_sink : IsUnopened cells header old mid → (out : OutPort) → sink_at out mid ≡ sink_at out start
   same_sink none out = cells_sink old mid none.others out ∙ settings_sink start at out
 
   untouched_yet : IsUnopened cells header old mid → (out : OutPort) → IsOutput c out → IsUntouched (sink_at out mid)
-  untouched_yet none out is = subst IsUntouched (sym (same_sink none out)) (untouched start fresh out (not_report names command.no_report out (is_output out is)))
+  untouched_yet none out is = untouched_at out is (same_sink none out)
 
   unmade_yet : IsUnopened cells header old mid → (out : OutPort) → IsOutput c out → (sink_at out mid).created ≡ true → ⊥
   unmade_yet none out is made = true≢false (sym made ∙ (untouched_yet none out is).created)
@@ -242,6 +250,7 @@ module _ (c : Command) (limit : ℕ) (name cells : List ℕ) (header : Option (L
   unopened_order none = record {
     behind_inputs = λ out. inl (unasked_yet none out);
     behind_header = λ t out. inl (unasked_yet none out);
+    unasked = λ out is absent. untouched_yet none out is;
     made_behind_hp = inl (unasked_yet none outs.Lp);
     behind_outputs = λ t. inl (untaken_yet none t);
     closed = λ out is made. absurd (unmade_yet none out is made);
@@ -263,6 +272,7 @@ module _ (c : Command) (limit : ℕ) (name cells : List ℕ) (header : Option (L
     settings_first = λ is. inr (ap (λ (x : Source). x.attached) settings_is ∙ settings.attached, λ t. (ap (λ (x : Source). x.left) settings_is ∙ settings.left t, settings.accepted t));
     lp_behind_hp = inl lp_unasked;
     outputs_behind_inputs = order.behind_inputs;
+    unasked = order.unasked;
     outputs_behind_header = order.behind_header;
     lp_made_behind_hp = order.made_behind_hp;
     work_behind_outputs = λ t port other is. both (λ port. port ≢ ins.Settings → IsUntaken c mid port ⊎ AreMade c mid) (λ other. absurd (other refl)) (λ other. order.behind_outputs t) port is other;
@@ -324,6 +334,10 @@ module _ (c : Command) (limit : ℕ) (name cells : List ℕ) (header : Option (L
     unmade_order : IsUnmade names (opened cells header old) mid → InOrder
     unmade_order none = record {
       behind_inputs = λ out. inr (all_opened (ap (λ (x : Source). x.attached) none.cells));
+      unasked = λ out is absent. elim (none.asked out (is_output out is)) [
+        | inl same ↦ untouched_at out is (same ∙ opened_sink cells header old out ∙ settings_sink start at out)
+        | inr asked ↦ absurd (asked_for out is asked absent)
+      ];
       made_behind_hp = elim none.lp_behind [
         | inl same ↦ inl (ap (λ (x : Sink). x.asked) same ∙ fresh.lp_out.asked)
         | inr made ↦ inr made
@@ -342,6 +356,7 @@ module _ (c : Command) (limit : ℕ) (name cells : List ℕ) (header : Option (L
     worked_order : (result : Result (Unit {0}) Stop) → IsWorked w most names (opened cells header old) mid result → InOrder
     worked_order result done = record {
       behind_inputs = λ out. inr (all_opened done.attached);
+      unasked = λ out is absent. absurd (asked_for out is (done.asked out (is_output out is)) absent);
       made_behind_hp = lp_order result done;
       behind_header = λ t out. inr (let r = taken_so t in taken_behind t r.0 r.2 done.attached);
       behind_outputs = λ t. inr (all_made result done);
@@ -438,11 +453,12 @@ module _ (c : Command) (limit : ℕ) (name cells : List ℕ) (header : Option (L
         → (start.tells ≡ true → (given : Written) × ComesRefused c limit start.file given r × Holds done.start mid given) → Leaves c limit start mid (Some r)
     left_by refusals.Memory done may came = inr (record {
       at_work = may;
+      lacks = λ t. (came t).1.0;
       outputs = record {
         made = all_made (Err (stops.Work refusals.Memory)) done;
-        empty = λ t out is. let p = came (sym (ap (λ (x : Meaning). x.tells) others) ∙ t) in holds_at (Err (stops.Work refusals.Memory)) done p.0 p.2 out is ∙ p.1 out;
+        empty = λ t out is. let p = came (sym (ap (λ (x : Meaning). x.tells) others) ∙ t) in holds_at (Err (stops.Work refusals.Memory)) done p.0 p.2 out is ∙ p.1.1 out;
       };
-      report = λ t. let p = came t in holds_report (Err (stops.Work refusals.Memory)) done p.0 p.2 t ∙ p.1 outs.Report;
+      report = λ t. let p = came t in holds_report (Err (stops.Work refusals.Memory)) done p.0 p.2 t ∙ p.1.1 outs.Report;
     })
     left_by (refusals.Cells NoPlace) done may came = hold_by (Err (stops.Work (refusals.Cells NoPlace))) done (λ t. let p = came t in (p.0, p.1.0, p.2))
     left_by (refusals.Cells AnnouncedForm) done may came = hold_by (Err (stops.Work (refusals.Cells AnnouncedForm))) done (λ t. let p = came t in (p.0, p.1.0, p.2))

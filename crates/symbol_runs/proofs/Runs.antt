@@ -108,6 +108,9 @@ module _ (names : Names) (old m1 : Meaning) (makes : AreMade names old m1) (begi
     pub asks_closed : AsksOutputs names old new
     asks_closed port = subst (λ o. (o ≡ (sink_at port old).asked) ⊎ (o ≡ names port)) (sym (ap (λ (x : Sink). x.asked) (sinks port))) (asks_made port)
 
+    asked : (port : OutPort) → is_some (names port) ≡ true → (sink_at port new).asked ≡ names port
+    asked port is = let n = name_at names port is in ap (λ (x : Sink). x.asked) (sinks port) ∙ ap (λ (x : Sink). x.asked) (makes.are port n.0 n.1) ∙ sym n.1
+
     created : (port : OutPort) → is_some (names port) ≡ true → (sink_at port new).created ≡ true
     created port is = let n = name_at names port is in ap (λ (x : Sink). x.created) (sinks port) ∙ ap (λ (x : Sink). x.created) (makes.are port n.0 n.1)
 
@@ -124,6 +127,7 @@ module _ (names : Names) (old m1 : Meaning) (makes : AreMade names old m1) (begi
       made = makes.are;
       report = report_same;
       attached = attached_same;
+      asked = asked;
       created = created;
       closed = closed.closed;
       lp_behind = elim makes.lp_behind [
@@ -140,6 +144,7 @@ unmade w most names old new stop p = inl (
   record {
     cells = ap (λ (x : Meaning). x.cells) p.1.others;
     shut = p.1.shut;
+    asked = λ port is. p.1.asked port;
     lp_behind = p.1.lp_behind;
     report = ap (λ (x : Meaning). x.report) p.1.others;
   },

@@ -65,9 +65,9 @@ MayRefuse c (refusals.Cells NoPlace) = ⊤
 MayRefuse c (refusals.Cells AnnouncedForm) = ⊤
 
 -- What was given before the cells are refused for this reason is what the command comes to, and this is its
--- refusal; at want of memory nothing was given.
+-- refusal. At want of memory nothing was given, and the files are such that it may be wanting.
 abbrev pub ComesRefused : Command → ℕ → Files → Written → Refusal → Type 0
-ComesRefused c limit file given refusals.Memory = (port : OutPort) → given port ≡ []
+ComesRefused c limit file given refusals.Memory = c.LacksAtWork limit file × ((port : OutPort) → given port ≡ [])
 ComesRefused c limit file given refusals.Usage = ⊥
 ComesRefused c limit file given (refusals.Settings reason) = ⊥
 ComesRefused c limit file given refusals.ReadFault = ⊥

@@ -51,6 +51,7 @@ AsksOutputs names old new = (port : OutPort) → ((sink_at port new).asked ≡ (
 pub record IsUnmade (names : Names) (old new : Meaning) : Type 0 where
   pub cells : new.cells ≡ old.cells
   pub shut : (port : OutPort) → is_some (names port) ≡ true → (sink_at port new).created ≡ true → ((sink_at port new).closed ≡ true) × ((sink_at port new).written ≡ [])
+  pub asked : (port : OutPort) → is_some (names port) ≡ true → (sink_at port new ≡ sink_at port old) ⊎ ((sink_at port new).asked ≡ names port)
   pub lp_behind : (new.lp_out ≡ old.lp_out) ⊎ (new.hp_out.created ≡ true)
   pub report : new.report ≡ old.report
 
@@ -63,6 +64,7 @@ pub record IsWorked (w : Work) (most : ℕ) (names : Names) (old new : Meaning) 
   pub report : start.report ≡ old.report
   -- and behind it
   pub attached : new.cells.attached ≡ old.cells.attached
+  pub asked : (port : OutPort) → is_some (names port) ≡ true → (sink_at port new).asked ≡ names port
   pub created : (port : OutPort) → is_some (names port) ≡ true → (sink_at port new).created ≡ true
   pub closed : (port : OutPort) → is_some (names port) ≡ true → (sink_at port new).closed ≡ true
   pub lp_behind : (new.lp_out.asked ≡ old.lp_out.asked) ⊎ (new.hp_out.created ≡ true)

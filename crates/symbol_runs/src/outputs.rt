@@ -1,7 +1,6 @@
 // The outputs of a command that reads cells.
-ghost use Rattle.std.specs.Prelude.{◌≡◌, ℕ, List, Option, Some, None, true, false, is_some};
+ghost use Rattle.std.specs.Prelude.{◌≡◌, Option, Some, true, false, is_some};
 ghost use Rattle.std.specs.Option.{option_copied};
-ghost use Rattle.station_core.specs.declared.ports.OutPort.{OutPort};
 ghost use Rattle.symbol_runs.specs.Stops.{HasCause, HasCloseCause};
 ghost use Rattle.symbol_runs.specs.Work.{AreOpen};
 ghost use Rattle.symbol_runs.specs.Outputs.{AreClosed, AreUntouched, ClosesLp, IsWriting, Makes, Names, cell_names, stream_names};

@@ -6,7 +6,7 @@ ghost use Rattle.symbol_spans.specs.Spans.{settings_at};
 use crate::laws::settings as super_frame_settings;
 use mode_set::{Entry, Settings};
 
-/// The parameters of symbol `m` of a transmission, which are those of its super-frame.
+/// The parameters of symbol `m` of a transmission, which are those of its super-frame. `m` is below 2^40.
 pub fn parameters_of_symbol(settings: &Settings, m: u64) -> Entry
     requires { m < 2 ^ 40 }
     ensures { with_entry settings.now result ≡ settings_at settings.now m }

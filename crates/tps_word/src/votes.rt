@@ -22,7 +22,7 @@ fn correlation(before: Cell, now: Cell) -> i64
 
 /// The TPS bit of a symbol from its TPS cells `now` and those of the symbol `before` it: 1 exactly
 /// where the sum of the products `re re' + im im'` over the carriers is negative, since a 1 turns the
-/// sign of every TPS cell (EN 300 744, 4.6.3).
+/// sign of every TPS cell (EN 300 744, 4.6.3). Both have as many cells, at most 68.
 pub fn vote(before: &[Cell], now: &[Cell]) -> bool
     requires same { length before.now ≡ length now.now }
     requires few { length before.now ≤ 68 }

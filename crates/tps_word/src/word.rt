@@ -86,7 +86,8 @@ impl TpsWord {
         bits
     }
 
-    /// The bits s1 to s67 of a frame with these fields.
+    /// The bits s1 to s67 of a frame with these fields (EN 300 744, 4.6.2). `frame` is 1 to 4, and without an
+    /// identifier of the cell `cell_byte` is 0.
     pub fn write(&self) -> [bool; 67]
         requires first { 1 ≤ self.now.frame }
         requires last { self.now.frame ≤ 4 }

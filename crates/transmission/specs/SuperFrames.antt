@@ -1,5 +1,5 @@
 -- How long a transmission is (EN 300 744, 4.7; that it has the fewest super-frames is this project's own).
-use Rattle.std.specs.Prelude.{◌≡◌, ℕ, ◌+◌, ◌*◌, ◌≤◌, nat_le, nat_lt, max, ◌&&◌, ◌||◌, not, if◌then◌else◌, Bool, IsTrue, List, length, map, reverse, get_or, Option, Some, None, option_map, unwrap_or}
+use Rattle.std.specs.Prelude.{ℕ, ◌+◌, ◌*◌, ◌≤◌, nat_le, nat_lt, max, ◌&&◌, ◌||◌, not, if◌then◌else◌, Bool, IsTrue, List, length, map, reverse, get_or, Option, Some, None, option_map, unwrap_or}
 use Rattle.spec_words.specs.Words.{first_below, rounded_up}
 use Rattle.mode_set.specs.Kept.{is_flat}
 use Rattle.mode_set.specs.Plans.{entries_of}
@@ -60,11 +60,6 @@ counts_of inputs σ = length (inputs σ)
 -- before which the limit refuses
 unfoldable pub symbols_of : Settings → Inputs → ℕ
 symbols_of s inputs = unwrap_or (option_map (λ n. 272 * n) (super_frames s (counts_of inputs))) (s.max_symbols + 1)
-
--- these packets have a transmission of n super-frames, whose cells these are
-pub record IsTransmission (s : Settings) (inputs : Inputs) (n : ℕ) (bytes : List ℕ) : Type 0 where
-  pub length_is : super_frames s (counts_of inputs) ≡ Some n
-  pub bytes_are : bytes ≡ first_symbols s inputs (272 * n)
 
 -- the cells of all symbols whose turn comes
 abbrev pub tx : Settings → Inputs → List ℕ

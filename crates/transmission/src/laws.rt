@@ -1,5 +1,4 @@
 // The laws of a transmission, as contracts of functions that do nothing.
-ghost use Rattle.std.specs.Prelude.{◌≡◌};
 ghost use Rattle.transmission.specs.Laws.{SymbolsAreCells, SymbolsAreLong, NoSymbol, OneSymbolMore, FrontOfSymbols, PartOfSymbols, TheNumberIsFound, OneLength, ConstantFrames, TooFew, Enough, ThePacketsAreLeast, NoPackets, PacketsGrow, PacketsOfSuperFrames, SameBeginning};
 ghost use Rattle.transmission.specs.AgendaLaws.{WorkBegins, TakesOfHp, TakesOfLp, SendsSymbol, StopsAtLimit, StopsAtPacket, EndsUnrefused, EndlessIsRefused, SentSoFar, SentAtFault};
 

@@ -156,6 +156,7 @@ module _ (limit : ℕ) (name : List ℕ) (number : ℕ) (start mid : Meaning) (l
         settings_first = λ is. inl alone;
         lp_behind_hp = inl (source_fresh ins.Lp (λ e. cc));
         outputs_behind_inputs = λ out. inl (sink_fresh out);
+        unasked = λ out is none. absurd (true≢false (sym is));
         outputs_behind_header = λ t out. inr tt;
         lp_made_behind_hp = inl (sink_fresh outs.Lp);
         work_behind_outputs = λ t port other is. absurd (input_is port other is);

@@ -61,6 +61,7 @@ trial_command settings number = record {
   writes = λ port. None;
   statuses = 0 ∷ 3 ∷ 5 ∷ 6 ∷ 7 ∷ 8 ∷ [];
   memory_at_work = false;
+  LacksAtWork = λ limit file. ⊥;
   early_refusal = λ file. settings_refusal (file settings);
   header = λ file. None;
   work_refusal = λ limit file. option_and_then (λ s. trial_refusal s number) (settings_of (file settings));

@@ -67,8 +67,8 @@ fn trial_accepted<'a, R: Threads + Sync, G: Gate, S: Station<'a>>(
 ///
 /// The settings are read and checked, and then all memory is taken. A trial is refused whose packets no
 /// number of super-frames carries, or whose settings allow fewer symbols than these super-frames have. No
-/// port but Settings is asked. The limits of packets do not bound a trial. The workers of its receiver
-/// enter the gate.
+/// port but Settings is asked. The limits of packets do not bound a trial. Its receiver is fed through the
+/// gate; what its end decodes passes none.
 pub fn trial<'a, R: Threads + Sync, G: Gate, S: Station<'a>>(
     rt: &R,
     alloc: Global,

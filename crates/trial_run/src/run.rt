@@ -1,5 +1,5 @@
 // A whole run behind its settings.
-ghost use Rattle.std.specs.Prelude.{◌≡◌, ◌*◌, ◌≤◌, ℕ, Some, None, IfSome, IfNone, IsTrue, is_some};
+ghost use Rattle.std.specs.Prelude.{◌≡◌, ◌*◌, ◌≤◌, Some, None, IfSome, IfNone, IsTrue, is_some};
 ghost use Rattle.run_clauses.specs.declared.work.Refusal.TheVariants as AnyRefusal;
 ghost use Rattle.run_steps.specs.Causes.{HasCause};
 ghost use Rattle.trial_run.specs.TrialCommand.{limit_of};

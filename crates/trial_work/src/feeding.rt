@@ -1,5 +1,5 @@
 // A receiver is fed in pieces, and what it gives is summed.
-ghost use Rattle.std.specs.Prelude.{◌≡◌, ◌+◌, ◌*◌, ◌%◌, ◌^◌, ◌<◌, ◌≤◌, ◌++◌, ℕ, List, [], false, length, sum, IfOk};
+ghost use Rattle.std.specs.Prelude.{◌≡◌, ◌+◌, ◌%◌, ◌^◌, ◌<◌, ◌≤◌, ◌++◌, ℕ, List, [], false, length, sum, IfOk};
 ghost use Rattle.load_gen.specs.Draws.{after};
 ghost use Rattle.reception.specs.Cells.{symbol_length, tail};
 ghost use Rattle.trial.specs.Drawn.{pieces};

@@ -55,8 +55,8 @@ impl<M: Carriers> Trial<M> {
         self.work.super_frames(&self.settings)
     }
 
-    /// Runs the trial over its super-frames, of which there are so many, and answers what was counted. The
-    /// workers of its receiver enter the gate.
+    /// Runs the trial over its super-frames, of which there are so many, and answers what was counted. Its
+    /// receiver is fed through the gate; what its end decodes passes none.
     pub fn run<R: Threads + Sync, G: Gate>(self, rt: &R, gate: &G, super_frames: u64) -> TrialCounts
         requires frames { trial_frames self.settings self.number ≡ Some super_frames }
         requires few { 272 * super_frames < 2 ^ 32 }

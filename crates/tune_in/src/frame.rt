@@ -1,7 +1,5 @@
 // A frame that was found, and what its votes announce.
 ghost use Rattle.std.specs.Prelude.{◌≡◌, ◌^◌, ◌<◌, ◌≤◌, IfSome, None};
-ghost use Rattle.mode_set.specs.declared.modes.Mode.{Mode as AnyMode};
-ghost use Rattle.tps_word.specs.Signals.{Signals};
 ghost use Rattle.tps_word.specs.declared.word.TpsWord.{TpsWord as Word};
 ghost use Rattle.tune_in.specs.Places.{Announces, begin};
 

@@ -1,5 +1,5 @@
 // The tuner.
-ghost use Rattle.std.specs.Prelude.{◌≡◌, ◌+◌, ◌∷◌, ◌++◌, ◌<◌, ◌≤◌, ◌^◌, [], ℕ, List, false, IfOk, IfSome, IfNone, None, length, map, take, is_some};
+ghost use Rattle.std.specs.Prelude.{◌≡◌, ◌+◌, ◌∷◌, ◌++◌, ◌<◌, ◌≤◌, ◌^◌, [], ℕ, List, false, IfOk, IfSome, IfNone, None, length, take, is_some};
 ghost use Rattle.tps_word.specs.Vote.{tps_cells_of, vote};
 ghost use Rattle.tps_word.specs.declared.word.TpsWord.{TpsWord as Word};
 ghost use Rattle.tune_in.specs.Places.{Announces};
@@ -53,8 +53,9 @@ fn keep_vote(
 /// Looks for a frame of a transmission among symbols that begin anywhere: 68 symbols whose TPS cells show
 /// a TPS word of the mode (EN 300 744, 4.6).
 ///
-/// It stands for the symbols that it has had. A symbol costs a vote and a look at 16 bits, and more only
-/// where they are near to a sync word. No call but `new` takes memory.
+/// It stands for the symbols that it has had. A symbol costs a vote, and from the 68th on a copy of all 67
+/// votes and a look at 16 of them, and more only where these are near to a sync word. No call but `new`
+/// takes memory.
 #[derive(Drop)]
 pub struct Tuner<M: Carriers> {
     // The TPS cells of the last symbol.

@@ -28,6 +28,7 @@ use Rattle.run_clauses.specs.declared.work.Refusal.{Refusal}
 use Rattle.run_clauses.specs.declared.work.Refusal.TheVariants.{Cells, Limit}
 use Rattle.run_clauses.specs.declared.work.CellsRefusal.TheVariants.{NoPlace, AnnouncedForm}
 use Rattle.symbol_runs.specs.Work.{Written}
+use Rattle.worker_laws.specs.Alike.{SameFinal, SameLines, SameLive}
 use Rattle.receive_run.specs.Received.{reception_refusal, within_limit}
 use Rattle.receive_run.specs.Working.{FinalGives, LiveGives, final_at, live_at, plain, written_at}
 use Rattle.receive_run.proofs.OfKinds.{Begins, KindLaws}
@@ -50,6 +51,9 @@ pub record Laws : Type 0 where
   pub one : OneFound
   pub stays : FoundStaysInBytes
   pub tps : TpsCellsStay
+  pub live : SameLive
+  pub final : SameFinal
+  pub lines : SameLines
 
 -- the settings that valid fields announce
 announced_by : (w : TpsWord) (s : Settings) → IsValid w → (a : Settings) × IsAnnounced w s a

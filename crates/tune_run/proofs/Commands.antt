@@ -29,10 +29,10 @@ use Rattle.tune_in.specs.OfBytes.{HasNoPlace}
 use Rattle.tune_run.specs.Tuned.{ComesTo, GivesFinal, GivesLive, fits, tune_refusal}
 use Rattle.tune_run.specs.TuneCommand.{IsSoFar, LinesSoFar, tune_command}
 use Rattle.tune_run.specs.Working.{RefusesTuning, TuningReasons, tuning_work}
-use Rattle.tune_run.proofs.LeastPlaces.{searches}
 use Rattle.tune_run.proofs.Bytes.{symbols_limited}
 use Rattle.tune_run.proofs.Coming.{Laws, final_begins, final_comes, held_none, held_place, live_begins, passed, refusal_found, refusal_none, unrefused}
 use Rattle.tune_run.proofs.Coming as coming
+use Rattle.tune_run.proofs.OwnLaws.{own_laws}
 
 -- no bytes hold no place
 pub no_place : (s : TheSettings) → HasNoPlace s []
@@ -120,7 +120,7 @@ module _ (laws : Laws) (limit : ℕ) (name cells hp : List ℕ) (lp : Option (Li
       many = symbols_limited s bytes more
 
   refused : (taken left : List ℕ) (given : Written) (r : Refusal) → bytes ≡ taken ++ left → symbols s taken ≤ s.max_symbols → TuningReasons r → RefusesTuning s two taken left given r → ComesRefused c limit file given r
-  refused taken left given Memory are few reason is = is
+  refused taken left given Memory are few reason is = ((s, stated, (is.0, held_place laws s two bytes taken left is.0 are few is.1, is.2)), is.3)
   refused taken left given (Cells NoPlace) are few reason is =
       let same : bytes ≡ taken = are ∙ ap (λ (l : List ℕ). taken ++ l) is.0 ∙ append-nil taken in
       let all : symbols s bytes ≡ symbols s taken = ap (symbols s) same in
@@ -183,5 +183,5 @@ command_of laws limit name cells hp lp s start stated = record {
   comes = λ t. comes laws limit name cells hp lp start.file s (stated t);
   unread = λ t unread taken. no_lines (settings_of (start.file name)) lp (start.file cells) (unread ins.Cells) taken.0 taken.1 taken.2;
   its = its_reasons hp name cells lp;
-  own = record { searches = λ x is. searches laws.one x (cells_in (start.file cells)) };
+  own = own_laws laws (settings_of (start.file name)) lp (start.file cells);
 }

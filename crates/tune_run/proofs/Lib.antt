@@ -6,5 +6,6 @@ pub mod Calls
 pub mod Places
 pub mod Tunings
 pub mod Coming
+pub mod OwnLaws
 pub mod Commands
 pub mod WholeRun

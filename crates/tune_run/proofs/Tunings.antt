@@ -154,7 +154,7 @@ module _ (no_events : NoEvents) (nothing_live : NothingLive) (s : Settings) (two
       go (Ok u) t = record { after = at_place found; more = at_place found; is = begun behind refl t.1 t.0; follows = follows; written = t.2 }
       go (Err stops.WriteFault) t = record { after = at_place found; more = at_place found; is = (begun behind refl t.1 t.0).1; follows = follows; written = t.2 }
       go (Err (stops.Work (refusals.Cells AnnouncedForm))) t = ((λ left. (found, at.found_in, t.0, empty)), same t.1)
-      go (Err (stops.Work refusals.Memory)) t = ((λ left. empty), same t)
+      go (Err (stops.Work refusals.Memory)) t = ((λ left. (found, at.found_in, t.0, empty)), same t.1)
       go (Err stops.ReadFault) t = absurd t
       go (Err stops.Limit) t = absurd t
       go (Err (stops.Work refusals.Usage)) t = absurd t

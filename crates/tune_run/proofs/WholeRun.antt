@@ -23,13 +23,12 @@ use Rattle.run_clauses.specs.Ports.{stream_names}
 use Rattle.symbol_runs.specs.Runs.{IsReady}
 use Rattle.symbol_runs.proofs.Ending.{run_of}
 use Rattle.symbol_runs.proofs.Ending.{ready as cells_ready}
-use Rattle.receive_run.specs.Received.{cells_in}
 use Rattle.receive_run.specs.Runs.{RunsOrLacks, RunsReceiving}
-use Rattle.tune_run.specs.TuneCommand.{TuneLaws, tune_command}
+use Rattle.tune_run.specs.TuneCommand.{tune_command}
 use Rattle.tune_run.specs.Working.{tuning_work}
-use Rattle.tune_run.proofs.LeastPlaces.{searches}
 use Rattle.tune_run.proofs.Coming.{Laws}
 use Rattle.tune_run.proofs.Commands.{command_of, no_lines}
+use Rattle.tune_run.proofs.OwnLaws.{own_laws}
 
 module _ (limit : ℕ) (name cells hp : List ℕ) (lp : Option (List ℕ)) (start mid new : Meaning) (laws : Laws) (fresh : IsFresh start) (asks : AsksSettings name start mid) where
   abbrev c : Command
@@ -37,11 +36,8 @@ module _ (limit : ℕ) (name cells hp : List ℕ) (lp : Option (List ℕ)) (star
 
   -- ---- refused before another port is asked
   early : (r : Refusal) → RefusedEarly c limit start mid r → is_among (status_of (Some r)) c.statuses ≡ true → Ended c limit start mid (Some r)
-  early = early_ended c limit name start mid refl (inr (refl, refl)) nothing own fresh asks
+  early = early_ended c limit name start mid refl (inr (refl, refl)) nothing (own_laws laws (settings_of (start.file name)) lp (start.file cells)) fresh asks
     where
-      own : TuneLaws (settings_of (start.file name)) (start.file cells)
-      own = record { searches = λ x is. searches laws.one x (cells_in (start.file cells)) }
-
       nothing : (u : Unread) → ((port : InPort) → port ≢ ins.Settings → u port ≡ input_file start.file c port) → c.PrintsSoFar limit start.file u []
       nothing u whole = no_lines (settings_of (start.file name)) lp (start.file cells) (u ins.Cells) 0 (omega arith) (whole ins.Cells (λ is. cc))
 

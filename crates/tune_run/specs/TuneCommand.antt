@@ -10,10 +10,11 @@ use Rattle.run_clauses.specs.Ports.{by_input, stream_names}
 use Rattle.run_clauses.specs.SettingsFile.{most_settings, settings_refusal}
 use Rattle.run_clauses.specs.StatedSettings.{settings_of}
 use Rattle.symbol_runs.specs.Work.{Written}
+use Rattle.worker_laws.specs.Alike.{DifferInWorkers}
 use Rattle.receive_run.specs.Received.{cells_in}
 use Rattle.receive_run.specs.ReceiveCommand.{header_by, most_cells}
 use Rattle.tune_in.specs.LeastPlace.{Searches}
-use Rattle.tune_run.specs.Tuned.{ComesTo, GivesLive, tune_refusal}
+use Rattle.tune_run.specs.Tuned.{ComesTo, GivesLive, HoldsFitting, tune_refusal}
 
 -- at a port a run comes to this
 abbrev pub PortComes : Settings → Option (List ℕ) → List ℕ → OutPort → List ℕ → Type 0
@@ -34,9 +35,17 @@ abbrev pub LinesSoFar : Option Settings → Option (List ℕ) → List ℕ → L
 LinesSoFar None lp file left lines = lines ≡ []
 LinesSoFar (Some s) lp file left lines = PortSoFar s lp file left outs.Report lines
 
--- its law, by the settings that are stated, if any are, and the file of cells: what decides the refusal is the least place of the definition
-pub record TuneLaws (stated : Option Settings) (file : List ℕ) : Type 0 where
+-- What the file of cells comes to by settings s it comes to by settings t: at each port, the lines of Report among them, and likewise so far as a failed read.
+pub record AreAlike (s t : Settings) (lp : Option (List ℕ)) (file : List ℕ) : Type 0 where
+  pub comes : (port : OutPort) (output : List ℕ) → PortComes s lp (cells_in file) port output → PortComes t lp (cells_in file) port output
+  pub so_far : (left : List ℕ) (port : OutPort) (output : List ℕ) → PortSoFar s lp file left port output → PortSoFar t lp file left port output
+
+-- its laws, by the settings that are stated, if any are, the file of LP, if one is written, and the file of cells
+pub record TuneLaws (stated : Option Settings) (lp : Option (List ℕ)) (file : List ℕ) : Type 0 where
+  -- What decides the refusal is the least place of the definition.
   pub searches : (s : Settings) → stated ≡ Some s → Searches s (cells_in file)
+  -- By settings that differ from the stated ones in the number of workers alone, all is the same.
+  pub alike : (s t : Settings) → stated ≡ Some s → DifferInWorkers s t → AreAlike s t lp file
 
 -- tune SETTINGS CELLS HP, or tune SETTINGS CELLS HP LP
 abbrev pub tune_command : List ℕ → List ℕ → List ℕ → Option (List ℕ) → Command
@@ -45,6 +54,7 @@ tune_command settings cells hp lp = record {
   writes = stream_names hp lp;
   statuses = 0 ∷ 3 ∷ 5 ∷ 6 ∷ 7 ∷ 8 ∷ 9 ∷ 10 ∷ 11 ∷ [];
   memory_at_work = true;
+  LacksAtWork = λ limit file. (s : Settings) × (settings_of (file settings) ≡ Some s) × HoldsFitting s (is_some lp) (cells_in (file cells));
   early_refusal = λ file. settings_refusal (file settings);
   header = λ file. header_by (settings_of (file settings));
   work_refusal = λ limit file. option_and_then (λ s. tune_refusal s (is_some lp) (cells_in (file cells))) (settings_of (file settings));
@@ -53,5 +63,5 @@ tune_command settings cells hp lp = record {
   Prints = λ limit file lines. (s : Settings) × (settings_of (file settings) ≡ Some s) × PortComes s lp (cells_in (file cells)) outs.Report lines;
   ComesSoFar = λ limit file unread port output. (s : Settings) × (settings_of (file settings) ≡ Some s) × PortSoFar s lp (file cells) (unread ins.Cells) port output;
   PrintsSoFar = λ limit file unread lines. LinesSoFar (settings_of (file settings)) lp (file cells) (unread ins.Cells) lines;
-  Own = λ limit file. TuneLaws (settings_of (file settings)) (file cells);
+  Own = λ limit file. TuneLaws (settings_of (file settings)) lp (file cells);
 }

@@ -18,12 +18,12 @@ use Rattle.tune_in.specs.Places.{begin}
 use Rattle.tune_in.specs.declared.frame.Found.{Found}
 use Rattle.tune_run.specs.Tuned.{GivesFinal, GivesLive, IsNothing, at_place, fits}
 
--- The cells are refused where they end without a place, where a place of another form is found, or for want of memory at the place. Nothing was given before.
+-- The cells are refused where they end without a place, where a place of another form is found, or for want of memory at a place of the form. Nothing was given before.
 abbrev pub RefusesTuning : Settings → Bool → List ℕ → List ℕ → Written → Refusal → Type 0
 RefusesTuning s two bytes left given (Cells NoPlace) = (left ≡ []) × HasNoPlace s bytes × IsNothing given
 RefusesTuning s two bytes left given (Cells AnnouncedForm) = (found : Found) × IsFoundIn s bytes found × (fits two found ≡ false) × IsNothing given
 RefusesTuning s two bytes left given (Cells Header) = ⊥
-RefusesTuning s two bytes left given Memory = IsNothing given
+RefusesTuning s two bytes left given Memory = (found : Found) × IsFoundIn s bytes found × (fits two found ≡ true) × IsNothing given
 RefusesTuning s two bytes left given Usage = ⊥
 RefusesTuning s two bytes left given (refusals.Settings reason) = ⊥
 RefusesTuning s two bytes left given ReadFault = ⊥
@@ -78,5 +78,5 @@ abbrev pub Tunes : Found → Bool → Type 0 → Meaning → Meaning → Result 
 Tunes found two Begun old new (Ok u) = (fits two found ≡ true) × Begun × (old.tells ≡ true → Holds old new (at_place found))
 Tunes found two Begun old new (Err stops.WriteFault) = (fits two found ≡ true) × Begun × (old.tells ≡ true → HoldsFront old new (at_place found))
 Tunes found two Begun old new (Err (stops.Work (Cells AnnouncedForm))) = (fits two found ≡ false) × (new ≡ old)
-Tunes found two Begun old new (Err (stops.Work Memory)) = new ≡ old
+Tunes found two Begun old new (Err (stops.Work Memory)) = (fits two found ≡ true) × (new ≡ old)
 Tunes found two Begun old new (Err stop) = ⊥

@@ -1,6 +1,5 @@
 // The command.
 ghost use Rattle.std.specs.Prelude.{◌≡◌, ◌<◌, ◌^◌, false, [], length};
-ghost use Rattle.mode_set.specs.declared.settings.Settings.{Settings as TheSettings};
 ghost use Rattle.reception.specs.Cells.{symbol_length};
 ghost use Rattle.std.specs.Option.{option_copied};
 ghost use Rattle.std.specs.Thread.{IsSync};
@@ -126,8 +125,8 @@ fn tune_accepted<'a, R: Threads + Sync, G: Gate, S: Station<'a>>(
 /// What it promises is `Run` of its definition, `tune_command`. The cells begin at any symbol; of the
 /// settings only the mode, the workers and the limit are used, and all else is what the first readable
 /// frame announces. The settings are read, and then the memory of the search is taken, before another
-/// port is asked; the receiver takes its memory at the place. The workers of the receiver enter the
-/// gate, of which no clause speaks: they hold for every one.
+/// port is asked; the receiver takes its memory at the place. The receiver is fed through the gate, of
+/// which no clause speaks: they hold for every one. What its end decodes passes no gate.
 pub fn tune<'a, R: Threads + Sync, G: Gate, S: Station<'a>>(
     rt: &R,
     alloc: Global,
@@ -150,6 +149,7 @@ pub fn tune<'a, R: Threads + Sync, G: Gate, S: Station<'a>>(
     tune_in::one_found();
     tune_in::found_stays();
     tune_in::more_bytes();
+    worker_laws::laws::workers();
     match read_settings(alloc, settings, station) {
         Ok(accepted) => {
             let files = ReceptionFiles { cells, hp, lp };

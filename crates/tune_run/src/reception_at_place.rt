@@ -1,5 +1,5 @@
 // The reception behind a place.
-ghost use Rattle.std.specs.Prelude.{◌≡◌, ◌≤◌, ◌<◌, ◌^◌, ◌++◌, ℕ, List, IfSome, length, [], ⊤};
+ghost use Rattle.std.specs.Prelude.{◌≡◌, ◌≤◌, ◌<◌, ◌^◌, ◌++◌, ℕ, List, IfSome, length, []};
 ghost use Rattle.mode_set.specs.declared.modes.Mode.{Mode as AnyMode};
 ghost use Rattle.mode_set.specs.declared.settings.Settings.{Settings as AnySettings};
 ghost use Rattle.reception.specs.Cells.{symbol_length, symbols, tail};

@@ -1,5 +1,5 @@
 // The search for a place in the symbols of a file.
-ghost use Rattle.std.specs.Prelude.{◌≡◌, ◌≤◌, ◌<◌, ◌^◌, ◌++◌, [], ℕ, List, length, IfSome};
+ghost use Rattle.std.specs.Prelude.{◌≡◌, ◌≤◌, ◌<◌, ◌^◌, ◌++◌, ℕ, List, length, IfSome};
 ghost use Rattle.mode_set.specs.declared.modes.Mode.{Mode};
 ghost use Rattle.mode_set.specs.declared.settings.Settings.{Settings};
 ghost use Rattle.reception.specs.Cells.{symbol_length, symbols, tail};

@@ -1,5 +1,5 @@
 // The work of `tune` on the symbols of a file of cells.
-ghost use Rattle.std.specs.Prelude.{◌≡◌, ◌≤◌, ◌<◌, ◌^◌, ℕ, List, [], true, false, None};
+ghost use Rattle.std.specs.Prelude.{◌≡◌, ◌≤◌, ◌<◌, ◌^◌, [], true, false, None};
 ghost use Rattle.reception.specs.Laws.{nothing};
 ghost use Rattle.reception.specs.Streams.{so_far};
 ghost use Rattle.symbol_runs.specs.Stops.{HasCause};

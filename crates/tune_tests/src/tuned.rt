@@ -26,9 +26,16 @@ const PACKETS: (usize, u32) = (2_068, 3_923_578_435);
 /// What those give but for the last symbol.
 const ALL_BUT_ONE: (usize, u32) = (1_880, 3_596_870_170);
 
+/// Half of the first packet.
+const HALF: (usize, u32) = (94, 2_357_816_009);
+
 /// The closing lines, behind which a close failed.
 const CLOSED: &str =
     "tune at 4 frame 4\nsymbols 24 tail 0\ntps read 0 bad 0\nhp words 11 clean 11 corrected 0 bad 0 unphased 0 unmerged 0\nwrite fault\n";
+
+/// The same of two streams.
+const CLOSED_OF_TWO: &str =
+    "tune at 4 frame 4\nsymbols 24 tail 0\ntps read 0 bad 0\nhp words 11 clean 11 corrected 0 bad 0 unphased 0 unmerged 0\nlp words 22 clean 22 corrected 0 bad 0 unphased 0 unmerged 0\nwrite fault\n";
 
 /// The lines where the cells end with the frame at the place.
 const AT_ZERO: &str =
@@ -325,7 +332,10 @@ fn limits_of_symbols(rt: HostRuntime) -> Result<(), Fail> {
 }
 
 /// A call that fails, and what stands.
-static FAULTS: [(Failing, Found<'static>); 9] = [
+type Fault<'a> = (Failing, Found<'a>);
+
+/// Those of one stream.
+static FAULTS: [Fault<'static>; 10] = [
     (
         Failing::Read(InPort::Settings, 1),
         (5, "read fault\n", NONE, NONE),
@@ -355,25 +365,106 @@ static FAULTS: [(Failing, Found<'static>); 9] = [
         (6, "write fault\n", NONE, NONE),
     ),
     (
+        Failing::Write(OutPort::Hp, 1),
+        (6, "tune at 4 frame 4\nwrite fault\n", HALF, NONE),
+    ),
+    (
         Failing::Write(OutPort::Report, 1),
         (6, "tune at 4write fault\n", NONE, NONE),
     ),
     (Failing::Close(OutPort::Hp, 1), (6, CLOSED, PACKETS, NONE)),
 ];
 
+/// Those of a transmission of two streams at LP, whose first packet comes with the ninth symbol. With the 13th come the first
+/// of HP and two of LP, its sixth and its seventh.
+static FAULTS_OF_LP: [Fault<'static>; 4] = [
+    (
+        Failing::Create(OutPort::Lp, 1),
+        (6, "write fault\n", NONE, NONE),
+    ),
+    (
+        Failing::Write(OutPort::Lp, 1),
+        (6, "tune at 4 frame 4\nwrite fault\n", NONE, HALF),
+    ),
+    (
+        Failing::Write(OutPort::Lp, 5),
+        (
+            6,
+            "tune at 4 frame 4\nwrite fault\n",
+            (188, 2_061_598_505),
+            (1_128, 2_307_759_734),
+        ),
+    ),
+    (
+        Failing::Close(OutPort::Lp, 1),
+        (6, CLOSED_OF_TWO, PACKETS, (4_136, 3_451_673_862)),
+    ),
+];
+
+// The number, from 0, of the first call of which this file leaves something else where it fails.
+fn first_wrong<R: Threads + Sync>(
+    rt: &R,
+    alloc: Global,
+    file: &[u8],
+    two: bool,
+    faults: &[Fault<'_>],
+) -> Result<Option<usize>, AllocError> {
+    for (number, (call, found)) in faults.iter().enumerate() {
+        let conditions = Conditions {
+            failing: Some(*call),
+            ..ample(SUPER_FRAME)
+        };
+        let file = Vec::from_slice(alloc, file)?;
+        let ran = tuned(rt, alloc, (BASE, ""), file, two, conditions)?;
+        if !stands(&ran, *found) {
+            return Ok(Some(number));
+        }
+    }
+    Ok(None)
+}
+
 // One call of the station fails, before the place and behind it. A write that fails writes the first half of its bytes.
 #[test]
 fn faults_of_the_station(rt: HostRuntime) -> Result<(), Fail> {
     let alloc = rt.alloc();
     let nulls = late_nulls(&rt, alloc)?;
-    for (place, (call, found)) in FAULTS.iter().enumerate() {
-        let conditions = Conditions {
-            failing: Some(*call),
-            ..ample(SUPER_FRAME)
-        };
-        let file = Vec::from_slice(alloc, &nulls)?;
-        let ran = tuned(&rt, alloc, (BASE, ""), file, false, conditions)?;
-        assert!(rt; stands(&ran, *found), "fault {}", place);
+    assert_eq!(rt; first_wrong(&rt, alloc, &nulls, false, &FAULTS)?, None);
+    let cells = null_cells(&rt, alloc, LAYERED, true)?;
+    let layered = heard(alloc, &cells, 200, FOLLOWING)?;
+    assert_eq!(rt;
+        first_wrong(&rt, alloc, &layered, true, &FAULTS_OF_LP)?,
+        None
+    );
+    Ok(())
+}
+
+/// Words of no form, files that are not there, and refused settings, before the cells are looked for: nothing is written.
+static REFUSED: [(&str, &str, Found<'static>); 7] = [
+    ("tune s a", "", (2, "usage\n", NONE, NONE)),
+    ("tune s a hp lp more", "", (2, "usage\n", NONE, NONE)),
+    ("Tune s a hp", "", (2, "usage\n", NONE, NONE)),
+    ("tune gone a hp", "", (5, "read fault\n", NONE, NONE)),
+    ("tune s gone hp", "", (5, "read fault\n", NONE, NONE)),
+    (
+        "tune s gone hp",
+        "colour = \"red\"\n",
+        (3, "settings unknown 0\n", NONE, NONE),
+    ),
+    (
+        "tune s gone hp",
+        "workers = 0\n",
+        (3, "settings value workers\n", NONE, NONE),
+    ),
+];
+
+#[test]
+fn refused_words_and_settings(rt: HostRuntime) -> Result<(), Fail> {
+    let alloc = rt.alloc();
+    for (words, line, found) in &REFUSED {
+        let settings = text_bytes(alloc, BASE, *line)?;
+        let none = (Vec::new(alloc), Vec::new(alloc));
+        let ran = run_files(&rt, alloc, *words, settings, none, 1, ample(SUPER_FRAME))?;
+        assert!(rt; stands(&ran, *found), "{} by {}", words, line);
     }
     Ok(())
 }

@@ -1,5 +1,4 @@
 // The command.
-ghost use Rattle.std.specs.Prelude.{◌≡◌};
 ghost use Rattle.station_core.specs.Meaning.{IsFresh};
 ghost use Rattle.run_clauses.specs.Run.{Run};
 ghost use Rattle.symbol_runs.specs.Outputs.{cell_names};

@@ -1,5 +1,4 @@
 // What upgrades a symbol.
-ghost use Rattle.std.specs.Prelude.{◌≡◌};
 
 use crate::cells::upgrade_symbol;
 use cell_conversions::Converter;

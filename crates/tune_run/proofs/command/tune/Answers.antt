@@ -16,6 +16,9 @@ tune_accepted-requires g c =
       one = c.one_found.ensures;
       stays = c.more_bytes.ensures.stays;
       tps = c.symbols.ensures.tps;
+      live = c.workers.ensures.live;
+      final = c.workers.ensures.last;
+      lines = c.workers.ensures.lines;
     } in
     λ k. (
       record { shared = c.type_bounds.sync-R.shared },
@@ -39,6 +42,9 @@ returns-in-Ok g c =
       one = c.one_found.ensures;
       stays = c.more_bytes.ensures.stays;
       tps = c.symbols.ensures.tps;
+      live = c.workers.ensures.live;
+      final = c.workers.ensures.last;
+      lines = c.workers.ensures.lines;
     } in
     run c.args.limits.now.packets c.args.settings.now c.args.cells.now c.args.hp.now lp old mid new laws c.requires.fresh c.in-Ok.ensures.asks
     c.in-Ok.accepted c.in-Ok.ensures.reads c.tune_accepted.result c.tune_accepted.ensures
@@ -54,6 +60,9 @@ returns-in-Err g c =
       one = c.one_found.ensures;
       stays = c.more_bytes.ensures.stays;
       tps = c.symbols.ensures.tps;
+      live = c.workers.ensures.live;
+      final = c.workers.ensures.last;
+      lines = c.workers.ensures.lines;
     } in
     refused c.args.limits.now.packets c.args.settings.now c.args.cells.now c.args.hp.now lp old mid new laws c.requires.fresh c.in-Err.ensures.asks
     c.in-Err.refusal c.in-Err.ensures.reads c.refuse.result c.refuse.ensures.status c.refuse.ensures.text

@@ -1,4 +1,4 @@
-use Rattle.std.proofs.Common.{ℕ, ◌≡◌, ◌+◌, ◌≤◌, List, ◌++◌, length, map, sym, ap, ◌∙◌, subst, arith}
+use Rattle.std.proofs.Common.{ℕ, ◌≡◌, ◌+◌, List, ◌++◌, map, sym, ap, ◌∙◌, subst, arith}
 use Rattle.code_paths.specs.declared.costs.CostPair.{CostPair}
 use Rattle.mode_set.specs.declared.modes.Stream.TheVariants.{Hp, Lp}
 use Rattle.mode_set.specs.declared.settings.Settings.{Settings}
@@ -13,7 +13,6 @@ use Rattle.reception.specs.Lines.{event_at}
 use Rattle.reception.specs.Feeds.{Output, Feeds}
 use Rattle.reception.specs.Streams.{so_far}
 use Rattle.stream_decoders.specs.Branches.{HasTaken}
-use Rattle.stream_decoders.specs.Rooms.{most_pairs}
 use Rattle.receiver.specs.Ready.{seen, IsKeptStream}
 use Rattle.receiver.specs.Seen.{ReceiverState}
 use Rattle.receiver.specs.Standing.{StreamGave, StandsFor}
@@ -62,13 +61,13 @@ pub take_symbol-requires-clause-hp : goal.take_symbol-requires-clause-hp
 take_symbol-requires-clause-hp g c κs within =
     let e = ap (λ (z : ReceiverState). z.ended) c.self.view_is ∙ c.requires.going in
     let few = ap (λ (z : ReceiverState). z.taken) c.self.view_is in
-    may_take c.self.inside.hp _ (most_pairs c.self.inside.cells.settings Hp) c.self.inside.cells.taken (c.self.invariant.hp_kept e) (omega (arith, few, c.requires.few)) (subst (λ (z : Settings). length c.pairs.result.now ≤ most_pairs z Hp) c.feed-count.ensures.settings c.pairs.ensures.few)
+    may_take c.self.inside.hp _ c.self.inside.cells.taken (c.self.invariant.hp_kept e) (omega (arith, few, c.requires.few)) c.pairs.ensures.largest
 
 pub take_symbol-requires-clause-lp : goal.take_symbol-requires-clause-lp
 take_symbol-requires-clause-lp g c κs within =
     let e = ap (λ (z : ReceiverState). z.ended) c.self.view_is ∙ c.requires.going in
     let few = ap (λ (z : ReceiverState). z.taken) c.self.view_is in
-    may_take c.self.inside.lp _ (most_pairs c.self.inside.cells.settings Lp) c.self.inside.cells.taken (c.self.invariant.lp_kept e) (omega (arith, few, c.requires.few)) (subst (λ (z : Settings). length c.pairs-2.result.now ≤ most_pairs z Lp) c.feed-count.ensures.settings c.pairs-2.ensures.few)
+    may_take c.self.inside.lp _ c.self.inside.cells.taken (c.self.invariant.lp_kept e) (omega (arith, few, c.requires.few)) c.pairs-2.ensures.largest
 
 pub give_on-requires-clause-may : goal.give_on-requires-clause-may
 give_on-requires-clause-may g c κs within =
@@ -86,12 +85,12 @@ invariant_of-self-2 g c =
     let x = c.self.inside in
     let more = c.feed-count.ensures.ended (sym c.if-not-whole.ensures.whole) in
     record {
-      hp_kept = λ _. subst (λ (z : Settings). IsKeptStream c.give_on.new.self (most_pairs z Hp) c.feed-count.new.self.taken) (sym c.feed-count.ensures.settings) (subst (λ k. IsKeptStream c.give_on.new.self (most_pairs x.cells.settings Hp) k) (sym more)
-          (keeps x.hp c.give_on.new.self c.take_symbol.new.hp _ (most_pairs x.cells.settings Hp) x.cells.taken (c.self.invariant.hp_kept e) (subst (λ (z : Settings). length c.pairs.result.now ≤ most_pairs z Hp) c.feed-count.ensures.settings c.pairs.ensures.few)
-          c.take_symbol.ensures.hp c.give_on.ensures.rest c.give_on.ensures.ready c.give_on.ensures.counts));
-      lp_kept = λ _. subst (λ (z : Settings). IsKeptStream c.give_on-2.new.self (most_pairs z Lp) c.feed-count.new.self.taken) (sym c.feed-count.ensures.settings) (subst (λ k. IsKeptStream c.give_on-2.new.self (most_pairs x.cells.settings Lp) k) (sym more)
-          (keeps x.lp c.give_on-2.new.self c.take_symbol.new.lp _ (most_pairs x.cells.settings Lp) x.cells.taken (c.self.invariant.lp_kept e) (subst (λ (z : Settings). length c.pairs-2.result.now ≤ most_pairs z Lp) c.feed-count.ensures.settings c.pairs-2.ensures.few)
-          c.take_symbol.ensures.lp c.give_on-2.ensures.rest c.give_on-2.ensures.ready c.give_on-2.ensures.counts));
+      hp_kept = λ _. subst (λ k. IsKeptStream c.give_on.new.self k) (sym more)
+          (keeps x.hp c.give_on.new.self c.take_symbol.new.hp _ x.cells.taken (c.self.invariant.hp_kept e) c.pairs.ensures.largest
+          c.take_symbol.ensures.hp c.give_on.ensures.rest c.give_on.ensures.ready c.give_on.ensures.counts);
+      lp_kept = λ _. subst (λ k. IsKeptStream c.give_on-2.new.self k) (sym more)
+          (keeps x.lp c.give_on-2.new.self c.take_symbol.new.lp _ x.cells.taken (c.self.invariant.lp_kept e) c.pairs-2.ensures.largest
+          c.take_symbol.ensures.lp c.give_on-2.ensures.rest c.give_on-2.ensures.ready c.give_on-2.ensures.counts);
       few_taken = omega (arith, more, c.requires.few, ap (λ (z : ReceiverState). z.taken) c.self.view_is);
       symbol = c.take.ensures.symbol;
       few_frames = omega (arith, more, c.take.ensures.few, c.self.invariant.few_frames);

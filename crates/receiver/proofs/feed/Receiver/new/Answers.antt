@@ -1,13 +1,12 @@
-use Rattle.std.proofs.Common.{◌∙◌, arith}
-use Rattle.mode_set.specs.declared.modes.Stream.TheVariants.{Hp, Lp}
+use Rattle.std.proofs.Common.{arith}
 use Rattle.receiver.proofs.Stepping.{first_kept}
 use Rattle.receiver.proofs.Feeding.{new_stands}
 use Rattle.receiver.proofs.feed.Receiver.new.Goals as goal
 
 pub invariant_of-result : goal.invariant_of-result
 invariant_of-result g c = record {
-  hp_kept = λ _. first_kept _ _ _ Hp _ c.in_ok-new.ensures.settings c.in_ok-new-2.ensures.ready (c.in_ok-new-2.ensures.most ∙ c.most_pairs.ensures.most) (omega (arith, c.most_pairs.ensures.most, c.most_pairs.ensures.few)) c.in_ok-new-2.ensures.steps c.in_ok-new-2.ensures.counts c.in_ok-new.ensures.taken;
-  lp_kept = λ _. first_kept _ _ _ Lp _ c.in_ok-new.ensures.settings c.in_ok-new-3.ensures.ready (c.in_ok-new-3.ensures.most ∙ c.most_pairs-2.ensures.most) (omega (arith, c.most_pairs-2.ensures.most, c.most_pairs-2.ensures.few)) c.in_ok-new-3.ensures.steps c.in_ok-new-3.ensures.counts c.in_ok-new.ensures.taken;
+  hp_kept = λ _. first_kept _ _ c.in_ok-new-2.ensures.ready c.in_ok-new-2.ensures.steps c.in_ok-new-2.ensures.counts;
+  lp_kept = λ _. first_kept _ _ c.in_ok-new-3.ensures.ready c.in_ok-new-3.ensures.steps c.in_ok-new-3.ensures.counts;
   symbol = omega (arith, c.new-4.ensures.symbol);
   few_taken = omega (arith, c.in_ok-new.ensures.taken);
   few_frames = omega (arith, c.new-4.ensures.read, c.new-4.ensures.bad);

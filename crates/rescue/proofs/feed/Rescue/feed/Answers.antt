@@ -1,7 +1,6 @@
-use Rattle.std.proofs.Common.{ℕ, ◌≤◌, List, [], ◌++◌, length, map, sym, ap, ◌∙◌, subst, arith}
+use Rattle.std.proofs.Common.{ℕ, List, [], ◌++◌, map, sym, ap, ◌∙◌, subst, arith}
 use Rattle.code_paths.specs.declared.costs.CostPair.{CostPair}
 use Rattle.mode_set.specs.declared.modes.Stream.TheVariants.{Hp, Lp}
-use Rattle.mode_set.specs.declared.settings.Settings.{Settings}
 use Rattle.inner_decoder.specs.Events.{ats}
 use Rattle.inner_decoder.specs.Running.{BranchState}
 use Rattle.rx_report.specs.declared.counts.Event.{Event}
@@ -12,7 +11,6 @@ use Rattle.reception.specs.Streams.{so_far}
 use Rattle.rescue.specs.Kept.{seen, IsKeptStream}
 use Rattle.rescue.specs.Seen.{RescueState}
 use Rattle.rescue.specs.Standing.{StreamGave, StandsFor}
-use Rattle.stream_decoders.specs.Rooms.{most_pairs}
 use Rattle.rescue.proofs.Feeding.{state, feeds_within, feeds_whole}
 use Rattle.rescue.proofs.Keeping.{may_take, ran_from, keeps}
 use Rattle.rescue.proofs.feed.Rescue.feed.Goals as goal
@@ -56,13 +54,13 @@ pub take_symbol-requires-clause-hp : goal.take_symbol-requires-clause-hp
 take_symbol-requires-clause-hp g c κs within =
     let e = ap (λ (z : RescueState). z.ended) c.self.view_is ∙ c.requires.going in
     let few = ap (λ (z : RescueState). z.taken) c.self.view_is in
-    may_take c.self.inside.hp _ (most_pairs c.self.inside.cells.settings Hp) c.self.inside.cells.taken (c.self.invariant.hp_kept e) (omega (arith, few, c.requires.few)) (subst (λ (z : Settings). length c.pairs-hp_pairs.result.now ≤ most_pairs z Hp) c.feed-count.ensures.settings c.pairs-hp_pairs.ensures.few)
+    may_take c.self.inside.hp _ c.self.inside.cells.taken (c.self.invariant.hp_kept e) (omega (arith, few, c.requires.few)) c.pairs-hp_pairs.ensures.largest
 
 pub take_symbol-requires-clause-lp : goal.take_symbol-requires-clause-lp
 take_symbol-requires-clause-lp g c κs within =
     let e = ap (λ (z : RescueState). z.ended) c.self.view_is ∙ c.requires.going in
     let few = ap (λ (z : RescueState). z.taken) c.self.view_is in
-    may_take c.self.inside.lp _ (most_pairs c.self.inside.cells.settings Lp) c.self.inside.cells.taken (c.self.invariant.lp_kept e) (omega (arith, few, c.requires.few)) (subst (λ (z : Settings). length c.pairs-lp_pairs.result.now ≤ most_pairs z Lp) c.feed-count.ensures.settings c.pairs-lp_pairs.ensures.few)
+    may_take c.self.inside.lp _ c.self.inside.cells.taken (c.self.invariant.lp_kept e) (omega (arith, few, c.requires.few)) c.pairs-lp_pairs.ensures.largest
 
 pub give_on-requires-clause-ran : goal.give_on-requires-clause-ran
 give_on-requires-clause-ran g c =
@@ -80,11 +78,11 @@ invariant_of-self-2 g c =
     let x = c.self.inside in
     let more = c.feed-count.ensures.ended (sym c.if-not-whole.ensures.whole) in
     record {
-      hp_kept = λ _. subst (λ (z : Settings). IsKeptStream c.give_on.new.self (most_pairs z Hp) c.feed-count.new.self.taken) (sym c.feed-count.ensures.settings) (subst (λ k. IsKeptStream c.give_on.new.self (most_pairs x.cells.settings Hp) k) (sym more)
-          (keeps x.hp c.give_on.new.self c.take_symbol.new.hp _ (most_pairs x.cells.settings Hp) x.cells.taken (c.self.invariant.hp_kept e) (subst (λ (z : Settings). length c.pairs-hp_pairs.result.now ≤ most_pairs z Hp) c.feed-count.ensures.settings c.pairs-hp_pairs.ensures.few)
-          c.take_symbol.ensures.hp c.give_on.ensures.rest c.give_on.ensures.ready c.give_on.ensures.counts));
-      lp_kept = λ _. subst (λ (z : Settings). IsKeptStream c.give_on-2.new.self (most_pairs z Lp) c.feed-count.new.self.taken) (sym c.feed-count.ensures.settings) (subst (λ k. IsKeptStream c.give_on-2.new.self (most_pairs x.cells.settings Lp) k) (sym more)
-          (keeps x.lp c.give_on-2.new.self c.take_symbol.new.lp _ (most_pairs x.cells.settings Lp) x.cells.taken (c.self.invariant.lp_kept e) (subst (λ (z : Settings). length c.pairs-lp_pairs.result.now ≤ most_pairs z Lp) c.feed-count.ensures.settings c.pairs-lp_pairs.ensures.few)
-          c.take_symbol.ensures.lp c.give_on-2.ensures.rest c.give_on-2.ensures.ready c.give_on-2.ensures.counts));
+      hp_kept = λ _. subst (λ k. IsKeptStream c.give_on.new.self k) (sym more)
+          (keeps x.hp c.give_on.new.self c.take_symbol.new.hp _ x.cells.taken (c.self.invariant.hp_kept e) c.pairs-hp_pairs.ensures.largest
+          c.take_symbol.ensures.hp c.give_on.ensures.rest c.give_on.ensures.ready c.give_on.ensures.counts);
+      lp_kept = λ _. subst (λ k. IsKeptStream c.give_on-2.new.self k) (sym more)
+          (keeps x.lp c.give_on-2.new.self c.take_symbol.new.lp _ x.cells.taken (c.self.invariant.lp_kept e) c.pairs-lp_pairs.ensures.largest
+          c.take_symbol.ensures.lp c.give_on-2.ensures.rest c.give_on-2.ensures.ready c.give_on-2.ensures.counts);
       few_taken = omega (arith, more, c.requires.few, ap (λ (z : RescueState). z.taken) c.self.view_is);
     }

@@ -10,7 +10,7 @@ use Rattle.mode_set.specs.declared.settings.Settings.{Settings}
 use Rattle.spec_words.specs.Words.{rounded_up}
 use Rattle.modulator.specs.Carrying.{IsLeastFor}
 use Rattle.modulator.proofs.Changes.{alike_later, alike_to_next, before_all, found_least, go_on, none_least}
-use Rattle.modulator.proofs.super_frames.frames_for.Goals as goal
+use Rattle.modulator.proofs.super_frames.super_frames_for.Goals as goal
 
 pub loop-i-init : goal.loop-i-init
 loop-i-init c =
