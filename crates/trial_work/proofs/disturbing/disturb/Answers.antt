@@ -19,7 +19,7 @@ use Rattle.trial_work.proofs.disturbing.disturb.Goals as goal
 
 pub next_cell-requires-clause-delta : goal.next_cell-requires-clause-delta
 next_cell-requires-clause-delta g c =
-    c.tolerance-delta.ensures ∙ ap (λ (z : Settings). tolerance z.shape z.hierarchy) c.parameters_of_symbol-entry.ensures
+    c.tolerance-delta.ensures ∙ ap (λ (z : Settings). tolerance z.shape z.hierarchy) c.parameters_of_symbol-entry.ensures.settings
 
 pub loop-k-init : goal.loop-k-init
 loop-k-init g c =
