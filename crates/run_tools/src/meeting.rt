@@ -1,4 +1,6 @@
 // A gate at which pieces of work wait for one another.
+ghost use Rattle.std.specs.Prelude.{true};
+
 use std::sync::atomic::{AtomicBool, Ordering};
 use word_workers::{Gate, Job};
 
@@ -72,6 +74,8 @@ impl Meeting {
 }
 
 impl Gate for Meeting {
+    ghost has_entered = { λ _ _ _. true };
+
     fn enter(&self, job: Job, piece: u32) {
         match job {
             Job::Outer => self.outer.enter(piece),

@@ -1,7 +1,10 @@
 -- The words of a chunk, decoded one after another.
-use Rattle.std.proofs.Common.{◌≡◌, ℕ, ◌+◌, ◌<◌, ◌≤◌, inl, inr, ◌⊎◌, List, length, set, get_or, refl, sym, ◌∙◌, subst, arith}
+use Rattle.std.proofs.Common.{◌≡◌, ℕ, ◌+◌, ◌-◌, ◌*◌, ◌/◌, ◌%◌, ◌<◌, ◌≤◌, min, inl, inr, ◌⊎◌, List, length, take, drop, set, get_or, refl, sym, ap, ◌∙◌, subst, arith}
+use Rattle.std.specs.Prelude.{Bool, IsTrue}
 use Rattle.std.proofs.lemmas.Bool.{cases_lt}
-use Rattle.std.proofs.lemmas.List.{get_or-set_same, get_or-set_other, get_or_default}
+use Rattle.std.proofs.lemmas.List.{get_or-set_same, get_or-set_other, get_or_default, length-take, length-drop}
+use Rattle.std.proofs.lemmas.Nat.{div-add-mod'}
+use Rattle.std.proofs.Math.Nat.{mod-lt}
 use Rattle.std.proofs.Math.ListN.{length-set}
 use Rattle.rs204.specs.Decoded.{Decoded}
 use Rattle.outer_chain.specs.declared.slot.WordSlot.{WordSlot}
@@ -29,3 +32,27 @@ decodes_more i old new now was l is h = record {
         let first : get_or new i was ≡ get_or old i e = get_or_default new i was e (omega (arith, l, h.long)) ∙ h.above i e (omega arith) in
         subst (λ j. Decoded (get_or old j e).word (get_or (set new i now) j e).word (get_or (set new i now) j e).outcome) here
         (subst (λ (z : WordSlot). Decoded (get_or old i e).word z.word z.outcome) (sym (get_or-set_same new i now e (omega (arith, l, h.long)))) (subst (λ (z : WordSlot). Decoded z.word now.word now.outcome) first is))
+
+-- so many pieces have entered, from this number on
+abbrev pub AllEntered : (ℕ → Bool) → ℕ → ℕ → Type 0
+AllEntered entered start n = (i : ℕ) → i < n → IsTrue (entered (start + i))
+
+pub entered_more : (entered : ℕ → Bool) (start n : ℕ) → IsTrue (entered (start + n)) → AllEntered entered start n → AllEntered entered start (n + 1)
+entered_more entered start n h all i l = go (cases_lt i n)
+  where
+    go : (i < n) ⊎ (n ≤ i) → IsTrue (entered (start + i))
+    go (inl s) = all i s
+    go (inr s) =
+        let same : start + n ≡ start + i = omega (arith, l, s) in
+        subst (λ k. IsTrue (entered k)) same h
+
+-- a piece has entered if those of its chunk have
+pub chunk_entered : {X : Type 0} (entered : ℕ → Bool) (xs ys : List X) (size i : ℕ) → 0 < size → i < length xs → ys ≡ take size (drop (i / size * size) xs) → AllEntered entered (i / size * size) (length ys) → IsTrue (entered i)
+chunk_entered entered xs ys size i some l is all =
+    let at : i / size * size + i % size ≡ i = div-add-mod' i size in
+    let within : i % size < size = mod-lt i some in
+    let long : length ys ≡ min size (length xs - i / size * size) = ap length is ∙ length-take size (drop (i / size * size) xs) ∙ ap (min size) (length-drop (i / size * size) xs) in
+    subst (λ k. IsTrue (entered k)) at (all (i % size) (omega (arith, at, within, long, l)))
+
+pub chunk_begins : (i size n : ℕ) → i < n → i / size * size < n
+chunk_begins i size n l = omega (arith, div-add-mod' i size, l)

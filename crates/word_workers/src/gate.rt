@@ -1,4 +1,5 @@
 // What each piece of work passes before it begins.
+ghost use Rattle.std.specs.Prelude.{ℕ, Bool, IsTrue, true};
 
 use std::marker::Sync;
 
@@ -13,15 +14,24 @@ pub enum Job {
 
 /// What each piece of work enters before it begins. It changes nothing of the work.
 pub trait Gate: Sync {
+    ghost use Rattle.word_workers.specs.declared.gate.Job.{Job};
+
+    /// Whether this piece of this work has entered. It says nothing of the gate itself: only `enter` tells it, so who
+    /// promises it for a piece has called `enter` with the number of that piece.
+    ghost has_entered: { Self → Job → ℕ → Bool };
+
     /// Called by the thread that does a piece, before it does it: of the outer words with the number of
     /// the word, of the inner decoders with 0 for HP and 1 for LP.
-    fn enter(&self, job: Job, piece: u32);
+    fn enter(&self, job: Job, piece: u32)
+        ensures entered { IsTrue (has_entered self.now job piece) };
 }
 
-/// A gate that holds nobody up.
+/// A gate that never blocks.
 #[derive(Clone, Copy, Debug, Drop)]
 pub struct OpenGate;
 
 impl Gate for OpenGate {
+    ghost has_entered = { λ _ _ _. true };
+
     fn enter(&self, _job: Job, _piece: u32) {}
 }

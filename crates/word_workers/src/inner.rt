@@ -1,4 +1,5 @@
 // The inner decoders of two streams side by side.
+ghost use Rattle.std.specs.Prelude.{IsTrue};
 ghost use Rattle.std.specs.Fork.{AcceptsAt, ChangesAt};
 ghost use Rattle.word_workers.specs.Symbols.{MayRun, HasRun, MayRunOver, HasRunOver};
 
@@ -10,16 +11,17 @@ use std::marker::Send;
 use std::thread::{Threads, join_mut};
 use survivor_ring::Survivors;
 
-/// Runs a symbol of a decoder behind the gate.
+/// Enters the gate with the number of a decoder, and runs a symbol of it.
 fn run_one<G: Gate, A: Acs, V: Survivors<2048>>(gate: &G, piece: u32, branch: &mut Branch<A, V>)
     requires may { MayRun branch.old }
     ensures has { HasRun branch.old branch.new }
+    ensures entered { IsTrue (G.has_entered gate.now Job.Inner piece) }
 {
     gate.enter(Job::Inner, piece);
     branch.run_symbol();
 }
 
-/// Runs these pairs of a decoder behind the gate.
+/// Enters the gate with the number of a decoder, and runs these pairs of it.
 fn run_one_over<G: Gate, A: Acs, V: Survivors<2048>>(
     gate: &G,
     piece: u32,
@@ -28,6 +30,7 @@ fn run_one_over<G: Gate, A: Acs, V: Survivors<2048>>(
 )
     requires may { MayRunOver pairs.now branch.old }
     ensures has { HasRunOver pairs.now branch.old branch.new }
+    ensures entered { IsTrue (G.has_entered gate.now Job.Inner piece) }
 {
     gate.enter(Job::Inner, piece);
     branch.run_over(pairs);
@@ -80,10 +83,13 @@ pub fn both<R: Threads + Sync, G: Gate, A: Acs + Send, V: Survivors<2048> + Send
     requires lp { MayRun lp.old }
     ensures hp { HasRun hp.old hp.new }
     ensures lp { HasRun lp.old lp.new }
+    ensures hp_entered { IsTrue (G.has_entered gate.now Job.Inner 0) }
+    ensures lp_entered { IsTrue (G.has_entered gate.now Job.Inner 1) }
 {
     let work = |piece: u32, branch: &mut Branch<A, V>|
         requires { MayRun branch.now }
-        ensures { HasRun branch.entry.now branch.exit.now }
+        ensures has { HasRun branch.entry.now branch.exit.now }
+        ensures entered { IsTrue (G.has_entered gate.entry.now Job.Inner piece) }
     { run_one(gate, piece, branch) };
     on_both(rt, &work, &work, hp, lp);
 }
@@ -105,14 +111,18 @@ pub fn both_over<R: Threads + Sync, G: Gate, A: Acs + Send, V: Survivors<2048> +
     requires lp { MayRunOver lp_pairs.now lp.old }
     ensures hp { HasRunOver hp_pairs.now hp.old hp.new }
     ensures lp { HasRunOver lp_pairs.now lp.old lp.new }
+    ensures hp_entered { IsTrue (G.has_entered gate.now Job.Inner 0) }
+    ensures lp_entered { IsTrue (G.has_entered gate.now Job.Inner 1) }
 {
     let over_hp = |piece: u32, branch: &mut Branch<A, V>|
         requires { MayRunOver hp_pairs.now branch.now }
-        ensures { HasRunOver hp_pairs.entry.now branch.entry.now branch.exit.now }
+        ensures has { HasRunOver hp_pairs.entry.now branch.entry.now branch.exit.now }
+        ensures entered { IsTrue (G.has_entered gate.entry.now Job.Inner piece) }
     { run_one_over(gate, piece, hp_pairs, branch) };
     let over_lp = |piece: u32, branch: &mut Branch<A, V>|
         requires { MayRunOver lp_pairs.now branch.now }
-        ensures { HasRunOver lp_pairs.entry.now branch.entry.now branch.exit.now }
+        ensures has { HasRunOver lp_pairs.entry.now branch.entry.now branch.exit.now }
+        ensures entered { IsTrue (G.has_entered gate.entry.now Job.Inner piece) }
     { run_one_over(gate, piece, lp_pairs, branch) };
     on_both(rt, &over_hp, &over_lp, hp, lp);
 }

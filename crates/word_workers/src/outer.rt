@@ -1,15 +1,16 @@
 // Outer words in chunks.
 ghost use Rattle.std.specs.Int.{div_ceil};
-ghost use Rattle.std.specs.Prelude.{◌≡◌, ◌+◌, ◌<◌, ◌≤◌, ℕ, length, slice_index_or};
+ghost use Rattle.std.specs.Prelude.{◌≡◌, ◌+◌, ◌<◌, ◌≤◌, ℕ, IsTrue, length, slice_index_or};
 ghost use Rattle.rs204.specs.Decoded.{Decoded};
 
 use crate::gate::{Gate, Job};
 use outer_chain::WordSlot;
 use std::thread::{Threads, for_each_chunk_mut};
 
-/// Decodes a word behind the gate.
+/// Enters the gate with the number of a word, and decodes the word.
 fn decode_one<G: Gate>(gate: &G, number: u32, slot: &mut WordSlot)
-    ensures { Decoded slot.old.word slot.new.word slot.new.outcome }
+    ensures decoded { Decoded slot.old.word slot.new.word slot.new.outcome }
+    ensures entered { IsTrue (G.has_entered gate.now Job.Outer number) }
 {
     gate.enter(Job::Outer, number);
     slot.decode();
@@ -19,6 +20,7 @@ fn decode_one<G: Gate>(gate: &G, number: u32, slot: &mut WordSlot)
 fn decode_chunk<G: Gate>(gate: &G, start: usize, chunk: &mut [WordSlot])
     requires few { start + length chunk.old ≤ 24 }
     ensures each { (i : ℕ) (d : WordSlot) → i < length chunk.old → Decoded (slice_index_or chunk.old i d).word (slice_index_or chunk.new i d).word (slice_index_or chunk.new i d).outcome }
+    ensures entered { (i : ℕ) → i < length chunk.old → IsTrue (G.has_entered gate.now Job.Outer (start + i)) }
 {
     for k in 0..chunk.len() {
         decode_one(gate, (start + k) as u32, &mut chunk[k]);
@@ -47,6 +49,7 @@ pub fn decode_all<R: Threads + Sync, G: Gate>(rt: &R, workers: u8, gate: &G, slo
     requires few_workers { workers ≤ 16 }
     requires few_slots { length slots.old ≤ 24 }
     ensures each { (i : ℕ) (d : WordSlot) → i < length slots.old → Decoded (slice_index_or slots.old i d).word (slice_index_or slots.new i d).word (slice_index_or slots.new i d).outcome }
+    ensures entered { (i : ℕ) → i < length slots.old → IsTrue (G.has_entered gate.now Job.Outer i) }
 {
     if slots.is_empty() {
         return;
@@ -54,7 +57,8 @@ pub fn decode_all<R: Threads + Sync, G: Gate>(rt: &R, workers: u8, gate: &G, slo
     let size = chunk_len(slots.len(), workers);
     let work = |start: usize, chunk: &mut [WordSlot]|
         requires { start + length chunk.now ≤ 24 }
-        ensures { (i : ℕ) (d : WordSlot) → i < length chunk.entry.now → Decoded (slice_index_or chunk.entry.now i d).word (slice_index_or chunk.exit.now i d).word (slice_index_or chunk.exit.now i d).outcome }
+        ensures each { (i : ℕ) (d : WordSlot) → i < length chunk.entry.now → Decoded (slice_index_or chunk.entry.now i d).word (slice_index_or chunk.exit.now i d).word (slice_index_or chunk.exit.now i d).outcome }
+        ensures entered { (i : ℕ) → i < length chunk.entry.now → IsTrue (G.has_entered gate.entry.now Job.Outer (start + i)) }
     { decode_chunk(gate, start, chunk) };
     for_each_chunk_mut(rt, slots, size, &work);
 }
