@@ -1,15 +1,16 @@
 -- What a receiver of rescued words has written, byte by byte.
 use Rattle.std.proofs.Common.{◌≡◌, ℕ, suc, ◌+◌, ◌-◌, ◌*◌, ◌/◌, ◌%◌, ◌<◌, ◌≤◌, Bool, not, cond, eqb, inl, inr, ◌⊎◌, List, [], ◌∷◌, ◌++◌, length, refl, sym, ◌∙◌, ap, ap₂, subst, arith, length-append, append-nil, true≢false}
-use Rattle.std.specs.Prelude.{Option, Some, None, is_some, true, false, IsSome, IfSome, ◌↔◌}
+use Rattle.std.specs.Prelude.{Option, Some, None, is_some, unwrap_or, true, false, IsSome, IfSome, ◌↔◌}
 use Rattle.std.proofs.lemmas.Bool.{cases_lt, ne_eqb, eq-eqb}
 use Rattle.rs204.specs.Codes.{distance}
+use Rattle.rs204.specs.declared.outcome.Outcome.TheVariants.{Clean, Corrected, Bad}
 use Rattle.forney.specs.Values.{values, stream_of}
 use Rattle.forney.specs.Interleaving.{deinterleaved}
 use Rattle.outer_chain.specs.Receiving.{Receives, EndsWord}
 use Rattle.outer_chain.specs.declared.slot.WordSlot.{WordSlot}
 use Rattle.outer_chain.specs.Nears.{near_of}
 use Rattle.outer_chain.specs.Running.{bytes_given}
-use Rattle.outer_chain.specs.Words.{word_at, word_count, phase_of, phase_before, packets_to, packet_of, given_packet, written, count, has}
+use Rattle.outer_chain.specs.Words.{word_at, word_count, phase_of, phase_before, packets_to, given_packet, written, count, has}
 use Rattle.outer_chain.proofs.WordLaws.{phase_same, packets_same, word_more}
 use Rattle.outer_chain.proofs.Finishing.{packets_suc}
 use Rattle.rescue_words.specs.ByteMargins.{margins_at}
@@ -17,7 +18,7 @@ use Rattle.rescue_words.specs.Recovery.{Recovery, IsRecovery, codeword_of}
 use Rattle.rescue_words.specs.Recovery.Recovery.{Nearest, Rescued, Lost}
 use Rattle.rescue_words.specs.Rescued.{RescueTally, codewords, tally_to, known_words, is_clean, is_corrected, is_rescued, is_lost}
 use Rattle.rescue_words.specs.Carrying.{Holds}
-use Rattle.rescue_words.specs.Recovering.{IsFinished, HasRecovered, kind_of, counted, is_clean_kind, is_corrected_kind, is_rescued_kind, is_bad_kind}
+use Rattle.rescue_words.specs.Recovering.{IsFinished, HasRecovered, kind_of, outcome_of, counted, is_clean_kind, is_corrected_kind, is_rescued_kind, is_bad_kind}
 use Rattle.rescue_words.specs.Running.{WordsState, Stands, Took, counts_of}
 use Rattle.rescue_words.specs.Laws.{AllRescued}
 use Rattle.rescue_words.specs.declared.counts.WordKind.{WordKind}
@@ -242,9 +243,22 @@ all_rescued s bytes margins more_bytes more_margins out tally h e =
 
 -- ---- a word
 
-held_written : (word held : List ℕ) (recovery : Recovery) (phase : Option ℕ) → ((f : ℕ) → packet_of f held (codeword_of recovery) ≡ packet_of f word (codeword_of recovery)) → written phase held (codeword_of recovery) ≡ written phase word (codeword_of recovery)
-held_written word held recovery None h = refl
-held_written word held recovery (Some f) h = h f
+-- the slot of a recovered word has its codeword
+held_near : (word : List ℕ) (recovery : Recovery) → near_of (outcome_of word recovery) (unwrap_or (codeword_of recovery) word) ≡ codeword_of recovery
+held_near word (Nearest c) = go (eqb (distance word c) 0)
+  where
+    go : (b : Bool) → near_of (cond b Clean (Corrected (distance word c))) c ≡ Some c
+    go true = refl
+    go false = refl
+held_near word (Rescued c) = refl
+held_near word Lost = refl
+
+-- and its packet is that of the word
+held_written : (word : List ℕ) (recovery : Recovery) (phase : Option ℕ) → written phase (unwrap_or (codeword_of recovery) word) (codeword_of recovery) ≡ written phase word (codeword_of recovery)
+held_written word recovery None = refl
+held_written word (Nearest c) (Some f) = refl
+held_written word (Rescued c) (Some f) = refl
+held_written word Lost (Some f) = refl
 
 packet_written : (phase : Option ℕ) (word : List ℕ) (near : Option (List ℕ)) → bytes_given (given_packet phase word near) ≡ written phase word near
 packet_written None word near = refl
@@ -259,11 +273,14 @@ pub word_finished : (word margins : List ℕ) (slot : WordSlot) (counts_as : Wor
     → HasRecovered word margins slot counts_as → after ≡ phase_of (near_of slot.outcome slot.word) before → packet ≡ given_packet after slot.word (near_of slot.outcome slot.word)
     → now ≡ counted counts counts_as (is_some packet) → to ≡ from ++ bytes_given packet → IsFinished word margins before after from to counts now
 word_finished word margins slot counts_as before after packet from to counts now h p g c w =
-    let given : packet ≡ given_packet after slot.word (codeword_of h.recovery) = g ∙ ap (given_packet after slot.word) h.holds in
+    let near : near_of slot.outcome slot.word ≡ codeword_of h.recovery = ap₂ near_of h.outcome_is h.holds ∙ held_near word h.recovery in
+    let given : packet ≡ given_packet after slot.word (codeword_of h.recovery) = g ∙ ap (given_packet after slot.word) near in
+    let is_written : written after slot.word (codeword_of h.recovery) ≡ written after word (codeword_of h.recovery) =
+    ap (λ w. written after w (codeword_of h.recovery)) h.holds ∙ held_written word h.recovery after in
     record {
       recovery = h.recovery;
       is_recovery = h.is_recovery;
-      phase = p ∙ ap (λ x. phase_of x before) h.holds;
-      is = w ∙ ap (λ z. from ++ z) (ap bytes_given given ∙ packet_written after slot.word (codeword_of h.recovery) ∙ held_written word slot.word h.recovery after h.packet);
+      phase = p ∙ ap (λ x. phase_of x before) near;
+      is = w ∙ ap (λ z. from ++ z) (ap bytes_given given ∙ packet_written after slot.word (codeword_of h.recovery) ∙ is_written);
       counted_is = c ∙ ap₂ (counted counts) h.kind_is (ap is_some given ∙ has_packet after slot.word (codeword_of h.recovery));
     }

@@ -1,9 +1,10 @@
 -- What recovering a word and finishing it tell.
-use Rattle.std.specs.Prelude.{◌≡◌, ℕ, ◌+◌, ◌≤◌, ◌==◌, Bool, true, false, not, cond, Option, List, ◌++◌}
+use Rattle.std.specs.Prelude.{◌≡◌, ℕ, ◌+◌, ◌≤◌, ◌==◌, Bool, true, false, not, cond, Option, unwrap_or, List, ◌++◌}
 use Rattle.rs204.specs.Codes.{distance}
+use Rattle.rs204.specs.declared.outcome.Outcome.{Outcome}
+use Rattle.rs204.specs.declared.outcome.Outcome.TheVariants.{Clean, Corrected, Bad}
 use Rattle.outer_chain.specs.declared.slot.WordSlot.{WordSlot}
-use Rattle.outer_chain.specs.Nears.{near_of}
-use Rattle.outer_chain.specs.Words.{packet_of, phase_of, written, has}
+use Rattle.outer_chain.specs.Words.{phase_of, written, has}
 use Rattle.rescue_words.specs.Recovery.{Recovery, IsRecovery, codeword_of}
 use Rattle.rescue_words.specs.Recovery.Recovery.{Nearest, Rescued, Lost}
 use Rattle.rescue_words.specs.declared.counts.WordKind.{WordKind}
@@ -16,12 +17,18 @@ kind_of word (Nearest c) = cond (distance word c == 0) kind.Clean kind.Corrected
 kind_of word (Rescued c) = kind.Rescued
 kind_of word Lost = kind.Bad
 
--- the slot holds the codeword that the word is recovered as, where there is one, and else the word as it was
+-- the outcome of a recovered word: so many wrong bytes if it has a nearest codeword, that of a codeword if it was rescued
+abbrev pub outcome_of : List ℕ → Recovery → Outcome
+outcome_of word (Nearest c) = cond (distance word c == 0) Clean (Corrected (distance word c))
+outcome_of word (Rescued c) = Clean
+outcome_of word Lost = Bad
+
+-- the slot holds the codeword that the word is recovered as, or the whole word as it was if there is none
 pub record HasRecovered (word margins : List ℕ) (slot : WordSlot) (counts_as : WordKind) : Type 0 where
   pub recovery : Recovery
   pub is_recovery : IsRecovery word margins recovery
-  pub holds : near_of slot.outcome slot.word ≡ codeword_of recovery
-  pub packet : (phase : ℕ) → packet_of phase slot.word (codeword_of recovery) ≡ packet_of phase word (codeword_of recovery)
+  pub holds : slot.word ≡ unwrap_or (codeword_of recovery) word
+  pub outcome_is : slot.outcome ≡ outcome_of word recovery
   pub kind_is : counts_as ≡ kind_of word recovery
 
 abbrev pub is_clean_kind : WordKind → Bool

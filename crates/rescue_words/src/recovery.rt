@@ -40,9 +40,10 @@ fn rescue(slot: &mut WordSlot, margins: &[u32; 204]) -> WordKind
     }
 }
 
-/// Puts the nearest codeword in the place of the word, or where there is none the codeword near to it outside its eight bytes
-/// of least margin, of several with the same margin the lower ones. Where there is none either, the word stays as it is and
-/// its slot is `Bad` (EN 300 744, 4.3.2).
+/// Puts the nearest codeword in the place of the word, or if there is none the codeword near to it outside its eight bytes
+/// of least margin, of several with the same margin the lower ones. If there is none either, all 204 bytes stay as they are.
+/// The outcome is `Clean` for a codeword, `Corrected` with the number of wrong bytes, 1 to 8, for a word near to one,
+/// `Clean` for a rescued word and `Bad` for a lost one (EN 300 744, 4.3.2).
 pub fn recover(slot: &mut WordSlot, margins: &[u32; 204]) -> WordKind
     ensures recovered { HasRecovered slot.old.word margins.now slot.new result }
 {
