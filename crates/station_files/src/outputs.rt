@@ -18,12 +18,14 @@ pub struct Outputs<'a, F> {
 }
 
 impl<'a, F: Write + OpenFile + Drop> Outputs<'a, F> {
-    ghost use Rattle.station_files.specs.Outputs.{AllOut, AllTold, SameSinks};
+    ghost use Rattle.std.specs.Prelude.{◌≡◌, OnOk};
+    ghost use Rattle.station_files.specs.Outputs.{AllOut, AllTold, AreSettled, SameSinks};
 
-    /// Writes what waits at any port. A file that fails is told of by `tell`.
+    /// Writes what waits at any port. A file that fails is reported by `tell`.
     pub fn flush(&mut self)
         ensures same { SameSinks self.old self.new }
         ensures out { AllOut self.new }
+        ensures idle { AreSettled self.old → self.new ≡ self.old }
     {
         self.cells.flush();
         self.hp.flush();
@@ -37,6 +39,7 @@ impl<'a, F: Write + OpenFile + Drop> Outputs<'a, F> {
         ensures same { SameSinks self.old self.new }
         ensures out { AllOut self.new }
         ensures told { AllTold self.new }
+        ensures idle { AreSettled self.old → self.new ≡ self.old }
     {
         let cells = self.cells.tell();
         let hp = self.hp.tell();
@@ -45,12 +48,25 @@ impl<'a, F: Write + OpenFile + Drop> Outputs<'a, F> {
         cells.and(hp).and(lp).and(bytes)
     }
 
-    /// Writes a line to standard output, behind all that the ports were given. Where one of them
-    /// fails, so does this call, and nothing of the line is written.
+    /// Hands to the files what waits at any port, and fails if one of them has failed, also if that
+    /// was reported before.
+    pub fn hand_over(&mut self) -> Result<(), Failed>
+        ensures same { SameSinks self.old self.new }
+        ensures settled { OnOk result (AreSettled self.new) }
+    {
+        self.cells.hand_over()?;
+        self.hp.hand_over()?;
+        self.lp.hand_over()?;
+        self.bytes.hand_over()
+    }
+
+    /// Writes a line to standard output, after all that the ports were given. If one of them fails,
+    /// so does this call, and nothing of the line is written.
     pub fn report<R: Print>(&mut self, rt: &R, line: &[u8]) -> Result<(), Failed>
         ensures same { SameSinks self.old self.new }
         ensures out { AllOut self.new }
         ensures told { AllTold self.new }
+        ensures idle { AreSettled self.old → self.new ≡ self.old }
     {
         self.flush();
         self.tell()?;

@@ -1,26 +1,34 @@
 // The station over files and standard output.
-ghost use Rattle.std.specs.Prelude.{◌≡◌, ◌≤◌, OnOk, OnErr};
+ghost use Rattle.std.specs.Prelude.{◌≡◌, ◌≤◌, false, true, OnOk, OnErr};
 ghost use Rattle.station_core.specs.Causes.{Rose, greatest_count};
+ghost use Rattle.station_files.specs.Outputs.{AreSettled};
+ghost use Rattle.station_files.specs.Ports.{sink_of};
 
 use crate::buffers::Buffers;
-use crate::opening::{attach_at, create_at};
+use crate::opening::{attach_at, create_at, empty, is_same, metadata_of, open_to_write};
 use crate::outputs::Outputs;
 use crate::reading::FileReading;
 use crate::writing::FileWriting;
 use station_core::{Failed, InPort, OutPort, Station};
+use std::fs::{Metadata, OpenFile};
+use std::io::Write;
 use std::rt::Files;
 
 /// The files of a runtime, and its standard output as Report.
 ///
-/// What is written to a port waits in its buffer, where it has one: until that is full, until a
-/// read asks a file, until a line is written to Report, or until `close`. Once `close` has answered
-/// `Ok`, and no call before it failed, all of it stands in the file.
+/// What is written to a port waits in its buffer, if it has one: until that is full, until a read
+/// asks a file, until a line is written to Report, or until `flush` or `close`. Once one of these two
+/// has answered `Ok`, and no call before it failed, all of it stands in the file.
 ///
 /// Each call that fails is counted; a count stands still at its greatest number. A write that takes
 /// nothing of a piece that is not empty is a fault, and so is a call that signals interrupt a
 /// thousand times. Once the file of a port has failed, nothing more is written to it. A fault that
-/// is met as a read begins is told by the next write to its port or to Report, or by `close`. Where
-/// Report tells one, nothing of the line is written, and the next line is free of it.
+/// is met as a read begins is reported by the next write to its port or to Report, by `flush`, or by
+/// `close`. If Report reports one, nothing of the line is written, and the next line is free of it.
+///
+/// An output is emptied only after it was seen to be none of the files that are open already, by
+/// whatever name: `create` fails at such a file and leaves it as it is. A character device, as a
+/// terminal, may be read and written at once.
 #[derive(Drop)]
 pub struct FileStation<'a, R: Files + Print> {
     rt: &'a R,
@@ -35,6 +43,9 @@ pub struct FileStation<'a, R: Files + Print> {
     close_faults: u64,
     // the writes to Report that have failed
     report_faults: u64,
+    // an output was written to since the last flush that did not fail
+    pending: bool,
+    ghost settled: { pending ≡ false → AreSettled outputs },
 }
 
 impl<'a, R: Files + Print> FileStation<'a, R> {
@@ -66,6 +77,7 @@ impl<'a, R: Files + Print> FileStation<'a, R> {
             write_faults: 0,
             close_faults: 0,
             report_faults: 0,
+            pending: false,
         }
     }
 
@@ -93,7 +105,33 @@ impl<'a, R: Files + Print> FileStation<'a, R> {
             write_faults: 0,
             close_faults: 0,
             report_faults: 0,
+            pending: false,
         }
+    }
+}
+
+impl<'a, R: Files + Print> FileStation<'a, R> {
+    // Whether a port has this file open.
+    fn has_open(&self, file: &Metadata) -> bool {
+        is_same(&self.settings.file, file)
+            || is_same(&self.hp.file, file)
+            || is_same(&self.lp.file, file)
+            || is_same(&self.cells.file, file)
+            || is_same(&self.outputs.cells.file, file)
+            || is_same(&self.outputs.hp.file, file)
+            || is_same(&self.outputs.lp.file, file)
+            || is_same(&self.outputs.bytes.file, file)
+    }
+
+    // Opens the file of this name to be written, and empties it, unless a port has it open already.
+    fn make(&self, name: &str) -> Result<R::File, Failed> {
+        let file = open_to_write(self.rt, name)?;
+        let metadata = metadata_of(&file)?;
+        if self.has_open(&metadata) {
+            return Err(Failed);
+        }
+        empty(&file, &metadata)?;
+        Ok(file)
     }
 }
 
@@ -109,6 +147,19 @@ fn counted<T>(outcome: Result<T, Failed>, faults: &mut u64) -> Result<T, Failed>
         *faults = faults.saturating_add(1);
     }
     outcome
+}
+
+// Writes to the file of a port, where bytes may wait then.
+fn write_at<'a, F: Write + OpenFile + Drop>(
+    writing: &mut FileWriting<'a, F>,
+    bytes: &[u8],
+    pending: &mut bool,
+) -> Result<(), Failed>
+    ensures same { sink_of writing.new ≡ sink_of writing.old }
+    ensures waits { pending.new ≡ true }
+{
+    *pending = true;
+    writing.write(bytes)
 }
 
 impl<'a, R: Files + Print> Station<'a> for FileStation<'a, R> {
@@ -138,28 +189,36 @@ impl<'a, R: Files + Print> Station<'a> for FileStation<'a, R> {
     }
 
     fn create(&mut self, port: OutPort, name: &'a str) -> Result<(), Failed> {
+        let made = self.make(name);
         let faults = &mut self.write_faults;
         match port {
-            OutPort::Cells => counted(create_at(self.rt, &mut self.outputs.cells, name), faults),
-            OutPort::Hp => counted(create_at(self.rt, &mut self.outputs.hp, name), faults),
-            OutPort::Lp => counted(create_at(self.rt, &mut self.outputs.lp, name), faults),
-            OutPort::Bytes => counted(create_at(self.rt, &mut self.outputs.bytes, name), faults),
+            OutPort::Cells => counted(create_at(&mut self.outputs.cells, name, made), faults),
+            OutPort::Hp => counted(create_at(&mut self.outputs.hp, name, made), faults),
+            OutPort::Lp => counted(create_at(&mut self.outputs.lp, name, made), faults),
+            OutPort::Bytes => counted(create_at(&mut self.outputs.bytes, name, made), faults),
             OutPort::Report => unreachable!(),
         }
     }
 
     fn write(&mut self, port: OutPort, bytes: &[u8]) -> Result<(), Failed> {
         let faults = &mut self.write_faults;
+        let pending = &mut self.pending;
         match port {
-            OutPort::Cells => counted(self.outputs.cells.write(bytes), faults),
-            OutPort::Hp => counted(self.outputs.hp.write(bytes), faults),
-            OutPort::Lp => counted(self.outputs.lp.write(bytes), faults),
-            OutPort::Bytes => counted(self.outputs.bytes.write(bytes), faults),
+            OutPort::Cells => counted(write_at(&mut self.outputs.cells, bytes, pending), faults),
+            OutPort::Hp => counted(write_at(&mut self.outputs.hp, bytes, pending), faults),
+            OutPort::Lp => counted(write_at(&mut self.outputs.lp, bytes, pending), faults),
+            OutPort::Bytes => counted(write_at(&mut self.outputs.bytes, bytes, pending), faults),
             OutPort::Report => {
                 let answer = counted(self.outputs.report(self.rt, bytes), faults);
                 counted(answer, &mut self.report_faults)
             }
         }
+    }
+
+    fn flush(&mut self) -> Result<(), Failed> {
+        counted(self.outputs.hand_over(), &mut self.write_faults)?;
+        self.pending = false;
+        Ok(())
     }
 
     fn close(&mut self, port: OutPort) -> Result<(), Failed> {
