@@ -3,7 +3,7 @@ use Rattle.std.specs.Prelude.{◌≡◌, ◌≢◌}
 use Rattle.station_files.specs.declared.outputs.Outputs.{Outputs}
 use Rattle.station_files.specs.declared.writing.Fault.TheVariants.{Untold}
 use Rattle.station_files.specs.Ports.{sink_of}
-use Rattle.station_files.specs.Waiting.{IsOut, IsSettled}
+use Rattle.station_files.specs.Waiting.{IsOut}
 
 -- nothing that was given to any port waits to be written
 pub record AllOut {F : Type 0} (o : Outputs F) : Type 0 where
@@ -18,13 +18,6 @@ pub record AllTold {F : Type 0} (o : Outputs F) : Type 0 where
   pub hp : o.hp.fault ≢ Untold
   pub lp : o.lp.fault ≢ Untold
   pub bytes : o.bytes.fault ≢ Untold
-
--- nothing waits at any port, and no write of a file has failed
-pub record AreSettled {F : Type 0} (o : Outputs F) : Type 0 where
-  pub cells : IsSettled o.cells
-  pub hp : IsSettled o.hp
-  pub lp : IsSettled o.lp
-  pub bytes : IsSettled o.bytes
 
 -- the ports stand for the same as before
 pub record SameSinks {F : Type 0} (old new : Outputs F) : Type 0 where

@@ -74,7 +74,7 @@ pub fn empty<F: OpenFile>(file: &F, metadata: &Metadata) -> Result<(), Failed> {
 }
 
 /// Gives one port the file that was made for it, if it was.
-pub fn create_at<'a, F>(
+pub fn create_at<'a, F: Drop>(
     writing: &mut FileWriting<'a, F>,
     name: &'a str,
     made: Result<F, Failed>,

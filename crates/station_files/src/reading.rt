@@ -19,7 +19,7 @@ impl<'a, F: Read + Write + OpenFile + Drop> FileReading<'a, F> {
     ghost use Rattle.std.specs.Prelude.{◌≡◌, ◌≤◌, length, IfOk};
     ghost use Rattle.station_core.specs.Meaning.{no_source};
     ghost use Rattle.station_files.specs.Ports.{source_of};
-    ghost use Rattle.station_files.specs.Outputs.{AllOut, AreSettled, SameSinks};
+    ghost use Rattle.station_files.specs.Outputs.{AllOut, SameSinks};
 
     /// A port at which nothing was asked.
     pub fn new(memory: Option<Vec<u8>>) -> FileReading<'a, F>
@@ -54,7 +54,7 @@ impl<'a, F: Read + Write + OpenFile + Drop> FileReading<'a, F> {
     pub fn read(&mut self, outputs: &mut Outputs<'a, F>, buf: &mut [u8]) -> Result<usize, Failed>
         ensures same { source_of self.new ≡ source_of self.old }
         ensures outputs { SameSinks outputs.old outputs.new }
-        ensures idle { AreSettled outputs.old → outputs.new ≡ outputs.old }
+        ensures waits { outputs.new.pending ≡ outputs.old.pending }
         ensures bound { IfOk result (λ n. n ≤ length buf.new) }
     {
         if !self.buffer.is_empty() {

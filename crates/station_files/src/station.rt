@@ -1,17 +1,13 @@
 // The station over files and standard output.
-ghost use Rattle.std.specs.Prelude.{◌≡◌, ◌≤◌, false, true, OnOk, OnErr};
+ghost use Rattle.std.specs.Prelude.{◌≡◌, ◌≤◌, OnOk, OnErr};
 ghost use Rattle.station_core.specs.Causes.{Rose, greatest_count};
-ghost use Rattle.station_files.specs.Outputs.{AreSettled};
-ghost use Rattle.station_files.specs.Ports.{sink_of};
 
 use crate::buffers::Buffers;
 use crate::opening::{attach_at, create_at, empty, is_same, metadata_of, open_to_write};
 use crate::outputs::Outputs;
 use crate::reading::FileReading;
-use crate::writing::FileWriting;
 use station_core::{Failed, InPort, OutPort, Station};
-use std::fs::{Metadata, OpenFile};
-use std::io::Write;
+use std::fs::Metadata;
 use std::rt::Files;
 
 /// The files of a runtime, and its standard output as Report.
@@ -43,9 +39,6 @@ pub struct FileStation<'a, R: Files + Print> {
     close_faults: u64,
     // the writes to Report that have failed
     report_faults: u64,
-    // an output was written to since the last flush that did not fail
-    pending: bool,
-    ghost settled: { pending ≡ false → AreSettled outputs },
 }
 
 impl<'a, R: Files + Print> FileStation<'a, R> {
@@ -66,18 +59,12 @@ impl<'a, R: Files + Print> FileStation<'a, R> {
             hp: FileReading::new(None),
             lp: FileReading::new(None),
             cells: FileReading::new(None),
-            outputs: Outputs {
-                cells: FileWriting::new(None),
-                hp: FileWriting::new(None),
-                lp: FileWriting::new(None),
-                bytes: FileWriting::new(None),
-            },
+            outputs: Outputs::new(None, None, None, None),
             report_closed: false,
             read_faults: 0,
             write_faults: 0,
             close_faults: 0,
             report_faults: 0,
-            pending: false,
         }
     }
 
@@ -94,18 +81,17 @@ impl<'a, R: Files + Print> FileStation<'a, R> {
             hp: FileReading::new(Some(buffers.hp)),
             lp: FileReading::new(Some(buffers.lp)),
             cells: FileReading::new(Some(buffers.cells)),
-            outputs: Outputs {
-                cells: FileWriting::new(Some(buffers.cells_out)),
-                hp: FileWriting::new(Some(buffers.hp_out)),
-                lp: FileWriting::new(Some(buffers.lp_out)),
-                bytes: FileWriting::new(Some(buffers.bytes_out)),
-            },
+            outputs: Outputs::new(
+                Some(buffers.cells_out),
+                Some(buffers.hp_out),
+                Some(buffers.lp_out),
+                Some(buffers.bytes_out),
+            ),
             report_closed: false,
             read_faults: 0,
             write_faults: 0,
             close_faults: 0,
             report_faults: 0,
-            pending: false,
         }
     }
 }
@@ -149,19 +135,6 @@ fn counted<T>(outcome: Result<T, Failed>, faults: &mut u64) -> Result<T, Failed>
     outcome
 }
 
-// Writes to the file of a port, where bytes may wait then.
-fn write_at<'a, F: Write + OpenFile + Drop>(
-    writing: &mut FileWriting<'a, F>,
-    bytes: &[u8],
-    pending: &mut bool,
-) -> Result<(), Failed>
-    ensures same { sink_of writing.new ≡ sink_of writing.old }
-    ensures waits { pending.new ≡ true }
-{
-    *pending = true;
-    writing.write(bytes)
-}
-
 impl<'a, R: Files + Print> Station<'a> for FileStation<'a, R> {
     ghost use Rattle.station_files.specs.Station.{file_meaning};
 
@@ -190,44 +163,82 @@ impl<'a, R: Files + Print> Station<'a> for FileStation<'a, R> {
 
     fn create(&mut self, port: OutPort, name: &'a str) -> Result<(), Failed> {
         let made = self.make(name);
-        let faults = &mut self.write_faults;
+        let outputs = &mut self.outputs;
         match port {
-            OutPort::Cells => counted(create_at(&mut self.outputs.cells, name, made), faults),
-            OutPort::Hp => counted(create_at(&mut self.outputs.hp, name, made), faults),
-            OutPort::Lp => counted(create_at(&mut self.outputs.lp, name, made), faults),
-            OutPort::Bytes => counted(create_at(&mut self.outputs.bytes, name, made), faults),
+            OutPort::Cells => {
+                let answer = create_at(&mut outputs.cells, name, made);
+                counted(answer, &mut self.write_faults)
+            }
+            OutPort::Hp => {
+                let answer = create_at(&mut outputs.hp, name, made);
+                counted(answer, &mut self.write_faults)
+            }
+            OutPort::Lp => {
+                let answer = create_at(&mut outputs.lp, name, made);
+                counted(answer, &mut self.write_faults)
+            }
+            OutPort::Bytes => {
+                let answer = create_at(&mut outputs.bytes, name, made);
+                counted(answer, &mut self.write_faults)
+            }
             OutPort::Report => unreachable!(),
         }
     }
 
     fn write(&mut self, port: OutPort, bytes: &[u8]) -> Result<(), Failed> {
-        let faults = &mut self.write_faults;
-        let pending = &mut self.pending;
+        let outputs = &mut self.outputs;
         match port {
-            OutPort::Cells => counted(write_at(&mut self.outputs.cells, bytes, pending), faults),
-            OutPort::Hp => counted(write_at(&mut self.outputs.hp, bytes, pending), faults),
-            OutPort::Lp => counted(write_at(&mut self.outputs.lp, bytes, pending), faults),
-            OutPort::Bytes => counted(write_at(&mut self.outputs.bytes, bytes, pending), faults),
+            OutPort::Cells => {
+                outputs.pending = true;
+                let answer = outputs.cells.write(bytes);
+                counted(answer, &mut self.write_faults)
+            }
+            OutPort::Hp => {
+                outputs.pending = true;
+                let answer = outputs.hp.write(bytes);
+                counted(answer, &mut self.write_faults)
+            }
+            OutPort::Lp => {
+                outputs.pending = true;
+                let answer = outputs.lp.write(bytes);
+                counted(answer, &mut self.write_faults)
+            }
+            OutPort::Bytes => {
+                outputs.pending = true;
+                let answer = outputs.bytes.write(bytes);
+                counted(answer, &mut self.write_faults)
+            }
             OutPort::Report => {
-                let answer = counted(self.outputs.report(self.rt, bytes), faults);
+                let reported = outputs.report(self.rt, bytes);
+                let answer = counted(reported, &mut self.write_faults);
                 counted(answer, &mut self.report_faults)
             }
         }
     }
 
     fn flush(&mut self) -> Result<(), Failed> {
-        counted(self.outputs.hand_over(), &mut self.write_faults)?;
-        self.pending = false;
-        Ok(())
+        counted(self.outputs.hand_over(), &mut self.write_faults)
     }
 
     fn close(&mut self, port: OutPort) -> Result<(), Failed> {
-        let faults = &mut self.close_faults;
+        let outputs = &mut self.outputs;
         match port {
-            OutPort::Cells => counted(self.outputs.cells.close(), faults),
-            OutPort::Hp => counted(self.outputs.hp.close(), faults),
-            OutPort::Lp => counted(self.outputs.lp.close(), faults),
-            OutPort::Bytes => counted(self.outputs.bytes.close(), faults),
+            OutPort::Cells => {
+                let answer = outputs.cells.close();
+                counted(answer, &mut self.close_faults)
+            }
+            OutPort::Hp => {
+                let answer = outputs.hp.close();
+                counted(answer, &mut self.close_faults)
+            }
+            OutPort::Lp => {
+                let answer = outputs.lp.close();
+                counted(answer, &mut self.close_faults)
+            }
+            OutPort::Bytes => {
+                let answer = outputs.bytes.close();
+                counted(answer, &mut self.close_faults)
+            }
             OutPort::Report => {
                 self.report_closed = true;
                 Ok(())

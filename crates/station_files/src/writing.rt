@@ -49,7 +49,8 @@ impl<'a, F: Write + OpenFile + Drop> FileWriting<'a, F> {
 
     /// A port at which nothing was asked.
     pub fn new(memory: Option<Vec<u8>>) -> FileWriting<'a, F>
-        ensures { sink_of result ≡ no_sink }
+        ensures new { sink_of result ≡ no_sink }
+        ensures settled { IsSettled result }
     {
         FileWriting {
             asked: None,
