@@ -2,7 +2,7 @@
 use Rattle.std.proofs.Common.{◌≡◌, ◌≢◌, ◌⊎◌, inl, inr, true, false, ℕ, ◌+◌, ◌*◌, ◌≤◌, ◌<◌, Bool, List, [], ◌++◌, length, take, drop, refl, ◌∙◌, sym, ap, subst, arith, Result, Ok, Err, Option, None, Some}
 use Rattle.std.specs.Prelude.{IsTrue, is_some, if◌then◌else◌, ◌==◌}
 use Rattle.std.specs.Option.{option_or}
-use Rattle.std.proofs.lemmas.List.{append-nil, drop_all}
+use Rattle.std.proofs.lemmas.List.{append-nil, drop_all, take_all}
 use Rattle.std.proofs.lemmas.Bool.{true≢false, eq-eqb, eqb-true}
 use Rattle.station_core.specs.Meaning.{Meaning, Source, Sink, IsFresh, IsUntouched, source_at, sink_at}
 use Rattle.station_core.specs.Causes.{Rose}
@@ -20,11 +20,12 @@ use Rattle.run_clauses.specs.Run.{Run, IsUntaken}
 use Rattle.run_steps.proofs.Taken.{all_unread}
 use Rattle.run_clauses.specs.Text.{status_of}
 use Rattle.run_clauses.proofs.Accepting.{all_accepted, no_refusal, not_sync_at, not_sync, past_limit_at, past_limit, accepted_from}
-use Rattle.run_steps.specs.Causes.{HasEndCause}
-use Rattle.run_steps.specs.Ended.{Ended, IsCaused, IsExact, IsWriteFault, Leaves, AreMade}
+use Rattle.run_steps.specs.Causes.{AreReadsKept, HasEndCause, IsSettled}
+use Rattle.run_steps.specs.Ended.{Ended, IsCaused, IsExact, IsSettledAt, IsWriteFault, Leaves, AreMade}
 use Rattle.run_steps.proofs.Whole.{run_done, run_refused}
 use Rattle.run_clauses.specs.SettingsFile.{most_settings}
 use Rattle.packet_runs.specs.Commands.{Coding, IsRefused, CodesTo, ClosesWith, CodesSoFar, packets_taken, coding_early, coding_command}
+use Rattle.packet_runs.specs.Coding.{Codes}
 use Rattle.packet_runs.specs.Steps.{IsReady, AsksPorts, Ran, Tells, outcome_status, RunsCoding}
 use Rattle.packet_runs.proofs.Growing.{Grows, Ends, fronts, front_of}
 
@@ -72,6 +73,7 @@ ready_after m s f = record {
   report = f.report;
   report_open = f.report_open;
   report_empty = f.report_empty;
+  settled = f.settled;
 }
 
 -- why a run was refused, by its outcome
@@ -166,6 +168,10 @@ module _ (settings : Option (List ℕ)) (statuses : List ℕ) (knows : KnowsStat
       by true is = record { lines = closing_line (counts_of file); are = inl (eqb-true (accepted limit file) (whole_packets file) is, refl) }
       by false is = record { lines = []; are = inr ((λ all. true≢false (sym (eq-eqb (accepted limit file) (whole_packets file) all) ∙ is)), refl) }
 
+  -- the whole is a front of itself
+  whole_of : (l : List ℕ) → l ≡ take (length l) l
+  whole_of l = sym (take_all (length l) l (omega arith))
+
   module _ (mid : Meaning) (asks : AsksPorts input output old mid) where
     known_by : (o : Result Counts Refusal) → HasEndCause AllAccepted old mid o → is_among (status_of (reason o)) statuses ≡ true
     known_by (Ok counts) cause = knows.done
@@ -197,13 +203,32 @@ module _ (settings : Option (List ℕ)) (statuses : List ℕ) (knows : KnowsStat
     caused_by (Err Memory) cause = absurd cause
     caused_by (Err (Limit n)) cause = cause.0
 
+    later_reads : AreReadsKept old mid → start.read_faults ≤ mid.read_faults
+    later_reads (inl same) = omega (arith, same)
+    later_reads (inr both) = both.0
+
+    -- the settings change nothing of what waits
+    settled_is : IsSettled old mid → IsSettled start mid
+    settled_is s = record { settled = s.settled; writes = s.writes }
+
+    settled_by : (o : Result Counts Refusal) → HasEndCause AllAccepted old mid o → IsSettledAt start mid (reason o)
+    settled_by (Ok counts) cause = tt
+    settled_by (Err Usage) cause = absurd cause
+    settled_by (Err (Cells reason)) cause = absurd cause
+    settled_by (Err (Settings why)) cause = absurd cause
+    settled_by (Err ReadFault) cause = settled_is cause.2
+    settled_by (Err WriteFault) cause = tt
+    settled_by (Err (NotSync stream n)) cause = settled_is cause.1
+    settled_by (Err Memory) cause = absurd cause
+    settled_by (Err (Limit n)) cause = settled_is cause.1
+
     later_reads_by : (o : Result Counts Refusal) → HasEndCause AllAccepted old mid o → start.read_faults ≤ mid.read_faults
     later_reads_by (Ok counts) cause = omega (arith, cause.0.reads)
     later_reads_by (Err Usage) cause = absurd cause
     later_reads_by (Err (Cells reason)) cause = absurd cause
     later_reads_by (Err (Settings why)) cause = absurd cause
     later_reads_by (Err ReadFault) cause = cause.1
-    later_reads_by (Err WriteFault) cause = omega (arith, cause.0)
+    later_reads_by (Err WriteFault) cause = later_reads cause.0
     later_reads_by (Err (NotSync stream n)) cause = omega (arith, cause.0)
     later_reads_by (Err Memory) cause = absurd cause
     later_reads_by (Err (Limit n)) cause = omega (arith, cause.0)
@@ -213,11 +238,11 @@ module _ (settings : Option (List ℕ)) (statuses : List ℕ) (knows : KnowsStat
     later_writes_by (Err Usage) cause = absurd cause
     later_writes_by (Err (Cells reason)) cause = absurd cause
     later_writes_by (Err (Settings why)) cause = absurd cause
-    later_writes_by (Err ReadFault) cause = cause.2
+    later_writes_by (Err ReadFault) cause = omega (arith, cause.2.writes)
     later_writes_by (Err WriteFault) cause = cause.2
-    later_writes_by (Err (NotSync stream n)) cause = cause.1
+    later_writes_by (Err (NotSync stream n)) cause = omega (arith, cause.1.writes)
     later_writes_by (Err Memory) cause = absurd cause
-    later_writes_by (Err (Limit n)) cause = cause.1
+    later_writes_by (Err (Limit n)) cause = omega (arith, cause.1.writes)
 
     exact_by : (o : Result Counts Refusal) → HasEndCause AllAccepted old mid o → Ran gives ends limit input old mid o → IsExact c limit start (reason o)
     exact_by (Ok counts) cause ran = λ t. refusal_is t ∙ no_refusal limit file (ran.1 t).1
@@ -316,9 +341,19 @@ module _ (settings : Option (List ℕ)) (statuses : List ℕ) (knows : KnowsStat
         let e = ran.1 t made in
         (188 * e.0 + e.4.0, omega (arith, accepted_from limit file e.0 e.2 e.3, e.4.1), e.4.2)
     taken_by (Err WriteFault) cause ran t made = elim (ran.0 t made) [
-      | inl e ↦ (188 * e.0, omega (arith, accepted_from limit file e.0 e.2 e.3), e.4)
+      | inl e ↦ refused_taken e.0 e.1
       | inr e ↦ all_taken e.0 e.1
     ]
+      where
+        refused_taken : (r : Refusal) → Codes gives limit file [] mid.hp.left mid.bytes_out.written (Err r) → Taken
+        refused_taken ReadFault e = (188 * e.0 + e.4.0, omega (arith, accepted_from limit file e.0 e.2 e.3, e.4.1), e.4.2)
+        refused_taken WriteFault e = (188 * e.0, omega (arith, accepted_from limit file e.0 e.2 e.3), e.4)
+        refused_taken (NotSync stream n) e = one_taken n (not_sync_at limit file n e.1 e.2 e.4) e.5
+        refused_taken (Limit n) e = one_taken n (limit_at n e.0 e.1 e.2).1 e.3
+        refused_taken Usage e = absurd e
+        refused_taken (Cells reason) e = absurd e
+        refused_taken (Settings reason) e = absurd e
+        refused_taken Memory e = absurd e
     taken_by (Err (NotSync stream n)) cause ran t made = let e = ran.2 t in one_taken n (not_sync_at limit file n e.1 e.2 e.4) e.5
     taken_by (Err Memory) cause ran t made = absurd cause
     taken_by (Err (Limit n)) cause ran t made = let e = ran.2 t in one_taken n (limit_at n e.0 e.1 e.2).1 e.3
@@ -401,14 +436,27 @@ module _ (settings : Option (List ℕ)) (statuses : List ℕ) (knows : KnowsStat
       report = λ t. lines t (ran.1 t);
     }
       where
+        -- what the packets before a refusal give
+        refused_front : start.tells ≡ true → (r : Refusal) → Codes gives limit file [] mid.hp.left mid.bytes_out.written (Err r)
+            → (n : ℕ) × (j : ℕ) × (n ≤ accepted limit file) × (mid.bytes_out.written ≡ take j (gives (first_packets n file)))
+        refused_front t ReadFault e = (e.0, length (gives (first_packets e.0 file)), accepted_from limit file e.0 e.2 e.3, e.5 ∙ whole_of (gives (first_packets e.0 file)))
+        refused_front t WriteFault e = (e.0, e.1, accepted_from limit file e.0 e.2 e.3, e.5)
+        refused_front t (NotSync stream n) e = (n, length (gives (first_packets n file)), omega (arith, not_sync_at limit file n e.1 e.2 e.4), e.6 ∙ whole_of (gives (first_packets n file)))
+        refused_front t (Limit n) e = (n, length (gives (first_packets n file)), omega (arith, (limit_at n e.0 e.1 e.2).1), e.4 ∙ whole_of (gives (first_packets n file)))
+        refused_front t Usage e = absurd e
+        refused_front t (Cells reason) e = absurd e
+        refused_front t (Settings reason) e = absurd e
+        refused_front t Memory e = absurd e
+
         front : start.tells ≡ true
-            → ((n : ℕ) × (j : ℕ) × (n ≤ whole_packets file) × AcceptsFirst limit file n × (mid.hp.left ≡ drop (188 * n) file) × (mid.bytes_out.written ≡ take j (gives (first_packets n file))))
+            → ((r : Refusal) × Codes gives limit file [] mid.hp.left mid.bytes_out.written (Err r))
             ⊎ (AcceptsFirst limit file (whole_packets file) × (mid.hp.left ≡ []) × ((j : ℕ) × (mid.bytes_out.written ≡ take j (ends (first_packets (whole_packets file) file)))))
             → (bytes : List ℕ) × CodesTo k limit start.file input bytes × ((j : ℕ) × (mid.bytes_out.written ≡ take j bytes))
         front t (inl e) =
             let all = comes t in
-            let begins = all.begins e.0 (accepted_from limit file e.0 e.2 e.3) e.1 in
-            (all.bytes, all.are, (begins.0, e.5 ∙ begins.1))
+            let f = refused_front t e.0 e.1 in
+            let begins = all.begins f.0 f.2 f.1 in
+            (all.bytes, all.are, (begins.0, f.3 ∙ begins.1))
         front t (inr e) = (ends (packets_of file), output_all t e.0 (ends (packets_of file)) refl, (e.2.0, e.2.1))
 
         lines : start.tells ≡ true
@@ -425,6 +473,7 @@ module _ (settings : Option (List ℕ)) (statuses : List ℕ) (knows : KnowsStat
     ended_of o cause ran = record {
       known = known_by o cause;
       caused = caused_by o cause;
+      settled = settled_by o cause;
       later_reads = later_reads_by o cause;
       later_writes = later_writes_by o cause;
       later_report = asks.later_report;

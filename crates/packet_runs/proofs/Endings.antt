@@ -8,7 +8,8 @@ use Rattle.run_clauses.specs.declared.work.Refusal.{Refusal}
 use Rattle.run_clauses.specs.declared.work.Refusal.TheVariants.{Usage, Settings, ReadFault, WriteFault, NotSync, Memory, Limit, Cells}
 use Rattle.run_clauses.specs.Packets.{whole_packets, first_packets, closing_line}
 use Rattle.packet_runs.specs.Coding.{Codes, CodesWhole, EndsCoding, KeepsOthers}
-use Rattle.packet_runs.specs.Steps.{Ran, OpensAll, Finishes, ClosesRefused}
+use Rattle.run_steps.specs.Causes.{Settles}
+use Rattle.packet_runs.specs.Steps.{Ran, OpensAll, Finishes, ClosesOutput, ClosesRefused}
 
 -- the work over the ports as they were opened is the work over the file
 from_opened : (input output : List ℕ) (old mid : Meaning) → OpensAll input output old mid (Ok tt) → (P : List ℕ → List ℕ → Type 0) → P mid.hp.left mid.bytes_out.written → P (old.file input) []
@@ -16,14 +17,25 @@ from_opened input output old mid opened P p =
     subst (λ (l : List ℕ). P (old.file input) l) (ap (λ (x : Meaning). x.bytes_out.written) opened)
     (subst (λ (l : List ℕ). P l mid.bytes_out.written) (ap (λ (x : Meaning). x.hp.left) opened) p)
 
+-- where a port was not opened nothing was given to the output
+pub unopened_waits : (input output : List ℕ) (old mid : Meaning) (r : Refusal) → OpensAll input output old mid (Err r) → mid.pending ≡ old.pending
+unopened_waits input output old mid ReadFault o = ap (λ (x : Meaning). x.pending) o
+unopened_waits input output old mid WriteFault o = ap (λ (x : Meaning). x.pending) o
+unopened_waits input output old mid (NotSync stream n) o = absurd o
+unopened_waits input output old mid (Limit n) o = absurd o
+unopened_waits input output old mid Usage o = absurd o
+unopened_waits input output old mid (Cells reason) o = absurd o
+unopened_waits input output old mid (Settings reason) o = absurd o
+unopened_waits input output old mid Memory o = absurd o
+
 module _ (coded ended : List (List ℕ) → List ℕ) (limit : ℕ) (input output : List ℕ) (old mid : Meaning) (opened : OpensAll input output old mid (Ok tt)) where
   tells : mid.tells ≡ old.tells
   tells = ap (λ (x : Meaning). x.tells) opened
 
-  -- a run that was refused in the work, and whose output was then closed
-  refused_with : (r : Refusal) (fin new : Meaning) → fin.report ≡ old.report → fin.bytes_out.created ≡ true
-      → (old.tells ≡ true → CodesWhole coded ended limit (old.file input) [] fin.hp.left fin.bytes_out.written (Err r)) → ClosesRefused fin new → Ran coded ended limit input old new (Err r)
-  refused_with r fin new report created work closes = cases r (λ t. subst (λ (x : Meaning). CodesWhole coded ended limit (old.file input) [] x.hp.left x.bytes_out.written (Err r)) (sym closes.closed) (work t))
+  -- a run whose output was closed behind this
+  shut_with : (r : Refusal) (fin new : Meaning) → fin.report ≡ old.report → fin.bytes_out.created ≡ true
+      → (old.tells ≡ true → CodesWhole coded ended limit (old.file input) [] fin.hp.left fin.bytes_out.written (Err r)) → ClosesOutput fin new → Ran coded ended limit input old new (Err r)
+  shut_with r fin new report created work closes = cases r (λ t. subst (λ (x : Meaning). CodesWhole coded ended limit (old.file input) [] x.hp.left x.bytes_out.written (Err r)) (sym closes.closed) (work t))
     where
       report' : new.report ≡ old.report
       report' = ap (λ (x : Meaning). x.report) closes.closed ∙ report
@@ -41,6 +53,56 @@ module _ (coded ended : List (List ℕ) → List ℕ) (limit : ℕ) (input outpu
       cases Memory d = (report', created', d)
       cases (Limit n) d = (report', created', d)
 
+  -- a refusal that became a write fault as the output was flushed
+  lost : (r : Refusal) (left after : List ℕ) → CodesWhole coded ended limit (old.file input) [] left after (Err r) → CodesWhole coded ended limit (old.file input) [] left after (Err WriteFault)
+  lost Usage left after d = inl (Usage, d)
+  lost (Cells reason) left after d = inl (Cells reason, d)
+  lost (Settings reason) left after d = inl (Settings reason, d)
+  lost ReadFault left after d = inl (ReadFault, d)
+  lost WriteFault left after d = d
+  lost (NotSync stream n) left after d = inl (NotSync stream n, d)
+  lost Memory left after d = inl (Memory, d)
+  lost (Limit n) left after d = inl (Limit n, d)
+
+  -- a run that was refused in the work, and whose output was then flushed and closed
+  refused_with : (r r' : Refusal) (fin new : Meaning) → fin.report ≡ old.report → fin.bytes_out.created ≡ true
+      → (old.tells ≡ true → CodesWhole coded ended limit (old.file input) [] fin.hp.left fin.bytes_out.written (Err r)) → ClosesRefused r fin new r' → Ran coded ended limit input old new (Err r')
+  refused_with r r' fin new report created work closes = by closes.settles
+    where
+      report' : closes.flushed.report ≡ old.report
+      report' = ap (λ (x : Meaning). x.report) closes.flushes ∙ report
+
+      created' : closes.flushed.bytes_out.created ≡ true
+      created' = ap (λ (x : Meaning). x.bytes_out.created) closes.flushes ∙ created
+
+      work' : old.tells ≡ true → CodesWhole coded ended limit (old.file input) [] closes.flushed.hp.left closes.flushed.bytes_out.written (Err r)
+      work' t = subst (λ (x : Meaning). CodesWhole coded ended limit (old.file input) [] x.hp.left x.bytes_out.written (Err r)) (sym closes.flushes) (work t)
+
+      by : Settles r fin closes.flushed r' → Ran coded ended limit input old new (Err r')
+      by (inl same) = subst (λ (x : Refusal). Ran coded ended limit input old new (Err x)) (sym same.0) (shut_with r closes.flushed new report' created' work' closes.closes)
+      by (inr failed) = subst (λ (x : Refusal). Ran coded ended limit input old new (Err x)) (sym failed.0)
+          (shut_with WriteFault closes.flushed new report' created' (λ t. lost r closes.flushed.hp.left closes.flushed.bytes_out.written (work' t)) closes.closes)
+
+  -- the packets were refused, or could not be read or written
+  pub refused_work : (r r' : Refusal) (fin new : Meaning) → KeepsOthers mid fin
+      → (mid.tells ≡ true → Codes coded limit mid.hp.left mid.bytes_out.written fin.hp.left fin.bytes_out.written (Err r)) → ClosesRefused r fin new r' → Ran coded ended limit input old new (Err r')
+  refused_work r r' fin new keeps work closes =
+      refused_with r r' fin new
+      (ap (λ (x : Meaning). x.report) keeps ∙ ap (λ (x : Meaning). x.report) opened)
+      (ap (λ (x : Meaning). x.bytes_out.created) keeps ∙ ap (λ (x : Meaning). x.bytes_out.created) opened)
+      (λ t. whole r (from_opened input output old mid opened (λ i b. Codes coded limit i b fin.hp.left fin.bytes_out.written (Err r)) (work (tells ∙ t))))
+      closes
+    where
+      whole : (r : Refusal) → Codes coded limit (old.file input) [] fin.hp.left fin.bytes_out.written (Err r) → CodesWhole coded ended limit (old.file input) [] fin.hp.left fin.bytes_out.written (Err r)
+      whole Usage d = d
+      whole (Cells reason) d = d
+      whole (Settings reason) d = d
+      whole ReadFault d = d
+      whole WriteFault d = inl (WriteFault, d)
+      whole (NotSync stream n) d = d
+      whole Memory d = d
+      whole (Limit n) d = d
+
   module _ (done : Meaning) (counts : Counts) (keeps : KeepsOthers mid done)
       (work : mid.tells ≡ true → Codes coded limit mid.hp.left mid.bytes_out.written done.hp.left done.bytes_out.written (Ok counts))
       (piece : List ℕ) (gives : mid.tells ≡ true → ended (first_packets counts.packets mid.hp.left) ≡ coded (first_packets counts.packets mid.hp.left) ++ piece) where
@@ -56,10 +118,10 @@ module _ (coded ended : List (List ℕ) → List ℕ) (limit : ℕ) (input outpu
         subst (λ (n : ℕ). ended (first_packets n (old.file input)) ≡ coded (first_packets n (old.file input)) ++ piece) all here
 
     -- the end was not written
-    pub refused_end : (r : Refusal) (fin new : Meaning) → KeepsOthers done fin
-        → (done.tells ≡ true → EndsCoding piece done.hp.left done.bytes_out.written fin.hp.left fin.bytes_out.written (Err r)) → ClosesRefused fin new → Ran coded ended limit input old new (Err r)
-    refused_end r fin new keeps' end closes =
-        refused_with r fin new
+    pub refused_end : (r r' : Refusal) (fin new : Meaning) → KeepsOthers done fin
+        → (done.tells ≡ true → EndsCoding piece done.hp.left done.bytes_out.written fin.hp.left fin.bytes_out.written (Err r)) → ClosesRefused r fin new r' → Ran coded ended limit input old new (Err r')
+    refused_end r r' fin new keeps' end closes =
+        refused_with r r' fin new
         (ap (λ (x : Meaning). x.report) keeps' ∙ ap (λ (x : Meaning). x.report) keeps ∙ ap (λ (x : Meaning). x.report) opened)
         (ap (λ (x : Meaning). x.bytes_out.created) keeps' ∙ ap (λ (x : Meaning). x.bytes_out.created) keeps ∙ ap (λ (x : Meaning). x.bytes_out.created) opened)
         (λ t. by r t (end (ap (λ (x : Meaning). x.tells) keeps ∙ tells ∙ t)))

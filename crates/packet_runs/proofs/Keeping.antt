@@ -1,5 +1,5 @@
 -- How the meaning of a station goes on from step to step of a coding.
-use Rattle.std.proofs.Common.{◌≡◌, ◌≤◌, true, inl, inr, ℕ, List, ◌++◌, if◌then◌else◌, length, take, ◌∙◌, sym, ap, arith, Result, Ok, Err}
+use Rattle.std.proofs.Common.{◌≡◌, ◌≤◌, Bool, true, refl, subst, inl, inr, ℕ, List, ◌++◌, if◌then◌else◌, length, take, ◌∙◌, sym, ap, arith, Result, Ok, Err}
 use Rattle.std.proofs.lemmas.List.{take_all}
 use Rattle.station_core.specs.Meaning.{Meaning, Source, Sink, with_sink, written_sink, closed_sink, with_close_faults}
 use Rattle.station_core.specs.declared.ports.OutPort.TheVariants.{Report, Bytes}
@@ -7,11 +7,12 @@ use Rattle.run_clauses.specs.declared.work.Counts.{Counts}
 use Rattle.run_clauses.specs.declared.work.Refusal.{Refusal}
 use Rattle.run_clauses.specs.Packets.{closing_line}
 use Rattle.packet_runs.specs.Coding.{KeepsOthers}
-use Rattle.packet_runs.specs.Steps.{AsksPorts, OpensAll, Finishes, ClosesRefused}
+use Rattle.run_steps.specs.Causes.{FlushesOnly}
+use Rattle.packet_runs.specs.Steps.{AsksPorts, OpensAll, Finishes, ClosesOutput, ClosesRefused}
 
 pub keeps_again : (a b c : Meaning) → KeepsOthers a b → KeepsOthers b c → KeepsOthers a c
 keeps_again a b c p q =
-    q ∙ ap (λ (x : Meaning). record x { hp = record x.hp { left = c.hp.left }; bytes_out = record x.bytes_out { written = c.bytes_out.written }; read_faults = c.read_faults; write_faults = c.write_faults }) p
+    q ∙ ap (λ (x : Meaning). record x { hp = record x.hp { left = c.hp.left }; bytes_out = record x.bytes_out { written = c.bytes_out.written }; read_faults = c.read_faults; write_faults = c.write_faults; pending = c.pending }) p
 
 -- the closing line was written, and the output could not be closed
 pub closes_late : (line : List ℕ) (m m' m'' : Meaning)
@@ -50,9 +51,10 @@ Works old new = new ≡ record old {
   write_faults = new.write_faults;
   close_faults = new.close_faults;
   report_faults = new.report_faults;
+  pending = new.pending;
 }
 
-works_from : (old new : Meaning) (left out text : List ℕ) (reads writes shut reports : ℕ)
+works_from : (old new : Meaning) (left out text : List ℕ) (reads writes shut reports : ℕ) (waits : Bool)
     → new ≡ record old {
       hp = record old.hp { left = left };
       bytes_out = record old.bytes_out { closed = true; written = out };
@@ -61,8 +63,9 @@ works_from : (old new : Meaning) (left out text : List ℕ) (reads writes shut r
       write_faults = writes;
       close_faults = shut;
       report_faults = reports;
+      pending = waits;
     } → Works old new
-works_from old new left out text reads writes shut reports p = p ∙ (λ i. record old {
+works_from old new left out text reads writes shut reports waits p = p ∙ (λ i. record old {
   hp = record old.hp { left = sym (ap (λ (x : Meaning). x.hp.left) p) i };
   bytes_out = record old.bytes_out { closed = true; written = sym (ap (λ (x : Meaning). x.bytes_out.written) p) i };
   report = record old.report { written = sym (ap (λ (x : Meaning). x.report.written) p) i };
@@ -70,36 +73,46 @@ works_from old new left out text reads writes shut reports p = p ∙ (λ i. reco
   write_faults = sym (ap (λ (x : Meaning). x.write_faults) p) i;
   close_faults = sym (ap (λ (x : Meaning). x.close_faults) p) i;
   report_faults = sym (ap (λ (x : Meaning). x.report_faults) p) i;
+  pending = sym (ap (λ (x : Meaning). x.pending) p) i;
 })
 
--- the work was refused, and the output closed
-pub works_closed : (old fin new : Meaning) → KeepsOthers old fin → ClosesRefused fin new → Works old new
-works_closed old fin new keeps closes =
-    works_from old new fin.hp.left fin.bytes_out.written old.report.written fin.read_faults fin.write_faults new.close_faults old.report_faults
+-- flushing keeps what the work keeps
+keeps_flushed : (old fin new : Meaning) → KeepsOthers old fin → FlushesOnly fin new → KeepsOthers old new
+keeps_flushed old fin new keeps p = keeps_again old fin new keeps (subst (λ (x : Meaning). KeepsOthers fin x) (sym p) refl)
+
+-- the output was closed behind the work
+works_shut : (old fin new : Meaning) → KeepsOthers old fin → ClosesOutput fin new → Works old new
+works_shut old fin new keeps closes =
+    works_from old new fin.hp.left fin.bytes_out.written old.report.written fin.read_faults fin.write_faults new.close_faults old.report_faults fin.pending
     (closes.closed ∙ ap (λ (x : Meaning). record x { bytes_out = record x.bytes_out { closed = true }; close_faults = new.close_faults }) keeps)
+
+-- the work was refused, and the output flushed and closed
+pub works_closed : (r r' : Refusal) (old fin new : Meaning) → KeepsOthers old fin → ClosesRefused r fin new r' → Works old new
+works_closed r r' old fin new keeps closes = works_shut old closes.flushed new (keeps_flushed old fin closes.flushed keeps closes.flushes) closes.closes
 
 -- the work was done, the closing line written or not, and the output closed
 pub works_finished : (old fin new : Meaning) (counts : Counts) (r : Result Counts Refusal) → KeepsOthers old fin → Finishes counts fin new r → Works old new
 works_finished old fin new counts (Ok c) keeps f =
     let text : List ℕ = if fin.tells then fin.report.written ++ closing_line counts else fin.report.written in
-    works_from old new fin.hp.left fin.bytes_out.written text fin.read_faults fin.write_faults old.close_faults old.report_faults
+    works_from old new fin.hp.left fin.bytes_out.written text fin.read_faults fin.write_faults old.close_faults old.report_faults fin.pending
     (f.1 ∙ ap (λ (x : Meaning). record x { bytes_out = record x.bytes_out { closed = true }; report = record x.report { written = text } }) keeps)
 works_finished old fin new counts (Err refusal) keeps f =
     let text : List ℕ = if fin.tells then fin.report.written ++ take f.2 (closing_line counts) else fin.report.written in
-    works_from old new fin.hp.left fin.bytes_out.written text fin.read_faults new.write_faults new.close_faults new.report_faults
+    works_from old new fin.hp.left fin.bytes_out.written text fin.read_faults new.write_faults new.close_faults new.report_faults fin.pending
     (f.3 ∙ ap (λ (x : Meaning). record x { bytes_out = record x.bytes_out { closed = true }; report = record x.report { written = text }; write_faults = new.write_faults; close_faults = new.close_faults; report_faults = new.report_faults }) keeps)
 
 -- the count of failed writes to Report has not fallen
-pub later_closed : (old fin new : Meaning) → KeepsOthers old fin → ClosesRefused fin new → old.report_faults ≤ new.report_faults
-later_closed old fin new keeps closes = omega (arith, ap (λ (x : Meaning). x.report_faults) keeps, ap (λ (x : Meaning). x.report_faults) closes.closed)
+pub later_closed : (r r' : Refusal) (old fin new : Meaning) → KeepsOthers old fin → ClosesRefused r fin new r' → old.report_faults ≤ new.report_faults
+later_closed r r' old fin new keeps closes =
+    omega (arith, ap (λ (x : Meaning). x.report_faults) keeps, ap (λ (x : Meaning). x.report_faults) closes.flushes, ap (λ (x : Meaning). x.report_faults) closes.closes.closed)
 
 pub later_finished : (old fin new : Meaning) (counts : Counts) (r : Result Counts Refusal) → KeepsOthers old fin → Finishes counts fin new r → old.report_faults ≤ new.report_faults
 later_finished old fin new counts (Ok c) keeps f = omega (arith, ap (λ (x : Meaning). x.report_faults) keeps, ap (λ (x : Meaning). x.report_faults) f.1)
 later_finished old fin new counts (Err refusal) keeps f = omega (arith, ap (λ (x : Meaning). x.report_faults) keeps, f.1)
 
 -- the ports that were asked, of a station that has changed in just these
-others_from : (old new : Meaning) (hp : Source) (out : Sink) (text : List ℕ) (reads writes shut reports : ℕ)
-    → new ≡ record old { hp = hp; bytes_out = out; report = record old.report { written = text }; read_faults = reads; write_faults = writes; close_faults = shut; report_faults = reports }
+others_from : (old new : Meaning) (hp : Source) (out : Sink) (text : List ℕ) (reads writes shut reports : ℕ) (waits : Bool)
+    → new ≡ record old { hp = hp; bytes_out = out; report = record old.report { written = text }; read_faults = reads; write_faults = writes; close_faults = shut; report_faults = reports; pending = waits }
     → new ≡ record old {
       hp = new.hp;
       bytes_out = new.bytes_out;
@@ -108,8 +121,9 @@ others_from : (old new : Meaning) (hp : Source) (out : Sink) (text : List ℕ) (
       write_faults = new.write_faults;
       close_faults = new.close_faults;
       report_faults = new.report_faults;
+      pending = new.pending;
     }
-others_from old new hp out text reads writes shut reports p = p ∙ (λ i. record old {
+others_from old new hp out text reads writes shut reports waits p = p ∙ (λ i. record old {
   hp = sym (ap (λ (x : Meaning). x.hp) p) i;
   bytes_out = sym (ap (λ (x : Meaning). x.bytes_out) p) i;
   report = record old.report { written = sym (ap (λ (x : Meaning). x.report.written) p) i };
@@ -117,6 +131,7 @@ others_from old new hp out text reads writes shut reports p = p ∙ (λ i. recor
   write_faults = sym (ap (λ (x : Meaning). x.write_faults) p) i;
   close_faults = sym (ap (λ (x : Meaning). x.close_faults) p) i;
   report_faults = sym (ap (λ (x : Meaning). x.report_faults) p) i;
+  pending = sym (ap (λ (x : Meaning). x.pending) p) i;
 })
 
 -- both ports were opened, the work was ended, and the output closed
@@ -130,9 +145,10 @@ asks_worked input output old mid new opened works later =
       write_faults = new.write_faults;
       close_faults = new.close_faults;
       report_faults = new.report_faults;
+      pending = new.pending;
     }) opened in
     record {
-      others = others_from old new _ _ _ _ _ _ _ all;
+      others = others_from old new _ _ _ _ _ _ _ _ all;
       later_report = omega (arith, later, ap (λ (x : Meaning). x.report_faults) opened);
       hp = ap (λ (x : Meaning). x.hp.asked) all;
       bytes = inr (ap (λ (x : Meaning). x.bytes_out.asked) all, ap (λ (x : Meaning). x.hp.attached) all);

@@ -8,13 +8,14 @@ use Rattle.run_clauses.specs.declared.work.Refusal.{Refusal}
 use Rattle.run_clauses.specs.declared.work.Refusal.TheVariants.{Usage, Settings, ReadFault, WriteFault, NotSync, Memory, Limit, Cells}
 use Rattle.run_clauses.specs.Packets.{first_packets, whole_packets, is_sync, AcceptsFirst, counts_of}
 
--- nothing but what is left of HP, what is written to Bytes and the counts has changed
+-- nothing but what is left of HP, what is written to Bytes and waits there, and the counts has changed
 abbrev pub KeepsOthers : Meaning → Meaning → Type 0
 KeepsOthers old new = new ≡ record old {
   hp = record old.hp { left = new.hp.left };
   bytes_out = record old.bytes_out { written = new.bytes_out.written };
   read_faults = new.read_faults;
   write_faults = new.write_faults;
+  pending = new.pending;
 }
 
 -- One packet of what is left, which gives the piece: what is left then and what is written
@@ -83,12 +84,13 @@ EndsCoding piece input before left after (Ok u) = (left ≡ input) × (after ≡
 EndsCoding piece input before left after (Err WriteFault) = (k : ℕ) × (left ≡ input) × (after ≡ before ++ take k piece)
 EndsCoding piece input before left after (Err refusal) = ⊥
 
--- All packets of an input and the end of their coding: `ended packets` is what packets give in all
+-- All packets of an input and the end of their coding: `ended packets` is what packets give in all. A write fault may
+-- have been met only as the output was flushed, behind another refusal.
 abbrev pub CodesWhole : (List (List ℕ) → List ℕ) → (List (List ℕ) → List ℕ) → ℕ → List ℕ → List ℕ → List ℕ → List ℕ → Result Counts Refusal → Type 0
 CodesWhole coded ended limit input before left after (Ok counts) =
     (counts ≡ counts_of input) × AcceptsFirst limit input (whole_packets input)
     × (left ≡ []) × (after ≡ before ++ ended (first_packets (whole_packets input) input))
 CodesWhole coded ended limit input before left after (Err WriteFault) =
-    Codes coded limit input before left after (Err WriteFault)
+    ((r : Refusal) × Codes coded limit input before left after (Err r))
     ⊎ (AcceptsFirst limit input (whole_packets input) × (left ≡ []) × ((k : ℕ) × (after ≡ before ++ take k (ended (first_packets (whole_packets input) input)))))
 CodesWhole coded ended limit input before left after (Err refusal) = Codes coded limit input before left after (Err refusal)

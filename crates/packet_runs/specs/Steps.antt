@@ -5,13 +5,13 @@ use Rattle.station_core.specs.Meaning.{Meaning}
 use Rattle.run_clauses.specs.declared.work.Counts.{Counts}
 use Rattle.run_clauses.specs.declared.work.Refusal.{Refusal}
 use Rattle.run_clauses.specs.declared.work.Refusal.TheVariants.{Usage, Settings, ReadFault, WriteFault, NotSync, Memory, Limit, Cells}
-use Rattle.run_steps.specs.Causes.{HasEndCause}
+use Rattle.run_steps.specs.Causes.{FlushesOnly, HasEndCause, Settles}
 use Rattle.packet_runs.specs.Coding.{CodesWhole}
 use Rattle.run_clauses.specs.Packets.{AcceptsFirst, closing_line, counts_of, whole_packets}
 use Rattle.run_steps.specs.Report.{WritesText}
 use Rattle.run_clauses.specs.Text.{refusal_text, refusal_status}
 
--- nothing was asked on HP and Bytes, Report is open, and nothing was written there
+-- nothing was asked on HP and Bytes, Report is open, nothing was written there, and nothing waits
 pub record IsReady (m : Meaning) : Type 0 where
   pub hp : m.hp.asked ≡ None
   pub hp_closed : m.hp.attached ≡ false
@@ -20,9 +20,10 @@ pub record IsReady (m : Meaning) : Type 0 where
   pub report : m.report.created ≡ true
   pub report_open : m.report.closed ≡ false
   pub report_empty : m.tells ≡ true → m.report.written ≡ []
+  pub settled : m.pending ≡ false
 
--- After the work, before the text of a refusal: only HP, Bytes, what is written to Report and the counts have
--- changed, and only these names were asked.
+-- After the work, before the text of a refusal: only HP, Bytes, whether bytes wait there, what is written to Report and
+-- the counts have changed, and only these names were asked.
 pub record AsksPorts (input output : List ℕ) (old new : Meaning) : Type 0 where
   pub others : new ≡ record old {
     hp = new.hp;
@@ -32,6 +33,7 @@ pub record AsksPorts (input output : List ℕ) (old new : Meaning) : Type 0 wher
     write_faults = new.write_faults;
     close_faults = new.close_faults;
     report_faults = new.report_faults;
+    pending = new.pending;
   }
   pub later_report : old.report_faults ≤ new.report_faults
   pub hp : new.hp.asked ≡ Some input
@@ -104,10 +106,17 @@ Finishes counts old new (Err refusal) =
       report_faults = new.report_faults;
     })
 
--- after a refusal in the work the output is closed all the same, and whether that failed is only counted
-pub record ClosesRefused (old new : Meaning) : Type 0 where
+-- the output is closed, and whether that failed is only counted
+pub record ClosesOutput (old new : Meaning) : Type 0 where
   pub closed : new ≡ record old { bytes_out = record old.bytes_out { closed = true }; close_faults = new.close_faults }
   pub later : old.close_faults ≤ new.close_faults
+
+-- after a refusal in the work the output is flushed, which may make it a write fault, and then closed all the same
+pub record ClosesRefused (refusal : Refusal) (old new : Meaning) (result : Refusal) : Type 0 where
+  pub flushed : Meaning
+  pub flushes : FlushesOnly old flushed
+  pub settles : Settles refusal old flushed result
+  pub closes : ClosesOutput flushed new
 
 -- the status of an outcome
 abbrev pub outcome_status : Result Counts Refusal → ℕ

@@ -46,6 +46,9 @@ fn code_next<'a, C: Coder, S: Station<'a>>(
         Err(_) => return Err(Refusal::NotSync(Stream::Hp, number)),
     };
     coder.take(&packet);
+    if coder.bytes().is_empty() {
+        return Ok(None);
+    }
     match station.write(OutPort::Bytes, coder.bytes()) {
         Ok(()) => Ok(None),
         Err(_) => Err(Refusal::WriteFault),

@@ -30,15 +30,9 @@ fn code_all<'a, C: Coder, S: Station<'a>>(
     match code_packets(limits, coder, station) {
         Ok(counts) => match write_end(coder, station) {
             Ok(()) => finish(counts, station),
-            Err(fault) => {
-                close_refused(station);
-                Err(fault)
-            }
+            Err(fault) => Err(close_refused(fault, station)),
         },
-        Err(refusal) => {
-            close_refused(station);
-            Err(refusal)
-        }
+        Err(refusal) => Err(close_refused(refusal, station)),
     }
 }
 

@@ -1,9 +1,12 @@
 // The steps of a run: the ports are opened, and closed behind the work.
-ghost use Rattle.std.specs.Prelude.{◌≡◌, true, false, None};
+ghost use Rattle.std.specs.Prelude.{◌≡◌, ◌⊎◌, ◌++◌, true, false, None, OnErr};
 ghost use Rattle.run_steps.specs.Causes.{HasCause, HasEndCause};
-ghost use Rattle.packet_runs.specs.Steps.{OpensAll, Finishes, ClosesRefused};
+ghost use Rattle.station_core.specs.Causes.{Rose};
+ghost use Rattle.run_clauses.specs.Packets.{closing_line};
+ghost use Rattle.packet_runs.specs.Steps.{OpensAll, Finishes, ClosesOutput, ClosesRefused};
 
 use run_clauses::{Counts, Refusal, closing_line_of};
+use run_steps::settle;
 use station_core::{InPort, OutPort, Station};
 
 /// Opens HP to be read, and then makes the output.
@@ -26,7 +29,7 @@ pub fn open<'a, S: Station<'a>>(
     }
 }
 
-/// Writes the closing line and closes the output, also where the line was not written.
+/// Writes the closing line and then closes the output, also if the line was not written.
 pub fn finish<'a, S: Station<'a>>(counts: Counts, station: &mut S) -> Result<Counts, Refusal>
     requires report { (S.meaning station.old).report.created ≡ true }
     requires report_open { (S.meaning station.old).report.closed ≡ false }
@@ -34,6 +37,8 @@ pub fn finish<'a, S: Station<'a>>(counts: Counts, station: &mut S) -> Result<Cou
     requires bytes_open { (S.meaning station.old).bytes_out.closed ≡ false }
     ensures cause { HasEndCause (Unit {0}) (S.meaning station.old) (S.meaning station.new) result }
     ensures finished { Finishes counts (S.meaning station.old) (S.meaning station.new) result }
+    ensures line { (S.meaning station.old).tells ≡ true → OnErr result (Rose (S.meaning station.old).report_faults (S.meaning station.new).report_faults
+        ⊎ ((S.meaning station.new).report.written ≡ (S.meaning station.old).report.written ++ closing_line counts)) }
 {
     let line = closing_line_of(&counts);
     match station.write(OutPort::Report, line.as_str().as_bytes()) {
@@ -48,11 +53,22 @@ pub fn finish<'a, S: Station<'a>>(counts: Counts, station: &mut S) -> Result<Cou
     }
 }
 
-/// Closes the output after a refusal. What it answers changes neither status nor text.
-pub fn close_refused<'a, S: Station<'a>>(station: &mut S)
+// Closes the output. What that answers changes neither status nor text.
+fn close_output<'a, S: Station<'a>>(station: &mut S)
     requires bytes { (S.meaning station.old).bytes_out.created ≡ true }
     requires bytes_open { (S.meaning station.old).bytes_out.closed ≡ false }
-    ensures closed { ClosesRefused (S.meaning station.old) (S.meaning station.new) }
+    ensures closed { ClosesOutput (S.meaning station.old) (S.meaning station.new) }
 {
     let _ = station.close(OutPort::Bytes);
+}
+
+/// Flushes the output after a refusal, and closes it. A flush that fails makes it a write fault.
+pub fn close_refused<'a, S: Station<'a>>(refusal: Refusal, station: &mut S) -> Refusal
+    requires bytes { (S.meaning station.old).bytes_out.created ≡ true }
+    requires bytes_open { (S.meaning station.old).bytes_out.closed ≡ false }
+    ensures closed { ClosesRefused refusal (S.meaning station.old) (S.meaning station.new) result }
+{
+    let settled = settle(refusal, station);
+    close_output(station);
+    settled
 }

@@ -3,7 +3,7 @@
 --
 -- A station tells the contents of its files, or it does not; what speaks of contents is promised where it does.
 -- A count of faults rose in the run where it is greater behind it than before, or stands at its greatest number.
-use Rattle.std.specs.Prelude.{◌≡◌, ◌≢◌, ◌≤◌, ◌⊎◌, ◌++◌, ℕ, true, List, [], ◌∷◌, take, drop, None}
+use Rattle.std.specs.Prelude.{◌≡◌, ◌≢◌, ◌≤◌, ◌⊎◌, ◌++◌, ℕ, true, false, List, [], ◌∷◌, take, drop, None}
 use Rattle.station_core.specs.Meaning.{Meaning, IsUntouched, source_at, sink_at}
 use Rattle.station_core.specs.Causes.{Rose}
 use Rattle.station_core.specs.declared.ports.InPort.{InPort}
@@ -50,10 +50,16 @@ pub record Run (c : Command) (limit : ℕ) (old new : Meaning) (status : ℕ) : 
   -- Where the words and the files come to a refusal, 6 comes only where a write failed, or an output could not be
   -- made: an output that could not be closed behind a refusal changes neither status nor text.
   pub refusal_first : old.tells ≡ true → refusal_of limit old.file c ≢ None → status ≡ 6 → Rose old.write_faults new.write_faults
-  -- At every status but 5 no read has failed, and at 0 no write and no close either.
-  pub reads_kept : status ≢ 5 → new.read_faults ≡ old.read_faults
+  -- At every status but 5 no read has failed, but for one: at 6 a write may have failed before it, which only a flush
+  -- behind it has reported. At 0 no write and no close has failed either.
+  pub reads_kept : status ≢ 5 → (new.read_faults ≡ old.read_faults) ⊎ ((status ≡ 6) × Rose old.write_faults new.write_faults)
   pub writes_kept : status ≡ 0 → new.write_faults ≡ old.write_faults
   pub closes_kept : status ≡ 0 → new.close_faults ≡ old.close_faults
+  -- A failed write comes first: at every status but 6 no write has failed, other than one to Report.
+  pub written_first : status ≢ 6 → (Rose old.report_faults new.report_faults → ⊥) → new.write_faults ≡ old.write_faults
+  -- At every status but 0 and 6 all that was given to the outputs was handed to their files, and no fault of that is
+  -- left to be reported: they were flushed before they were closed. At 0 their closing has shown it.
+  pub handed_over : status ≢ 0 → status ≢ 6 → new.pending ≡ false
   -- Every other status but 7, want of memory, is the one that the words and the files come to.
   pub exact : old.tells ≡ true → status ≢ 5 → status ≢ 6 → status ≢ 7 → status ≡ status_of (refusal_of limit old.file c)
   -- Where they come to no refusal and nothing fails, the run is done, or has no memory.

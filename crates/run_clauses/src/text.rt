@@ -1,5 +1,5 @@
 // The lines of the report.
-ghost use Rattle.std.specs.Prelude.{◌≡◌, ◌≤◌, ◌+◌, ◌++◌, length};
+ghost use Rattle.std.specs.Prelude.{◌≡◌, ◌≤◌, ◌<◌, ◌+◌, ◌++◌, length};
 ghost use Rattle.mode_set.specs.Keys.{key_text};
 ghost use Rattle.arrayvec.specs.ArrayString.{array_string_len};
 ghost use Rattle.run_clauses.specs.Text.{refusal_text, settings_text};
@@ -39,7 +39,8 @@ fn push_settings(line: &mut Line, reason: &SettingsRefusal)
 
 /// The text of a refusal, one line.
 pub fn text_of(refusal: &Refusal) -> Line
-    ensures { result.bytes ≡ refusal_text refusal.now }
+    ensures text { result.bytes ≡ refusal_text refusal.now }
+    ensures some { 0 < length result.bytes }
 {
     let mut line = Line::new();
     match refusal {
@@ -66,14 +67,16 @@ pub fn text_of(refusal: &Refusal) -> Line
 
 /// The closing line of a transport input that was taken whole.
 pub fn closing_line_of(counts: &Counts) -> Line
-    ensures { result.bytes ≡ closing_line counts.now }
+    ensures text { result.bytes ≡ closing_line counts.now }
+    ensures some { 0 < length result.bytes }
 {
     packets_line_of(Stream::Hp, counts)
 }
 
 /// The closing line of the input of a stream that was taken whole.
 pub fn packets_line_of(stream: Stream, counts: &Counts) -> Line
-    ensures { result.bytes ≡ packets_line stream counts.now }
+    ensures text { result.bytes ≡ packets_line stream counts.now }
+    ensures some { 0 < length result.bytes }
 {
     let mut line = Line::new();
     line.push_str(name_of(stream));

@@ -19,7 +19,8 @@ use Rattle.run_clauses.specs.Run.{AsksSettingsAlone}
 use Rattle.run_clauses.specs.SettingsFile.{most_settings, settings_refusal}
 use Rattle.run_clauses.specs.Text.{status_of}
 use Rattle.run_steps.specs.SettingsStep.{AsksSettings, ReadsSettings}
-use Rattle.run_steps.specs.Ended.{Ended, IsCaused, IsExact, Leaves, HoldNothing}
+use Rattle.run_steps.specs.Causes.{IsSettled}
+use Rattle.run_steps.specs.Ended.{Ended, IsCaused, IsExact, IsSettledAt, Leaves, HoldNothing}
 
 -- how a run is refused before another port is asked: for its words or settings, for want of memory, or where
 -- the settings could not be read; where reading stops and no other input was opened, no line was printed
@@ -145,6 +146,20 @@ module _ (c : Command) (limit : ℕ) (name : List ℕ) (old mid : Meaning) (no_r
   caused (Limit n) h = absurd h
   caused (Cells reason) h = absurd h
 
+  -- nothing was given to an output
+  settled : IsSettled old mid
+  settled = record { settled = ap (λ (x : Meaning). x.pending) asks.others ∙ fresh.settled; writes = ap (λ (x : Meaning). x.write_faults) asks.others }
+
+  settled_by : (r : Refusal) → RefusedEarly c limit old mid r → IsSettledAt old mid (Some r)
+  settled_by Usage h = settled
+  settled_by (Settings reason) h = settled
+  settled_by ReadFault h = settled
+  settled_by WriteFault h = absurd h
+  settled_by (NotSync stream n) h = absurd h
+  settled_by Memory h = settled
+  settled_by (Limit n) h = absurd h
+  settled_by (Cells reason) h = absurd h
+
   later : (r : Refusal) → RefusedEarly c limit old mid r → old.read_faults ≤ mid.read_faults
   later Usage h = omega (arith, h.0)
   later (Settings reason) h = omega (arith, h.0)
@@ -189,6 +204,7 @@ module _ (c : Command) (limit : ℕ) (name : List ℕ) (old mid : Meaning) (no_r
   early_ended r h known = record {
     known = known;
     caused = caused r h;
+    settled = settled_by r h;
     later_reads = later r h;
     later_writes = omega (arith, ap (λ (x : Meaning). x.write_faults) asks.others);
     later_report = omega (arith, ap (λ (x : Meaning). x.report_faults) asks.others);

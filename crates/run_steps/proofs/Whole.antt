@@ -15,6 +15,7 @@ use Rattle.run_clauses.specs.declared.work.CellsRefusal.TheVariants.{Header, NoP
 use Rattle.run_clauses.specs.Header.{header_size, IsHeaderTaken}
 use Rattle.run_clauses.specs.Run.{Run, header_at, Reports, AreMadeEmpty, AsksSettingsAlone, IsUntaken}
 use Rattle.run_clauses.specs.Text.{status_of, refusal_status, refusal_text, text_at, text_if_refused}
+use Rattle.run_steps.specs.Causes.{AreReadsKept, IsSettled}
 use Rattle.run_steps.specs.Report.{WritesText}
 use Rattle.run_steps.specs.Ended.{Ended, IsWriteFault, Hold, HoldSoFar, HoldFronts, HoldEmpty, HoldNothing, HoldUnheaded, AreMade}
 
@@ -24,9 +25,11 @@ run_done c limit old new e = record {
   read_fault = λ is. absurd (omega arith);
   write_fault = λ is. absurd (omega arith);
   refusal_first = λ t some is. absurd (omega arith);
-  reads_kept = λ other. e.caused.0;
+  reads_kept = λ other. inl e.caused.0;
   writes_kept = λ is. e.caused.1;
   closes_kept = λ is. e.caused.2;
+  written_first = λ other unrisen. e.caused.1;
+  handed_over = λ undone. absurd (undone refl);
   exact = λ t a b d. ap status_of (sym (e.exact t));
   complete = λ t none a b d. inl refl;
   sources = e.sources;
@@ -156,7 +159,8 @@ module _ (c : Command) (limit : ℕ) (old mid new : Meaning) (text : List ℕ) (
     run_at : (status : ℕ) → is_among status c.statuses ≡ true
         → (status ≡ 5 → Rose old.read_faults mid.read_faults)
         → (status ≡ 6 → IsWriteFault c limit old mid)
-        → (status ≢ 5 → mid.read_faults ≡ old.read_faults)
+        → (status ≢ 5 → (mid.read_faults ≡ old.read_faults) ⊎ ((status ≡ 6) × Rose old.write_faults mid.write_faults))
+        → (status ≢ 6 → IsSettled old mid)
         → status ≢ 0
         → (old.tells ≡ true → status ≢ 5 → status ≢ 6 → status ≢ 7 → status ≡ status_of (refusal_of limit old.file c))
         → (old.tells ≡ true → refusal_of limit old.file c ≡ None → (Rose old.read_faults mid.read_faults → ⊥) → (IsWriteFault c limit old mid → ⊥) → (status ≡ 0) ⊎ (status ≡ 7))
@@ -169,14 +173,16 @@ module _ (c : Command) (limit : ℕ) (old mid new : Meaning) (text : List ℕ) (
         → (status ≡ 6 → HoldFronts c limit old mid)
         → (status ≡ 9 → HoldUnheaded c old mid)
         → Run c limit old new status
-    run_at status known read write kept undone exact complete named held work nothing lacks stopped fronts unheaded = record {
+    run_at status known read write kept settled undone exact complete named held work nothing lacks stopped fronts unheaded = record {
       known = known;
       read_fault = λ is. subst (λ (n : ℕ). Rose old.read_faults n) (sym reads_same) (read is);
       write_fault = λ is. either (write is);
       refusal_first = λ t some is. written t some (write is);
-      reads_kept = λ other. reads_same ∙ kept other;
+      reads_kept = λ other. few_read (kept other);
       writes_kept = λ is. absurd (undone is);
       closes_kept = λ is. absurd (undone is);
+      written_first = λ other unrisen. tells.kept (λ rose. unrisen (omega (arith, rose, e.later_report))) ∙ (settled other).writes;
+      handed_over = λ some other. ap (λ (x : Meaning). x.pending) tells.others ∙ (settled other).settled;
       exact = exact;
       complete = λ t none a b d. complete t none (λ rose. a (subst (λ (n : ℕ). Rose old.read_faults n) (sym reads_same) rose)) (λ fault. neither b d (either fault));
       sources = λ port. subst (λ (s : Source). (s.asked ≡ None) ⊎ (s.asked ≡ c.reads port)) (sym (source_same port)) (e.sources port);
@@ -249,6 +255,11 @@ module _ (c : Command) (limit : ℕ) (old mid new : Meaning) (text : List ℕ) (
         risen : Rose old.write_faults mid.write_faults → Rose old.write_faults new.write_faults
         risen rose = omega (arith, rose, tells.later)
 
+        few_read : (mid.read_faults ≡ old.read_faults) ⊎ ((status ≡ 6) × Rose old.write_faults mid.write_faults)
+            → (new.read_faults ≡ old.read_faults) ⊎ ((status ≡ 6) × Rose old.write_faults new.write_faults)
+        few_read (inl same) = inl (reads_same ∙ same)
+        few_read (inr both) = inr (both.0, risen both.1)
+
         either : IsWriteFault c limit old mid → Rose old.write_faults new.write_faults ⊎ Rose old.close_faults new.close_faults
         either (inl rose) = inl (risen rose)
         either (inr shut) = inr (subst (λ (n : ℕ). Rose old.close_faults n) (sym closes_same) shut.0)
@@ -296,57 +307,61 @@ module _ (c : Command) (limit : ℕ) (old mid new : Meaning) where
   refuted : (r : Refusal) → refusal_of limit old.file c ≡ Some r → refusal_of limit old.file c ≡ None → ⊥
   refuted r is none = let e : Some r ≡ None = sym is ∙ none in cc
 
+  kept_at : (n : ℕ) → AreReadsKept old mid → (mid.read_faults ≡ old.read_faults) ⊎ ((n ≡ n) × Rose old.write_faults mid.write_faults)
+  kept_at n (inl same) = inl same
+  kept_at n (inr both) = inr (refl, both.1)
+
   named_by : (r : Refusal) → refusal_of limit old.file c ≡ Some r → refusal_text r ≡ text_if_refused (refusal_of limit old.file c)
   named_by r is = ap text_if_refused (sym is)
 
   pub run_refused : (r : Refusal) → Ended c limit old mid (Some r) → WritesText (refusal_text r) mid new → Run c limit old new (refusal_status r)
   run_refused Usage e tells = run_at c limit old mid new (refusal_text Usage) tells Usage e 2 e.known
-      (λ is. absurd (omega arith)) (λ is. absurd (omega arith)) (λ other. e.caused) (λ is. absurd (omega arith))
+      (λ is. absurd (omega arith)) (λ is. absurd (omega arith)) (λ other. inl e.caused) (λ other. e.settled) (λ is. absurd (omega arith))
       (λ t a b d. ap status_of (sym (e.exact t))) (λ t none a b. absurd (refuted Usage (e.exact t) none))
       (λ t. named_by Usage (e.exact t))
       (λ is. absurd (true≢false (sym is))) (λ is. absurd (true≢false (sym is))) (λ is. e.leaves) (λ is. absurd (omega arith)) (λ is. absurd (omega arith)) (λ is. absurd (omega arith)) (λ is. absurd (omega arith))
   run_refused (Settings reason) e tells = run_at c limit old mid new (refusal_text (Settings reason)) tells (Settings reason) e 3 e.known
-      (λ is. absurd (omega arith)) (λ is. absurd (omega arith)) (λ other. e.caused) (λ is. absurd (omega arith))
+      (λ is. absurd (omega arith)) (λ is. absurd (omega arith)) (λ other. inl e.caused) (λ other. e.settled) (λ is. absurd (omega arith))
       (λ t a b d. ap status_of (sym (e.exact t))) (λ t none a b. absurd (refuted (Settings reason) (e.exact t) none))
       (λ t. named_by (Settings reason) (e.exact t))
       (λ is. absurd (true≢false (sym is))) (λ is. absurd (true≢false (sym is))) (λ is. e.leaves) (λ is. absurd (omega arith)) (λ is. absurd (omega arith)) (λ is. absurd (omega arith)) (λ is. absurd (omega arith))
   run_refused (NotSync stream n) e tells = run_at c limit old mid new (refusal_text (NotSync stream n)) tells (NotSync stream n) e 4 e.known
-      (λ is. absurd (omega arith)) (λ is. absurd (omega arith)) (λ other. e.caused) (λ is. absurd (omega arith))
+      (λ is. absurd (omega arith)) (λ is. absurd (omega arith)) (λ other. inl e.caused) (λ other. e.settled) (λ is. absurd (omega arith))
       (λ t a b d. ap status_of (sym (e.exact t))) (λ t none a b. absurd (refuted (NotSync stream n) (e.exact t) none))
       (λ t. named_by (NotSync stream n) (e.exact t))
       (λ is. e.leaves) (λ is. e.leaves) (λ is. absurd (true≢false (sym is))) (λ is. absurd (omega arith)) (λ is. absurd (omega arith)) (λ is. absurd (omega arith)) (λ is. absurd (omega arith))
   run_refused ReadFault e tells = run_at c limit old mid new (refusal_text ReadFault) tells ReadFault e 5 e.known
-      (λ is. e.caused) (λ is. absurd (omega arith)) (λ other. absurd (other refl)) (λ is. absurd (omega arith))
+      (λ is. e.caused) (λ is. absurd (omega arith)) (λ other. absurd (other refl)) (λ other. e.settled) (λ is. absurd (omega arith))
       (λ t a b d. absurd (a refl)) (λ t none a b. absurd (a e.caused))
       (λ t. refl)
       (λ is. absurd (true≢false (sym is))) (λ is. absurd (true≢false (sym is))) (λ is. absurd (true≢false (sym is))) (λ is. absurd (omega arith)) (λ is. e.leaves) (λ is. absurd (omega arith)) (λ is. absurd (omega arith))
   run_refused WriteFault e tells = run_at c limit old mid new (refusal_text WriteFault) tells WriteFault e 6 e.known
-      (λ is. absurd (omega arith)) (λ is. e.caused.1) (λ other. e.caused.0) (λ is. absurd (omega arith))
+      (λ is. absurd (omega arith)) (λ is. e.caused.1) (λ other. kept_at 6 e.caused.0) (λ other. absurd (other refl)) (λ is. absurd (omega arith))
       (λ t a b d. absurd (b refl)) (λ t none a b. absurd (b e.caused.1))
       (λ t. refl)
       (λ is. absurd (true≢false (sym is))) (λ is. absurd (true≢false (sym is))) (λ is. absurd (true≢false (sym is))) (λ is. absurd (omega arith)) (λ is. absurd (omega arith)) (λ is. e.leaves) (λ is. absurd (omega arith))
   run_refused Memory e tells = run_at c limit old mid new (refusal_text Memory) tells Memory e 7 e.known
-      (λ is. absurd (omega arith)) (λ is. absurd (omega arith)) (λ other. e.caused) (λ is. absurd (omega arith))
+      (λ is. absurd (omega arith)) (λ is. absurd (omega arith)) (λ other. inl e.caused) (λ other. e.settled) (λ is. absurd (omega arith))
       (λ t a b d. absurd (d refl)) (λ t none a b. inr refl)
       (λ t. refl)
       (λ is. absurd (true≢false (sym is))) (λ is. absurd (true≢false (sym is))) (λ is. absurd (true≢false (sym is))) (λ is. e.leaves) (λ is. absurd (omega arith)) (λ is. absurd (omega arith)) (λ is. absurd (omega arith))
   run_refused (Limit n) e tells = run_at c limit old mid new (refusal_text (Limit n)) tells (Limit n) e 8 e.known
-      (λ is. absurd (omega arith)) (λ is. absurd (omega arith)) (λ other. e.caused) (λ is. absurd (omega arith))
+      (λ is. absurd (omega arith)) (λ is. absurd (omega arith)) (λ other. inl e.caused) (λ other. e.settled) (λ is. absurd (omega arith))
       (λ t a b d. ap status_of (sym (e.exact t))) (λ t none a b. absurd (refuted (Limit n) (e.exact t) none))
       (λ t. named_by (Limit n) (e.exact t))
       (λ is. e.leaves) (λ is. e.leaves) (λ is. absurd (true≢false (sym is))) (λ is. absurd (omega arith)) (λ is. absurd (omega arith)) (λ is. absurd (omega arith)) (λ is. absurd (omega arith))
   run_refused (Cells Header) e tells = run_at c limit old mid new (refusal_text (Cells Header)) tells (Cells Header) e 9 e.known
-      (λ is. absurd (omega arith)) (λ is. absurd (omega arith)) (λ other. e.caused) (λ is. absurd (omega arith))
+      (λ is. absurd (omega arith)) (λ is. absurd (omega arith)) (λ other. inl e.caused) (λ other. e.settled) (λ is. absurd (omega arith))
       (λ t a b d. ap status_of (sym (e.exact t))) (λ t none a b. absurd (refuted (Cells Header) (e.exact t) none))
       (λ t. named_by (Cells Header) (e.exact t))
       (λ is. absurd (true≢false (sym is))) (λ is. absurd (true≢false (sym is))) (λ is. absurd (true≢false (sym is))) (λ is. absurd (omega arith)) (λ is. absurd (omega arith)) (λ is. absurd (omega arith)) (λ is. e.leaves)
   run_refused (Cells NoPlace) e tells = run_at c limit old mid new (refusal_text (Cells NoPlace)) tells (Cells NoPlace) e 10 e.known
-      (λ is. absurd (omega arith)) (λ is. absurd (omega arith)) (λ other. e.caused) (λ is. absurd (omega arith))
+      (λ is. absurd (omega arith)) (λ is. absurd (omega arith)) (λ other. inl e.caused) (λ other. e.settled) (λ is. absurd (omega arith))
       (λ t a b d. ap status_of (sym (e.exact t))) (λ t none a b. absurd (refuted (Cells NoPlace) (e.exact t) none))
       (λ t. named_by (Cells NoPlace) (e.exact t))
       (λ is. e.leaves) (λ is. e.leaves) (λ is. absurd (true≢false (sym is))) (λ is. absurd (omega arith)) (λ is. absurd (omega arith)) (λ is. absurd (omega arith)) (λ is. absurd (omega arith))
   run_refused (Cells AnnouncedForm) e tells = run_at c limit old mid new (refusal_text (Cells AnnouncedForm)) tells (Cells AnnouncedForm) e 11 e.known
-      (λ is. absurd (omega arith)) (λ is. absurd (omega arith)) (λ other. e.caused) (λ is. absurd (omega arith))
+      (λ is. absurd (omega arith)) (λ is. absurd (omega arith)) (λ other. inl e.caused) (λ other. e.settled) (λ is. absurd (omega arith))
       (λ t a b d. ap status_of (sym (e.exact t))) (λ t none a b. absurd (refuted (Cells AnnouncedForm) (e.exact t) none))
       (λ t. named_by (Cells AnnouncedForm) (e.exact t))
       (λ is. e.leaves) (λ is. e.leaves) (λ is. absurd (true≢false (sym is))) (λ is. absurd (omega arith)) (λ is. absurd (omega arith)) (λ is. absurd (omega arith)) (λ is. absurd (omega arith))

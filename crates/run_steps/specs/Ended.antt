@@ -14,6 +14,7 @@ use Rattle.run_clauses.specs.Header.{IsHeaderTaken}
 use Rattle.run_clauses.specs.Command.{Command, IsInput, IsOutput, is_among, refusal_of, input_file, unread}
 use Rattle.run_clauses.specs.Run.{AreMadeEmpty, AsksSettingsAlone, IsUntaken}
 use Rattle.run_clauses.specs.Text.{status_of}
+use Rattle.run_steps.specs.Causes.{AreReadsKept, IsSettled}
 
 -- A write has failed, or an output could not be made; or, where the words and the files come to no refusal, an
 -- output could not be closed.
@@ -25,13 +26,19 @@ IsWriteFault c limit old mid = Rose old.write_faults mid.write_faults
 abbrev pub IsCaused : Command → ℕ → Meaning → Meaning → Option Refusal → Type 0
 IsCaused c limit old mid None = (mid.read_faults ≡ old.read_faults) × (mid.write_faults ≡ old.write_faults) × (mid.close_faults ≡ old.close_faults)
 IsCaused c limit old mid (Some ReadFault) = Rose old.read_faults mid.read_faults
-IsCaused c limit old mid (Some WriteFault) = (mid.read_faults ≡ old.read_faults) × IsWriteFault c limit old mid
+IsCaused c limit old mid (Some WriteFault) = AreReadsKept old mid × IsWriteFault c limit old mid
 IsCaused c limit old mid (Some Usage) = mid.read_faults ≡ old.read_faults
 IsCaused c limit old mid (Some (Settings reason)) = mid.read_faults ≡ old.read_faults
 IsCaused c limit old mid (Some (NotSync stream n)) = mid.read_faults ≡ old.read_faults
 IsCaused c limit old mid (Some Memory) = mid.read_faults ≡ old.read_faults
 IsCaused c limit old mid (Some (Limit n)) = mid.read_faults ≡ old.read_faults
 IsCaused c limit old mid (Some (Cells reason)) = mid.read_faults ≡ old.read_faults
+
+-- Behind a refusal that is no write fault all that was given to the outputs was handed to their files, and no write has failed.
+abbrev pub IsSettledAt : Meaning → Meaning → Option Refusal → Type 0
+IsSettledAt old mid None = ⊤
+IsSettledAt old mid (Some WriteFault) = ⊤
+IsSettledAt old mid (Some refusal) = IsSettled old mid
 
 -- A refusal that is no fault and no want of memory is the one that the words and the files come to.
 abbrev pub IsExact : Command → ℕ → Meaning → Option Refusal → Type 0
@@ -101,6 +108,7 @@ Leaves c limit old mid (Some (Cells AnnouncedForm)) = Hold c limit old mid
 pub record Ended (c : Command) (limit : ℕ) (old mid : Meaning) (r : Option Refusal) : Type 0 where
   pub known : is_among (status_of r) c.statuses ≡ true
   pub caused : IsCaused c limit old mid r
+  pub settled : IsSettledAt old mid r
   -- no count has fallen
   pub later_reads : old.read_faults ≤ mid.read_faults
   pub later_writes : old.write_faults ≤ mid.write_faults

@@ -9,4 +9,6 @@ pub record WritesText (text : List ℕ) (old new : Meaning) : Type 0 where
   pub later : old.write_faults ≤ new.write_faults
   pub later_report : old.report_faults ≤ new.report_faults
   pub front : old.tells ≡ true → (k : ℕ) × (new.report.written ≡ old.report.written ++ take k text)
+  -- another write has not failed
+  pub kept : (Rose old.report_faults new.report_faults → ⊥) → new.write_faults ≡ old.write_faults
   pub whole : old.tells ≡ true → (Rose old.report_faults new.report_faults → ⊥) → new.report.written ≡ old.report.written ++ text

@@ -1,5 +1,5 @@
 // A line of the report.
-ghost use Rattle.std.specs.Prelude.{◌≡◌, true, false};
+ghost use Rattle.std.specs.Prelude.{◌≡◌, ◌<◌, length, true, false};
 ghost use Rattle.run_steps.specs.Causes.{HasCause};
 ghost use Rattle.run_steps.specs.Lines.{IsWriting, WritesLines};
 
@@ -8,6 +8,7 @@ use station_core::{OutPort, Station};
 
 /// Writes a line to Report, by one write. The only refusal is that it has failed.
 pub fn write_line<'a, S: Station<'a>>(line: &Line, station: &mut S) -> Result<(), Refusal>
+    requires some { 0 < length line.now.bytes }
     requires created { (S.meaning station.old).report.created ≡ true }
     requires report_open { (S.meaning station.old).report.closed ≡ false }
     ensures cause { HasCause (S.meaning station.old) (S.meaning station.new) result }

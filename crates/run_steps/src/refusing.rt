@@ -1,10 +1,23 @@
 // The end of a run that was refused.
 ghost use Rattle.std.specs.Prelude.{◌≡◌, true, false};
 ghost use Rattle.run_clauses.specs.Text.{refusal_text, refusal_status};
+ghost use Rattle.run_steps.specs.Causes.{FlushesOnly, Settles};
 ghost use Rattle.run_steps.specs.Report.{WritesText};
 
 use run_clauses::{CellsRefusal, Refusal, text_of};
 use station_core::{OutPort, Station};
+
+/// The refusal of a run whose work has stopped: the outputs are flushed, and if that fails it is a write
+/// fault, since that write came first.
+pub fn settle<'a, S: Station<'a>>(refusal: Refusal, station: &mut S) -> Refusal
+    ensures others { FlushesOnly (S.meaning station.old) (S.meaning station.new) }
+    ensures settles { Settles refusal (S.meaning station.old) (S.meaning station.new) result }
+{
+    match station.flush() {
+        Ok(()) => refusal,
+        Err(_) => Refusal::WriteFault,
+    }
+}
 
 /// Writes the text of a refusal and gives its status, which stays where the writing fails.
 pub fn refuse<'a, S: Station<'a>>(refusal: &Refusal, station: &mut S) -> u8

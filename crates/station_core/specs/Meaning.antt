@@ -42,6 +42,8 @@ pub record Meaning : Type 0 where
   pub close_faults : ℕ
   -- those of the write faults at which a write to Report has failed
   pub report_faults : ℕ
+  -- Bytes may wait that were given to an output, or a fault of its file that no call has reported. Report is no output.
+  pub pending : Bool
 
 abbrev pub source_at : InPort → Meaning → Source
 source_at ins.Settings m = m.settings
@@ -69,6 +71,18 @@ with_sink outs.Hp s m = record m { hp_out = s }
 with_sink outs.Lp s m = record m { lp_out = s }
 with_sink outs.Bytes s m = record m { bytes_out = s }
 with_sink outs.Report s m = record m { report = s }
+
+-- the same behind a write at the port: bytes may wait at an output then
+abbrev pub with_written : OutPort → Sink → Meaning → Meaning
+with_written outs.Cells s m = record m { cells_out = s; pending = true }
+with_written outs.Hp s m = record m { hp_out = s; pending = true }
+with_written outs.Lp s m = record m { lp_out = s; pending = true }
+with_written outs.Bytes s m = record m { bytes_out = s; pending = true }
+with_written outs.Report s m = record m { report = s }
+
+-- all that was given to the outputs was handed to their files
+abbrev pub flushed : Meaning → Meaning
+flushed m = record m { pending = false }
 
 abbrev pub with_read_faults : ℕ → Meaning → Meaning
 with_read_faults n m = record m { read_faults = n }
@@ -137,6 +151,7 @@ fresh tells file = record {
   write_faults = 0;
   close_faults = 0;
   report_faults = 0;
+  pending = false;
 }
 
 -- a port at which nothing was asked, and which is not open
@@ -149,7 +164,7 @@ pub record IsUntouched (s : Sink) : Type 0 where
   pub created : s.created ≡ false
   pub closed : s.closed ≡ false
 
--- a station at the beginning of a run: no port is asked or open but Report, to which nothing was written
+-- a station at the beginning of a run: no port is asked or open but Report, to which nothing was written, and nothing waits
 pub record IsFresh (m : Meaning) : Type 0 where
   pub settings : IsUnasked m.settings
   pub hp : IsUnasked m.hp
@@ -163,3 +178,4 @@ pub record IsFresh (m : Meaning) : Type 0 where
   pub report : m.report.created ≡ true
   pub report_open : m.report.closed ≡ false
   pub report_empty : m.tells ≡ true → m.report.written ≡ []
+  pub settled : m.pending ≡ false

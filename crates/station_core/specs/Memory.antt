@@ -28,6 +28,7 @@ memory_meaning m = record {
   write_faults = m.write_faults;
   close_faults = m.close_faults;
   report_faults = m.report.faults;
+  pending = m.pending;
 }
 
 -- the files

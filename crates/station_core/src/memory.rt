@@ -2,12 +2,12 @@
 ghost use Rattle.std.specs.Prelude.{◌≤◌, ◌↔◌, ◌≡◌, ◌<◌, length, IsTrue, Contains};
 ghost use Rattle.station_core.specs.Counted.{next_call, counted};
 
-use crate::sink::Writing;
+use crate::sink::{Writing, count_fault};
 use crate::source::Reading;
 use crate::{Failed, InPort, OutPort, Station};
 use std::alloc::{AllocError, Global};
 
-/// A call that is to fail: the n-th, from 1, of its kind at its port.
+/// A call that is to fail: the n-th, from 1, of its kind at its port, or every flush.
 #[derive(Clone, Copy, Debug, PartialEq, Eq)]
 pub enum Failing {
     /// The opening of a file to be read.
@@ -20,15 +20,18 @@ pub enum Failing {
     Write(OutPort, u64),
     /// The close of an output.
     Close(OutPort, u64),
+    /// Each flush of the outputs, as after a fault that no write has reported.
+    Flush,
 }
 
 /// A station whose files and outputs lie in memory, and which tells its contents.
 ///
 /// Of its calls exactly these fail, and each is counted: the calls that its list `failing` names,
-/// `attach` of a name that no file has, and a `write` behind which the port would hold more than
+/// `attach` of a name that no file has, and a `write` after which the port would hold more than
 /// its room. A read gives the least of the buffer's length, `most_per_read` and what is left. A
 /// write that is named writes the first half of its bytes, rounded down, and one past the room
-/// nothing. No call but `new` takes memory.
+/// nothing. What is written stands at once; a flush that is named fails all the same. No call but
+/// `new` takes memory.
 #[derive(Drop)]
 pub struct MemoryStation<'a> {
     files: Vec<(String, Vec<u8>)>,
@@ -49,6 +52,8 @@ pub struct MemoryStation<'a> {
     read_faults: u64,
     write_faults: u64,
     close_faults: u64,
+    // an output was written to since the last flush that did not fail
+    pending: bool,
     ghost reads_some: { 1 ≤ most_per_read },
 }
 
@@ -100,6 +105,7 @@ impl<'a> MemoryStation<'a> {
             read_faults: 0,
             write_faults: 0,
             close_faults: 0,
+            pending: false,
         })
     }
 
@@ -171,7 +177,7 @@ fn count_call(calls: &mut [u64], port: usize) -> u64
 impl<'a> Station<'a> for MemoryStation<'a> {
     ghost use Rattle.std.specs.Prelude.{◌≡◌, ◌≢◌, ◌≤◌, ◌<◌, ◌↔◌, ◌⊎◌, ◌+◌, ◌/◌, ◌++◌, ℕ, min, take, length, IsErr, IsTrue, OnOk, OnErr, IfOk, Contains, true, false, None, []};
     ghost use Rattle.station_core.specs.Causes.{Rose, greatest_count};
-    ghost use Rattle.station_core.specs.Meaning.{source_at, sink_at, with_source, with_sink, with_read_faults, with_write_faults, with_close_faults, with_failed_write, asked_source, attached_source, read_source, asked_sink, created_sink, written_sink, closed_sink};
+    ghost use Rattle.station_core.specs.Meaning.{source_at, sink_at, with_source, with_sink, with_written, with_read_faults, with_write_faults, with_close_faults, with_failed_write, flushed, asked_source, attached_source, read_source, asked_sink, created_sink, written_sink, closed_sink};
     ghost use Rattle.station_core.specs.declared.ports.OutPort.TheVariants.{Report};
     ghost use Rattle.station_core.specs.Files.{has_file};
     ghost use Rattle.station_core.specs.Memory.{memory_meaning, files_of, failing_of, most_of, room_of, reads_of, writes_of, in_number, out_number, IsSamePlan};
@@ -262,9 +268,10 @@ impl<'a> Station<'a> for MemoryStation<'a> {
     fn write(&mut self, port: OutPort, bytes: &[u8]) -> Result<(), Failed>
         requires created { (sink_at port (memory_meaning self.old)).created ≡ true }
         requires open { (sink_at port (memory_meaning self.old)).closed ≡ false }
-        ensures ok { OnOk result (memory_meaning self.new ≡ with_sink port (written_sink (memory_meaning self.old).tells bytes.now (sink_at port (memory_meaning self.old))) (memory_meaning self.old)) }
+        requires some { 0 < length bytes.now }
+        ensures ok { OnOk result (memory_meaning self.new ≡ with_written port (written_sink (memory_meaning self.old).tells bytes.now (sink_at port (memory_meaning self.old))) (memory_meaning self.old)) }
         ensures err { OnErr result ((n : ℕ) × (memory_meaning self.new ≡ with_failed_write port (memory_meaning self.new).write_faults (memory_meaning self.new).report_faults
-            (with_sink port (written_sink (memory_meaning self.old).tells (take n bytes.now) (sink_at port (memory_meaning self.old))) (memory_meaning self.old)))) }
+            (with_written port (written_sink (memory_meaning self.old).tells (take n bytes.now) (sink_at port (memory_meaning self.old))) (memory_meaning self.old)))) }
         ensures cause { OnErr result (Rose (memory_meaning self.old).write_faults (memory_meaning self.new).write_faults) }
         ensures at_report { OnErr result (port ≡ Report → Rose (memory_meaning self.old).report_faults (memory_meaning self.new).report_faults) }
         ensures later { (memory_meaning self.old).write_faults ≤ (memory_meaning self.new).write_faults }
@@ -285,12 +292,42 @@ impl<'a> Station<'a> for MemoryStation<'a> {
         let fails = is_named(&self.failing, Failing::Write(port, number));
         let faults = &mut self.write_faults;
         match port {
-            OutPort::Cells => self.cells_out.write(fails, bytes, faults),
-            OutPort::Hp => self.hp_out.write(fails, bytes, faults),
-            OutPort::Lp => self.lp_out.write(fails, bytes, faults),
-            OutPort::Bytes => self.bytes_out.write(fails, bytes, faults),
+            OutPort::Cells => {
+                self.pending = true;
+                self.cells_out.write(fails, bytes, faults)
+            }
+            OutPort::Hp => {
+                self.pending = true;
+                self.hp_out.write(fails, bytes, faults)
+            }
+            OutPort::Lp => {
+                self.pending = true;
+                self.lp_out.write(fails, bytes, faults)
+            }
+            OutPort::Bytes => {
+                self.pending = true;
+                self.bytes_out.write(fails, bytes, faults)
+            }
             OutPort::Report => self.report.write(fails, bytes, faults),
         }
+    }
+
+    fn flush(&mut self) -> Result<(), Failed>
+        ensures ok { OnOk result (memory_meaning self.new ≡ flushed (memory_meaning self.old)) }
+        ensures err { OnErr result (memory_meaning self.new ≡ with_write_faults (memory_meaning self.new).write_faults (memory_meaning self.old)) }
+        ensures cause { OnErr result (Rose (memory_meaning self.old).write_faults (memory_meaning self.new).write_faults) }
+        ensures later { (memory_meaning self.old).write_faults ≤ (memory_meaning self.new).write_faults }
+        ensures bounded { OnErr result ((memory_meaning self.new).write_faults ≤ greatest_count) }
+        ensures exact { IsErr result ↔ Contains (failing_of self.old) Failing.Flush }
+        ensures plan { IsSamePlan self.old self.new }
+        ensures reads { reads_of self.new ≡ reads_of self.old }
+        ensures writes { writes_of self.new ≡ writes_of self.old }
+    {
+        if is_named(&self.failing, Failing::Flush) {
+            return Err(count_fault(&mut self.write_faults));
+        }
+        self.pending = false;
+        Ok(())
     }
 
     fn close(&mut self, port: OutPort) -> Result<(), Failed>

@@ -1,7 +1,7 @@
 // The trait of the outside.
 ghost use Rattle.std.specs.Prelude.{◌≡◌, ◌<◌, ◌≤◌, ◌≢◌, ℕ, true, false, [], length, take, None, IfOk, OnOk, OnErr, IsTrue};
 ghost use Rattle.station_core.specs.Causes.{Rose, greatest_count};
-ghost use Rattle.station_core.specs.Meaning.{Meaning, source_at, sink_at, with_source, with_sink, with_read_faults, with_write_faults, with_close_faults, with_failed_write, asked_source, attached_source, read_source, asked_sink, created_sink, written_sink, closed_sink};
+ghost use Rattle.station_core.specs.Meaning.{Meaning, source_at, sink_at, with_source, with_sink, with_written, with_read_faults, with_write_faults, with_close_faults, with_failed_write, flushed, asked_source, attached_source, read_source, asked_sink, created_sink, written_sink, closed_sink};
 ghost use Rattle.station_core.specs.declared.ports.OutPort.TheVariants.{Report};
 
 use crate::{InPort, OutPort};
@@ -13,11 +13,12 @@ pub struct Failed;
 /// The outside of a command: the files that it reads and writes, and its report.
 ///
 /// Contracts see a station as its `meaning`: whether it tells its contents, what it has under a
-/// name, each port, and three counts of faults, which never fall and stand still at 2^64 - 1: one
-/// of `attach` and `read`, one of `create` and `write`, one of `close`. Of the write faults those at
-/// which a write to Report has failed are counted once more, by themselves. A call changes only what
-/// its clauses `ok` and `err` name: everything else of the meaning stays. It answers `Failed` only
-/// where the count of its kind rose, and no call that answers `Ok` changes a count.
+/// name, each port, whether bytes may wait at an output, and three counts of faults, which never fall
+/// and stand still at 2^64 - 1: one of `attach` and `read`, one of `create`, `write` and `flush`, one of
+/// `close`. Of the write faults those at which a write to Report has failed are counted once more, by
+/// themselves. A call changes only what its clauses `ok` and `err` name: everything else of the meaning
+/// stays. It answers `Failed` only if the count of its kind rose, and no call that answers `Ok` changes
+/// a count.
 pub trait Station<'a> {
     ghost meaning: { Self → Meaning };
 
@@ -63,20 +64,30 @@ pub trait Station<'a> {
         ensures later { (meaning self.old).write_faults ≤ (meaning self.new).write_faults }
         ensures bounded { OnErr result ((meaning self.new).write_faults ≤ greatest_count) };
 
-    /// Writes the bytes behind those written before: all of them or, where it answers `Failed`,
-    /// some from the front.
+    /// Writes the bytes after those written before: all of them or, if it answers `Failed`, a prefix.
     ///
-    /// The port is created and not closed.
+    /// The port is created and not closed, and there are bytes to write. At an output they may wait,
+    /// and so may the report of a fault of its file, until `flush` or `close`.
     fn write(&mut self, port: OutPort, bytes: &[u8]) -> Result<(), Failed>
         requires created { (sink_at port (meaning self.old)).created ≡ true }
         requires open { (sink_at port (meaning self.old)).closed ≡ false }
-        ensures ok { OnOk result (meaning self.new ≡ with_sink port (written_sink (meaning self.old).tells bytes.now (sink_at port (meaning self.old))) (meaning self.old)) }
+        requires some { 0 < length bytes.now }
+        ensures ok { OnOk result (meaning self.new ≡ with_written port (written_sink (meaning self.old).tells bytes.now (sink_at port (meaning self.old))) (meaning self.old)) }
         ensures err { OnErr result ((n : ℕ) × (meaning self.new ≡ with_failed_write port (meaning self.new).write_faults (meaning self.new).report_faults
-            (with_sink port (written_sink (meaning self.old).tells (take n bytes.now) (sink_at port (meaning self.old))) (meaning self.old)))) }
+            (with_written port (written_sink (meaning self.old).tells (take n bytes.now) (sink_at port (meaning self.old))) (meaning self.old)))) }
         ensures cause { OnErr result (Rose (meaning self.old).write_faults (meaning self.new).write_faults) }
         ensures at_report { OnErr result (port ≡ Report → Rose (meaning self.old).report_faults (meaning self.new).report_faults) }
         ensures later { (meaning self.old).write_faults ≤ (meaning self.new).write_faults }
         ensures later_report { (meaning self.old).report_faults ≤ (meaning self.new).report_faults }
+        ensures bounded { OnErr result ((meaning self.new).write_faults ≤ greatest_count) };
+
+    /// Hands what waits at the outputs to their files. It answers `Failed` if a write to one of the
+    /// files has failed, also if a call before it has met that and has not reported it.
+    fn flush(&mut self) -> Result<(), Failed>
+        ensures ok { OnOk result (meaning self.new ≡ flushed (meaning self.old)) }
+        ensures err { OnErr result (meaning self.new ≡ with_write_faults (meaning self.new).write_faults (meaning self.old)) }
+        ensures cause { OnErr result (Rose (meaning self.old).write_faults (meaning self.new).write_faults) }
+        ensures later { (meaning self.old).write_faults ≤ (meaning self.new).write_faults }
         ensures bounded { OnErr result ((meaning self.new).write_faults ≤ greatest_count) };
 
     /// Ends the writing. The port is created and not closed; it is closed afterwards also where

@@ -1,5 +1,6 @@
 // The files that are written, together.
-ghost use Rattle.station_files.specs.Outputs.{AllOut};
+ghost use Rattle.std.specs.Prelude.{◌≡◌, false};
+ghost use Rattle.station_files.specs.Waiting.{IsSettled};
 
 use crate::patience::write_whole;
 use crate::writing::FileWriting;
@@ -15,15 +16,47 @@ pub struct Outputs<'a, F> {
     pub hp: FileWriting<'a, F>,
     pub lp: FileWriting<'a, F>,
     pub bytes: FileWriting<'a, F>,
+    // one was written to since all was last handed over
+    pub pending: bool,
+    ghost settled_cells: { pending ≡ false → IsSettled cells },
+    ghost settled_hp: { pending ≡ false → IsSettled hp },
+    ghost settled_lp: { pending ≡ false → IsSettled lp },
+    ghost settled_bytes: { pending ≡ false → IsSettled bytes },
 }
 
 impl<'a, F: Write + OpenFile + Drop> Outputs<'a, F> {
+    ghost use Rattle.std.specs.Prelude.{◌≡◌, false, OnOk, OnErr};
+    ghost use Rattle.station_core.specs.Meaning.{no_sink};
+    ghost use Rattle.station_files.specs.Ports.{sink_of};
     ghost use Rattle.station_files.specs.Outputs.{AllOut, AllTold, SameSinks};
 
-    /// Writes what waits at any port. A file that fails is told of by `tell`.
+    /// Ports at which nothing was asked, with this memory.
+    pub fn new(
+        cells: Option<Vec<u8>>,
+        hp: Option<Vec<u8>>,
+        lp: Option<Vec<u8>>,
+        bytes: Option<Vec<u8>>,
+    ) -> Outputs<'a, F>
+        ensures cells { sink_of result.cells ≡ no_sink }
+        ensures hp { sink_of result.hp ≡ no_sink }
+        ensures lp { sink_of result.lp ≡ no_sink }
+        ensures bytes { sink_of result.bytes ≡ no_sink }
+        ensures settled { result.pending ≡ false }
+    {
+        Outputs {
+            cells: FileWriting::new(cells),
+            hp: FileWriting::new(hp),
+            lp: FileWriting::new(lp),
+            bytes: FileWriting::new(bytes),
+            pending: false,
+        }
+    }
+
+    /// Writes what waits at any port. A file that fails is reported by `tell`.
     pub fn flush(&mut self)
         ensures same { SameSinks self.old self.new }
         ensures out { AllOut self.new }
+        ensures waits { self.new.pending ≡ self.old.pending }
     {
         self.cells.flush();
         self.hp.flush();
@@ -37,6 +70,7 @@ impl<'a, F: Write + OpenFile + Drop> Outputs<'a, F> {
         ensures same { SameSinks self.old self.new }
         ensures out { AllOut self.new }
         ensures told { AllTold self.new }
+        ensures waits { self.new.pending ≡ self.old.pending }
     {
         let cells = self.cells.tell();
         let hp = self.hp.tell();
@@ -45,26 +79,41 @@ impl<'a, F: Write + OpenFile + Drop> Outputs<'a, F> {
         cells.and(hp).and(lp).and(bytes)
     }
 
-    /// Writes a line to standard output, behind all that the ports were given. Where one of them
-    /// fails, so does this call, and nothing of the line is written.
+    /// Hands to the files what was given to the ports, and fails if one of them has failed, also if
+    /// that was reported before.
+    pub fn hand_over(&mut self) -> Result<(), Failed>
+        ensures same { SameSinks self.old self.new }
+        ensures ok { OnOk result (self.new.pending ≡ false) }
+        ensures err { OnErr result (self.new.pending ≡ self.old.pending) }
+    {
+        if !self.pending {
+            return Ok(());
+        }
+        self.cells.hand_over()?;
+        self.hp.hand_over()?;
+        self.lp.hand_over()?;
+        self.bytes.hand_over()?;
+        self.pending = false;
+        Ok(())
+    }
+
+    /// Writes a line to standard output, after all that the ports were given. If one of them fails,
+    /// so does this call, and nothing of the line is written.
     pub fn report<R: Print>(&mut self, rt: &R, line: &[u8]) -> Result<(), Failed>
         ensures same { SameSinks self.old self.new }
         ensures out { AllOut self.new }
         ensures told { AllTold self.new }
+        ensures waits { self.new.pending ≡ self.old.pending }
     {
         self.flush();
         self.tell()?;
-        print_line(rt, self, line)
+        self.print_line(rt, line)
     }
-}
 
-// Writes a line to standard output, where whoever reads it may take the outputs for written.
-fn print_line<'a, R: Print, F: Write + OpenFile + Drop>(
-    rt: &R,
-    _written: &Outputs<'a, F>,
-    line: &[u8],
-) -> Result<(), Failed>
-    requires { AllOut _written.now }
-{
-    write_whole(&mut io::writer(rt), line)
+    // Writes a line to standard output, where whoever reads it may take the outputs for written.
+    fn print_line<R: Print>(&self, rt: &R, line: &[u8]) -> Result<(), Failed>
+        requires { AllOut self.now }
+    {
+        write_whole(&mut io::writer(rt), line)
+    }
 }

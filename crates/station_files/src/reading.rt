@@ -54,6 +54,7 @@ impl<'a, F: Read + Write + OpenFile + Drop> FileReading<'a, F> {
     pub fn read(&mut self, outputs: &mut Outputs<'a, F>, buf: &mut [u8]) -> Result<usize, Failed>
         ensures same { source_of self.new ≡ source_of self.old }
         ensures outputs { SameSinks outputs.old outputs.new }
+        ensures waits { outputs.new.pending ≡ outputs.old.pending }
         ensures bound { IfOk result (λ n. n ≤ length buf.new) }
     {
         if !self.buffer.is_empty() {

@@ -3,24 +3,28 @@ ghost use Rattle.std.specs.Prelude.{◌≡◌, ◌≤◌, OnOk, OnErr};
 ghost use Rattle.station_core.specs.Causes.{Rose, greatest_count};
 
 use crate::buffers::Buffers;
-use crate::opening::{attach_at, create_at};
+use crate::opening::{attach_at, create_at, empty, is_same, metadata_of, open_to_write};
 use crate::outputs::Outputs;
 use crate::reading::FileReading;
-use crate::writing::FileWriting;
 use station_core::{Failed, InPort, OutPort, Station};
+use std::fs::Metadata;
 use std::rt::Files;
 
 /// The files of a runtime, and its standard output as Report.
 ///
-/// What is written to a port waits in its buffer, where it has one: until that is full, until a
-/// read asks a file, until a line is written to Report, or until `close`. Once `close` has answered
-/// `Ok`, and no call before it failed, all of it stands in the file.
+/// What is written to a port waits in its buffer, if it has one: until that is full, until a read
+/// asks a file, until a line is written to Report, or until `flush` or `close`. Once one of these two
+/// has answered `Ok`, and no call before it failed, all of it stands in the file.
 ///
 /// Each call that fails is counted; a count stands still at its greatest number. A write that takes
 /// nothing of a piece that is not empty is a fault, and so is a call that signals interrupt a
 /// thousand times. Once the file of a port has failed, nothing more is written to it. A fault that
-/// is met as a read begins is told by the next write to its port or to Report, or by `close`. Where
-/// Report tells one, nothing of the line is written, and the next line is free of it.
+/// is met as a read begins is reported by the next write to its port or to Report, by `flush`, or by
+/// `close`. If Report reports one, nothing of the line is written, and the next line is free of it.
+///
+/// An output is emptied only after it was seen to be none of the files that are open already, by
+/// whatever name: `create` fails at such a file and leaves it as it is. A character device, as a
+/// terminal, may be read and written at once.
 #[derive(Drop)]
 pub struct FileStation<'a, R: Files + Print> {
     rt: &'a R,
@@ -55,12 +59,7 @@ impl<'a, R: Files + Print> FileStation<'a, R> {
             hp: FileReading::new(None),
             lp: FileReading::new(None),
             cells: FileReading::new(None),
-            outputs: Outputs {
-                cells: FileWriting::new(None),
-                hp: FileWriting::new(None),
-                lp: FileWriting::new(None),
-                bytes: FileWriting::new(None),
-            },
+            outputs: Outputs::new(None, None, None, None),
             report_closed: false,
             read_faults: 0,
             write_faults: 0,
@@ -82,18 +81,43 @@ impl<'a, R: Files + Print> FileStation<'a, R> {
             hp: FileReading::new(Some(buffers.hp)),
             lp: FileReading::new(Some(buffers.lp)),
             cells: FileReading::new(Some(buffers.cells)),
-            outputs: Outputs {
-                cells: FileWriting::new(Some(buffers.cells_out)),
-                hp: FileWriting::new(Some(buffers.hp_out)),
-                lp: FileWriting::new(Some(buffers.lp_out)),
-                bytes: FileWriting::new(Some(buffers.bytes_out)),
-            },
+            outputs: Outputs::new(
+                Some(buffers.cells_out),
+                Some(buffers.hp_out),
+                Some(buffers.lp_out),
+                Some(buffers.bytes_out),
+            ),
             report_closed: false,
             read_faults: 0,
             write_faults: 0,
             close_faults: 0,
             report_faults: 0,
         }
+    }
+}
+
+impl<'a, R: Files + Print> FileStation<'a, R> {
+    // Whether a port has this file open.
+    fn has_open(&self, file: &Metadata) -> bool {
+        is_same(&self.settings.file, file)
+            || is_same(&self.hp.file, file)
+            || is_same(&self.lp.file, file)
+            || is_same(&self.cells.file, file)
+            || is_same(&self.outputs.cells.file, file)
+            || is_same(&self.outputs.hp.file, file)
+            || is_same(&self.outputs.lp.file, file)
+            || is_same(&self.outputs.bytes.file, file)
+    }
+
+    // Opens the file of this name to be written, and empties it, unless a port has it open already.
+    fn make(&self, name: &str) -> Result<R::File, Failed> {
+        let file = open_to_write(self.rt, name)?;
+        let metadata = metadata_of(&file)?;
+        if self.has_open(&metadata) {
+            return Err(Failed);
+        }
+        empty(&file, &metadata)?;
+        Ok(file)
     }
 }
 
@@ -138,37 +162,83 @@ impl<'a, R: Files + Print> Station<'a> for FileStation<'a, R> {
     }
 
     fn create(&mut self, port: OutPort, name: &'a str) -> Result<(), Failed> {
-        let faults = &mut self.write_faults;
+        let made = self.make(name);
+        let outputs = &mut self.outputs;
         match port {
-            OutPort::Cells => counted(create_at(self.rt, &mut self.outputs.cells, name), faults),
-            OutPort::Hp => counted(create_at(self.rt, &mut self.outputs.hp, name), faults),
-            OutPort::Lp => counted(create_at(self.rt, &mut self.outputs.lp, name), faults),
-            OutPort::Bytes => counted(create_at(self.rt, &mut self.outputs.bytes, name), faults),
+            OutPort::Cells => {
+                let answer = create_at(&mut outputs.cells, name, made);
+                counted(answer, &mut self.write_faults)
+            }
+            OutPort::Hp => {
+                let answer = create_at(&mut outputs.hp, name, made);
+                counted(answer, &mut self.write_faults)
+            }
+            OutPort::Lp => {
+                let answer = create_at(&mut outputs.lp, name, made);
+                counted(answer, &mut self.write_faults)
+            }
+            OutPort::Bytes => {
+                let answer = create_at(&mut outputs.bytes, name, made);
+                counted(answer, &mut self.write_faults)
+            }
             OutPort::Report => unreachable!(),
         }
     }
 
     fn write(&mut self, port: OutPort, bytes: &[u8]) -> Result<(), Failed> {
-        let faults = &mut self.write_faults;
+        let outputs = &mut self.outputs;
         match port {
-            OutPort::Cells => counted(self.outputs.cells.write(bytes), faults),
-            OutPort::Hp => counted(self.outputs.hp.write(bytes), faults),
-            OutPort::Lp => counted(self.outputs.lp.write(bytes), faults),
-            OutPort::Bytes => counted(self.outputs.bytes.write(bytes), faults),
+            OutPort::Cells => {
+                outputs.pending = true;
+                let answer = outputs.cells.write(bytes);
+                counted(answer, &mut self.write_faults)
+            }
+            OutPort::Hp => {
+                outputs.pending = true;
+                let answer = outputs.hp.write(bytes);
+                counted(answer, &mut self.write_faults)
+            }
+            OutPort::Lp => {
+                outputs.pending = true;
+                let answer = outputs.lp.write(bytes);
+                counted(answer, &mut self.write_faults)
+            }
+            OutPort::Bytes => {
+                outputs.pending = true;
+                let answer = outputs.bytes.write(bytes);
+                counted(answer, &mut self.write_faults)
+            }
             OutPort::Report => {
-                let answer = counted(self.outputs.report(self.rt, bytes), faults);
+                let reported = outputs.report(self.rt, bytes);
+                let answer = counted(reported, &mut self.write_faults);
                 counted(answer, &mut self.report_faults)
             }
         }
     }
 
+    fn flush(&mut self) -> Result<(), Failed> {
+        counted(self.outputs.hand_over(), &mut self.write_faults)
+    }
+
     fn close(&mut self, port: OutPort) -> Result<(), Failed> {
-        let faults = &mut self.close_faults;
+        let outputs = &mut self.outputs;
         match port {
-            OutPort::Cells => counted(self.outputs.cells.close(), faults),
-            OutPort::Hp => counted(self.outputs.hp.close(), faults),
-            OutPort::Lp => counted(self.outputs.lp.close(), faults),
-            OutPort::Bytes => counted(self.outputs.bytes.close(), faults),
+            OutPort::Cells => {
+                let answer = outputs.cells.close();
+                counted(answer, &mut self.close_faults)
+            }
+            OutPort::Hp => {
+                let answer = outputs.hp.close();
+                counted(answer, &mut self.close_faults)
+            }
+            OutPort::Lp => {
+                let answer = outputs.lp.close();
+                counted(answer, &mut self.close_faults)
+            }
+            OutPort::Bytes => {
+                let answer = outputs.bytes.close();
+                counted(answer, &mut self.close_faults)
+            }
             OutPort::Report => {
                 self.report_closed = true;
                 Ok(())

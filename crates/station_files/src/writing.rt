@@ -41,15 +41,16 @@ fn sync<F: OpenFile>(file: &F) -> Result<(), Failed> {
 }
 
 impl<'a, F: Write + OpenFile + Drop> FileWriting<'a, F> {
-    ghost use Rattle.std.specs.Prelude.{◌≡◌, ◌≢◌, ◌↔◌, IsErr};
+    ghost use Rattle.std.specs.Prelude.{◌≡◌, ◌≢◌, ◌↔◌, IsErr, OnOk};
     ghost use Rattle.station_core.specs.Meaning.{no_sink, closed_sink};
     ghost use Rattle.station_files.specs.declared.writing.Fault.TheVariants.{Absent, Untold, Told};
     ghost use Rattle.station_files.specs.Ports.{sink_of};
-    ghost use Rattle.station_files.specs.Waiting.{IsOut};
+    ghost use Rattle.station_files.specs.Waiting.{IsOut, IsSettled};
 
     /// A port at which nothing was asked.
     pub fn new(memory: Option<Vec<u8>>) -> FileWriting<'a, F>
-        ensures { sink_of result ≡ no_sink }
+        ensures new { sink_of result ≡ no_sink }
+        ensures settled { IsSettled result }
     {
         FileWriting {
             asked: None,
@@ -61,12 +62,13 @@ impl<'a, F: Write + OpenFile + Drop> FileWriting<'a, F> {
         }
     }
 
-    /// Writes to the file what waits. Where that fails the rest is let go, and `tell` answers so.
+    /// Writes to the file what waits. If that fails the rest is dropped, and `tell` answers so.
     pub fn flush(&mut self)
         ensures same { sink_of self.new ≡ sink_of self.old }
         ensures out { IsOut self.new }
         ensures failed { self.old.fault ≢ Absent → self.new.fault ≢ Absent }
         ensures untold { self.old.fault ≡ Untold → self.new.fault ≡ Untold }
+        ensures idle { IsOut self.old → self.new ≡ self.old }
     {
         if self.buffer.is_empty() {
             return;
@@ -88,6 +90,7 @@ impl<'a, F: Write + OpenFile + Drop> FileWriting<'a, F> {
         ensures buffer { self.new.buffer ≡ self.old.buffer }
         ensures told { self.new.fault ≢ Untold }
         ensures fails { IsErr result ↔ (self.old.fault ≡ Untold) }
+        ensures idle { self.old.fault ≡ Absent → self.new ≡ self.old }
     {
         if self.fault == Fault::Untold {
             self.fault = Fault::Told;
@@ -96,7 +99,39 @@ impl<'a, F: Write + OpenFile + Drop> FileWriting<'a, F> {
         Ok(())
     }
 
-    /// Takes the bytes to be written behind those before. Once the file has failed each call does.
+    /// Writes to the file what waits. It fails if a write of the file has failed, also if that was
+    /// reported before.
+    pub fn settle(&mut self) -> Result<(), Failed>
+        ensures same { sink_of self.new ≡ sink_of self.old }
+        ensures out { IsOut self.new }
+        ensures failed { self.old.fault ≢ Absent → IsErr result }
+        ensures told { IsErr result ↔ (self.new.fault ≢ Absent) }
+    {
+        self.flush();
+        if self.fault != Fault::Absent {
+            self.fault = Fault::Told;
+            return Err(Failed);
+        }
+        Ok(())
+    }
+
+    /// Does what `settle` does, and sees that all of it has come to the file.
+    pub fn hand_over(&mut self) -> Result<(), Failed>
+        ensures same { sink_of self.new ≡ sink_of self.old }
+        ensures settled { OnOk result (IsSettled self.new) }
+    {
+        self.settle()?;
+        let synced = match &self.file {
+            Some(file) => sync(file),
+            None => Ok(()),
+        };
+        if synced.is_err() {
+            self.fault = Fault::Told;
+        }
+        synced
+    }
+
+    /// Takes the bytes to be written after those before. Once the file has failed each call does.
     pub fn write(&mut self, bytes: &[u8]) -> Result<(), Failed>
         ensures same { sink_of self.new ≡ sink_of self.old }
         ensures failed { self.old.fault ≢ Absent → IsErr result }
@@ -105,11 +140,7 @@ impl<'a, F: Write + OpenFile + Drop> FileWriting<'a, F> {
         if self.fault == Fault::Absent && self.buffer.gather(bytes) {
             return Ok(());
         }
-        self.flush();
-        if self.fault != Fault::Absent {
-            self.fault = Fault::Told;
-            return Err(Failed);
-        }
+        self.settle()?;
         if self.buffer.gather(bytes) {
             return Ok(());
         }
@@ -127,6 +158,7 @@ impl<'a, F: Write + OpenFile + Drop> FileWriting<'a, F> {
     pub fn close(&mut self) -> Result<(), Failed>
         ensures closed { sink_of self.new ≡ closed_sink (sink_of self.old) }
         ensures told { self.old.fault ≡ Untold → IsErr result }
+        ensures settled { IsSettled self.old → IsSettled self.new }
     {
         self.flush();
         let told = self.tell();

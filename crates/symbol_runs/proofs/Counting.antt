@@ -1,7 +1,8 @@
 -- Whole symbols, and bytes that end none.
-use Rattle.std.proofs.Common.{◌≡◌, ℕ, ◌+◌, ◌*◌, ◌/◌, ◌%◌, ◌<◌, ◌≤◌, true, false, List, ◌++◌, inl, inr, length, ◌∙◌, sym, ap, arith, length-append}
+use Rattle.std.proofs.Common.{◌≡◌, ℕ, ◌+◌, ◌*◌, ◌/◌, ◌%◌, ◌<◌, ◌≤◌, true, false, List, ◌++◌, inl, inr, length, take, ◌∙◌, sym, ap, arith, length-append}
 use Rattle.std.specs.Prelude.{◌==◌}
 use Rattle.std.proofs.lemmas.Bool.{cases_lt, eq-eqb, eqb-true, true≢false}
+use Rattle.std.proofs.lemmas.List.{length-take}
 use Rattle.std.proofs.Math.Nat.{mul-div_cancel, mul-mod_left, div-lt_iff_lt-mul, add-mul}
 use Rattle.symbol_runs.specs.Symbols.{symbols, tail}
 
@@ -54,3 +55,12 @@ module _ (size : ℕ) (some : 0 < size) where
         absurd (omega (arith, below, le))
     | inr more ↦ omega (arith, more)
   ]
+
+  -- the bytes within a limit are no more symbols than it
+  pub few_within : (most : ℕ) (bytes : List ℕ) → symbols size (take (most * size) bytes) ≤ most
+  few_within most bytes =
+      let few : length (take (most * size) bytes) ≤ most * size = omega (arith, length-take (most * size) bytes) in
+      let more : (most + 1) * size ≡ most * size + size = one_more most size in
+      let below : length (take (most * size) bytes) < (most + 1) * size = omega (arith, few, more, some) in
+      let less : length (take (most * size) bytes) / size < most + 1 = (div-lt_iff_lt-mul {k = size} {x = length (take (most * size) bytes)} {y = most + 1} some).1 below in
+      omega (arith, less)

@@ -4,7 +4,7 @@ use Rattle.std.proofs.Common.{◌≡◌, ◌≢◌, ◌⊎◌, inl, inr, true, f
 use Rattle.std.specs.Prelude.{is_some, bytes_eq}
 use Rattle.std.specs.Option.{option_or}
 use Rattle.std.proofs.lemmas.Bool.{true≢false}
-use Rattle.std.proofs.lemmas.List.{drop-drop, take-append-drop}
+use Rattle.std.proofs.lemmas.List.{append-nil, drop-drop, take-append-drop}
 use Rattle.std.proofs.lemmas.Slice.Eq.{bytes_eq-Decides}
 use Rattle.std.proofs.Math.Nat.{div-eq_of_lt}
 use Rattle.station_core.specs.Meaning.{Meaning, Source, Sink, IsFresh, IsUntouched, source_at, sink_at}
@@ -21,7 +21,8 @@ use Rattle.run_clauses.specs.Header.{IsHeaderTaken, behind_header, header_refusa
 use Rattle.run_clauses.specs.Run.{IsUntaken, Run}
 use Rattle.run_clauses.specs.Text.{refusal_status, refusal_text, status_of}
 use Rattle.run_steps.specs.Report.{WritesText}
-use Rattle.run_steps.specs.Ended.{AreMade, Ended, Hold, HoldFronts, HoldSoFar, HoldUnheaded, IsCaused, IsExact, IsWriteFault, Leaves}
+use Rattle.run_steps.specs.Causes.{AreReadsKept, IsSettled}
+use Rattle.run_steps.specs.Ended.{AreMade, Ended, Hold, HoldFronts, HoldSoFar, HoldUnheaded, IsCaused, IsExact, IsSettledAt, IsWriteFault, Leaves}
 use Rattle.run_steps.proofs.Whole.{run_done, run_refused}
 use Rattle.symbol_runs.specs.declared.stop.Stop.{Stop}
 use Rattle.symbol_runs.specs.declared.stop.Stop.TheVariants.{ReadFault, WriteFault, Limit}
@@ -30,7 +31,7 @@ use Rattle.symbol_runs.specs.Stops.{HasEndCause, refusal_in, stop_refusal}
 use Rattle.symbol_runs.specs.Symbols.{symbols}
 use Rattle.symbol_runs.specs.Work.{HasReason, Holds, Work, Written}
 use Rattle.symbol_runs.specs.Outputs.{Names, made}
-use Rattle.symbol_runs.specs.Cells.{EndsWithin, IsCutShort, IsStopped, TakesAtMost}
+use Rattle.symbol_runs.specs.Cells.{EndsWithin, GivenBefore, GivenUpTo, IsCutShort, IsStopped, TakesAtMost}
 use Rattle.symbol_runs.specs.Opening.{CellsOnly, IsUnopened, Opens, TakesHeader, opened}
 use Rattle.symbol_runs.specs.Runs.{AsksOutputs, IsReady, IsUnmade, IsWorked, PortsOnly, RanBehind, RefusesCells, RunsBehind, RunsCells, Tells, outcome_status}
 use Rattle.symbol_runs.specs.Commands.{CellCommand, Come, ComeSoFar, ComesRefused, Continues, MayRefuse, SettingsDone, reads_at}
@@ -257,12 +258,13 @@ module _ (c : Command) (limit : ℕ) (name cells : List ℕ) (header : Option (L
   }
 
   -- ---- all of it, by the refusal
-  ended_by : (r : Option Refusal) → is_among (status_of r) c.statuses ≡ true → IsCaused c limit start mid r → start.read_faults ≤ mid.read_faults → start.write_faults ≤ mid.write_faults
+  ended_by : (r : Option Refusal) → is_among (status_of r) c.statuses ≡ true → IsCaused c limit start mid r → IsSettledAt start mid r → start.read_faults ≤ mid.read_faults → start.write_faults ≤ mid.write_faults
       → IsExact c limit start r → InOrder → (r ≡ None → mid.cells.attached ≡ true) → (r ≡ None → start.tells ≡ true → mid.cells.left ≡ []) → Leaves c limit start mid r
       → Ended c limit start mid r
-  ended_by r known caused later_reads later_writes exact order is_open read leaves = record {
+  ended_by r known caused settled later_reads later_writes exact order is_open read leaves = record {
     known = known;
     caused = caused;
+    settled = settled;
     later_reads = later_reads;
     later_writes = later_writes;
     later_report = later_report;
@@ -294,6 +296,21 @@ module _ (c : Command) (limit : ℕ) (name cells : List ℕ) (header : Option (L
   same_writes : IsUnopened cells header old mid → start.write_faults ≤ mid.write_faults
   same_writes none = let same : mid.write_faults ≡ start.write_faults = ap (λ (x : Meaning). x.write_faults) none.others in omega (arith, same)
 
+  -- nothing was given to an output
+  settled_yet : IsUnopened cells header old mid → IsSettled start mid
+  settled_yet none = record { settled = ap (λ (x : Meaning). x.pending) none.others ∙ fresh.settled; writes = ap (λ (x : Meaning). x.write_faults) none.others }
+
+  -- the settings change nothing of that
+  settled_is : IsSettled old mid → IsSettled start mid
+  settled_is s = record { settled = s.settled; writes = s.writes }
+
+  later_writes : IsSettled old mid → start.write_faults ≤ mid.write_faults
+  later_writes s = omega (arith, s.writes)
+
+  later_reads : AreReadsKept old mid → start.read_faults ≤ mid.read_faults
+  later_reads (inl same) = omega (arith, same)
+  later_reads (inr both) = both.0
+
   -- ---- the cells were not opened, or have not their header
   shut_left : IsUnopened cells header old mid → HoldSoFar c limit start mid
   shut_left none = record {
@@ -310,9 +327,9 @@ module _ (c : Command) (limit : ℕ) (name cells : List ℕ) (header : Option (L
 
   pub unopened_ended : (r : Refusal) → Opens cells header old mid (Err r) → Ended c limit start mid (Some r)
   unopened_ended refusals.ReadFault opens =
-      ended_by (Some refusals.ReadFault) command.read_fault opens.1 opens.2 (same_writes opens.0) tt (unopened_order opens.0) (λ is. absurd (no_refusal _ is)) (λ is t. absurd (no_refusal _ is)) (shut_left opens.0)
+      ended_by (Some refusals.ReadFault) command.read_fault opens.1 (settled_yet opens.0) opens.2 (same_writes opens.0) tt (unopened_order opens.0) (λ is. absurd (no_refusal _ is)) (λ is t. absurd (no_refusal _ is)) (shut_left opens.0)
   unopened_ended (refusals.Cells Header) opens =
-      ended_by (Some (refusals.Cells Header)) (command.unheaded opens.1) opens.2 (omega (arith, opens.2)) (same_writes opens.0)
+      ended_by (Some (refusals.Cells Header)) (command.unheaded opens.1) opens.2 (settled_yet opens.0) (omega (arith, opens.2)) (same_writes opens.0)
       (λ t. refusal_by (Some (refusals.Cells Header)) (Some (refusals.Cells Header)) (opens.3 t) refl t) (unopened_order opens.0) (λ is. absurd (no_refusal _ is)) (λ is t. absurd (no_refusal _ is)) (unheaded_left opens.0)
   unopened_ended (refusals.Cells NoPlace) opens = absurd opens
   unopened_ended (refusals.Cells AnnouncedForm) opens = absurd opens
@@ -366,6 +383,36 @@ module _ (c : Command) (limit : ℕ) (name cells : List ℕ) (header : Option (L
     order : (result : Result (Unit {0}) Stop) → RanBehind w most names (opened cells header old) mid result → InOrder
     order result ran = elim ran [ inl p ↦ unmade_order p.1 | inr p ↦ worked_order result p ]
 
+    -- the first of what the cells give begins what the command comes to
+    first_of : start.tells ≡ true → (given : Written) × Continues c limit start.file given
+    first_of t = (
+      (command.comes t).first.0,
+      (command.comes t).begun (command.comes t).first.0 (record {
+        taken = [];
+        rest = file;
+        are = refl;
+        within = let zero : symbols w.size [] ≡ 0 = div-eq_of_lt {n = 0} {m = w.size} command.some in omega (arith, zero);
+        gives = inl (command.comes t).first.1;
+      }),
+    )
+
+    -- so does what was given before the cells are refused
+    refused_continues : start.tells ≡ true → (given : Written) (r : Refusal) → ComesRefused c limit start.file given r → Continues c limit start.file given
+    refused_continues t given refusals.Memory came =
+        let all = (first_of t).1 in
+        record { all = all.all; come = all.come; begins = λ port. (all.all port, ap (λ (l : List ℕ). l ++ all.all port) (sym (came.1 port))) }
+    refused_continues t given (refusals.Cells reason) came = record { all = given; come = came.0; begins = λ port. ([], sym (append-nil (given port))) }
+    refused_continues t given refusals.Usage came = absurd came
+    refused_continues t given (refusals.Settings reason) came = absurd came
+    refused_continues t given refusals.ReadFault came = absurd came
+    refused_continues t given refusals.WriteFault came = absurd came
+    refused_continues t given (refusals.NotSync stream n) came = absurd came
+    refused_continues t given (refusals.Limit n) came = absurd came
+
+    continues : start.tells ≡ true → (given : Written) → GivenUpTo w most file given ⊎ GivenBefore w most file given → Continues c limit start.file given
+    continues t given (inl up) = (command.comes t).begun given up
+    continues t given (inr b) = refused_continues t given b.refusal ((command.comes t).refused b.taken b.rest given b.refusal b.are b.within b.its b.refuses)
+
     -- ---- what is left by each outcome
     module _ (result : Result (Unit {0}) Stop) (done : IsWorked w most names (opened cells header old) mid result) where
       -- the outputs were empty before the work, and so was Report
@@ -406,27 +453,18 @@ module _ (c : Command) (limit : ℕ) (name cells : List ℕ) (header : Option (L
 
       fronts_left : (start.tells ≡ true → IsCutShort w most file done.start mid) → HoldFronts c limit start mid
       fronts_left cut = record {
-        outputs = λ t out is made. let p = cut t in let all = (command.comes t).begun p.given p.up in
+        outputs = λ t out is made. let p = cut t in let all = continues t p.given p.up in
             (all.all out, all.come.outputs out is, front_at (sink_at out done.start).written (p.given out) (all.all out) (sink_at out mid).written (p.holds out).0 (base out is) (all.begins out) (p.holds out).1);
-        report = λ t. let p = cut t in let all = (command.comes t).begun p.given p.up in
+        report = λ t. let p = cut t in let all = continues t p.given p.up in
             (all.all outs.Report, all.come.report, front_at done.start.report.written (p.given outs.Report) (all.all outs.Report) mid.report.written (p.holds outs.Report).0 (base_report t) (all.begins outs.Report) (p.holds outs.Report).1);
       }
 
     -- where an output was not made nothing was written
     unmade_left : IsUnmade names (opened cells header old) mid → HoldFronts c limit start mid
     unmade_left none = record {
-      outputs = λ t out is made. let all = begun t in (all.all out, all.come.outputs out is, (0, (none.shut out (is_output out is) made).1));
-      report = λ t. let all = begun t in (all.all outs.Report, all.come.report, (0, ap (λ (k : Sink). k.written) none.report ∙ fresh.report_empty t));
+      outputs = λ t out is made. let all = (first_of t).1 in (all.all out, all.come.outputs out is, (0, (none.shut out (is_output out is) made).1));
+      report = λ t. let all = (first_of t).1 in (all.all outs.Report, all.come.report, (0, ap (λ (k : Sink). k.written) none.report ∙ fresh.report_empty t));
     }
-      where
-        begun : (t : start.tells ≡ true) → Continues c limit start.file ((command.comes t).first.0)
-        begun t = (command.comes t).begun (command.comes t).first.0 (record {
-          taken = [];
-          rest = file;
-          are = refl;
-          within = let zero : symbols w.size [] ≡ 0 = div-eq_of_lt {n = 0} {m = w.size} command.some in omega (arith, zero);
-          gives = inl (command.comes t).first.1;
-        })
 
     -- ---- the work refused the cells
     caused_by : (r : Refusal) → MayRefuse c r → mid.read_faults ≡ start.read_faults → IsCaused c limit start mid (Some r)
@@ -438,6 +476,16 @@ module _ (c : Command) (limit : ℕ) (name cells : List ℕ) (header : Option (L
     caused_by refusals.WriteFault may same = absurd may
     caused_by (refusals.NotSync stream n) may same = absurd may
     caused_by (refusals.Limit n) may same = absurd may
+
+    settled_by : (r : Refusal) → MayRefuse c r → IsSettled start mid → IsSettledAt start mid (Some r)
+    settled_by refusals.Memory may s = s
+    settled_by (refusals.Cells reason) may s = s
+    settled_by refusals.Usage may s = absurd may
+    settled_by (refusals.Settings reason) may s = absurd may
+    settled_by refusals.ReadFault may s = absurd may
+    settled_by refusals.WriteFault may s = absurd may
+    settled_by (refusals.NotSync stream n) may s = absurd may
+    settled_by (refusals.Limit n) may s = absurd may
 
     exact_by : (r : Refusal) → MayRefuse c r → (start.tells ≡ true → (given : Written) × ComesRefused c limit start.file given r) → IsExact c limit start (Some r)
     exact_by refusals.Memory may came = tt
@@ -489,19 +537,19 @@ module _ (c : Command) (limit : ℕ) (name cells : List ℕ) (header : Option (L
     pub ended_of : (o : Result (Unit {0}) Stop) → HasEndCause (start.tells ≡ true → EndsWithin w most file) old mid o → HasReason w o → RanBehind w most names (opened cells header old) mid o → Ended c limit start mid (refusal_in most o)
     ended_of (Ok u) cause reason ran =
         let done = worked_if (Ok u) (λ e. omega (arith, e)) ran in
-        ended_by None command.done cause (omega (arith, cause.0)) (omega (arith, cause.1))
+        ended_by None command.done cause tt (omega (arith, cause.0)) (omega (arith, cause.1))
         (λ t. let d = done.works (told t) in refusal_by None None (fits t) ((command.comes t).whole d.2.given d.1 d.2.ends).1 t) (order (Ok u) ran)
         (λ is. done.attached) (λ is t. (done.works (told t)).0)
         (hold_by (Ok u) done (λ t. let d = done.works (told t) in (d.2.given, ((command.comes t).whole d.2.given d.1 d.2.ends).0, d.2.holds)))
     ended_of (Err ReadFault) cause reason ran =
-        ended_by (Some refusals.ReadFault) command.read_fault cause.0 cause.1 cause.2 tt (order (Err ReadFault) ran) (λ is. absurd (no_refusal _ is)) (λ is t. absurd (no_refusal _ is))
+        ended_by (Some refusals.ReadFault) command.read_fault cause.0 (settled_is cause.2) cause.1 (later_writes cause.2) tt (order (Err ReadFault) ran) (λ is. absurd (no_refusal _ is)) (λ is t. absurd (no_refusal _ is))
         (let p = worked_if (Err ReadFault) (λ e. omega (arith, e)) ran in stopped_left (Err ReadFault) p (λ t. p.works (told t)))
     ended_of (Err WriteFault) cause reason ran =
-        ended_by (Some refusals.WriteFault) command.write_fault (cause.0, fault_by cause.1) (omega (arith, cause.0)) cause.2 tt (order (Err WriteFault) ran) (λ is. absurd (no_refusal _ is)) (λ is t. absurd (no_refusal _ is))
+        ended_by (Some refusals.WriteFault) command.write_fault (cause.0, fault_by cause.1) tt (later_reads cause.0) cause.2 tt (order (Err WriteFault) ran) (λ is. absurd (no_refusal _ is)) (λ is t. absurd (no_refusal _ is))
         (elim ran [ inl p ↦ unmade_left p.1 | inr p ↦ fronts_left (Err WriteFault) p (λ t. p.works (told t)) ])
     ended_of (Err Limit) cause reason ran =
         let done = worked_if (Err Limit) (λ e. omega (arith, e)) ran in
-        ended_by (Some (refusals.Limit most)) command.limit_passed cause.0 (omega (arith, cause.0)) cause.1
+        ended_by (Some (refusals.Limit most)) command.limit_passed cause.0 (settled_is cause.1) (omega (arith, cause.0)) (later_writes cause.1)
         (λ t. let d = done.works (told t) in refusal_by (Some (refusals.Limit most)) None (fits t) ((command.comes t).past d.given d.past d.gives).1 t) (order (Err Limit) ran)
         (λ is. absurd (no_refusal _ is)) (λ is t. absurd (no_refusal _ is))
         (hold_by (Err Limit) done (λ t. let d = done.works (told t) in (d.given, ((command.comes t).past d.given d.past d.gives).0, d.holds)))
@@ -510,7 +558,7 @@ module _ (c : Command) (limit : ℕ) (name cells : List ℕ) (header : Option (L
         let its = command.its r reason in
         let came : start.tells ≡ true → (given : Written) × ComesRefused c limit start.file given r × Holds done.start mid given =
         λ t. let d = done.works (told t) in (d.given, (command.comes t).refused d.taken mid.cells.left d.given r d.are d.within reason d.refuses, d.holds) in
-        ended_by (Some r) its.1 (caused_by r its.0 cause.0) (omega (arith, cause.0)) cause.1 (exact_by r its.0 (λ t. let p = came t in (p.0, p.1))) (order (Err (stops.Work r)) ran)
+        ended_by (Some r) its.1 (caused_by r its.0 cause.0) (settled_by r its.0 (settled_is cause.1)) (omega (arith, cause.0)) (later_writes cause.1) (exact_by r its.0 (λ t. let p = came t in (p.0, p.1))) (order (Err (stops.Work r)) ran)
         (λ is. absurd (no_refusal _ is)) (λ is t. absurd (no_refusal _ is)) (left_by r done its.0 came)
 
 -- the promise of a run on cells, behind its settings
@@ -547,11 +595,19 @@ module _ (c : Command) (limit : ℕ) (name cells : List ℕ) (header : Option (L
           (unopened_ended c limit name cells header names w most start m at fresh settings command (cells_ports accepted m none.others) none.asked (λ port. inl (ap (λ (x : Sink). x.asked) (cells_sink accepted m none.others port)))
           (λ t is. few_taken m is none.taken t) (omega (arith, same)) r opens) tells
 
+  -- the opening of the cells changes none of the counts
+  same_cause : (whole : Type 0) (m : Meaning) (o : Result (Unit {0}) Stop) → HasEndCause whole (opened cells header accepted) m o → HasEndCause whole accepted m o
+  same_cause whole m (Ok u) h = h
+  same_cause whole m (Err ReadFault) h = (h.0, h.1, record { settled = h.2.settled; writes = h.2.writes })
+  same_cause whole m (Err WriteFault) h = h
+  same_cause whole m (Err Limit) h = (h.0, record { settled = h.1.settled; writes = h.1.writes })
+  same_cause whole m (Err (stops.Work r)) h = (h.0, record { settled = h.1.settled; writes = h.1.writes })
+
   opened_run : (start.tells ≡ true → header_refusal header (start.file cells) ≡ None) → RunsBehind w most names (opened cells header accepted) new status → Run c limit start new status
   opened_run fits runs =
       let e = ended_of c limit name cells header names w most start runs.mid at fresh settings command runs.others runs.cells_asked (λ port. asked port (runs.asks port))
       (λ t is. let r = runs.taken t in (header_size header + r.0, omega (arith, r.1), r.2 ∙ behind_more header (start.file cells) r.0)) runs.later_report fits runs.taken
-      runs.outcome runs.cause runs.reason runs.ran in
+      runs.outcome (same_cause (start.tells ≡ true → EndsWithin w most (behind_header header (start.file cells))) runs.mid runs.outcome runs.cause) runs.reason runs.ran in
       subst (λ (n : ℕ). Run c limit start new n) (sym runs.status_is) (closing runs.mid runs.outcome e runs.tells)
     where
       asked : (port : OutPort) → ((sink_at port runs.mid).asked ≡ (sink_at port (opened cells header accepted)).asked) ⊎ ((sink_at port runs.mid).asked ≡ names port)

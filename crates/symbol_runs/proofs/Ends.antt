@@ -1,5 +1,5 @@
 -- The beginning and the end of the work.
-use Rattle.std.proofs.Common.{◌≡◌, ℕ, ◌+◌, ◌*◌, ◌<◌, ◌≤◌, true, List, [], ◌++◌, inr, length, drop, refl, ◌∙◌, sym, ap, subst, arith, Result, Ok, Err}
+use Rattle.std.proofs.Common.{◌≡◌, ℕ, ◌+◌, ◌*◌, ◌<◌, ◌≤◌, true, List, [], ◌++◌, inl, inr, length, drop, refl, ◌∙◌, sym, ap, subst, arith, Result, Ok, Err}
 use Rattle.std.proofs.lemmas.List.{append-nil, drop-drop, drop_at}
 use Rattle.std.proofs.lemmas.Nat.{mul-le}
 use Rattle.station_core.specs.Meaning.{Meaning, sink_at}
@@ -42,7 +42,7 @@ module _ (w : Work) (most : ℕ) (file bytes : List ℕ) (given : Written) (stan
   whole_by (Err ReadFault) f = λ t. absurd f
   whole_by (Err WriteFault) f = λ t. record {
     given = f.after;
-    up = record { taken = bytes; rest = []; are = sym (append-nil bytes); within = few; gives = inr (refl, f.is) };
+    up = inl (record { taken = bytes; rest = []; are = sym (append-nil bytes); within = few; gives = inr (refl, f.is) });
     holds = holds_front start m m' given _ (was.holds (before t)) (before t) f;
   }
   whole_by (Err Limit) f = λ t. absurd f

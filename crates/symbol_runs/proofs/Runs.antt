@@ -1,21 +1,25 @@
 -- The ports of a run, from the making of the outputs to their closing.
-use Rattle.std.proofs.Common.{◌≡◌, inl, inr, ℕ, Bool, true, List, [], ◌++◌, Option, Some, None, Result, Ok, Err, refl, ◌∙◌, sym, ap, subst}
+use Rattle.std.proofs.Common.{◌≡◌, inl, inr, ℕ, ◌*◌, ◌<◌, Bool, true, List, [], ◌++◌, drop, Option, Some, None, Result, Ok, Err, refl, ◌∙◌, sym, ap, subst}
 use Rattle.std.specs.Prelude.{◌⊎◌, is_some}
 use Rattle.std.specs.Result.{result_and}
 use Rattle.std.proofs.lemmas.Bool.{true≢false}
-use Rattle.std.proofs.lemmas.List.{append-nil}
+use Rattle.std.proofs.lemmas.List.{append-nil, take-append-drop}
 use Rattle.station_core.specs.Meaning.{Meaning, Sink, sink_at}
 use Rattle.station_core.specs.declared.ports.OutPort.{OutPort}
 use Rattle.station_core.specs.declared.ports.OutPort.TheVariants as outs
 use Rattle.symbol_runs.specs.declared.stop.Stop.{Stop}
 use Rattle.symbol_runs.specs.declared.stop.Stop.TheVariants.{ReadFault, WriteFault, Limit}
 use Rattle.symbol_runs.specs.declared.stop.Stop.TheVariants as stops
-use Rattle.symbol_runs.specs.Work.{AreOpen, Work}
+use Rattle.run_steps.specs.Causes.{FlushesOnly}
+use Rattle.symbol_runs.specs.Stops.{Settles}
+use Rattle.symbol_runs.specs.Symbols.{within_limit}
+use Rattle.symbol_runs.specs.Work.{AreOpen, HasReason, Holds, HoldsFront, Work, Written}
 use Rattle.symbol_runs.specs.Outputs.{AreClosed, AreMade, AreUnmade, ClosesOnly, IsWriting, Names}
 use Rattle.symbol_runs.specs.Cells.{IsCutShort, KeepsOthers, Stopped, Works}
 use Rattle.symbol_runs.specs.Runs.{AsksOutputs, CanBegin, RanBehind}
 use Rattle.symbol_runs.proofs.Fronts.{all_of}
-use Rattle.symbol_runs.proofs.Sinks.{kept_sink}
+use Rattle.symbol_runs.proofs.Counting.{few_within}
+use Rattle.symbol_runs.proofs.Sinks.{keeps_again, kept_sink}
 
 -- the name of a port that is written
 pub name_at : (names : Names) (port : OutPort) → is_some (names port) ≡ true → (name : List ℕ) × (names port ≡ Some name)
@@ -35,22 +39,27 @@ closed_sink m m' p outs.Report =
     let same : m'.report ≡ m.report = ap (λ (x : Meaning). x.report) p in
     same ∙ sym (ap (λ (b : Bool). record m.report { closed = b }) (ap (λ (x : Sink). x.closed) same))
 
--- so all that was done stays so
-module _ (w : Work) (most : ℕ) (file : List ℕ) (start m m' : Meaning) (p : ClosesOnly m m') where
+pub closed_written : (m m' : Meaning) → ClosesOnly m m' → (port : OutPort) → (sink_at port m').written ≡ (sink_at port m).written
+closed_written m m' p port = ap (λ (x : Sink). x.written) (closed_sink m m' p port)
+
+-- nor does flushing change what was written
+flushed_written : (m m' : Meaning) → FlushesOnly m m' → (port : OutPort) → (sink_at port m').written ≡ (sink_at port m).written
+flushed_written m m' p outs.Cells = ap (λ (x : Meaning). x.cells_out.written) p
+flushed_written m m' p outs.Hp = ap (λ (x : Meaning). x.hp_out.written) p
+flushed_written m m' p outs.Lp = ap (λ (x : Meaning). x.lp_out.written) p
+flushed_written m m' p outs.Bytes = ap (λ (x : Meaning). x.bytes_out.written) p
+flushed_written m m' p outs.Report = ap (λ (x : Meaning). x.report.written) p
+
+-- where no more is taken or written, all that was done stays so
+module _ (w : Work) (most : ℕ) (file : List ℕ) (start m m' : Meaning) (tells_same : m'.tells ≡ m.tells) (left_is : m'.cells.left ≡ m.cells.left) (written : (port : OutPort) → (sink_at port m').written ≡ (sink_at port m).written) where
   tells_are : m'.tells ≡ true → m.tells ≡ true
-  tells_are t = sym (ap (λ (x : Meaning). x.tells) p) ∙ t
+  tells_are t = sym tells_same ∙ t
 
-  left_is : m'.cells.left ≡ m.cells.left
-  left_is = ap (λ (x : Meaning). x.cells.left) p
-
-  written : (port : OutPort) → (sink_at port m').written ≡ (sink_at port m).written
-  written port = ap (λ (x : Sink). x.written) (closed_sink m m' p port)
-
-  stop_closed : (stop : Stop) → Stopped w most file start m stop → Stopped w most file start m' stop
-  stop_closed ReadFault s = record { taken = s.taken; given = s.given; are = s.are ∙ ap (λ (l : List ℕ). s.taken ++ l) (sym left_is); within = s.within; gives = s.gives; holds = λ port. written port ∙ s.holds port }
-  stop_closed WriteFault s = record { given = s.given; up = s.up; holds = λ port. ((s.holds port).0, written port ∙ (s.holds port).1) }
-  stop_closed Limit s = record { given = s.given; past = s.past; gives = s.gives; holds = λ port. written port ∙ s.holds port }
-  stop_closed (stops.Work r) s = record {
+  stop_kept : (stop : Stop) → Stopped w most file start m stop → Stopped w most file start m' stop
+  stop_kept ReadFault s = record { taken = s.taken; given = s.given; are = s.are ∙ ap (λ (l : List ℕ). s.taken ++ l) (sym left_is); within = s.within; gives = s.gives; holds = λ port. written port ∙ s.holds port }
+  stop_kept WriteFault s = record { given = s.given; up = s.up; holds = λ port. ((s.holds port).0, written port ∙ (s.holds port).1) }
+  stop_kept Limit s = record { given = s.given; past = s.past; gives = s.gives; holds = λ port. written port ∙ s.holds port }
+  stop_kept (stops.Work r) s = record {
     taken = s.taken;
     given = s.given;
     are = s.are ∙ ap (λ (l : List ℕ). s.taken ++ l) (sym left_is);
@@ -59,26 +68,93 @@ module _ (w : Work) (most : ℕ) (file : List ℕ) (start m m' : Meaning) (p : C
     holds = λ port. written port ∙ s.holds port;
   }
 
-  works_closed : (result : Result (Unit {0}) Stop) → Works w most file start m result → Works w most file start m' result
-  works_closed (Ok u) f = λ t. let d = f (tells_are t) in (left_is ∙ d.0, d.1, record { given = d.2.given; ends = d.2.ends; holds = λ port. written port ∙ d.2.holds port })
-  works_closed (Err stop) f = λ t. stop_closed stop (f (tells_are t))
+  pub works_kept : (result : Result (Unit {0}) Stop) → Works w most file start m result → Works w most file start m' result
+  works_kept (Ok u) f = λ t. let d = f (tells_are t) in (left_is ∙ d.0, d.1, record { given = d.2.given; ends = d.2.ends; holds = λ port. written port ∙ d.2.holds port })
+  works_kept (Err stop) f = λ t. stop_kept stop (f (tells_are t))
+
+  -- what was given is a front of itself
+  all_held : (given : Written) → Holds start m given → HoldsFront start m' given
+  all_held given holds port = all_of (sink_at port start).written (given port) (sink_at port m').written (written port ∙ holds port)
+
+  -- whatever the work has stopped at, it is cut short by a write that has failed
+  stop_cut : 0 < w.size → (stop : Stop) → HasReason {T = Unit {0}} w (Err stop) → Stopped w most file start m stop → IsCutShort w most file start m'
+  stop_cut some ReadFault reason s = record {
+    given = s.given;
+    up = inl (record { taken = s.taken; rest = m.cells.left; are = s.are; within = s.within; gives = inl s.gives });
+    holds = all_held s.given s.holds;
+  }
+  stop_cut some WriteFault reason s = record { given = s.given; up = s.up; holds = λ port. ((s.holds port).0, written port ∙ (s.holds port).1) }
+  stop_cut some Limit reason s = record {
+    given = s.given;
+    up = inl (record {
+      taken = within_limit most w.size file;
+      rest = drop (most * w.size) file;
+      are = sym (take-append-drop (most * w.size) file);
+      within = few_within w.size some most file;
+      gives = inl s.gives;
+    });
+    holds = all_held s.given s.holds;
+  }
+  stop_cut some (stops.Work r) reason s = record {
+    given = s.given;
+    up = inr (record { taken = s.taken; rest = m.cells.left; refusal = r; are = s.are; within = s.within; its = reason; refuses = s.refuses });
+    holds = all_held s.given s.holds;
+  }
+
+  pub works_cut : 0 < w.size → (stop : Stop) → HasReason {T = Unit {0}} w (Err stop) → Works w most file start m (Err stop) → Works w most file start m' (Err WriteFault)
+  works_cut some stop reason f = λ t. stop_cut some stop reason (f (tells_are t))
 
   -- the whole is a front of itself
   whole_cut : Works w most file start m (Ok tt) → m'.tells ≡ true → IsCutShort w most file start m'
   whole_cut f t = let d = f (tells_are t) in record {
     given = d.2.given;
-    up = record { taken = file; rest = []; are = sym (append-nil file); within = d.1; gives = inr (refl, d.2.ends) };
-    holds = λ port. all_of (sink_at port start).written (d.2.given port) (sink_at port m').written (written port ∙ d.2.holds port);
+    up = inl (record { taken = file; rest = []; are = sym (append-nil file); within = d.1; gives = inr (refl, d.2.ends) });
+    holds = all_held d.2.given d.2.holds;
   }
 
   works_unclosed : (result : Result (Unit {0}) Stop) → IsWriting result → Works w most file start m (Ok tt) → Works w most file start m' result
-  works_unclosed (Ok u) kind f = works_closed (Ok u) f
+  works_unclosed (Ok u) kind f = works_kept (Ok u) f
   works_unclosed (Err stop) kind f = λ t. subst (Stopped w most file start m') (sym kind) (whole_cut f t)
 
   -- the outputs were closed behind the work, whatever it came to
-  pub works_then_closed : (worked closing : Result (Unit {0}) Stop) → IsWriting closing → Works w most file start m worked → Works w most file start m' (result_and worked closing)
-  works_then_closed (Ok u) closing kind f = works_unclosed closing kind f
-  works_then_closed (Err stop) closing kind f = works_closed (Err stop) f
+  pub works_then : (worked closing : Result (Unit {0}) Stop) → IsWriting closing → Works w most file start m worked → Works w most file start m' (result_and worked closing)
+  works_then (Ok u) closing kind f = works_unclosed closing kind f
+  works_then (Err stop) closing kind f = works_kept (Err stop) f
+
+-- behind the closing
+pub works_then_closed : (w : Work) (most : ℕ) (file : List ℕ) (start m m' : Meaning) → ClosesOnly m m' → (worked closing : Result (Unit {0}) Stop) → IsWriting closing
+    → Works w most file start m worked → Works w most file start m' (result_and worked closing)
+works_then_closed w most file start m m' p = works_then w most file start m m' (ap (λ (x : Meaning). x.tells) p) (ap (λ (x : Meaning). x.cells.left) p) (closed_written m m' p)
+
+-- behind the flush
+pub works_settled : (w : Work) (most : ℕ) (file : List ℕ) (start m m' : Meaning) → 0 < w.size → FlushesOnly m m' → (worked settled : Result (Unit {0}) Stop) → Settles worked m m' settled → HasReason w worked
+    → Works w most file start m worked → Works w most file start m' settled
+works_settled w most file start m m' some p = go
+  where
+    tells_same : m'.tells ≡ m.tells
+    tells_same = ap (λ (x : Meaning). x.tells) p
+
+    left_is : m'.cells.left ≡ m.cells.left
+    left_is = ap (λ (x : Meaning). x.cells.left) p
+
+    go : (worked settled : Result (Unit {0}) Stop) → Settles worked m m' settled → HasReason w worked → Works w most file start m worked → Works w most file start m' settled
+    go (Ok u) settled s reason f = subst (Works w most file start m') (sym s.0) (works_kept w most file start m m' tells_same left_is (flushed_written m m' p) (Ok u) f)
+    go (Err stop) settled (inl same) reason f = subst (Works w most file start m') (sym same.0) (works_kept w most file start m m' tells_same left_is (flushed_written m m' p) (Err stop) f)
+    go (Err stop) settled (inr lost) reason f = subst (Works w most file start m') (sym lost.0) (works_cut w most file start m m' tells_same left_is (flushed_written m m' p) some stop reason f)
+
+-- a reason of the work stays its own
+pub settled_reason : (w : Work) (m m' : Meaning) (worked settled closing : Result (Unit {0}) Stop) → Settles worked m m' settled → HasReason w worked → IsWriting closing → HasReason w (result_and settled closing)
+settled_reason w m m' (Ok u) settled closing s reason kind = subst (λ (r : Result (Unit {0}) Stop). HasReason w (result_and r closing)) (sym s.0) (closed closing kind)
+  where
+    closed : (closing : Result (Unit {0}) Stop) → IsWriting closing → HasReason w closing
+    closed (Ok v) kind = tt
+    closed (Err stop) kind = subst (λ (x : Stop). HasReason {T = Unit {0}} w (Err x)) (sym kind) tt
+settled_reason w m m' (Err stop) settled closing (inl same) reason kind = subst (λ (r : Result (Unit {0}) Stop). HasReason w (result_and r closing)) (sym same.0) reason
+settled_reason w m m' (Err stop) settled closing (inr lost) reason kind = subst (λ (r : Result (Unit {0}) Stop). HasReason w (result_and r closing)) (sym lost.0) tt
+
+-- flushing keeps what the work keeps
+pub keeps_flushed : (m1 m2 m3 : Meaning) → KeepsOthers m1 m2 → FlushesOnly m2 m3 → KeepsOthers m1 m3
+keeps_flushed m1 m2 m3 keeps p = keeps_again m1 m2 m3 keeps (subst (λ (x : Meaning). KeepsOthers m2 x) (sym p) refl)
 
 module _ (names : Names) (old m1 : Meaning) (makes : AreMade names old m1) (begin : CanBegin names old) where
   pub report_same : m1.report ≡ old.report

@@ -41,6 +41,7 @@ keeps_again a b c p q =
       read_faults = c.read_faults;
       write_faults = c.write_faults;
       report_faults = c.report_faults;
+      pending = c.pending;
     }) p
 
 -- writing alone

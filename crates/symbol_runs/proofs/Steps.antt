@@ -76,7 +76,7 @@ module _ (w : Work) (most : ℕ) (file bytes : List ℕ) (given : Written) (stan
   fails ReadFault within takes t = absurd takes
   fails WriteFault within takes t = record {
     given = takes.after;
-    up = record { taken = bytes ++ piece; rest = m''.cells.left; are = are t; within = within; gives = inl takes.is };
+    up = inl (record { taken = bytes ++ piece; rest = m''.cells.left; are = are t; within = within; gives = inl takes.is });
     holds = holds_front start m' m'' given _ (held t) (tells' ∙ before t) takes;
   }
   fails Limit within takes t = absurd takes

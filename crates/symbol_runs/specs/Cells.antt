@@ -9,7 +9,7 @@ use Rattle.symbol_runs.specs.declared.stop.Stop.TheVariants as stops
 use Rattle.symbol_runs.specs.Symbols.{symbols, within_limit}
 use Rattle.symbol_runs.specs.Work.{Work, Written, Holds, HoldsFront}
 
--- only what is left of the cells, what is written and the counts of faults have changed
+-- only what is left of the cells, what is written, whether it waits, and the counts of faults have changed
 abbrev pub KeepsOthers : Meaning → Meaning → Type 0
 KeepsOthers old new = new ≡ record old {
   cells = record old.cells { left = new.cells.left };
@@ -21,6 +21,7 @@ KeepsOthers old new = new ≡ record old {
   read_faults = new.read_faults;
   write_faults = new.write_faults;
   report_faults = new.report_faults;
+  pending = new.pending;
 }
 
 -- at most n bytes were taken of the cells
@@ -42,10 +43,20 @@ pub record GivenUpTo (w : Work) (most : ℕ) (file : List ℕ) (given : Written)
   pub within : symbols w.size taken ≤ most
   pub gives : w.Gives taken given ⊎ ((rest ≡ []) × w.Ends taken given)
 
--- a failed write: fronts of what some first bytes give were written
+-- The work refuses the cells behind some first bytes, and had given this before.
+pub record GivenBefore (w : Work) (most : ℕ) (file : List ℕ) (given : Written) : Type 0 where
+  pub taken : List ℕ
+  pub rest : List ℕ
+  pub refusal : Refusal
+  pub are : file ≡ taken ++ rest
+  pub within : symbols w.size taken ≤ most
+  pub its : w.Reasons refusal
+  pub refuses : w.Refuses taken rest given refusal
+
+-- a failed write: fronts of what some first bytes give were written, or of what was given before the work refuses them
 pub record IsCutShort (w : Work) (most : ℕ) (file : List ℕ) (start m : Meaning) : Type 0 where
   pub given : Written
-  pub up : GivenUpTo w most file given
+  pub up : GivenUpTo w most file given ⊎ GivenBefore w most file given
   pub holds : HoldsFront start m given
 
 -- a failed read: what the bytes taken give was written, and they are no more whole symbols than the limit

@@ -28,7 +28,7 @@ pub record IsReady (names : Names) (m : Meaning) : Type 0 where
   pub cells : IsUnasked m.cells
   pub begin : CanBegin names m
 
--- only Cells, the outputs, what is written to Report and the counts have changed
+-- only Cells, the outputs, whether bytes wait there, what is written to Report and the counts have changed
 abbrev pub PortsOnly : Meaning → Meaning → Type 0
 PortsOnly old new = new ≡ record old {
   cells = new.cells;
@@ -41,6 +41,7 @@ PortsOnly old new = new ≡ record old {
   write_faults = new.write_faults;
   close_faults = new.close_faults;
   report_faults = new.report_faults;
+  pending = new.pending;
 }
 
 -- and only these names were asked for at the outputs

@@ -89,7 +89,7 @@ pub record GoesOn (w : Work) (standing : List ℕ → Written → Type 0) : Type
   pub stands : standing bytes given
   pub few : symbols w.size bytes < 2 ^ 32
 
--- only what is written and the counts of write faults have changed
+-- only what is written, whether it waits, and the counts of write faults have changed
 abbrev pub WritesOnly : Meaning → Meaning → Type 0
 WritesOnly old new = new ≡ record old {
   cells_out = record old.cells_out { written = new.cells_out.written };
@@ -99,6 +99,7 @@ WritesOnly old new = new ≡ record old {
   report = record old.report { written = new.report.written };
   write_faults = new.write_faults;
   report_faults = new.report_faults;
+  pending = new.pending;
 }
 
 -- the outputs of the work, and Report, are made and not closed

@@ -1,7 +1,8 @@
 // A run of a command that reads cells, behind its settings.
 ghost use Rattle.std.specs.Prelude.{◌≡◌, ◌≤◌, ◌<◌, ◌+◌, ◌*◌, true, length, is_some};
 ghost use Rattle.station_core.specs.declared.ports.OutPort.{OutPort};
-ghost use Rattle.symbol_runs.specs.Stops.{HasEndCause};
+ghost use Rattle.run_steps.specs.Causes.{FlushesOnly};
+ghost use Rattle.symbol_runs.specs.Stops.{HasEndCause, Settles};
 ghost use Rattle.symbol_runs.specs.Work.{HasReason};
 ghost use Rattle.symbol_runs.specs.Cells.{EndsWithin, TakesAtMost};
 ghost use Rattle.symbol_runs.specs.Runs.{AsksOutputs, CanBegin, IsReady, PortsOnly, RanBehind, RunsBehind, RunsCells};
@@ -14,7 +15,22 @@ use crate::work::SymbolWork;
 use run_steps::refuse;
 use station_core::Station;
 
+// Flushes the outputs if the work has stopped. If that fails it is a write fault, since that write came first.
+fn settle<'a, S: Station<'a>>(worked: Result<(), Stop>, station: &mut S) -> Result<(), Stop>
+    ensures others { FlushesOnly (S.meaning station.old) (S.meaning station.new) }
+    ensures settles { Settles worked (S.meaning station.old) (S.meaning station.new) result }
+{
+    match worked {
+        Ok(()) => Ok(()),
+        Err(stop) => match station.flush() {
+            Ok(()) => Err(stop),
+            Err(_) => Err(Stop::WriteFault),
+        },
+    }
+}
+
 // Makes the outputs, does the work on what is left of Cells, and closes the outputs, whatever the work came to.
+// Where it has stopped they are flushed before.
 fn run_behind<'a, F: OutputFiles<'a, S>, X: SymbolWork<'a, S>, S: Station<'a>>(
     max_symbols: u32,
     files: &F,
@@ -40,8 +56,9 @@ fn run_behind<'a, F: OutputFiles<'a, S>, X: SymbolWork<'a, S>, S: Station<'a>>(
 {
     files.create(station)?;
     let worked = work_on_cells(max_symbols, work, symbol, station);
+    let settled = settle(worked, station);
     let closed = files.close(station);
-    worked.and(closed)
+    settled.and(closed)
 }
 
 // The run behind the opening of the cells, to its status.

@@ -2,11 +2,11 @@ use Rattle.std.proofs.Common.{◌≡◌, ◌∙◌, ℕ, List, true, refl, ap, s
 use Rattle.station_core.specs.Meaning.{Meaning}
 use Rattle.run_clauses.specs.declared.work.Counts.{Counts}
 use Rattle.run_steps.specs.Causes.{HasEndCause}
-use Rattle.run_steps.proofs.EndCauses.{finished_cause, refused_cause}
+use Rattle.run_steps.proofs.EndCauses.{finished_cause, refused_cause, settled_cause}
 use Rattle.run_steps.proofs.HandedOn.{handed_on}
 use Rattle.run_clauses.specs.Packets.{AcceptsFirst, first_packets, whole_packets}
 use Rattle.packet_runs.proofs.Progress.{ends_first}
-use Rattle.packet_runs.proofs.Endings.{finished, refused_end}
+use Rattle.packet_runs.proofs.Endings.{finished, refused_end, refused_work, unopened_waits}
 use Rattle.packet_runs.proofs.Keeping.{keeps_again, works_closed, works_finished, later_closed, later_finished, asks_worked}
 use Rattle.packet_runs.proofs.packets_command.code_all.Goals as goal
 
@@ -38,7 +38,7 @@ returns-in-Err-write_end-clause-ran g c =
     refused_end (g.C.Coder.coded c.args.coder.now) (g.C.Coder.ended c.args.coder.now) c.args.limits.now.packets c.args.input.now c.args.output.now old mid c.in_ok-open.ensures.opened done counts work.others work.contents
     (g.C.Coder.piece c.write_end.new.coder)
     (λ t. ends_first (g.C.Coder.coded c.args.coder.now) (g.C.Coder.ended c.args.coder.now) _ _ (first_packets counts.packets mid.hp.left) _ work.same work.same_end (end.gives (first_packets counts.packets mid.hp.left) (work.took t)))
-    c.in-Err-write_end.fault fin new end.others end.contents c.close_refused.ensures.closed
+    c.in-Err-write_end.fault c.close_refused.result fin new end.others end.contents c.close_refused.ensures.closed
 
 pub returns-in-Ok-write_end-clause-asks : goal.returns-in-Ok-write_end-clause-asks
 returns-in-Ok-write_end-clause-asks g c =
@@ -60,8 +60,26 @@ returns-in-Err-write_end-clause-asks g c =
     let new : Meaning = g.S.Station.meaning c.close_refused.new.station in
     let keeps = keeps_again mid done fin c.in-Ok.ensures.others c.in-Err-write_end.ensures.others in
     asks_worked c.args.input.now c.args.output.now (g.S.Station.meaning c.args.station.now) mid new c.in_ok-open.ensures.opened
-    (works_closed mid fin new keeps c.close_refused.ensures.closed)
-    (later_closed mid fin new keeps c.close_refused.ensures.closed)
+    (works_closed c.in-Err-write_end.fault c.close_refused.result mid fin new keeps c.close_refused.ensures.closed)
+    (later_closed c.in-Err-write_end.fault c.close_refused.result mid fin new keeps c.close_refused.ensures.closed)
+
+pub returns-in-Err-clause-ran : goal.returns-in-Err-clause-ran
+returns-in-Err-clause-ran g c =
+    let mid : Meaning = g.S.Station.meaning c.open.new.station in
+    let fin : Meaning = g.S.Station.meaning c.code_packets.new.station in
+    let new : Meaning = g.S.Station.meaning c.close_refused-in-Err.new.station in
+    let work = c.in-Err.ensures in
+    refused_work (g.C.Coder.coded c.args.coder.now) (g.C.Coder.ended c.args.coder.now) c.args.limits.now.packets c.args.input.now c.args.output.now (g.S.Station.meaning c.args.station.now) mid c.in_ok-open.ensures.opened
+    c.in-Err.refusal c.close_refused-in-Err.result fin new work.others work.contents c.close_refused-in-Err.ensures.closed
+
+pub returns-in-Err-clause-asks : goal.returns-in-Err-clause-asks
+returns-in-Err-clause-asks g c =
+    let mid : Meaning = g.S.Station.meaning c.open.new.station in
+    let fin : Meaning = g.S.Station.meaning c.code_packets.new.station in
+    let new : Meaning = g.S.Station.meaning c.close_refused-in-Err.new.station in
+    asks_worked c.args.input.now c.args.output.now (g.S.Station.meaning c.args.station.now) mid new c.in_ok-open.ensures.opened
+    (works_closed c.in-Err.refusal c.close_refused-in-Err.result mid fin new c.in-Err.ensures.others c.close_refused-in-Err.ensures.closed)
+    (later_closed c.in-Err.refusal c.close_refused-in-Err.result mid fin new c.in-Err.ensures.others c.close_refused-in-Err.ensures.closed)
 
 pub returns-in_err-open-clause-cause : goal.returns-in_err-open-clause-cause
 returns-in_err-open-clause-cause g c =
@@ -70,7 +88,8 @@ returns-in_err-open-clause-cause g c =
     let file : List ℕ = old.file c.args.input.now in
     let whole : Type 0 = old.tells ≡ true → AcceptsFirst c.args.limits.now.packets file (whole_packets file) in
     handed_on c.from_residual.result c.in_err-open.field-0.0 (HasEndCause whole old mid) c.from_residual.ensures.1
-    (refused_cause (Unit {0}) Counts whole old old mid mid c.in_err-open.field-0.0 (record { reads = refl; writes = refl }) c.in_err-open.ensures.cause refl refl)
+    (refused_cause (Unit {0}) Counts whole old old mid mid c.in_err-open.field-0.0 (record { reads = refl; writes = refl }) c.in_err-open.ensures.cause refl refl
+    (unopened_waits c.args.input.now c.args.output.now old mid c.in_err-open.field-0.0 c.in_err-open.ensures.opened ∙ c.requires.ready.settled))
 
 pub returns-in-Ok-write_end-clause-cause : goal.returns-in-Ok-write_end-clause-cause
 returns-in-Ok-write_end-clause-cause g c =
@@ -99,9 +118,9 @@ returns-in-Err-write_end-clause-cause g c =
     let opened = c.in_ok-open.ensures in
     let work = c.in-Ok.ensures in
     let shut = c.close_refused.ensures.closed in
-    refused_cause (Unit {0}) Counts (old.tells ≡ true → AcceptsFirst c.args.limits.now.packets file (whole_packets file)) old done fin new c.in-Err-write_end.fault
+    settled_cause (Unit {0}) Counts (old.tells ≡ true → AcceptsFirst c.args.limits.now.packets file (whole_packets file)) old done fin shut.flushed new c.in-Err-write_end.fault c.close_refused.result
     (record { reads = work.cause.reads ∙ opened.cause.reads; writes = work.cause.writes ∙ opened.cause.writes })
-    c.in-Err-write_end.ensures.cause (ap (λ (x : Meaning). x.read_faults) shut.closed) (ap (λ (x : Meaning). x.write_faults) shut.closed)
+    c.in-Err-write_end.ensures.cause shut.settles (ap (λ (x : Meaning). x.read_faults) shut.closes.closed) (ap (λ (x : Meaning). x.write_faults) shut.closes.closed) (ap (λ (x : Meaning). x.pending) shut.closes.closed)
 
 pub returns-in-Err-clause-cause : goal.returns-in-Err-clause-cause
 returns-in-Err-clause-cause g c =
@@ -111,5 +130,5 @@ returns-in-Err-clause-cause g c =
     let new : Meaning = g.S.Station.meaning c.close_refused-in-Err.new.station in
     let file : List ℕ = old.file c.args.input.now in
     let shut = c.close_refused-in-Err.ensures.closed in
-    refused_cause Counts Counts (old.tells ≡ true → AcceptsFirst c.args.limits.now.packets file (whole_packets file)) old mid fin new c.in-Err.refusal
-    c.in_ok-open.ensures.cause c.in-Err.ensures.cause (ap (λ (x : Meaning). x.read_faults) shut.closed) (ap (λ (x : Meaning). x.write_faults) shut.closed)
+    settled_cause Counts Counts (old.tells ≡ true → AcceptsFirst c.args.limits.now.packets file (whole_packets file)) old mid fin shut.flushed new c.in-Err.refusal c.close_refused-in-Err.result
+    c.in_ok-open.ensures.cause c.in-Err.ensures.cause shut.settles (ap (λ (x : Meaning). x.read_faults) shut.closes.closed) (ap (λ (x : Meaning). x.write_faults) shut.closes.closed) (ap (λ (x : Meaning). x.pending) shut.closes.closed)

@@ -9,7 +9,7 @@ pub returns-in-Err-close-clause-finished : goal.returns-in-Err-close-clause-fini
 returns-in-Err-close-clause-finished g c =
     let m : Meaning = g.S.Station.meaning c.args.station.now in
     let line : List ℕ = closing_line c.args.counts in
-    let text : c.as_bytes.result.now ≡ line = c.as_bytes.ensures.value ∙ c.as_str.ensures.value ∙ c.closing_line_of-line.ensures in
+    let text : c.as_bytes.result.now ≡ line = c.as_bytes.ensures.value ∙ c.as_str.ensures.value ∙ c.closing_line_of-line.ensures.text in
     let written = c.in-Ok.ensures.ok ∙ ap (λ (l : List ℕ). with_sink Report (written_sink m.tells l m.report) m) text in
     let closed = closes_late line m (g.S.Station.meaning c.write.new.self) (g.S.Station.meaning c.close.new.self) written c.in-Err-close.ensures.err in
     (refl, closed.0, length line, closed.1)

@@ -19,4 +19,5 @@ returns-clause-fresh c = record {
   report = refl;
   report_open = ap (λ (x : Sink). x.closed) c.in_ok-report.ensures.new;
   report_empty = λ _. ap (λ (x : Sink). x.written) c.in_ok-report.ensures.new;
+  settled = refl;
 }

@@ -1,5 +1,5 @@
 -- Where a write fails, a front of the bytes is written: the front that the port's own write has told.
-use Rattle.std.proofs.Common.{ap}
+use Rattle.std.proofs.Common.{ap, true}
 use Rattle.station_core.specs.Memory.{memory_meaning}
 use Rattle.station_core.specs.Meaning.{Sink}
 use Rattle.station_core.proofs.Fronts.{some_front}
@@ -7,19 +7,19 @@ use Rattle.station_core.proofs.memory.MemoryStationStation.write.Goals as goal
 
 pub returns-in-Cells-clause-err : goal.returns-in-Cells-clause-err
 unfolding memory_meaning
-returns-in-Cells-clause-err c = some_front _ (λ n front. rw c.in-Cells.is (ap (λ (x : Sink). record (memory_meaning c.args.self.now) { cells_out = x; write_faults = c.write.new.faults }) front)) c.write.ensures.err
+returns-in-Cells-clause-err c = some_front _ (λ n front. rw c.in-Cells.is (ap (λ (x : Sink). record (memory_meaning c.args.self.now) { cells_out = x; write_faults = c.write.new.faults; pending = true }) front)) c.write.ensures.err
 
 pub returns-in-Hp-clause-err : goal.returns-in-Hp-clause-err
 unfolding memory_meaning
-returns-in-Hp-clause-err c = some_front _ (λ n front. rw c.in-Hp.is (ap (λ (x : Sink). record (memory_meaning c.args.self.now) { hp_out = x; write_faults = c.write-in-Hp.new.faults }) front)) c.write-in-Hp.ensures.err
+returns-in-Hp-clause-err c = some_front _ (λ n front. rw c.in-Hp.is (ap (λ (x : Sink). record (memory_meaning c.args.self.now) { hp_out = x; write_faults = c.write-in-Hp.new.faults; pending = true }) front)) c.write-in-Hp.ensures.err
 
 pub returns-in-Lp-clause-err : goal.returns-in-Lp-clause-err
 unfolding memory_meaning
-returns-in-Lp-clause-err c = some_front _ (λ n front. rw c.in-Lp.is (ap (λ (x : Sink). record (memory_meaning c.args.self.now) { lp_out = x; write_faults = c.write-in-Lp.new.faults }) front)) c.write-in-Lp.ensures.err
+returns-in-Lp-clause-err c = some_front _ (λ n front. rw c.in-Lp.is (ap (λ (x : Sink). record (memory_meaning c.args.self.now) { lp_out = x; write_faults = c.write-in-Lp.new.faults; pending = true }) front)) c.write-in-Lp.ensures.err
 
 pub returns-in-Bytes-clause-err : goal.returns-in-Bytes-clause-err
 unfolding memory_meaning
-returns-in-Bytes-clause-err c = some_front _ (λ n front. rw c.in-Bytes.is (ap (λ (x : Sink). record (memory_meaning c.args.self.now) { bytes_out = x; write_faults = c.write-in-Bytes.new.faults }) front)) c.write-in-Bytes.ensures.err
+returns-in-Bytes-clause-err c = some_front _ (λ n front. rw c.in-Bytes.is (ap (λ (x : Sink). record (memory_meaning c.args.self.now) { bytes_out = x; write_faults = c.write-in-Bytes.new.faults; pending = true }) front)) c.write-in-Bytes.ensures.err
 
 pub returns-in-Report-clause-err : goal.returns-in-Report-clause-err
 unfolding memory_meaning
