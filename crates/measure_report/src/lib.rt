@@ -1,0 +1,8 @@
+//! What a measurement counts in a symbol and in a super-frame, and the lines of its report.
+#![tactic(auto)]
+
+mod sums;
+mod text;
+
+pub use report_line::Line;
+pub use sums::{BitSums, StreamSums, SuperFrame, SymbolSums};

@@ -1,0 +1,29 @@
+// The points of a constellation.
+ghost use Rattle.std.specs.Prelude.{◌≡◌, ◌^◌, ◌≤◌};
+ghost use Rattle.mode_set.specs.StreamTable.{label_bits};
+ghost use Rattle.symbol_sums.specs.Tables.{ArePoints};
+
+use mode_set::{Hierarchy, Shape};
+use qam_map::{Cell, map};
+
+fn label_count(shape: Shape) -> u8
+    ensures count { result ≡ 2 ^ label_bits shape }
+    ensures few { result ≤ 64 }
+{
+    match shape {
+        Shape::Qpsk => 4,
+        Shape::Qam16 => 16,
+        Shape::Qam64 => 64,
+    }
+}
+
+// The cells of all labels of a constellation.
+pub(crate) fn points_of(shape: Shape, hierarchy: Hierarchy) -> [Cell; 64]
+    ensures { ArePoints shape hierarchy (2 ^ label_bits shape) result }
+{
+    let mut points = [Cell { re: 0, im: 0 }; 64];
+    for label in 0..label_count(shape) {
+        points[label as usize] = map(shape, hierarchy, label);
+    }
+    points
+}
