@@ -1,0 +1,9 @@
+pub mod Coefficients
+pub mod Comb
+pub mod BadSymbols
+pub mod Moving
+pub mod InTime
+pub mod InFrequency
+pub mod Correction
+pub mod Tracking
+pub mod Laws

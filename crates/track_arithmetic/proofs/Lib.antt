@@ -1,0 +1,4 @@
+pub mod Products
+pub mod Roots
+pub mod Halves
+pub mod Sorted
