@@ -20,8 +20,8 @@ class Symbols:
         self.carriers = 1704 * blocks + 1
         self.size = WIDTH * self.carriers
         self.tps = tps_carriers(mode)
-        fixed = {k + 1704 * j for j in range(blocks) for k in CONTINUAL} | set(self.tps)
-        self.runs = [self.data_runs(fixed, phase) for phase in range(4)]
+        self.continual = {k + 1704 * j for j in range(blocks) for k in CONTINUAL}
+        self.runs = [self.data_runs(self.continual | set(self.tps), phase) for phase in range(4)]
         register = [1] * 11  # the reference sequence (4.5.2)
         while len(register) < self.carriers:
             register.append(register[-9] ^ register[-11])

@@ -27,6 +27,8 @@ def difference(found, content, expected):
         return "nothing differs from the cells of the program, so those differ from the row as well"
     symbol, carrier = cells[0]
     text = f"{len(cells)} cell{'s' if len(cells) > 1 else ''}, the first in symbol {symbol} at carrier {carrier}, {kind(symbols, symbol, carrier)}"
+    if all(content[at : at + 4] == expected[at : at + 4] for at in places):
+        return f"{text}; only weights differ"
     data = [cell for cell in cells if cell[1] in symbols.data_places(cell[0])]
     return text + (f"; {of_data(found, symbols, data, content, expected)}" if data and len(data) == len(cells) else "")
 
@@ -37,7 +39,7 @@ def kind(symbols, symbol, carrier):
         return f"a TPS carrier (bit {symbol % FRAME} of its frame)"
     if carrier in symbols.data_places(symbol):
         return "a data cell"
-    return "a scattered pilot" if carrier % 12 == 3 * (symbol % 4) else "a continual pilot"
+    return "a continual pilot" if carrier in symbols.continual else "a scattered pilot"
 
 
 def of_data(found, symbols, cells, content, expected):
