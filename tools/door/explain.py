@@ -253,11 +253,7 @@ def of_limit(form, text):
 def of_header(form, text):
     """Cells that do not begin with their header."""
     path = form.of("cells")[0]
-    try:
-        with open(path, "rb") as file:
-            head = file.read(8) if stat.S_ISREG(os.fstat(file.fileno()).st_mode) else None
-    except OSError:
-        head = None
+    head = head_of(path, 8)
     if head is None:
         return [f"{path} does not begin with the header of a cell file of the mode in {form.settings}"]
     if head[:5] == b"DVTC\x02" and head[5:6] in (b"\0", b"\1"):
@@ -395,6 +391,17 @@ def why_not_toml(path):
     return ""
 
 
+def head_of(path, count):
+    """The first bytes of a regular file; None of anything else, which is never opened again: a FIFO would wait for a writer."""
+    try:
+        if not os.path.isfile(path):
+            return None
+        with open(path, "rb") as file:
+            return file.read(count)
+    except OSError:
+        return None
+
+
 def byte_at(path, at):
     try:
         if not os.path.isfile(path):
@@ -408,11 +415,7 @@ def byte_at(path, at):
 
 def spacing_of(path):
     """204 or 192 where the sync byte stands so far apart at the head of the file."""
-    try:
-        with open(path, "rb") as file:
-            head = file.read(6 * 204) if os.path.isfile(path) else b""
-    except OSError:
-        return None
+    head = head_of(path, 6 * 204) or b""
     for spacing, first in ((204, 0), (192, 4)):
         places = range(first, len(head), spacing)
         if len(places) > 4 and all(head[place] == SYNC for place in places):
