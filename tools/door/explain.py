@@ -47,39 +47,6 @@ def spoken(seconds):
     return f"{round(seconds / 60)} minutes" if seconds < 7200 else f"{seconds / 3600:.1f} hours"
 
 
-# One file named twice
-
-
-def named_twice(form):
-    """Why the words may not be run: a file that is written is named twice. None where all is well."""
-    seen = {}
-    for kind, name, path in form.files:
-        is_written = kind.startswith("out")
-        for key in keys_of(path):
-            if key in seen and (is_written or seen[key][1]):
-                return told_twice(seen[key], name, path)
-            seen[key] = name, is_written, path
-    return None
-
-
-def keys_of(path):
-    """What a file is known by: device and inode of a plain file, the place of one that isn't there yet; nothing of a pipe, a
-    terminal or a device, which may be named twice."""
-    try:
-        found = os.stat(path)
-    except OSError:
-        return [os.path.realpath(path)]
-    return [(found.st_dev, found.st_ino)] if stat.S_ISREG(found.st_mode) or stat.S_ISBLK(found.st_mode) else []
-
-
-def told_twice(first, name, path):
-    other, was_written, other_path = first
-    same = path if path == other_path else f"{path}, which is {other_path},"
-    if was_written:
-        return f"refused before it began: {same} would be written as {other} and as {name}; give each its own file"
-    return f"refused before it began: {same} is read as {other} and would be overwritten as {name}; nothing was touched"
-
-
 # Refusals
 
 

@@ -18,7 +18,7 @@ import subprocess
 import threading
 from concurrent.futures import FIRST_COMPLETED, ThreadPoolExecutor, wait
 
-from door import program
+from builder import program
 
 # Of docs/GATE.md: a row of the table, a crate and the seconds of its proof, and an item of the list of small crates below it.
 ROW, ITEM = re.compile(r"\| (\w+) \| (\d+) \|[^|]*\|[^|]*\|$"), re.compile(r"\b(\w+) (\d+)(?=[,.])")

@@ -10,7 +10,7 @@ import shutil
 import sys
 import time
 
-from door import program, proofs
+from builder import program, proofs
 from door.explain import clock, fail, say, spoken
 
 # Seconds that the proof and build of the program took when it was measured, from nothing, by processors.
