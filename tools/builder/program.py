@@ -9,8 +9,9 @@ import os
 import subprocess
 import time
 
-from door import stamp
+from builder import stamp
 from door.explain import say
+from door.main import program_named
 
 # The flags of /proc/cpuinfo that tell x86-64-v3, the instructions of processors since about 2013.
 V3 = {"avx2", "bmi1", "bmi2", "fma", "movbe", "f16c", "abm"}
@@ -159,7 +160,7 @@ def of_dist(top, sums):
 def found(top, known=None):
     """The program to run, or None if it has to be built. `known` has the checksums of the stamp; without it all are made anew, and no
     stamp is written."""
-    named = stamp.named(top)
+    named = program_named(top)
     if named:
         return named
     begun = time.monotonic_ns()
@@ -185,7 +186,7 @@ def described(top):
     sums = sums_of(top)
     whole = hashlib.sha256("".join(f"{value}  {path}\n" for path, value in sums.items()).encode()).hexdigest()
     lines = [f"dvbt, sources {whole[:16]} ({len(sums)} files)"]
-    file = stamp.named(top) or built_here(top, sums) or of_dist(top, sums)
+    file = program_named(top) or built_here(top, sums) or of_dist(top, sums)
     if not file:
         lines.append("program: none of these sources is built yet; the first command builds it")
         return [*lines, f"toolchain: {toolchain_of() or 'rt is not on the PATH'}"]

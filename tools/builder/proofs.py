@@ -5,50 +5,27 @@ cite of them, and not their proofs. `rt lib` keeps the proofs as well, which the
 rt itself keeps of its crate, with the sum of all that it was made from: its sources, the toolchain, and the libraries below as they
 were built.
 
-First come the crates with the longest chain of others above them. A crate has two processors where its chain would last longer than
-all that is left to do, or nothing else is left.
+First come the crates with the longest chain of others above them, by crates.txt. A crate has two processors if one would be idle.
 """
 import functools
 import hashlib
 import os
-import re
 import shutil
 import signal
 import subprocess
-import threading
-from concurrent.futures import FIRST_COMPLETED, ThreadPoolExecutor, wait
+import tempfile
+import time
 
 from builder import program
 
-# Of docs/GATE.md: a row of the table, a crate and the seconds of its proof, and an item of the list of small crates below it.
-ROW, ITEM = re.compile(r"\| (\w+) \| (\d+) \|[^|]*\|[^|]*\|$"), re.compile(r"\b(\w+) (\d+)(?=[,.])")
-# Seconds of a crate that docs/GATE.md does not have.
-UNKNOWN = 20
-# A crate of fewer seconds wins too little by a second processor, where another one could use it: it mostly reads what lies below, which
-# each of the two does.
-WORTH_TWO = 60
+LOOK = 0.05  # seconds between two looks at the provers
 
 
-def seconds_of(top, uses):
-    """The seconds of each crate's proof, as docs/GATE.md has them."""
-    measured = {}
-    try:
-        with open(f"{top}/docs/GATE.md", encoding="utf-8") as file:
-            for line in map(str.rstrip, file):
-                found = [ROW.match(line)] if line.startswith("| ") else ITEM.finditer(line) if line.startswith("Below ") else []
-                for it in filter(None, found):
-                    # (rows of a later table tell of tests)
-                    measured.setdefault(it[1], int(it[2]))
-    except OSError:
-        pass
-    return {it: measured.get(it, UNKNOWN) for it in uses}
-
-
-def chains(seconds, uses):
-    """Of each crate: the seconds of the longest chain that begins with it and goes on with crates above. `uses` has lower crates first."""
+def chains(uses):
+    """Of each crate: how many crates the longest chain has that begins with it and goes on with crates above. `uses` has lower crates first."""
     longest = {}
     for crate in reversed(uses):
-        longest[crate] = seconds[crate] + max((longest[it] for it in uses if crate in uses[it]), default=0)
+        longest[crate] = 1 + max((longest[it] for it in uses if crate in uses[it]), default=0)
     return longest
 
 
@@ -59,21 +36,38 @@ def kit():
     return os.path.dirname(told.stdout.strip())
 
 
+def group():
+    """A group of processes for the provers, with all that they start. It is killed once we end, whatever ends us."""
+    read, write = os.pipe()
+    leader = os.fork()
+    if leader == 0:
+        os.setpgid(0, 0)
+        os.close(write)
+        try:
+            os.read(read, 1)
+        finally:
+            os.killpg(0, signal.SIGKILL)
+    os.close(read)
+    try:
+        os.setpgid(leader, leader)
+    except OSError:
+        pass  # it has done so itself
+    return leader, write
+
+
 class Proofs:
-    """The proofs of the libraries that `dvbt` stands on. `tell` is called behind each, with its name, what was printed, and how many are done."""
+    """The proofs of the libraries that `dvbt` stands on. `tell` is called after each, with its name, what was printed, and how many are done."""
 
     def __init__(self, top, processors, places, tell):
         self.top, self.processors, self.places, self.tell = top, processors, places, tell
         self.uses, self.named = program.uses_of(top), program.named_of(top)
-        self.seconds = seconds_of(top, self.uses)
-        self.longest = chains(self.seconds, self.uses)
+        longest = chains(self.uses)
         self.toolchain = program.toolchain_of()
-        self.waiting = sorted(it for it in self.uses if it != "dvbt")
-        self.waiting.sort(key=lambda it: -self.longest[it])
-        self.done, self.alive, self.lock = set(), set(), threading.Lock()
+        self.waiting = sorted((it for it in self.uses if it != "dvbt"), key=lambda it: (-longest[it], it))
+        self.done, self.group = set(), group()
 
     def below(self, crate):
-        """The crates below, each behind those that it stands on."""
+        """The crates below, each after those that it stands on."""
         found = {}
         for used in self.uses[crate]:
             found.update({**self.below(used), used: None})
@@ -92,7 +86,7 @@ class Proofs:
         return hashlib.sha256(repr(made_from).encode()).hexdigest()
 
     def words(self, crate, *more):
-        """The words that call the prover for a crate."""
+        """The arguments that call the prover for a crate."""
         words = [f"{kit()}/bin/rattle", "build", "--crate-name", crate, "src/main.rt" if crate == "dvbt" else "src/lib.rt"]
         of_kit = ["std", *[it for it in self.named[crate] if it not in self.uses]]
         libraries = {**{it: f"{kit()}/rlibs/{it}.rlib" for it in of_kit}, **{it: self.library(it) for it in self.uses[crate]}}
@@ -103,82 +97,86 @@ class Proofs:
         words += ["--antt-project", f"{kit()}/rattle/logic/antt-project.json", "--logic-built", f"{kit()}/logic_built", "--links", f"{crate}="]
         return [*words, *more]
 
-    def call(self, crate, words):
-        """Runs a command in a crate's folder; answers its status and what it printed."""
-        how = {"cwd": f"{self.top}/crates/{crate}", "stdin": subprocess.DEVNULL, "stdout": subprocess.PIPE, "stderr": subprocess.STDOUT}
-        with subprocess.Popen(words, text=True, errors="replace", start_new_session=True, **how) as ran:
-            with self.lock:
-                self.alive.add(ran)
-            said = ran.communicate()[0]
-            with self.lock:
-                self.alive.discard(ran)
-        return ran.returncode, said
+    def start(self, crate, words):
+        """Starts a command in a crate's folder: the process, and the file that takes what it prints."""
+        said = tempfile.TemporaryFile("w+", errors="replace")
+        how = {"cwd": f"{self.top}/crates/{crate}", "stdin": subprocess.DEVNULL, "stdout": said, "stderr": subprocess.STDOUT}
+        return subprocess.Popen(words, preexec_fn=lambda: os.setpgid(0, self.group[0]), **how), said
 
-    def prove(self, crate, jobs):
-        """Proves a crate and makes its library, unless it is there; answers the status and what was printed."""
+    def begin(self, crate, jobs):
+        """Begins to prove a crate and to make its library: process, output and sum; or None if it is of these sources already."""
         place, wanted = self.place(crate), self.sum_of(crate)
         if text_of(f"{place}/sum") == wanted and os.path.isdir(self.library(crate)):
-            return 0, "of these sources already\n"
+            return None
         shutil.rmtree(place, ignore_errors=True)
         os.makedirs(place)
-        status, said = self.call(crate, self.words(crate, "--jobs", str(jobs), "--statements", "-o", self.library(crate)))
-        if not status and self.sum_of(crate) == wanted:
-            with open(f"{place}/sum", "w", encoding="ascii") as file:
+        return *self.start(crate, self.words(crate, "--jobs", str(jobs), "--statements", "-o", self.library(crate))), wanted, jobs
+
+    def end(self, crate, said, wanted=None):
+        """Notes that a crate is proved."""
+        if wanted and self.sum_of(crate) == wanted:
+            with open(f"{self.place(crate)}/sum", "w", encoding="ascii") as file:
                 file.write(wanted)
-        return status, said
+        self.done.add(crate)
+        self.tell(crate, said, len(self.done))
+
+    def fill(self, running):
+        """Begins what can be: the ready crates in order, while a processor is free."""
+        ready = [it for it in self.waiting if self.done.issuperset(self.uses[it])]
+        while ready and len(running) < self.places:
+            free = self.processors - sum(jobs for *_, jobs in running.values())
+            if free < 1:
+                return
+            crate, jobs = ready[0], 2 if len(ready) < free else 1
+            self.waiting.remove(crate)
+            begun = self.begin(crate, jobs)
+            if begun:
+                running[crate] = begun
+            else:
+                self.end(crate, "of these sources already\n")
+            ready = [it for it in self.waiting if self.done.issuperset(self.uses[it])]
+
+    def run(self):
+        """Proves all; answers the name of the first crate whose proof failed and what was printed of it, or None."""
+        running = {}
+        while True:
+            self.fill(running)
+            if not running:
+                return None
+            for crate in [it for it in running if running[it][0].poll() is not None]:
+                process, said, wanted, _ = running.pop(crate)
+                if process.returncode:
+                    self.stop()
+                    return crate, text_in(said)
+                self.end(crate, text_in(said), wanted)
+            time.sleep(LOOK)
+
+    def stop(self):
+        """Ends what still runs."""
+        os.close(self.group[1])
+        os.waitpid(self.group[0], 0)
 
     def link(self, level, to):
         """Proves, compiles and links the program, for processors of this level; answers the status and what was printed."""
         toolchain = ["--toolchain", f"{kit()}/toolchain"]
         cpu = [f"--cpu={level}"] if level == "x86-64-v3" else []
-        status, said = self.call("dvbt", self.words("dvbt", "--jobs", str(min(2, self.processors)), "--backend", "llvm", *toolchain, *cpu, "-o", f"{to}.o"))
-        if status:
-            return status, said
+        build = self.words("dvbt", "--jobs", str(min(2, self.processors)), "--backend", "llvm", *toolchain, *cpu, "-o", f"{to}.o")
         foreign = [f"{kit()}/c/libos_c.a", f"{kit()}/c/liblibc_c.a"]
-        words = [f"{kit()}/bin/rattle-link", "--target", "x86_64-unknown-linux-gnu", *toolchain, "-o", to, f"{to}.o", *foreign]
-        status, more = self.call("dvbt", words)
-        return status, said + more
+        link = [f"{kit()}/bin/rattle-link", "--target", "x86_64-unknown-linux-gnu", *toolchain, "-o", to, f"{to}.o", *foreign]
+        printed = ""
+        for words in (build, link):
+            process, said = self.start("dvbt", words)
+            status = process.wait()
+            printed += text_in(said)
+            if status:
+                break
+        return status, printed
 
-    def begin(self, pool, running):
-        """Begins what can be: the ready crates in order, while a processor is free."""
-        for crate in [it for it in self.waiting if self.done.issuperset(self.uses[it])]:
-            free = self.processors - sum(jobs for _, jobs in running.values())
-            if free < 1 or len(running) == self.places:
-                return
-            left = sum(self.seconds[it] for it in self.uses if it not in self.done)
-            is_last = self.longest[crate] * self.processors > left
-            is_alone = not running and self.waiting == [crate]
-            jobs = min(2, free) if is_last and (is_alone or self.seconds[crate] >= WORTH_TWO) else 1
-            self.waiting.remove(crate)
-            running[pool.submit(self.prove, crate, jobs)] = crate, jobs
 
-    def run(self):
-        """Proves all; answers the name of the first crate whose proof failed and what was printed of it, or None."""
-        running = {}
-        with ThreadPoolExecutor(self.places) as pool:
-            try:
-                while True:
-                    self.begin(pool, running)
-                    if not running:
-                        return None
-                    for ended in wait(running, return_when=FIRST_COMPLETED).done:
-                        crate, _ = running.pop(ended)
-                        status, said = ended.result()
-                        if status:
-                            return crate, said
-                        self.done.add(crate)
-                        self.tell(crate, said, len(self.done))
-            finally:
-                self.stop()
-
-    def stop(self):
-        """Ends what still runs."""
-        with self.lock:
-            for ran in self.alive:
-                try:
-                    os.killpg(ran.pid, signal.SIGTERM)
-                except ProcessLookupError:
-                    pass
+def text_in(said):
+    """What a command printed."""
+    said.seek(0)
+    return said.read()
 
 
 def text_of(path):

@@ -54,15 +54,34 @@ def told(top, words, options):
 
 
 def program_of(top, form, options):
-    """The program of the sources as they stand. If it is not built, it is built if `form` says that it is needed, else None."""
-    from door import stamp
+    """The program to run. If it is not built, it is built if `form` says that it is needed, else None."""
+    file = program_named(top)
+    if file:
+        return file
+    from builder import stamp
 
-    file = stamp.program(top)
+    file = stamp.program_of(top)
     if file is None and form:
         from builder import build
 
         file = build.build(top, "quiet" in options)
     return file
+
+
+def program_named(top):
+    """The program that $DVBT_PROGRAM names, which is run as it is, or None."""
+    file, why = os.environ.get("DVBT_PROGRAM"), None
+    if not file:
+        return None
+    if not (os.path.isfile(file) and os.access(file, os.X_OK)):
+        why = "not a program that can be run"
+    elif os.path.samefile(file, f"{top}/bin/dvbt"):
+        why = "bin/dvbt itself"
+    if why:
+        from door import explain
+
+        explain.fail(126, f"$DVBT_PROGRAM is {file}, which is {why}")
+    return os.path.abspath(file)
 
 
 def printed(text, status=0):

@@ -1,5 +1,5 @@
 """Which program to run, for a few milliseconds. A stamp, out/stamp, tells that all files that the program was found by are as
-they were: size, times and inode of each, and of each folder. Else `builder` compares checksums and writes the stamp anew.
+they were: size, times and inode of each, and of each folder. Else `program` compares checksums and writes the stamp anew.
 
 As git does, the stamp has no state of a file that may have changed in the same tick of the clock as the stamp was made."""
 import operator
@@ -11,32 +11,16 @@ YOUNG = 2_000_000_000  # nanoseconds: the coarsest tick of a file system
 STATE = operator.attrgetter("st_size", "st_mtime_ns", "st_ctime_ns", "st_ino")
 
 
-def program(top):
-    """The program that $DVBT_PROGRAM names, or that of the sources as they stand; None if it has to be built."""
-    return named(top) or stamped(top) or searched(top)
-
-
-def named(top):
-    """The program that $DVBT_PROGRAM names, which is run as it is, or None."""
-    file, why = os.environ.get("DVBT_PROGRAM"), None
-    if not file:
-        return None
-    if not (os.path.isfile(file) and os.access(file, os.X_OK)):
-        why = "not a program that can be run"
-    elif os.path.samefile(file, f"{top}/bin/dvbt"):
-        why = "bin/dvbt itself"
-    if why:
-        from door import explain
-
-        explain.fail(126, f"$DVBT_PROGRAM is {file}, which is {why}")
-    return os.path.abspath(file)
+def program_of(top):
+    """The program of the sources as they stand; None if it has to be built."""
+    return stamped(top) or searched(top)
 
 
 def searched(top):
     """The program by checksums, of what changed since the stamp."""
-    from builder import program as of_sources
+    from builder import program
 
-    return of_sources.found(top, known(top))
+    return program.found(top, known(top))
 
 
 def read(top):
