@@ -144,7 +144,8 @@ def object_of(words, status, text, path=None):
     """Prints the object of a call that is not run; answers the status."""
     from door import report, watch
 
-    of_call = report.Report(forms.form_of(words), 1)
+    form = forms.form_of(words)
+    of_call = report.Report(form, 2 if form and "/dev/stdout" in form.outputs else 1)
     of_call.refusal = {"text": text, **({"file": path} if path else {})}
     return watch.closed_with(of_call, status)
 
@@ -165,4 +166,4 @@ def start(top, words):
         print(f"dvbt: {path or 'bin/dvbt'}: {error.strerror}", file=sys.stderr, flush=True)
     except SystemExit as end:
         status, path = end.code, None
-    return object_of(words, status, sys.stderr.last, path) if "json" in options else status
+    return object_of(words, status, sys.stderr.last.replace("dvbt: ", "", 1), path) if "json" in options else status

@@ -4,19 +4,26 @@ import os
 
 from door.watch import put
 
+COUNTS = "clean {clean} corrected {corrected} bad {bad} unphased {unphased} unmerged {unmerged}"
+TPS = "tps read {tps_read} bad {tps_bad}"
 # Each line of a report, and the object that takes its values. `S` is hp or lp. Several lines `S+` make a list of each value.
-# A line `live` is an object of its own, printed at once. Numbers are numbers, other values are texts.
+# A line `live` is an object of its own, printed at once. Values are numbers but for TEXTS.
+TEXTS = {"key", "constellation", "hierarchy", "rate_hp", "rate_lp", "guard"}
 ROWS = (
     ("symbols {symbols} tail {tail}", ""),
     ("superframes {superframes}", ""),
     ("cells {cells}", ""),
     ("tps read {read} bad {bad}", "tps"),
     ("tune at {at} frame {frame}", "tune"),
+    ("announced constellation {constellation} hierarchy {hierarchy} rate_hp {rate_hp} guard {guard}", "announced"),
+    ("announced constellation {constellation} hierarchy {hierarchy} rate_hp {rate_hp} rate_lp {rate_lp} guard {guard}", "announced"),
     ("S packets {packets} tail {tail}", "S"),
     ("S packets {packets} back {back} sum {sum}", "S"),
-    ("S words {words} clean {clean} corrected {corrected} bad {bad} unphased {unphased} unmerged {unmerged}", "S"),
+    (f"S words {{words}} {COUNTS}", "S"),
     ("S words {words} clean {clean} corrected {corrected} rescued {rescued} bad {bad} unphased {unphased} unmerged {unmerged}", "S"),
     ("S unmerged at {unmerged_at}", "S+"),
+    (f"superframe {{superframe}} symbols {{symbols}} cells {{cells}} muted {{muted}} power {{power}} error {{error}} {TPS}", "live"),
+    (f"S bits {{bits}} wrong {{wrong}} words {{words}} {COUNTS} repaired {{repaired}}", "live"),
     ("usage", "refusal"),
     ("settings too long", "refusal"),
     ("settings not toml", "refusal"),
@@ -40,8 +47,11 @@ def values_of(row, line):
     """The values of a line by name if it has the form of the row, else None."""
     names, words, found = row.split(), line.split(), {}
     for name, word in zip(names, words):
-        if name[0] == "{" or name == "S" and word in ("hp", "lp"):
-            found[name.strip("{}").replace("S", "stream")] = int(word) if word.isdecimal() else word
+        value = name.strip("{}")
+        if name == "S" and word in ("hp", "lp"):
+            found["stream"] = word
+        elif name != value and (value in TEXTS or word.isdecimal()):
+            found[value] = word if value in TEXTS else int(word)
         elif name != word:
             return None
     return found if len(names) == len(words) else None
@@ -51,7 +61,7 @@ class Report:
     """The report of a run of `form` so far. What is printed goes to the descriptor `to`."""
 
     def __init__(self, form, to):
-        self.form, self.to, self.rest, self.found, self.refusal = form, to, "", {}, None
+        self.form, self.to, self.rest, self.at, self.found, self.refusal = form, to, "", None, {}, None
 
     def take(self, piece):
         """Takes what the program prints."""
@@ -62,7 +72,8 @@ class Report:
     def line(self, line):
         row, place, values = next(((*row, it) for row in ROWS if (it := values_of(row[0], line)) is not None), (None, "lines+", {"lines": line}))
         if place == "live":
-            self.write(values)
+            self.at = values.get("superframe", self.at)
+            self.write({"superframe": self.at, **values})
         elif place == "refusal":
             self.refusal = {"text": line, **values}
         else:

@@ -140,7 +140,7 @@ def seen(path):
 
 def handed_on(child, progress, take, to):
     """Hands the program's report on; answers its last lines, and whether standard output did not take all of it."""
-    text, is_lost = b"", False
+    text, rest, is_lost = b"", b"", False
     while True:
         if not select.select([child.report], [], [], EACH if progress.is_shown else None)[0]:
             progress.show()
@@ -149,6 +149,8 @@ def handed_on(child, progress, take, to):
         if not piece:
             break
         text = (text + piece)[-65536:]
+        *lines, rest = (rest + piece).split(b"\n")
+        progress.note(lines)
         progress.clear()
         try:
             take(piece)
