@@ -47,39 +47,6 @@ def spoken(seconds):
     return f"{round(seconds / 60)} minutes" if seconds < 7200 else f"{seconds / 3600:.1f} hours"
 
 
-# One file named twice
-
-
-def named_twice(form):
-    """Why the words may not be run: a file that is written is named twice. None where all is well."""
-    seen = {}
-    for kind, name, path in form.files:
-        is_written = kind.startswith("out")
-        for key in keys_of(path):
-            if key in seen and (is_written or seen[key][1]):
-                return told_twice(seen[key], name, path)
-            seen[key] = name, is_written, path
-    return None
-
-
-def keys_of(path):
-    """What a file is known by: device and inode of a plain file, the place of one that isn't there yet; nothing of a pipe, a
-    terminal or a device, which may be named twice."""
-    try:
-        found = os.stat(path)
-    except OSError:
-        return [os.path.realpath(path)]
-    return [(found.st_dev, found.st_ino)] if stat.S_ISREG(found.st_mode) or stat.S_ISBLK(found.st_mode) else []
-
-
-def told_twice(first, name, path):
-    other, was_written, other_path = first
-    same = path if path == other_path else f"{path}, which is {other_path},"
-    if was_written:
-        return f"refused before it began: {same} would be written as {other} and as {name}; give each its own file"
-    return f"refused before it began: {same} is read as {other} and would be overwritten as {name}; nothing was touched"
-
-
 # Refusals
 
 
@@ -253,11 +220,7 @@ def of_limit(form, text):
 def of_header(form, text):
     """Cells that do not begin with their header."""
     path = form.of("cells")[0]
-    try:
-        with open(path, "rb") as file:
-            head = file.read(8) if stat.S_ISREG(os.fstat(file.fileno()).st_mode) else None
-    except OSError:
-        head = None
+    head = head_of(path, 8)
     if head is None:
         return [f"{path} does not begin with the header of a cell file of the mode in {form.settings}"]
     if head[:5] == b"DVTC\x02" and head[5:6] in (b"\0", b"\1"):
@@ -395,6 +358,17 @@ def why_not_toml(path):
     return ""
 
 
+def head_of(path, count):
+    """The first bytes of a regular file; None of anything else, which is never opened again: a FIFO would wait for a writer."""
+    try:
+        if not os.path.isfile(path):
+            return None
+        with open(path, "rb") as file:
+            return file.read(count)
+    except OSError:
+        return None
+
+
 def byte_at(path, at):
     try:
         if not os.path.isfile(path):
@@ -408,11 +382,7 @@ def byte_at(path, at):
 
 def spacing_of(path):
     """204 or 192 where the sync byte stands so far apart at the head of the file."""
-    try:
-        with open(path, "rb") as file:
-            head = file.read(6 * 204) if os.path.isfile(path) else b""
-    except OSError:
-        return None
+    head = head_of(path, 6 * 204) or b""
     for spacing, first in ((204, 0), (192, 4)):
         places = range(first, len(head), spacing)
         if len(places) > 4 and all(head[place] == SYNC for place in places):
