@@ -28,11 +28,13 @@ try:
 except ImportError as error:
     if __name__ == "__main__" and os.path.exists("/usr/bin/python3") and os.path.realpath(sys.executable) != os.path.realpath("/usr/bin/python3"):
         os.execv("/usr/bin/python3", ["/usr/bin/python3", *sys.argv])
-    sys.exit(f"cells.py: {error}; it needs numpy (Debian: python3-numpy)")
+    sys.exit(f"{os.path.basename(sys.argv[0])}: {error}; it needs numpy (Debian: python3-numpy)")
 
 from cell_tools.files import CellFile, check  # noqa: E402
 from cell_tools.settings import Unfit, read_settings  # noqa: E402
 from cell_tools.standard import KINDS, Carriers  # noqa: E402, F401
+
+NAME = os.path.basename(sys.argv[0])  # cells.py, or dvbt-cells if it is installed
 
 
 def span(text):
@@ -61,14 +63,15 @@ def arguments(words):
     """The command line."""
     verb = words.pop(0) if words[:1] and words[0] in ("look", "compare", "measure", "disturb") else "look"
     about = {
-        "look": "Looks into a cell file: symbols, TPS, mean powers, and a picture of the constellation. Three more: cells.py compare --help, measure --help, disturb --help.",
+        "look": "Looks into a cell file: symbols, TPS, mean powers, and a picture of the constellation. "
+        f"Three more: {NAME} compare --help, measure --help, disturb --help.",
         "compare": "Compares the cell file A with B: the first difference with symbol, carrier, kind, label bit and clause of EN 300 744, counts, "
         "and the likeliest cause.",
         "measure": "Measures a cell file: MER over the data cells, pilots, TPS words, whether the theorem on noise applies, and if not, what to "
         "expect of receive. Ends with 1 if a part of the theorem's premise fails or a TPS word can't be read.",
         "disturb": "Writes the cells with noise. The same seed gives the same noise everywhere.",
     }[verb]
-    parser = argparse.ArgumentParser(prog=f"cells.py {verb}" if verb != "look" else "cells.py", description=about)
+    parser = argparse.ArgumentParser(prog=f"{NAME} {verb}" if verb != "look" else NAME, description=about)
     add = parser.add_argument
     add("settings", metavar="SETTINGS", help="the settings of the transmission (docs/SETTINGS.md)")
     if verb == "compare":
@@ -132,6 +135,6 @@ if __name__ == "__main__":
     try:
         sys.exit(0 if main(sys.argv[1:]) else 1)
     except Unfit as error:
-        sys.exit(f"cells.py: {error}")
+        sys.exit(f"{NAME}: {error}")
     except BrokenPipeError:
         sys.exit(1)

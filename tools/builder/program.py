@@ -10,12 +10,10 @@ import subprocess
 import time
 
 from builder import stamp
+from builder.level import LEVELS, level_of_processor
 from door.explain import say
 from door.main import program_named
 
-# The flags of /proc/cpuinfo that tell x86-64-v3, the instructions of processors since about 2013.
-V3 = {"avx2", "bmi1", "bmi2", "fma", "movbe", "f16c", "abm"}
-LEVELS = ("x86-64-v3", "x86-64-v2")
 PARTS = ("src", "specs", "proofs")  # the folders of a crate that the program is built from
 
 
@@ -109,18 +107,6 @@ def stat_of_rt():
     return f"{rt} {os.stat(rt).st_mtime_ns} {os.stat(rt).st_size}" if rt else None
 
 
-def level_of_processor():
-    """x86-64-v3 where this processor has its instructions, else x86-64-v2, or None for another processor."""
-    if os.uname().machine != "x86_64":
-        return None
-    try:
-        with open("/proc/cpuinfo", encoding="utf-8", errors="replace") as file:
-            flags = next((line for line in file if line.startswith("flags")), "")
-    except OSError:
-        flags = ""
-    return LEVELS[0] if V3 <= set(flags.split()) else LEVELS[1]
-
-
 def built_here(top, sums):
     """out/dvbt, where it was built from these sources by the toolchain on the PATH (or where none is there)."""
     kept = read_sums(f"{top}/out/dvbt.sources")
@@ -181,11 +167,24 @@ def others_of(top):
     return folders + [f"out/dvbt{it}" for it in ("", ".sources", ".by")] + [f"dist/{it}" for it in names]
 
 
+def sum_of_all(sums):
+    """One checksum of all sources."""
+    return hashlib.sha256("".join(f"{value}  {path}\n" for path, value in sums.items()).encode()).hexdigest()
+
+
+def version(top):
+    """What VERSION says."""
+    try:
+        with open(f"{top}/VERSION", encoding="ascii") as file:
+            return file.read().strip()
+    except OSError:
+        return "of no version"
+
+
 def described(top):
     """The lines of --version."""
     sums = sums_of(top)
-    whole = hashlib.sha256("".join(f"{value}  {path}\n" for path, value in sums.items()).encode()).hexdigest()
-    lines = [f"dvbt, sources {whole[:16]} ({len(sums)} files)"]
+    lines = [f"dvbt {version(top)}, sources {sum_of_all(sums)[:16]} ({len(sums)} files)"]
     file = program_named(top) or built_here(top, sums) or of_dist(top, sums)
     if not file:
         lines.append("program: none of these sources is built yet; the first command builds it")

@@ -7,11 +7,11 @@ BIAS = 0.1  # dB: from here on an MER against the nearest points counts as too h
 # The lowest MER in Gaussian noise at which at most one outer word in a hundred is bad, in steps of 0.1 dB, by constellation,
 # hierarchy, stream and rate. Measured by bench/edges in the 8K mode.
 EDGES = {
-    ("qpsk", "none", "hp", "1/2"): 2.0,
+    ("qpsk", "none", "hp", "1/2"): 1.9,
     ("qpsk", "none", "hp", "2/3"): 3.8,
     ("qpsk", "none", "hp", "3/4"): 4.7,
     ("qpsk", "none", "hp", "5/6"): 5.8,
-    ("qpsk", "none", "hp", "7/8"): 6.5,
+    ("qpsk", "none", "hp", "7/8"): 6.4,
     ("16qam", "none", "hp", "1/2"): 7.3,
     ("16qam", "none", "hp", "2/3"): 9.7,
     ("16qam", "none", "hp", "3/4"): 10.8,
@@ -83,7 +83,7 @@ EDGES = {
     ("64qam", "4", "hp", "7/8"): 8.9,
     ("64qam", "4", "lp", "7/8"): 23.2,
 }
-SAFE, LOST = 0.5, -0.7  # dB over the edge: at more no packet is lost, at less most are
+SAFE, LOST = 0.8, -1.2  # dB over the edge: at more no packet is lost, at less most are
 
 
 def normal(x):

@@ -280,4 +280,4 @@ def check(file):
 
 def warn(text):
     """A line on standard error."""
-    print(f"cells.py: {text}", file=sys.stderr)
+    print(f"{os.path.basename(sys.argv[0])}: {text}", file=sys.stderr)
