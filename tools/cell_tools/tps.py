@@ -1,4 +1,4 @@
-"""The TPS words of a transmission (EN 300 744, 4.6), by the standard library alone: bin/dvbt reads them without numpy."""
+"""The TPS words of a transmission (EN 300 744, 4.6), by the standard library alone."""
 
 # Carriers of the 2K mode; the 8K mode has them four times, 1704 apart (4.6).
 TPS = [34, 50, 209, 346, 413, 569, 595, 688, 790, 901, 1073, 1219, 1262, 1286, 1469, 1594, 1687]
@@ -25,24 +25,6 @@ PLACES = {  # the first and the last bit of each field
 def tps_carriers(mode):
     """The TPS carriers of a mode, rising."""
     return [k + 1704 * j for j in range(1 if mode == "2k" else 4) for k in TPS]
-
-
-def votes_in(content, mode, header=8, width=5):
-    """The bit of each whole symbol in these bytes of a cell file, by the TPS carriers of it and the symbol before (4.6.1).
-    The first symbol has none before it and counts as 0."""
-    size, before, votes = width * (1704 * (1 if mode == "2k" else 4) + 1), None, ""
-    places = [width * k for k in tps_carriers(mode)]
-    for start in range(header, len(content) - size + 1, size):
-        ends = [(start + place, start + place + 2) for place in places]
-        cells = [(number(content[at:it]), number(content[it : it + 2])) for at, it in ends]
-        votes += "01"[before is not None and sum(a * c + b * d for (a, b), (c, d) in zip(cells, before)) < 0]
-        before = cells
-    return votes
-
-
-def number(two):
-    """Two bytes as a signed number."""
-    return int.from_bytes(two, "big", signed=True)
 
 
 def first_frame(votes):
@@ -75,6 +57,20 @@ def fields_of(bits):
         value, values = field(bits, first, last), VALUES[key]
         found[key] = values[value] if value < len(values) else f"?{value}"
     return found
+
+
+def differences(bits, found, settings):
+    """The keys of the settings that the fields contradict."""
+    told = dict(settings)
+    if settings["hierarchy"] == "none":
+        told["rate_lp"] = "1/2"  # sent as 000
+    wrong = [key for key in PLACES if found[key] != told[key]]
+    cell = settings.get("cell_id")
+    length = 23 if cell is None else 31
+    byte = 0 if cell is None else cell >> 8 if field(bits, 23, 24) % 2 == 0 else cell & 255
+    if field(bits, 17, 22) != length or field(bits, 40, 47) != byte:
+        wrong.append("cell_id")
+    return wrong
 
 
 # What is left of a word in which one bit or two are wrong: which bits these are.

@@ -8,8 +8,9 @@ from door import words as forms
 
 def main(top, words, closed=()):
     """Runs the words; answers the exit status. `closed` are the descriptors that the program is to find closed."""
-    is_quiet = words[:1] == ["-q"]
-    words = words[1:] if is_quiet else words
+    number = next((it for it, word in enumerate(words) if word not in forms.OPTIONS), len(words))
+    options, words = words[:number], words[number:]
+    is_quiet, is_strict = "-q" in options or "--quiet" in options, "--strict" in options
     if words in (["--help"], ["-h"]):
         print(forms.help_of_all())
         return 0
@@ -30,7 +31,7 @@ def main(top, words, closed=()):
     if form:
         from door import explain
 
-        why = explain.named_twice(form)
+        why = explain.named_twice(form) or explain.not_to_run(form, words)
         if why:
             explain.say(why)
             return 64
@@ -47,14 +48,14 @@ def main(top, words, closed=()):
         from door import build
 
         file = build.build(top, is_quiet)
-    if is_quiet or closed:
+    if is_quiet and not is_strict or closed:
         signal.signal(signal.SIGPIPE, signal.SIG_DFL)
         for number in closed:
             os.close(number)
         os.execv(file, ["dvbt", *words])
     from door import watch
 
-    return watch.run(file, words, form)
+    return watch.run(file, words, form, is_quiet, is_strict)
 
 
 def closed_descriptors():

@@ -6,13 +6,13 @@ import subprocess
 import sys
 import time
 
-from door import explain
+from door import explain, verdict
 
 FIRST, EACH = 1.0, 0.5  # seconds until progress is shown, and between two times
 
 
-def run(program, words, form):
-    """Runs the program with these words; answers its status."""
+def run(program, words, form, is_quiet=False, is_strict=False):
+    """Runs the program with these words; answers its status, or 1 for 0 with a verdict if `is_strict`."""
     before = {path: explain.seen(path) for path in form.outputs} if form else {}
     is_seen = not (form and any(is_standard_output(path) for path in form.outputs))
     how = {"executable": program, "stdout": subprocess.PIPE if is_seen else None}
@@ -21,8 +21,8 @@ def run(program, words, form):
         signal.signal(number, signal.SIG_IGN)  # the terminal sends them to the program too
     for number in (signal.SIGTERM, signal.SIGHUP):
         signal.signal(number, lambda number, _: child.send_signal(number))
-    progress = Progress(child.pid, form)
-    text, is_lost = handed_on(child, progress)
+    progress = Progress(child.pid, None if is_quiet else form)
+    lines, is_lost = handed_on(child, progress)
     while True:
         try:
             status = child.wait(EACH)
@@ -35,9 +35,12 @@ def run(program, words, form):
     if is_lost and status == 0:
         explain.say("standard output took no more, so the last lines are lost")
         return 6
-    if status:
-        explain.of_refusal(form, words, status, text, before)
-    return status
+    if status and not is_quiet:
+        explain.of_refusal(form, words, status, lines[-1] if lines else "", before)
+    said = verdict.of(form, lines) if form and not status else ""
+    if said and not is_quiet:
+        explain.say(said)
+    return 1 if said and is_strict else status
 
 
 def end_by(number):
@@ -61,7 +64,7 @@ def is_standard_output(path):
 
 
 def handed_on(child, progress):
-    """Hands the program's text on to standard output; answers its last line, and whether some of it could not be written."""
+    """Hands the program's text on to standard output; answers its last lines, and whether some of it could not be written."""
     text, is_lost = b"", False
     while child.stdout:
         if not select.select([child.stdout], [], [], EACH)[0]:
@@ -79,8 +82,7 @@ def handed_on(child, progress):
             is_lost = True
             child.stdout.close()
             break
-    lines = text.decode("utf-8", "replace").splitlines()
-    return (lines[-1] if lines else ""), is_lost
+    return text.decode("utf-8", "replace").splitlines(), is_lost
 
 
 class Progress:

@@ -1,0 +1,99 @@
+"""What a run of status 0 is worth: one line on standard error if there is something to say."""
+import re
+
+from door.explain import document_of, piece
+
+# A line of the report: names with their numbers, of a stream or the like. `hp unmerged at N` is none.
+LINE = re.compile(r"(?:(hp|lp|tps|tune) )?((?:[a-z_]+ \d+ ?)+)")
+PACKETS = 100_000_000  # the most of one input
+
+
+def of(form, lines):
+    """The verdict on a run of status 0 whose report ends with these lines, empty if all is well."""
+    facts = {"": {}}
+    for line in lines:
+        found = LINE.fullmatch(line)
+        if found:
+            words = found[2].split()
+            facts.setdefault(found[1] or "", {}).update(zip(words[::2], map(int, words[1::2])))
+    return "; ".join(text for check in CHECKS.get(form.command, []) for text in check(form, facts))
+
+
+def packets(form, facts):
+    """Transport files that end within a packet, have none, or have nearly the most."""
+    for stream, path in form.inputs:
+        number, left = facts.get(stream, {}).get("packets", 1), facts.get(stream, {}).get("tail", 0)
+        if left:
+            yield f"{path} ends within a packet: its last {left} bytes were left out (a truncated file?)"
+        elif number == 0:
+            yield f"{path} has no packets"
+        if number > 0.9 * PACKETS:
+            yield f"{path} has {number:,} packets; one run takes at most {PACKETS:,}"
+
+
+def symbols(form, facts):
+    """Cells that end within a symbol, and nearly as many symbols as the limit."""
+    if facts[""].get("tail"):
+        yield f"{form.of('cells')[0]} ends within a symbol: its last {facts['']['tail']} bytes were left out (a truncated file?)"
+    number, most = facts[""].get("symbols", 272 * facts[""].get("superframes", 0)), settings_of(form)["max_symbols"]
+    if "tune" in facts:
+        number += facts["tune"]["at"] + 68 * (5 - facts["tune"]["frame"])
+    if number > 0.9 * most:
+        yield f"{number:,} symbols, and max_symbols is {most:,}: a longer run ends with status 8"
+
+
+def reception(form, facts):
+    """Streams of which nothing or not all was received."""
+    streams = {stream: facts[stream] for stream in ("hp", "lp") if facts.get(stream, {}).get("words")}
+    if "hp" in facts and not streams:
+        which = " from the next super-frame on, where tune begins," if "tune" in facts else ""
+        yield f"no reception: {facts[''].get('symbols', 0)} symbols{which} are too few"
+    lost = [stream for stream, counts in streams.items() if counts["words"] in (counts["bad"], counts["unphased"])]
+    for stream, counts in streams.items():
+        of, bad, unphased = f"of {counts['words']} words of {stream.upper()}", counts["bad"], counts["unphased"]
+        if stream in lost:
+            yield f"no reception: {of} {bad} are bad and {unphased} unphased"
+        elif bad:
+            yield f"{bad} {of} are bad, {100 * bad / counts['words']:.2g} in a hundred"
+        if stream not in lost and unphased > 7:
+            yield f"{unphased} {of} are unphased, before the first group of eight, and gave no packets"
+    tps = facts.get("tps", {"bad": 0})
+    if tps["bad"]:
+        yield f"{tps['bad']} of {tps['read'] + tps['bad']} TPS words can't be read"
+
+
+def signal(form, facts):
+    """What the beginning of the cells shows."""
+    from cell_tools import beginning
+
+    path, settings = form.of("cells")[0], settings_of(form)
+    begin = piece(path, 0, beginning.BYTES) if "mode" in settings else b""
+    said = beginning.against(begin, settings, form.command != "equalise") if begin else []
+    yield from [f"{path}: {', '.join(said)}"] if said else []
+
+
+def corrected(form, facts):
+    """Zeros in what was written."""
+    from cell_tools import beginning
+
+    yield from (f"{form.outputs[0]}: {text}" for text in beginning.silent(piece(form.outputs[0], 0, beginning.BYTES)))
+
+
+def settings_of(form):
+    """The settings with what is absent."""
+    from cell_tools import settings
+
+    return settings.ABSENT | (document_of(form.settings) or {})
+
+
+CHECKS = {
+    "modulate": [packets, symbols],
+    "disperse": [packets],
+    "outer": [packets],
+    "inner": [packets],
+    "receive": [reception, signal, symbols],
+    "rescue": [reception, signal, symbols],
+    "tune": [reception, symbols],
+    "upgrade": [symbols],
+    "equalise": [signal, corrected, symbols],
+}
