@@ -52,8 +52,11 @@ def misplaced(begin, settings):
 def contradicted(begin, settings):
     """Says which parameters the signal announces and the settings contradict (4.6.2)."""
     _, word = first_frame(votes_in(begin, settings["mode"])) or (0, None)
-    if word:
-        announced, own = fields_of(word), settings_in(settings, 1)
+    if word and why_unfit(word):
+        yield f"its TPS word has {why_unfit(word)}"
+    elif word:
+        own, length = settings_in(settings, 1), field(word, 17, 22)
+        announced = {**fields_of(word), "cell_id": "none" if length == 23 else "other"}
         wrong = [key for key in differences(word, announced, own) if key != "cell_id" or "cell_id" in own]
         if wrong:
             yield f"TPS says {named(announced, wrong)}, the settings say {named(own, wrong)}"
@@ -61,12 +64,12 @@ def contradicted(begin, settings):
 
 def named(values, wrong):
     """Parameters as an engineer names them: those that are wrong, constellation and rates together."""
-    said = [f"{key} {values.get(key, 'of another number')}" for key in ("guard", "mode", "cell_id") if key in wrong]
+    said = [f"{key} {values[key]}" for key in ("guard", "mode", "cell_id") if key in wrong]
     if len(wrong) == len(said):
         return ", ".join(said)
     is_flat = values["hierarchy"] == "none"
     rates = values["rate_hp"] if is_flat else f"{values['rate_hp']} and {values['rate_lp']}, hierarchy {values['hierarchy']}"
-    return ", ".join([f"{NAMES.get(values['constellation'], 'a reserved constellation')} {rates}", *said])
+    return ", ".join([f"{NAMES[values['constellation']]} {rates}", *said])
 
 
 def why_no_frame(begin):

@@ -125,7 +125,7 @@ def why_rejected(content, refusal):
     if kind == "not":
         return f"is not TOML{': ' * bool(reason)}{reason}{unquoted(content)}"
     if kind == "unknown":
-        return f"has {unknown(sorted(found, key=str.encode), key)}; the keys are {', '.join(KEYS)}"
+        return f"has {unknown(sorted(found, key=str.encode), key)}"
     if kind == "missing":
         return f"lacks {key}, which is {allowed(key)}"
     if kind == "value" and key in found:
@@ -133,8 +133,9 @@ def why_rejected(content, refusal):
     if kind == "clash" and key == "hierarchy":
         return "has QPSK with a hierarchy; only 16-QAM and 64-QAM have one"
     if kind == "clash":
-        return "has rate_lp without a hierarchy, or a hierarchy without rate_lp"
-    return f"has a wrong value of {key}, which is {allowed(key)}" if kind == "value" else "is rejected"
+        either = "has rate_lp without a hierarchy", "has a hierarchy without rate_lp"
+        return either["rate_lp" not in found] if found else ", or ".join(either)
+    return f"has a wrong value of {key}, which is {allowed(key)}"
 
 
 def why_no_plan(plan):
@@ -165,8 +166,8 @@ def unknown(keys, number):
     """Names the key that has this number among the sorted keys of a document, and one that is like it."""
     if not number.isdigit() or int(number) >= len(keys):
         return f"an unknown key, number {number} of its sorted keys, from 0: Python's TOML reader rejects the file, so it can't be named"
-    near = difflib.get_close_matches(keys[int(number)].lower(), KEYS, 1)
-    return f"the unknown key {keys[int(number)]!r}" + "".join(f" (did you mean {it}?)" for it in near)
+    near = difflib.get_close_matches(keys[int(number)].lower(), KEYS, 2)
+    return f"the unknown key {keys[int(number)]!r}; {'did you mean' if near else 'the keys are'} {', '.join(near or KEYS)}"
 
 
 def unquoted(content):

@@ -106,8 +106,8 @@ def of_usage(words):
         say(f"  {line}" for line in forms.lines_of_forms(command))
     elif command.startswith("-"):
         say(f"there is no option {command}; before the command may stand {', '.join(forms.OPTIONS)}")
-    elif command == "help":
-        say("help is --help: bin/dvbt --help, or bin/dvbt COMMAND --help")
+    elif command in ("help", "version"):
+        say(f"{command} is --{command}: bin/dvbt --{command}")
     else:
         near = get_close_matches(command.lower(), forms.FORMS, 1)
         what = f"there is no command {command!r}" if words else "no command was given"
@@ -117,7 +117,7 @@ def of_usage(words):
 
 def option_in(words):
     """What is wrong with an option among the arguments of a command, or None."""
-    found = next((word for word in words[1:] if word.startswith("--")), None)
+    found = next((word for word in words[1:] if word.startswith("-") and word != "-"), None)
     return found and f"{found}: there are no options after the command; a file of that name is ./{found}"
 
 
@@ -143,7 +143,8 @@ def of_settings(form, text):
         return f"{path} has no hierarchy, so there is no LP: leave its file out, or set hierarchy and rate_lp"
     if refusal == "form":
         return f"{path} has a hierarchy, at the top or in its plan: name a file of LP too"
-    return f"{path} {settings.why_rejected(piece(path, 0, 65536), refusal)} (docs/SETTINGS.md)"
+    name = f"{path}, read as SETTINGS," if refusal in ("too long", "not toml") else path
+    return f"{name} {settings.why_rejected(piece(path, 0, 65536), refusal)} (docs/SETTINGS.md)"
 
 
 def of_packet(form, text):
@@ -237,12 +238,12 @@ def what_stands(form, status, before):
     """What the outputs hold after a failed run, and how large they are."""
     for path in form.outputs:
         now = seen(path)
+        what = f": {STANDS[status]}" if status in STANDS else ""
         if now is None:
             yield f"{path} was not made"
-        elif now == before.get(path):
+        elif stat.S_ISREG(now[3]) and now == before.get(path):
             yield f"{path} is unchanged"
         elif stat.S_ISREG(now[3]):
-            what = f": {STANDS[status]}" if status in STANDS else ""
             yield f"{path} holds {now[1]:,} bytes{what}" if now[1] else f"{path} is empty"
 
 

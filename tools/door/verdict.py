@@ -35,11 +35,11 @@ def symbols(form, facts):
     """Cells that end within a symbol, and nearly as many symbols as the limit."""
     if facts[""].get("tail"):
         yield f"{form.of('cells')[0]} ends within a symbol: its last {facts['']['tail']} bytes were left out (a truncated file?)"
-    number, most = facts[""].get("symbols", 272 * facts[""].get("superframes", 0)), settings_of(form)["max_symbols"]
+    number, settings = facts[""].get("symbols", 272 * facts[""].get("superframes", 0)), settings_of(form)
     if "tune" in facts:
         number += facts["tune"]["at"] + 68 * (5 - facts["tune"]["frame"])
-    if number > 0.9 * most:
-        yield f"{number:,} symbols, and max_symbols is {most:,}: a longer run ends with status 8"
+    if settings and number > 0.9 * settings["max_symbols"]:
+        yield f"{number:,} symbols, and max_symbols is {settings['max_symbols']:,}: a longer run ends with status 8"
 
 
 def reception(form, facts):
@@ -67,8 +67,8 @@ def signal(form, facts):
     from cell_tools import beginning
 
     path, settings = form.of("cells")[0], settings_of(form)
-    begin = piece(path, 0, beginning.BYTES) if "mode" in settings else b""
-    said = beginning.against(begin, settings, form.command != "equalise") if begin else []
+    begin = piece(path, 0, beginning.BYTES)
+    said = beginning.against(begin, settings, form.command != "equalise") if begin and settings else []
     yield from [f"{path}: {', '.join(said)}"] if said else []
 
 
@@ -80,10 +80,11 @@ def corrected(form, facts):
 
 
 def settings_of(form):
-    """The settings with what is absent."""
+    """The settings with what is absent; empty if Python's reader rejects them."""
     from cell_tools import settings
 
-    return settings.ABSENT | (document_of(form.settings) or {})
+    document = document_of(form.settings)
+    return document and settings.ABSENT | document
 
 
 CHECKS = {

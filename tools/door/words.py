@@ -197,4 +197,4 @@ def lines_of_statuses(command):
     for number, text, of in STATUSES:
         if command is None or command in of:
             shown.setdefault(number, text)
-    return [f"  {number:3}  {text}" for number, text in [*shown.items(), *OF_THE_DOOR]]
+    return [f"  {number:3}  {text}" for number, text in sorted([*shown.items(), *OF_THE_DOOR])]
