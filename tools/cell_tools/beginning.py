@@ -1,26 +1,23 @@
 """What the beginning of a cell file shows, by the standard library alone: bin/dvbt says by it what a run is worth."""
+from struct import unpack_from
+
 from cell_tools.settings import settings_in
 from cell_tools.tps import differences, field, fields_of, first_frame, tps_carriers, why_unfit
 
-BYTES = 8 + 136 * 5 * 6817  # what is looked at: symbols with a whole frame in them, whichever the first one is
+SYMBOLS = 2 * 68  # what is looked at: a whole frame is among them, whichever the first one is
+BYTES = 8 + SYMBOLS * 5 * 6817
 NAMES = {"qpsk": "QPSK", "16qam": "16-QAM", "64qam": "64-QAM"}
 
 
 def votes_in(begin, mode, header=8, width=5):
-    """The bit of each whole symbol, by the TPS carriers of it and the symbol before (4.6.1); the first one counts as 0."""
-    size, before, votes = width * (1705 if mode == "2k" else 6817), None, ""
-    places = [width * k for k in tps_carriers(mode)]
-    for start in range(header, len(begin) - size + 1, size):
-        ends = [(start + place, start + place + 2) for place in places]
-        cells = [(signed(begin[at:it]), signed(begin[it : it + 2])) for at, it in ends]
-        votes += "01"[before is not None and sum(a * c + b * d for (a, b), (c, d) in zip(cells, before)) < 0]
+    """The bit of each whole symbol, by 17 TPS carriers of it and the symbol before (4.6.1); the first one counts as 0."""
+    size, before, votes = width * (1705 if mode == "2k" else 6817), [], ""
+    places = [width * k for k in tps_carriers(mode)[:: 1 if mode == "2k" else 4]]
+    for start in range(header, len(begin) - size + 1, size)[:SYMBOLS]:
+        cells = [unpack_from(">hh", begin, start + place) for place in places]
+        votes += "01"[sum(a * c + b * d for (a, b), (c, d) in zip(cells, before)) < 0]
         before = cells
     return votes
-
-
-def signed(two):
-    """Two bytes as a number."""
-    return int.from_bytes(two, "big", signed=True)
 
 
 def is_version_1(begin, size):
@@ -36,9 +33,9 @@ def against(begin, settings, is_received):
 
 def silent(begin):
     """Says of cells or weights that all are 0."""
-    if len(begin) > 8 and not any(begin[12::5]):
+    if len(begin) > 8 and not any(begin[12:9000:5]) and not any(begin[12::5]):
         yield "all weights are 0, so no cell counts"
-    if len(begin) > 8 and not any(any(begin[part::5]) for part in range(8, 12)):
+    if len(begin) > 8 and not any(any(begin[part:9000:5]) or any(begin[part::5]) for part in range(8, 12)):
         yield "all cells are 0"
 
 

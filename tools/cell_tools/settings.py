@@ -1,7 +1,4 @@
 """The settings document (docs/SETTINGS.md) by the standard library alone: bin/dvbt explains by it, without numpy."""
-import difflib
-import json
-import pathlib
 import re
 
 from cell_tools.tps import VALUES
@@ -26,7 +23,8 @@ class Unfit(Exception):
 def read_settings(path):
     """The settings document as a dictionary. What `dvbt` rejects (docs/SETTINGS.md) is rejected, with the line that it prints."""
     try:
-        content = pathlib.Path(path).read_bytes()
+        with open(path, "rb") as file:
+            content = file.read()
     except OSError as error:
         raise Unfit(f"settings: {error}") from None
     if len(content) > 65536:
@@ -157,6 +155,8 @@ def allowed(key):
 
 def told(key, value):
     """A key with its value, and what it may be; quotes that lack or are too many are named."""
+    import json
+
     wrong = " in quotes" if key in NUMBERS and type(value) is str else ""
     wrong = " without quotes" if key in WORDS and type(value) in (int, float) else wrong
     return f"{key} = {json.dumps(value, default=str, ensure_ascii=False)}{wrong}; it is {allowed(key)}"
@@ -166,6 +166,8 @@ def unknown(keys, number):
     """Names the key that has this number among the sorted keys of a document, and one that is like it."""
     if not number.isdigit() or int(number) >= len(keys):
         return f"an unknown key, number {number} of its sorted keys, from 0: Python's TOML reader rejects the file, so it can't be named"
+    import difflib
+
     near = difflib.get_close_matches(keys[int(number)].lower(), KEYS, 2)
     return f"the unknown key {keys[int(number)]!r}; {'did you mean' if near else 'the keys are'} {', '.join(near or KEYS)}"
 

@@ -7,23 +7,8 @@ import sys
 PACKET, SYNC = 188, 0x47
 USEFUL = {"2k": 224e-6, "8k": 896e-6}  # seconds of a symbol without guard in a channel of 8 MHz
 OTHERS = {204: "the last 16 bytes of each, its parity", 192: "the first 4 bytes of each, its time stamp"}  # packets not read
-NO_READING = {
-    "there is no such file": lambda path: not os.path.exists(path),
-    "it is a folder": os.path.isdir,
-    "this user may not read it": lambda path: not os.access(path, os.R_OK),
-}
-NO_WRITING = {
-    "its folder does not exist": lambda path: not os.path.isdir(os.path.dirname(path) or "."),
-    "it is a folder": os.path.isdir,
-    "this user may not write it": lambda path: not os.access(path if os.path.exists(path) else os.path.dirname(path) or ".", os.W_OK),
-    "the disk is full": lambda path: os.statvfs(os.path.dirname(path) or ".").f_bavail == 0,
-}
-STANDS = {  # what an output holds, by status
-    4: "output for the packets before it",
-    5: "output for what was read",
-    6: "a prefix of the full output",
-    8: "output for what is within the limit",
-}
+# What an output holds, by status.
+STANDS = {4: "output for the packets before it", 5: "output for what was read", 6: "a prefix of the full output", 8: "output within the limit"}
 
 
 def say(text):
@@ -83,9 +68,6 @@ def told_twice(first, name, path):
     return f"refused before it began: {same} is read as {other} and would be overwritten as {name}; nothing was touched"
 
 
-# Failed runs
-
-
 def not_to_run(form, words):
     """Why arguments of a valid form are not run, or None: an option among them, or cells of version 2 to upgrade."""
     old = form.of("cells")[0] if form.command == "upgrade" else None
@@ -129,9 +111,10 @@ def of_refusal(form, words, status, text, before):
     elif form is None:
         of_usage(words)
     else:
-        causes = {3: of_settings, 4: of_packet, 5: of_fault, 6: of_fault, 8: of_limit, 9: of_header, 10: of_no_frame, 11: of_form}
-        say(causes[status](form, text) if status in causes else "there is not enough memory" if status == 7 else [])
-        say(what_stands(form, status, before) if status not in (2, 3) else [])
+        causes = {3: of_settings, 4: of_packet, 5: of_reading, 6: of_writing, 7: of_memory, 8: of_limit, 9: of_header}
+        causes |= {10: of_no_frame, 11: of_form}
+        say(causes[status](form, text) if status in causes else [])
+        say(what_stands(form, status, before) if status > 3 else [])
 
 
 def of_settings(form, text):
@@ -177,15 +160,33 @@ def sync_in(head):
     return None, None
 
 
-def of_fault(form, text):
-    """A file can't be opened or read, or can't be made, written or closed."""
-    is_read = text == "read fault"
-    named = [path for kind, _, path in form.files if kind.startswith("out") != is_read]
+def of_reading(form, text):
+    """A file can't be opened or read."""
+    named = [path for kind, _, path in form.files if not kind.startswith("out")]
     for path in named:
-        for why, holds in (NO_READING if is_read else NO_WRITING).items():
-            if holds(path):
-                return f"{path} can't be {'read' if is_read else 'written'}: {why}"
-    return f"{' or '.join(named)} could not be read" if is_read else f"{' or '.join([*named, 'standard output'])} could not be written"
+        if not os.path.exists(path):
+            return f"{path} can't be read: there is no such file"
+        if os.path.isdir(path) or not os.access(path, os.R_OK):
+            return f"{path} can't be read: {'it is a folder' if os.path.isdir(path) else 'this user may not read it'}"
+    return f"{' or '.join(named)} could not be read"
+
+
+def of_writing(form, text):
+    """A file can't be made, written or closed."""
+    for path in form.outputs:
+        folder = os.path.dirname(path) or "."
+        if not os.path.isdir(folder) or os.path.isdir(path):
+            return f"{path} can't be written: {'it is a folder' if os.path.isdir(path) else f'there is no folder {folder}'}"
+        if not os.access(path if os.path.exists(path) else folder, os.W_OK):
+            return f"{path} can't be written: this user may not write it"
+        if os.statvfs(folder).f_bavail == 0:
+            return f"{path} can't be written: the disk is full"
+    return f"{' or '.join([*form.outputs, 'standard output'])} could not be written"
+
+
+def of_memory(form, text):
+    """Memory runs out."""
+    return "there is not enough memory"
 
 
 def of_limit(form, text):
