@@ -3,19 +3,11 @@ import re
 
 from door.explain import document_of, piece
 
-# A line of the report: names with their numbers, of a stream or the like. `hp unmerged at N` is none.
-LINE = re.compile(r"(?:(hp|lp|tps|tune) )?((?:[a-z_]+ \d+ ?)+)")
 PACKETS = 100_000_000  # the most of one input
 
 
-def of(form, lines):
-    """The verdict on a run of status 0 whose report ends with these lines, empty if all is well."""
-    facts = {"": {}}
-    for line in lines:
-        found = LINE.fullmatch(line)
-        if found:
-            words = found[2].split()
-            facts.setdefault(found[1] or "", {}).update(zip(words[::2], map(int, words[1::2])))
+def of(form, facts):
+    """The verdict on a run of status 0 by the values of its report, empty if all is well."""
     return "; ".join(text for check in CHECKS.get(form.command, []) for text in check(form, facts))
 
 
@@ -33,9 +25,9 @@ def packets(form, facts):
 
 def symbols(form, facts):
     """Cells that end within a symbol, and nearly as many symbols as the limit."""
-    if facts[""].get("tail"):
-        yield f"{form.of('cells')[0]} ends within a symbol: its last {facts['']['tail']} bytes were left out (a truncated file?)"
-    number, settings = facts[""].get("symbols", 272 * facts[""].get("superframes", 0)), settings_of(form)
+    if facts.get("tail"):
+        yield f"{form.of('cells')[0]} ends within a symbol: its last {facts['tail']} bytes were left out (a truncated file?)"
+    number, settings = facts.get("symbols", 272 * facts.get("superframes", 0)), settings_of(form)
     if "tune" in facts:
         number += facts["tune"]["at"] + 68 * (5 - facts["tune"]["frame"])
     if settings and number > 0.9 * settings["max_symbols"]:
@@ -47,7 +39,7 @@ def reception(form, facts):
     streams = {stream: facts[stream] for stream in ("hp", "lp") if facts.get(stream, {}).get("words")}
     if "hp" in facts and not streams:
         which = " from the next super-frame on, where tune begins," if "tune" in facts else ""
-        yield f"no reception: {facts[''].get('symbols', 0)} symbols{which} are too few"
+        yield f"no reception: {facts.get('symbols', 0)} symbols{which} are too few"
     lost = [stream for stream, counts in streams.items() if counts["words"] in (counts["bad"], counts["unphased"])]
     for stream, counts in streams.items():
         of, bad, unphased = f"of {counts['words']} words of {stream.upper()}", counts["bad"], counts["unphased"]
@@ -98,3 +90,17 @@ CHECKS = {
     "upgrade": [symbols],
     "equalise": [signal, corrected, symbols],
 }
+
+
+# A line of the report: names with their numbers, of a stream or the like. `hp unmerged at N` is none.
+LINE = re.compile(r"(?:(hp|lp|tps|tune) )?((?:[a-z_]+ \d+ ?)+)")
+
+
+def facts_of(lines):
+    """The values of a report by name, those of a stream or the like by its name first."""
+    facts = {}
+    for found in filter(None, map(LINE.fullmatch, lines)):
+        words = found[2].split()
+        into = facts.setdefault(found[1], {}) if found[1] else facts
+        into.update(zip(words[::2], map(int, words[1::2])))
+    return facts

@@ -37,7 +37,7 @@ def run(program, words, form, is_quiet=False, is_strict=False):
         return 6
     if status and not is_quiet:
         explain.of_refusal(form, words, status, lines[-1] if lines else "", before)
-    said = verdict.of(form, lines) if form and not status else ""
+    said = verdict.of(form, verdict.facts_of(lines)) if form and not status else ""
     if said and not is_quiet:
         explain.say(said)
     return 1 if said and is_strict else status
