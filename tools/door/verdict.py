@@ -44,7 +44,7 @@ def reception(form, facts):
     for stream, counts in streams.items():
         of, bad, unphased = f"of {counts['words']} words of {stream.upper()}", counts["bad"], counts["unphased"]
         if stream in lost:
-            yield f"no reception: {of} {bad} are bad and {unphased} unphased"
+            yield f"no reception: {bad} {of} are bad, {unphased} unphased"
         elif bad:
             yield f"{bad} {of} are bad, {100 * bad / counts['words']:.2g} in a hundred"
         if stream not in lost and unphased > 7:
