@@ -35,47 +35,6 @@ def spoken(seconds):
     return f"{round(seconds / 60)} minutes" if seconds < 7200 else f"{seconds / 3600:.1f} hours"
 
 
-# One file named twice
-
-
-def named_twice(form):
-    """Why the words may not be run: a file that is written is named twice. None where all is well."""
-    seen = {}
-    for kind, name, path in form.files:
-        is_written = kind.startswith("out")
-        for key in keys_of(path):
-            if key in seen and (is_written or seen[key][1]):
-                return told_twice(seen[key], name, path)
-            seen[key] = name, is_written, path
-    return None
-
-
-def keys_of(path):
-    """What a file is known by: device and inode of a plain file, the place of one that isn't there yet; nothing of a pipe, a
-    terminal or a device, which may be named twice."""
-    try:
-        found = os.stat(path)
-    except OSError:
-        return [os.path.realpath(path)]
-    return [(found.st_dev, found.st_ino)] if stat.S_ISREG(found.st_mode) or stat.S_ISBLK(found.st_mode) else []
-
-
-def told_twice(first, name, path):
-    other, was_written, other_path = first
-    same = path if path == other_path else f"{path}, which is {other_path},"
-    if was_written:
-        return f"refused before it began: {same} would be written as {other} and as {name}; give each its own file"
-    return f"refused before it began: {same} is read as {other} and would be overwritten as {name}; nothing was touched"
-
-
-def not_to_run(form, words):
-    """Why arguments of a valid form are not run, or None: an option among them, or cells of version 2 to upgrade."""
-    old = form.of("cells")[0] if form.command == "upgrade" else None
-    if old and piece(old, 0, 5) == b"DVTC\x02":
-        return f"rejected before the start: {old} is of version 2 already"
-    return option_in(words)
-
-
 def of_usage(words):
     """An invalid command line."""
     from difflib import get_close_matches
@@ -237,6 +196,8 @@ def of_form(form, text):
 
 def what_stands(form, status, before):
     """What the outputs hold after a failed run, and how large they are."""
+    from door.watch import seen
+
     for path in form.outputs:
         now = seen(path)
         what = f": {STANDS[status]}" if status in STANDS else ""
@@ -246,15 +207,6 @@ def what_stands(form, status, before):
             yield f"{path} is unchanged"
         elif stat.S_ISREG(now[3]):
             yield f"{path} holds {now[1]:,} bytes{what}" if now[1] else f"{path} is empty"
-
-
-def seen(path):
-    """What tells whether a file was written: its time, size, inode and kind."""
-    try:
-        found = os.stat(path)
-    except OSError:
-        return None
-    return found.st_mtime_ns, found.st_size, found.st_ino, found.st_mode
 
 
 def piece(path, at, size):

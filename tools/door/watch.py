@@ -1,140 +1,183 @@
-"""Runs the program: its text is handed on as it comes, progress is shown on a terminal, a refusal is explained."""
+"""Runs the program as a child that dies with the door: signals are passed on, and its report is handed on as it comes."""
 import os
 import select
 import signal
-import subprocess
 import sys
-import time
 
-from door import explain, verdict
+from door.progress import Progress
 
-FIRST, EACH = 1.0, 0.5  # seconds until progress is shown, and between two times
+EACH = 0.5  # seconds between two looks at the progress
+
+# SIGUSR1 asks for the progress. What ends the door by a fault of its own ends the child by its parent-death signal.
+OWN = {signal.SIGUSR1, signal.SIGCHLD, signal.SIGPIPE, signal.SIGKILL, signal.SIGSTOP, signal.SIGWINCH, signal.SIGURG}
+FAULTS = {signal.SIGSEGV, signal.SIGBUS, signal.SIGILL, signal.SIGFPE, signal.SIGTRAP, signal.SIGSYS}
+PASSED_ON = signal.valid_signals() - OWN - FAULTS - {signal.SIGTTIN, signal.SIGTTOU}
+PR_SET_PDEATHSIG = 1
 
 
-def run(program, words, form, is_quiet=False, is_strict=False):
-    """Runs the program with these words; answers its status, or 1 for 0 with a verdict if `is_strict`."""
-    before = {path: explain.seen(path) for path in form.outputs} if form else {}
-    is_seen = not (form and any(is_standard_output(path) for path in form.outputs))
-    how = {"executable": program, "stdout": subprocess.PIPE if is_seen else None}
-    child = subprocess.Popen(["dvbt", *words], **how)
-    for number in (signal.SIGINT, signal.SIGQUIT):
-        signal.signal(number, signal.SIG_IGN)  # the terminal sends them to the program too
-    for number in (signal.SIGTERM, signal.SIGHUP):
-        signal.signal(number, lambda number, _: child.send_signal(number))
-    progress = Progress(child.pid, None if is_quiet else form)
-    lines, is_lost = handed_on(child, progress)
-    while True:
+class Child:
+    """The program as a child."""
+
+    def __init__(self, program, words, closed):
+        """Starts it. Signals wait from before the start until they can be passed on."""
+        passed_on = {it for it in PASSED_ON if signal.getsignal(it) != signal.SIG_IGN}
+        mask = signal.pthread_sigmask(signal.SIG_BLOCK, passed_on)
+        self.door, self.is_over = os.getpid(), False
+        self.report, end = os.pipe()
+        self.pid = os.fork()
+        if self.pid == 0:
+            self.become(program, words, closed, mask, end)
+        os.close(end)
+        for number in passed_on:
+            signal.signal(number, self.pass_on)
+        signal.pthread_sigmask(signal.SIG_SETMASK, mask)
+
+    def become(self, program, words, closed, mask, end):
+        """In the child: becomes the program, with `end` as its standard output; or ends."""
         try:
-            status = child.wait(EACH)
-            break
-        except subprocess.TimeoutExpired:
-            progress.show()
-    progress.end()
+            die_with(self.door)
+            if 1 not in closed:
+                os.dup2(end, 1)
+            for number in closed:
+                os.close(number)
+            for number in (signal.SIGPIPE, signal.SIGXFSZ):
+                signal.signal(number, signal.SIG_DFL)  # Python ignores them
+            signal.pthread_sigmask(signal.SIG_SETMASK, mask)
+            os.execv(program, ["dvbt", *words])
+        except OSError as error:
+            print(f"dvbt: {program} can't be run: {error.strerror}", file=sys.stderr, flush=True)
+        finally:
+            os._exit(126)
+
+    def pass_on(self, number, _):
+        """Hands a signal on. A stop stops the door as well."""
+        if not self.is_over:
+            os.kill(self.pid, number)
+        if number == signal.SIGTSTP:
+            os.kill(os.getpid(), signal.SIGSTOP)
+
+    def wait(self):
+        """Waits for its end; answers its status, or minus the signal that ended it."""
+        os.waitid(os.P_PID, self.pid, os.WEXITED | os.WNOWAIT)
+        self.is_over = True  # no signal is passed on to another process of its number
+        return os.waitstatus_to_exitcode(os.waitpid(self.pid, 0)[1])
+
+
+def die_with(door):
+    """Has the system kill this process once its parent, the process `door`, is gone. Where Python has no ctypes it lives on."""
+    try:
+        import ctypes
+
+        ctypes.CDLL(None).prctl(PR_SET_PDEATHSIG, signal.SIGKILL)
+    except (ImportError, AttributeError):
+        pass
+    if os.getppid() != door:
+        os._exit(126)
+
+
+def run(program, form, words, given, options, is_data, closed):
+    """Runs the program with the arguments `given`; answers its status. With `is_data` the report goes to standard error."""
+    before = {path: seen(path) for path in form.outputs} if form else {}
+    is_quiet = "quiet" in options
+    child = Child(program, given, closed)
+    progress = Progress(child.pid, form, not is_quiet and sys.stderr.isatty())
+    signal.signal(signal.SIGUSR1, progress.tell)
+    lines, is_lost = handed_on(child, progress, 2 if is_data else 1)
+    status = child.wait()
+    progress.clear()
+    if is_data:
+        to_the_end(1)
     if status < 0:
-        end_by(-status)
+        return end_by(-status, form, progress, before, is_quiet)
     if is_lost and status == 0:
-        explain.say("standard output took no more, so the last lines are lost")
+        say("standard output took no more, so the last lines are lost")
         return 6
     if status and not is_quiet:
+        from door import explain
+
         explain.of_refusal(form, words, status, lines[-1] if lines else "", before)
-    said = verdict.of(form, verdict.facts_of(lines)) if form and not status else ""
-    if said and not is_quiet:
-        explain.say(said)
-    return 1 if said and is_strict else status
+    return status or judged(form, lines, options)
 
 
-def end_by(number):
-    """Ends by the signal that ended the program, without a second core file."""
+def judged(form, lines, options):
+    """Says what a run of status 0 is worth; answers its status, which --strict makes 1 if there is something to say."""
+    from door import verdict
+
+    said = verdict.of(form, verdict.facts_of(lines)) if form else ""
+    if said and "quiet" not in options:
+        say(said)
+    return 1 if said and "strict" in options else 0
+
+
+def seen(path):
+    """What tells whether a file was written: its time, size, inode and kind."""
+    try:
+        found = os.stat(path)
+    except OSError:
+        return None
+    return found.st_mtime_ns, found.st_size, found.st_ino, found.st_mode
+
+
+def handed_on(child, progress, to):
+    """Hands the program's report on; answers its last lines, and whether standard output did not take all of it."""
+    text, is_lost = b"", False
+    while True:
+        if not select.select([child.report], [], [], EACH if progress.is_shown else None)[0]:
+            progress.show()
+            continue
+        piece = os.read(child.report, 65536)
+        if not piece:
+            break
+        text = (text + piece)[-65536:]
+        progress.clear()
+        try:
+            put(piece, to)
+        except OSError:
+            # what standard error does not take is dropped; the program then meets the fault of standard output itself
+            if to == 1:
+                is_lost = True
+                break
+    os.close(child.report)
+    return text.decode("utf-8", "replace").splitlines(), is_lost
+
+
+def put(data, to=1):
+    while data:
+        data = data[os.write(to, data) :]
+
+
+def to_the_end(number):
+    """What follows in the file of a descriptor stands after what the program wrote: it opened the file anew."""
+    try:
+        os.lseek(number, 0, os.SEEK_END)
+    except OSError:
+        pass
+
+
+def end_by(number, form, progress, before, is_quiet):
+    """Says what stands, and ends by the signal that ended the program, without a second core file."""
     import resource
 
-    why = ": so it ends where it has too little stack or address space (docs/FILES.md)" if number == signal.SIGSEGV else ""
-    explain.say(f"the program was ended by signal {number}{why}")
+    why = ": so it ends if it has too little stack or address space (docs/FILES.md)" if number == signal.SIGSEGV else ""
+    if not is_quiet:
+        say(f"the program was ended by {name_of(number)}{why}")
+        for line in progress.stands(before, seen) if form else []:
+            say(line)
     resource.setrlimit(resource.RLIMIT_CORE, (0, 0))
     if number != signal.SIGKILL:
         signal.signal(number, signal.SIG_DFL)
     os.kill(os.getpid(), number)
+    return 128 + number
 
 
-def is_standard_output(path):
-    """Whether the program would write this output to our standard output: it then keeps that as its own."""
+def say(text):
+    from door import explain
+
+    explain.say(text)
+
+
+def name_of(number):
     try:
-        return os.path.samestat(os.stat(path), os.fstat(1))
-    except OSError:
-        return False
-
-
-def handed_on(child, progress):
-    """Hands the program's text on to standard output; answers its last lines, and whether some of it could not be written."""
-    text, is_lost = b"", False
-    while child.stdout:
-        if not select.select([child.stdout], [], [], EACH)[0]:
-            progress.show()
-            continue
-        piece = os.read(child.stdout.fileno(), 65536)
-        if not piece:
-            break
-        text = (text + piece)[-4096:]
-        progress.clear()
-        try:
-            while piece:
-                piece = piece[os.write(1, piece) :]
-        except OSError:
-            is_lost = True
-            child.stdout.close()
-            break
-    return text.decode("utf-8", "replace").splitlines(), is_lost
-
-
-class Progress:
-    """How far the inputs are read, by /proc, on one line of a terminal."""
-
-    def __init__(self, pid, form):
-        self.pid, self.began, self.shown = pid, time.monotonic(), False
-        self.next = self.began + FIRST
-        self.is_on = form is not None and sys.stderr.isatty() and os.path.isdir(f"/proc/{pid}/fdinfo")
-        self.command = form.command if form else ""
-        self.files, self.last = [], {}
-        for _, path in form.inputs if self.is_on else []:
-            try:
-                if os.path.isfile(path):
-                    self.files.append((os.stat(path), path))
-            except OSError:
-                pass
-
-    def show(self):
-        now = time.monotonic()
-        if not self.is_on or now < self.next:
-            return
-        self.next = now + EACH
-        gone = now - self.began
-        shares = {path: self.position(found, path) / max(found.st_size, 1) for found, path in self.files}
-        parts = [f"{100 * share:.0f} % of {os.path.basename(path)}" for path, share in shares.items()]
-        least = min(shares.values(), default=0)
-        left = f", about {explain.clock(gone * (1 - least) / least)} more" if 0.02 < least < 1 else ""
-        line = f"dvbt: {self.command} {', '.join(parts)}{' after' if parts else ''} {explain.clock(gone)}{left}"
-        sys.stderr.write(f"\r{line}\033[K")
-        sys.stderr.flush()
-        self.shown = True
-
-    def position(self, found, path):
-        """Where the program stands in a file; where it stood last, where the file isn't open."""
-        try:
-            for name in os.listdir(f"/proc/{self.pid}/fd"):
-                try:
-                    seen = os.stat(f"/proc/{self.pid}/fd/{name}")
-                    if int(name) > 2 and os.path.samestat(seen, found):
-                        with open(f"/proc/{self.pid}/fdinfo/{name}", encoding="ascii") as file:
-                            self.last[path] = int(file.readline().split()[1])
-                except OSError:
-                    pass
-        except OSError:
-            pass
-        return self.last.get(path, 0)
-
-    def clear(self):
-        if self.shown:
-            sys.stderr.write("\r\033[K")
-            sys.stderr.flush()
-            self.shown = False
-
-    end = clear
+        return signal.Signals(number).name
+    except ValueError:
+        return f"signal {number}"
