@@ -26,9 +26,16 @@ def is_version_1(begin, size):
     return size % (4 * 1705) == 0 or size % (4 * 6817) == 0 or any(frames)
 
 
-def against(begin, settings, is_received):
-    """What speaks against these cells: zeros, a wrong place and, if they are received, parameters that the settings contradict."""
-    return [*silent(begin), *misplaced(begin, settings), *(contradicted(begin, settings) if is_received else [])]
+def against(begin, settings, command):
+    """What speaks against cells that a command reads: zeros, no frame, a wrong place, parameters that the settings contradict."""
+    votes = votes_in(begin, settings["mode"])
+    frame = first_frame(votes)
+    yield from silent(begin)
+    if frame is None and len(votes) == SYMBOLS and command != "receive":  # which counts TPS words itself
+        yield "no TPS word can be read"
+    if frame:
+        yield from misplaced(*frame)
+        yield from contradicted(frame[1], settings) if command != "equalise" else ()
 
 
 def silent(begin):
@@ -39,24 +46,23 @@ def silent(begin):
         yield "all cells are 0"
 
 
-def misplaced(begin, settings):
+def misplaced(start, word):
     """Says that the cells do not begin at a super-frame."""
-    start, word = first_frame(votes_in(begin, settings["mode"])) or (0, None)
-    if word and (start % 68 or start // 68 % 4 != field(word, 23, 24)):
-        yield f"not from a super-frame on: its symbol {start} is the first of frame {field(word, 23, 24) + 1} (tune finds the next one)"
+    frame = field(word, 23, 24) + 1
+    if start % 68 or start // 68 % 4 != frame - 1:
+        yield f"not from a super-frame on: its symbol {start} is the first of frame {frame} (tune finds the next super-frame)"
 
 
-def contradicted(begin, settings):
+def contradicted(word, settings):
     """Says which parameters the signal announces and the settings contradict (4.6.2)."""
-    _, word = first_frame(votes_in(begin, settings["mode"])) or (0, None)
-    if word and why_unfit(word):
+    if why_unfit(word):
         yield f"its TPS word has {why_unfit(word)}"
-    elif word:
-        own, length = settings_in(settings, 1), field(word, 17, 22)
-        announced = {**fields_of(word), "cell_id": "none" if length == 23 else "other"}
-        wrong = [key for key in differences(word, announced, own) if key != "cell_id" or "cell_id" in own]
-        if wrong:
-            yield f"TPS says {named(announced, wrong)}, the settings say {named(own, wrong)}"
+        return
+    own, length = settings_in(settings, 1), field(word, 17, 22)
+    announced = {**fields_of(word), "cell_id": "none" if length == 23 else "other"}
+    wrong = [key for key in differences(word, announced, own) if key != "cell_id" or "cell_id" in own]
+    if wrong:
+        yield f"TPS says {named(announced, wrong)}, the settings say {named(own, wrong)}"
 
 
 def named(values, wrong):

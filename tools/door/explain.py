@@ -140,7 +140,8 @@ def of_writing(form, text):
             return f"{path} can't be written: this user may not write it"
         if os.statvfs(folder).f_bavail == 0:
             return f"{path} can't be written: the disk is full"
-    return f"{' or '.join([*form.outputs, 'standard output'])} could not be written"
+    standard = [path for path in form.outputs if path != "/dev/stdout"] + ["standard output"]
+    return f"{' or '.join(standard)} could not be written"
 
 
 def of_memory(form, text):

@@ -39,7 +39,7 @@ def told(top, words, options):
         import texts
 
         return texts.help_of_all()
-    if len(words) == 2 and words[0] in forms.FORMS and words[1] in ("--help", "-h"):
+    if len(words) > 1 and words[0] in forms.FORMS and words[-1] in ("--help", "-h"):
         import texts
 
         return texts.help_of(words[0])

@@ -60,8 +60,8 @@ def signal(form, facts):
 
     path, settings = form.of("cells")[0], settings_of(form)
     begin = piece(path, 0, beginning.BYTES)
-    said = beginning.against(begin, settings, form.command != "equalise") if begin and settings else []
-    yield from [f"{path}: {', '.join(said)}"] if said else []
+    said = ", ".join(beginning.against(begin, settings, form.command)) if begin and settings else ""
+    yield from [f"{path}: {said}"] if said else []
 
 
 def corrected(form, facts):
