@@ -5,7 +5,7 @@ from cell_tools.settings import settings_in
 from cell_tools.tps import differences, field, fields_of, first_frame, tps_carriers, why_unfit
 
 SYMBOLS = 2 * 68  # what is looked at: a whole frame is among them, whichever the first one is
-BYTES = 8 + SYMBOLS * 5 * 6817
+BYTES = {"2k": 8 + SYMBOLS * 5 * 1705, "8k": 8 + SYMBOLS * 5 * 6817}
 NAMES = {"qpsk": "QPSK", "16qam": "16-QAM", "64qam": "64-QAM"}
 
 

@@ -1,4 +1,5 @@
 """The TPS words of a transmission (EN 300 744, 4.6), by the standard library alone."""
+import functools
 
 # Carriers of the 2K mode; the 8K mode has them four times, 1704 apart (4.6).
 TPS = [34, 50, 209, 346, 413, 569, 595, 688, 790, 901, 1073, 1219, 1262, 1286, 1469, 1594, 1687]
@@ -73,19 +74,18 @@ def differences(bits, found, settings):
     return wrong
 
 
-# What is left of a word in which one bit or two are wrong: which bits these are.
+@functools.lru_cache(None)
 def one_or_two():
+    """Which bits are wrong if one is or two are, by what is left of the word."""
     alone = {place: bch_rest("".join("1" if i == place else "0" for i in range(67))) for place in range(67)}
-    found = {0: ()} | {rest: (place,) for place, rest in alone.items()}
+    found = {rest: (place,) for place, rest in alone.items()}
     return found | {alone[a] ^ alone[b]: (a, b) for a in range(67) for b in range(a)}
-
-
-ERRORS = one_or_two()
 
 
 def corrected(bits):
     """The word of the code within two bits of s1 to s67 and how many were wrong, or None."""
-    places = ERRORS.get(bch_rest(bits))
+    rest = bch_rest(bits)
+    places = one_or_two().get(rest) if rest else ()
     if places is None:
         return None
     return "".join("10"[int(bit)] if place in places else bit for place, bit in enumerate(bits)), len(places)

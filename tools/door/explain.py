@@ -171,7 +171,7 @@ def of_header(form, text):
     from cell_tools import beginning
 
     path = form.of("cells")[0]
-    begin = piece(path, 0, beginning.BYTES)
+    begin = piece(path, 0, beginning.BYTES["8k"])
     if begin[:5] == b"DVTC\x02" and begin[5:6] in (b"\0", b"\1"):
         return f"{path} has cells of the {['2k', '8k'][begin[5]]} mode; {form.settings} has the other mode"
     if begin and beginning.is_version_1(begin, os.path.getsize(path)):
@@ -186,7 +186,8 @@ def of_no_frame(form, text):
 
     path = form.of("cells")[0]
     none = f"{path}: no 68 symbols in a row have a TPS word that can be read (EN 300 744, 4.6)"
-    return [none, f"{path}: {beginning.why_no_frame(piece(path, 0, beginning.BYTES))}"]
+    begin = piece(path, 0, beginning.BYTES["8k"])
+    return [none, f"{path}: {beginning.why_no_frame(begin)}"]
 
 
 def of_form(form, text):

@@ -59,8 +59,8 @@ def signal(form, facts):
     from cell_tools import beginning
 
     path, settings = form.of("cells")[0], settings_of(form)
-    begin = piece(path, 0, beginning.BYTES)
-    said = ", ".join(beginning.against(begin, settings, form.command)) if begin and settings else ""
+    begin = piece(path, 0, beginning.BYTES[settings["mode"]]) if settings else b""
+    said = ", ".join(beginning.against(begin, settings, form.command)) if begin else ""
     yield from [f"{path}: {said}"] if said else []
 
 
@@ -68,7 +68,7 @@ def corrected(form, facts):
     """Zeros in what was written."""
     from cell_tools import beginning
 
-    yield from (f"{form.outputs[0]}: {text}" for text in beginning.silent(piece(form.outputs[0], 0, beginning.BYTES)))
+    yield from (f"{form.outputs[0]}: {text}" for text in beginning.silent(piece(form.outputs[0], 0, beginning.BYTES["2k"])))
 
 
 def settings_of(form):
