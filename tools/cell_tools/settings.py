@@ -169,7 +169,7 @@ def told(key, value):
 def unknown(keys, number):
     """Names the key that has this number among the sorted keys of a document, and one that is like it."""
     if not number.isdigit() or int(number) >= len(keys):
-        return f"an unknown key, number {number} of its sorted keys, from 0: Python's TOML reader rejects the file, so it can't be named"
+        return f"an unknown key, number {number} of its sorted keys, from 0 (by Python the file can't be read again, so it has no name)"
     import difflib
 
     near = difflib.get_close_matches(keys[int(number)].lower(), KEYS, 2)

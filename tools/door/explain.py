@@ -46,7 +46,7 @@ def of_usage(words):
         say(option_in(words) or f"{command} takes these arguments:")
         say(f"  {line}" for line in forms.lines_of_forms(command))
     elif command.startswith("-"):
-        say(f"there is no option {command}; before the command may stand {', '.join(forms.OPTIONS)}")
+        say(f"there is no option {command}; the options are {', '.join(forms.OPTIONS)}, before the command")
     elif command in ("help", "version"):
         say(f"{command} is --{command}: bin/dvbt --{command}")
     else:
@@ -151,7 +151,9 @@ def of_memory(form, text):
 
 def of_limit(form, text):
     """More packets or symbols than the limit."""
-    number = int(text.split()[1]) if re.fullmatch(r"limit \d+", text) else 0
+    if not re.fullmatch(r"limit \d+", text):
+        return "there are more packets or symbols than the limit"
+    number = int(text.split()[1])
     if form.command in ("disperse", "outer", "inner") or form.command == "modulate" and number == 100_000_000:
         return f"an input has more than {number:,} packets ({number * PACKET / 1e9:.1f} GB), the most for one run"
     what = {"modulate": "the transmission has", "trial": "the trial has"}.get(form.command, "the cells have")
@@ -172,7 +174,7 @@ def of_header(form, text):
 
     path = form.of("cells")[0]
     begin = piece(path, 0, beginning.BYTES["8k"])
-    if begin[:5] == b"DVTC\x02" and begin[5:6] in (b"\0", b"\1"):
+    if begin[:8] in (b"DVTC\x02\0\0\0", b"DVTC\x02\1\0\0"):
         return f"{path} has cells of the {['2k', '8k'][begin[5]]} mode; {form.settings} has the other mode"
     if begin and beginning.is_version_1(begin, os.path.getsize(path)):
         return f"{path} looks like version 1: bin/dvbt upgrade {form.settings} {path} NEW makes a file of version 2"
@@ -212,7 +214,7 @@ def what_stands(form, status, before):
 
 
 def piece(path, at, size):
-    """So many bytes of a file from a place on, as far as it has them. Nothing that is not a regular file is opened again."""
+    """At most so many bytes of a file from a place on. Nothing that is not a regular file is opened again."""
     try:
         if os.path.isfile(path):
             with open(path, "rb") as file:
