@@ -1,18 +1,14 @@
 """What bin/dvbt does with its arguments."""
 import os
-import signal
+import _signal as signal  # the built-in part alone: the rest takes as long to import as Python to start
 import sys
 
 from door import words as forms
 from door.names import Rejected
 
 
-def main(top, words, closed):
+def main(top, words, options, closed):
     """Runs the arguments; answers the exit status. `closed` are the descriptors that the program is to find closed."""
-    options = set()
-    while words and words[0] in forms.OPTIONS:
-        options.add(forms.OPTIONS[words[0]])
-        words = words[1:]
     said = told(top, words, options)
     if said is not None:
         return printed(said)
@@ -27,7 +23,7 @@ def main(top, words, closed):
             from door import explain
 
             explain.of_usage(words)
-        return printed("usage", 2)
+        return object_of(words, 2, "usage") if "json" in options else printed("usage", 2)
     if options == {"quiet"} and not is_data:
         become(file, given, closed)
     return watch.run(file, form, words, given, options, is_data, closed)
@@ -124,13 +120,13 @@ class StandardError:
     """Standard error as far as it takes what is written: what it does not take changes no status."""
 
     def __init__(self):
-        self.text, self.to = "", 2
+        self.text, self.last, self.to = "", "", 2
 
     def write(self, text):
         self.text += text
 
     def flush(self):
-        data, self.text = self.text.encode("utf-8", "backslashreplace"), ""
+        data, self.text, self.last = self.text.encode("utf-8", "backslashreplace"), "", self.text.strip()
         try:
             while data:
                 data = data[os.write(self.to, data) :]
@@ -142,15 +138,30 @@ class StandardError:
         return os.isatty(2)
 
 
+def object_of(words, status, text, path=None):
+    """Prints the object of a call that is not run; answers the status."""
+    from door import report, watch
+
+    form = forms.form_of(words)
+    of_call = report.Report(form, 2 if form and "/dev/stdout" in form.outputs else 1)
+    of_call.refusal = {"text": text, **({"file": path} if path else {})}
+    return watch.closed_with(of_call, status)
+
+
 def start(top, words):
     """As `main`, with every fault as a message. Where descriptors are closed the program finds them closed too."""
     sys.stderr = StandardError()
     closed = closed_descriptors()
+    number = next((at for at, word in enumerate(words) if word not in forms.OPTIONS), len(words))
+    options, words = {forms.OPTIONS[it] for it in words[:number]}, words[number:]
     try:
-        return main(top, words, closed)
+        return main(top, words, options, closed)
     except Rejected as why:
-        status, text, sys.stderr.to = 64, why, why.to
+        status, path, sys.stderr.to = 64, why.path, why.to
+        print(f"dvbt: {why}", file=sys.stderr, flush=True)
     except OSError as error:
-        status, text = 126, f"{error.filename or 'bin/dvbt'}: {error.strerror}"
-    print(f"dvbt: {text}", file=sys.stderr, flush=True)
-    return status
+        status, path = 126, error.filename
+        print(f"dvbt: {path or 'bin/dvbt'}: {error.strerror}", file=sys.stderr, flush=True)
+    except SystemExit as end:
+        status, path = end.code, None
+    return object_of(words, status, sys.stderr.last.replace("dvbt: ", "", 1), path) if "json" in options else status

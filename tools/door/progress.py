@@ -32,6 +32,15 @@ class Progress:
         if self.form:
             write(f"dvbt: {self.line(time.monotonic() - self.began)}\n")
 
+    def note(self, lines):
+        """Counts the words of a command that reports them while it runs."""
+        for line in lines:
+            head, *words = line.decode("utf-8", "replace").split()[1:] or [""]
+            if head == "bits":
+                found = dict(zip(words[1::2], words[2::2]))
+                for name, shown in (("words", "words"), ("bad", "bad words")):
+                    self.counts[shown] = self.counts.get(shown, 0) + int(found[name])
+
     def clear(self):
         if self.is_there:
             self.is_there = False

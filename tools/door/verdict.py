@@ -1,6 +1,4 @@
 """What a run of status 0 is worth: one line on standard error if there is something to say."""
-import re
-
 from door.explain import document_of, piece
 
 PACKETS = 100_000_000  # the most of one input
@@ -92,15 +90,13 @@ CHECKS = {
 }
 
 
-# A line of the report: names with their numbers, of a stream or the like. `hp unmerged at N` is none.
-LINE = re.compile(r"(?:(hp|lp|tps|tune) )?((?:[a-z_]+ \d+ ?)+)")
-
-
-def facts_of(lines):
+def facts_of(form, lines):
     """The values of a report by name, those of a stream or the like by its name first."""
-    facts = {}
-    for found in filter(None, map(LINE.fullmatch, lines)):
-        words = found[2].split()
-        into = facts.setdefault(found[1], {}) if found[1] else facts
-        into.update(zip(words[::2], map(int, words[1::2])))
-    return facts
+    from door.report import Report
+
+    report = Report(form, None)
+    report.write = lambda found: None  # lines with an object of their own are not looked at
+    for line in lines:
+        if "unmerged at" not in line:
+            report.line(line)
+    return report.found

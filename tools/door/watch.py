@@ -1,7 +1,7 @@
 """Runs the program as a child that dies with the door: signals are passed on, and its report is handed on as it comes."""
 import os
 import select
-import signal
+import _signal as signal  # the built-in part alone: the rest takes as long to import as Python to start
 import sys
 
 from door.progress import Progress
@@ -66,9 +66,11 @@ class Child:
 def die_with(door):
     """Has the system kill this process once its parent, the process `door`, is gone. Where Python has no ctypes it lives on."""
     try:
-        import ctypes
+        import _ctypes  # without the classes of ctypes, which take half as long to import as Python to start
 
-        ctypes.CDLL(None).prctl(PR_SET_PDEATHSIG, signal.SIGKILL)
+        number = type("Number", (_ctypes._SimpleCData,), {"_type_": "i"})
+        call = type("Call", (_ctypes.CFuncPtr,), {"_flags_": _ctypes.FUNCFLAG_CDECL, "_restype_": number})
+        call(_ctypes.dlsym(_ctypes.dlopen(None, 0), "prctl"))(PR_SET_PDEATHSIG, int(signal.SIGKILL))
     except (ImportError, AttributeError):
         pass
     if os.getppid() != door:
@@ -78,35 +80,67 @@ def die_with(door):
 def run(program, form, words, given, options, is_data, closed):
     """Runs the program with the arguments `given`; answers its status. With `is_data` the report goes to standard error."""
     before = {path: seen(path) for path in form.outputs} if form else {}
-    is_quiet = "quiet" in options
+    is_quiet, to, report = "quiet" in options, 2 if is_data else 1, None
+    if "json" in options:
+        from door.report import Report
+
+        report = Report(form, to)
+    if form and not is_quiet:
+        tell_limit(form)
     child = Child(program, given, closed)
     progress = Progress(child.pid, form, not is_quiet and sys.stderr.isatty())
     signal.signal(signal.SIGUSR1, progress.tell)
-    lines, is_lost = handed_on(child, progress, 2 if is_data else 1)
+    lines, is_lost = handed_on(child, progress, report.take if report else lambda piece: put(piece, to), to)
     status = child.wait()
     progress.clear()
     if is_data:
         to_the_end(1)
-    if status < 0:
-        return end_by(-status, form, progress, before, is_quiet)
     if is_lost and status == 0:
         say("standard output took no more, so the last lines are lost")
-        return 6
-    if status and not is_quiet:
+        status = 6
+    elif status < 0 and not is_quiet:
+        tell_end(-status, progress, before)
+    elif status and not is_quiet:
         from door import explain
 
         explain.of_refusal(form, words, status, lines[-1] if lines else "", before)
-    return status or judged(form, lines, options)
+    elif form and status == 0 and options != {"quiet"}:
+        status = judged(form, lines, options, report)
+    if report:
+        status = closed_with(report, status)
+    return status if status >= 0 else end_by(-status)
 
 
-def judged(form, lines, options):
+def judged(form, lines, options, report):
     """Says what a run of status 0 is worth; answers its status, which --strict makes 1 if there is something to say."""
     from door import verdict
 
-    said = verdict.of(form, verdict.facts_of(lines)) if form else ""
+    said = verdict.of(form, verdict.facts_of(form, lines))
+    if report:
+        report.verdict = said
     if said and "quiet" not in options:
         say(said)
     return 1 if said and "strict" in options else 0
+
+
+def closed_with(report, status):
+    """Prints the object of a run; answers the status."""
+    try:
+        report.close(*((status,) if status >= 0 else (128 - status, name_of(-status))))
+    except OSError as error:
+        say(f"standard output could not be written: {error.strerror}")
+        return status or 6
+    return status
+
+
+def tell_limit(form):
+    """Says where a run ends that reads a pipe, if max_symbols is near its default."""
+    if form.settings and any(os.path.exists(path) and not os.path.isfile(path) and path != os.devnull for _, path in form.inputs):
+        from door.progress import of_limit
+
+        said = of_limit(form)
+        if said:
+            say(said)
 
 
 def seen(path):
@@ -118,9 +152,9 @@ def seen(path):
     return found.st_mtime_ns, found.st_size, found.st_ino, found.st_mode
 
 
-def handed_on(child, progress, to):
+def handed_on(child, progress, take, to):
     """Hands the program's report on; answers its last lines, and whether standard output did not take all of it."""
-    text, is_lost = b"", False
+    text, rest, is_lost = b"", b"", False
     while True:
         if not select.select([child.report], [], [], EACH if progress.is_shown else None)[0]:
             progress.show()
@@ -129,11 +163,13 @@ def handed_on(child, progress, to):
         if not piece:
             break
         text = (text + piece)[-65536:]
+        *lines, rest = (rest + piece).split(b"\n")
+        progress.note(lines)
         progress.clear()
         try:
-            put(piece, to)
+            take(piece)
         except OSError:
-            # what standard error does not take is dropped; the program then meets the fault of standard output itself
+            # what standard error does not take is dropped; else the program then meets a fault of its standard output
             if to == 1:
                 is_lost = True
                 break
@@ -154,15 +190,17 @@ def to_the_end(number):
         pass
 
 
-def end_by(number, form, progress, before, is_quiet):
-    """Says what stands, and ends by the signal that ended the program, without a second core file."""
+def tell_end(number, progress, before):
+    """Says what a signal ended and what stands."""
+    why = ": so it ends if it has too little stack or address space (docs/FILES.md)" if number == signal.SIGSEGV else ""
+    say(f"the program was ended by {name_of(number)}{why}")
+    say(progress.stands(before, seen) if progress.form else [])
+
+
+def end_by(number):
+    """Ends by the signal that ended the program, without a second core file; else with 128 and its number, as shells do."""
     import resource
 
-    why = ": so it ends if it has too little stack or address space (docs/FILES.md)" if number == signal.SIGSEGV else ""
-    if not is_quiet:
-        say(f"the program was ended by {name_of(number)}{why}")
-        for line in progress.stands(before, seen) if form else []:
-            say(line)
     resource.setrlimit(resource.RLIMIT_CORE, (0, 0))
     if number != signal.SIGKILL:
         signal.signal(number, signal.SIG_DFL)
@@ -177,7 +215,5 @@ def say(text):
 
 
 def name_of(number):
-    try:
-        return signal.Signals(number).name
-    except ValueError:
-        return f"signal {number}"
+    named = (name for name, value in vars(signal).items() if value == number and name.startswith("SIG") and "_" not in name)
+    return next(named, f"signal {number}")

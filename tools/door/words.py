@@ -22,7 +22,7 @@ FORMS = {
 }
 
 # Options stand before the command.
-OPTIONS = {"-q": "quiet", "--quiet": "quiet", "--strict": "strict"}
+OPTIONS = {"-q": "quiet", "--quiet": "quiet", "--strict": "strict", "--json": "json"}
 
 
 class Form:
