@@ -70,9 +70,8 @@ def of_refusal(form, words, status, text, before):
     elif form is None:
         of_usage(words)
     else:
-        causes = {3: of_settings, 4: of_packet, 5: of_reading, 6: of_writing, 7: of_memory, 8: of_limit, 9: of_header}
-        causes |= {10: of_no_frame, 11: of_form}
-        say(causes[status](form, text) if status in causes else [])
+        causes = {3: of_settings, 4: of_packet, 5: of_reading, 6: of_writing, 8: of_limit, 9: of_header, 10: of_no_frame, 11: of_form}
+        say(causes[status](form, text) if status in causes else "there is not enough memory" if status == 7 else [])
         say(what_stands(form, status, before) if status > 3 else [])
 
 
@@ -142,11 +141,6 @@ def of_writing(form, text):
             return f"{path} can't be written: the disk is full"
     standard = [path for path in form.outputs if path != "/dev/stdout"] + ["standard output"]
     return f"{' or '.join(standard)} could not be written"
-
-
-def of_memory(form, text):
-    """Memory runs out."""
-    return "there is not enough memory"
 
 
 def of_limit(form, text):

@@ -1,9 +1,6 @@
 """What a run of status 0 is worth: one line on standard error if there is something to say."""
 from door.explain import document_of, piece
 
-PACKETS = 100_000_000  # the most of one input
-
-
 def of(form, facts):
     """The verdict on a run of status 0 by the values of its report, empty if all is well."""
     return "; ".join(text for check in CHECKS.get(form.command, []) for text in check(form, facts))
@@ -17,13 +14,15 @@ def packets(form, facts):
             yield f"{path} ends within a packet: its last {left} bytes were left out (a truncated file?)"
         elif number == 0:
             yield f"{path} has no packets"
-        if number > 0.9 * PACKETS:
-            yield f"{path} has {number:,} packets; one run takes at most {PACKETS:,}"
+        if number > 90_000_000:
+            yield f"{path} has {number:,} packets; one run takes at most 100,000,000"
 
 
 def symbols(form, facts):
-    """Cells that end within a symbol, and nearly as many symbols as the limit."""
-    if facts.get("tail"):
+    """Cells that end within a symbol or have none, and nearly as many symbols as the limit."""
+    if facts.get("symbols") == 0 and "hp" not in facts:
+        yield f"{form.of('cells')[0]} has no whole symbol"
+    elif facts.get("tail"):
         yield f"{form.of('cells')[0]} ends within a symbol: its last {facts['tail']} bytes were left out (a truncated file?)"
     number, settings = facts.get("symbols", 272 * facts.get("superframes", 0)), settings_of(form)
     if "tune" in facts:
