@@ -7,7 +7,6 @@ import sys
 PACKET, SYNC = 188, 0x47
 USEFUL = {"2k": 224e-6, "8k": 896e-6}  # seconds of a symbol without guard in a channel of 8 MHz
 OTHERS = {204: "the last 16 bytes of each, its parity", 192: "the first 4 bytes of each, its time stamp"}  # packets not read
-# What an output holds, by status.
 STANDS = {4: "output for the packets before it", 5: "output for what was read", 6: "a prefix of the full output", 8: "output within the limit"}
 
 
@@ -139,8 +138,7 @@ def of_writing(form, text):
             return f"{path} can't be written: this user may not write it"
         if os.statvfs(folder).f_bavail == 0:
             return f"{path} can't be written: the disk is full"
-    standard = [path for path in form.outputs if path != "/dev/stdout"] + ["standard output"]
-    return f"{' or '.join(standard)} could not be written"
+    return f"{' or '.join([path for path in form.outputs if path != '/dev/stdout'] + ['standard output'])} could not be written"
 
 
 def of_limit(form, text):

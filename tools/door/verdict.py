@@ -1,6 +1,7 @@
 """What a run of status 0 is worth: one line on standard error if there is something to say."""
 from door.explain import document_of, piece
 
+
 def of(form, facts):
     """The verdict on a run of status 0 by the values of its report, empty if all is well."""
     return "; ".join(text for check in CHECKS.get(form.command, []) for text in check(form, facts))
