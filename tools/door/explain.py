@@ -37,7 +37,6 @@ def spoken(seconds):
 def of_usage(words):
     """An invalid command line."""
     from difflib import get_close_matches
-
     from door import words as forms
 
     command = (words or [""])[0]
@@ -79,10 +78,9 @@ def of_settings(form, text):
     from cell_tools import settings
 
     path, refusal = form.settings, text.partition(" ")[2]
-    if refusal == "form" and len(form.files) > 3:
-        return f"{path} has no hierarchy, so there is no LP: leave its file out, or set hierarchy and rate_lp"
     if refusal == "form":
-        return f"{path} has a hierarchy, at the top or in its plan: name a file of LP too"
+        no_lp = "has no hierarchy, so there is no LP: leave its file out, or set hierarchy and rate_lp"
+        return f"{path} {no_lp if len(form.files) > 3 else 'has a hierarchy, at the top or in its plan: name a file of LP too'}"
     name = f"{path}, read as SETTINGS," if refusal in ("too long", "not toml") else path
     return f"{name} {settings.why_rejected(piece(path, 0, 65536), refusal)} (docs/SETTINGS.md)"
 

@@ -62,11 +62,13 @@ def signal(form, facts):
     yield from [f"{path}: {said}"] if said else []
 
 
-def corrected(form, facts):
-    """Zeros in what was written."""
+def written(form, facts):
+    """Zeros in what was written, or cells that were made of a header."""
     from cell_tools import beginning
 
-    yield from (f"{form.outputs[0]}: {text}" for text in beginning.silent(piece(form.outputs[0], 0, beginning.BYTES["2k"])))
+    begin = piece(form.outputs[0], 0, beginning.BYTES["2k"])
+    said = ["its cells are wrong: OLD was of version 2 already"] if begin[8:12] == b"DVTC" else beginning.silent(begin)
+    yield from (f"{form.outputs[0]}: {text}" for text in said)
 
 
 def settings_of(form):
@@ -85,8 +87,8 @@ CHECKS = {
     "receive": [reception, signal, symbols],
     "rescue": [reception, signal, symbols],
     "tune": [reception, symbols],
-    "upgrade": [symbols],
-    "equalise": [signal, corrected, symbols],
+    "upgrade": [written, symbols],
+    "equalise": [signal, written, symbols],
 }
 
 
