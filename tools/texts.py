@@ -84,7 +84,7 @@ STATUSES = [
     (11, "the signal has a hierarchy and LP is not given, or the reverse: `tune form`", ("tune",)),
 ]
 OF_THE_DOOR = [
-    (64, "bin/dvbt itself refused: one file is named twice, and would be destroyed"),
+    (64, "bin/dvbt did not start the run: a file would be destroyed, or a descriptor that is named is not open"),
     (126, "the program could not be built, or its proof failed, or the one that $DVBT_PROGRAM names can't be run"),
     (127, "the program is not built, and the toolchain's command rt is not on the PATH"),
 ]
@@ -93,14 +93,16 @@ OF_THE_DOOR = [
 def help_of_all():
     """What `bin/dvbt --help` prints."""
     out = ["dvbt: a DVB-T modulator and streaming soft receiver (EN 300 744, between transport packets and OFDM cells)", ""]
-    out += ["usage: bin/dvbt [-q] COMMAND WORDS..", ""]
+    out += ["usage: bin/dvbt [-q] [--json] COMMAND ARGUMENTS", ""]
     for command in words.FORMS:
         out += [f"  {line}" for line in words.lines_of_forms(command)]
         out += [f"        {SHORT[command]}"]
     out += ["", "  bin/dvbt COMMAND --help     forms, files, an example and the statuses of a command"]
     out += ["  bin/dvbt --version          the sources, the toolchain and the program that would run"]
     out += ["  bin/dvbt --program          the path of that program, which is built where it isn't yet"]
-    out += ["  -q                          the program alone: no explanation and no progress on standard error"]
+    out += ["  -q, --quiet                 the program alone: no explanation and no progress on standard error"]
+    out += ["  --json                      the report as one object on one line (docs/JSON.md)"]
+    out += ["  -                           in place of a file: standard input, or output; the report then goes to standard error"]
     out += ["  $DVBT_PROGRAM               names another program to run in its place", ""]
     out += ["There and back:"]
     out += [f"  {EXAMPLES[it][0]}" for it in ("modulate", "receive")]
