@@ -8,7 +8,7 @@ SHORT = {
     "tune": "cells from any symbol on, their settings read from the signal",
     "upgrade": "a cell file of version 1 as one of version 2",
     "equalise": "cells corrected by the pilots of their own symbols",
-    "trial": "packets drawn from a number, there and back over disturbed cells",
+    "trial": "random packets of a number, there and back over disturbed cells",
     "disperse": "energy dispersal alone, 188 bytes a packet",
     "outer": "dispersal, Reed-Solomon code and outer interleaver, 204 bytes a packet",
     "inner": "those bytes, convolutionally coded and punctured",
@@ -29,23 +29,23 @@ FILES = {
 
 MORE = {
     "modulate": """Writes whole super-frames, at least one: the fewest that carry all packets and let a receiver have them
-back. Null packets fill the rest. LP is given exactly where the settings have a hierarchy, at the top or in their plan.""",
+back. Null packets fill the rest. Name LP if and only if the settings have a hierarchy, at the top or in their plan.""",
     "receive": """Reads cells from the first symbol of a super-frame on and writes packets as they are decided. A
-packet that could not be corrected is written with transport_error_indicator set. LP is given exactly where the
-settings have a hierarchy, at the top or in their plan. Set start = "any" where the cells do not begin at the start of
-a transmission. Each cell has a weight of 0 to 15, by which its costs count.""",
-    "rescue": """Reads cells and writes packets as `receive` does. Where a word of 204 bytes has more than eight errors, its eight
+packet that can't be corrected is written with transport_error_indicator set. Name LP if and only if the settings have
+a hierarchy, at the top or in their plan. Set start = "any" if the cells do not begin at the start of a transmission.
+Each cell has a weight of 0 to 15, by which its costs count.""",
+    "rescue": """Reads cells and writes packets as `receive` does. If a word of 204 bytes has more than eight errors, its eight
 least sure bytes are erased, and it is decoded once more: with up to four errors among the others it comes back, and
 is counted as rescued. Packets come later than those of `receive`, and no line `tps` is printed.""",
     "tune": """Finds the first 68 symbols whose TPS word can be read, takes constellation, hierarchy, rates and guard interval from
-it, and receives from the next super-frame on. Of the settings mode, workers and max_symbols alone have an effect. LP is
-given exactly where the signal has a hierarchy. `tune at I frame F` tells the first symbol of the frame, counted from 0.
-What stands before that super-frame is not received.""",
+it, and receives from the next super-frame on. Of the settings only mode, workers and max_symbols have an effect. Name
+LP if and only if the signal has a hierarchy. `tune at I frame F` reports the first symbol of the frame, counted from 0.
+Symbols before that super-frame are not received.""",
     "upgrade": """Writes the header of the settings' mode, and each cell of OLD's whole symbols with the weight 15, at
-which it counts whole. Of the settings the mode and max_symbols alone have an effect.""",
+which it counts whole. Of the settings only mode and max_symbols have an effect.""",
     "equalise": """Divides each cell by the gain on the line between the two pilots around it, and writes it with a weight of
 0 to 15 by how strong that gain is. Serves one gain a symbol, or one that bends slowly over the carriers. Of the
-settings the mode and max_symbols alone have an effect.""",
+settings only mode and max_symbols have an effect.""",
     "trial": """Writes no file: the lines count what was sent and what came back, null packets too. `cells` and `sum` are sums of
 bytes modulo 2^32.""",
     "disperse": "EN 300 744, 4.3.1.",
@@ -69,22 +69,23 @@ EXAMPLES = {
 # The statuses, in one line each, and which commands have them.
 STATUSES = [
     (0, "the work was done whole; the lines say what was counted", words.FORMS),
-    (2, "the words are of no form: `usage`", words.FORMS),
-    (3, "the settings are refused: `settings ..` says why", ("modulate", "receive", "rescue", "tune", "upgrade", "equalise", "trial", "inner")),
+    (2, "invalid command line: `usage`", words.FORMS),
+    (3, "the settings are rejected: `settings ..` says why", ("modulate", "receive", "rescue", "tune", "upgrade", "equalise", "trial", "inner")),
     (4, "a packet does not begin with the sync byte 47: `hp packet N`, `lp packet N`, counted from 0",
      ("modulate", "disperse", "outer", "inner")),
     (5, "a file can't be opened or read: `read fault`", words.FORMS),
     (6, "a file can't be made, written or closed: `write fault`", words.FORMS),
-    (7, "memory is wanting: `memory`; no line where the words are not UTF-8 or the files' buffers can't be taken",
+    (7, "memory runs out: `memory`; no line if an argument is not UTF-8 or the files' buffers can't be taken",
      ("modulate", "receive", "rescue", "tune", "upgrade", "equalise", "trial", "outer", "inner")),
-    (7, "the words are not UTF-8, or the files' buffers can't be taken: no line", ("disperse",)),
+    (7, "an argument is not UTF-8, or the files' buffers can't be taken: no line", ("disperse",)),
     (8, "more packets or symbols than the limit: `limit N`", words.FORMS),
     (9, "the cells do not begin with the header of the settings' mode: `cells header`", ("receive", "rescue", "tune", "equalise")),
     (10, "no frame is found in the cells: `tune none`", ("tune",)),
     (11, "the signal has a hierarchy and LP is not given, or the reverse: `tune form`", ("tune",)),
 ]
 OF_THE_DOOR = [
-    (64, "bin/dvbt itself refused: one file is named twice, and would be destroyed"),
+    (1, "with --strict: 0, and bin/dvbt has a verdict on the run, such as: no reception"),
+    (64, "nothing was started: a file would be destroyed, a descriptor is not open, an option follows the command, or OLD is of version 2"),
     (126, "the program could not be built, or its proof failed, or the one that $DVBT_PROGRAM names can't be run"),
     (127, "the program is not built, and the toolchain's command rt is not on the PATH"),
 ]
@@ -93,14 +94,17 @@ OF_THE_DOOR = [
 def help_of_all():
     """What `bin/dvbt --help` prints."""
     out = ["dvbt: a DVB-T modulator and streaming soft receiver (EN 300 744, between transport packets and OFDM cells)", ""]
-    out += ["usage: bin/dvbt [-q] COMMAND WORDS..", ""]
+    out += ["usage: bin/dvbt [-q] [--strict] [--json] COMMAND ARGUMENTS", ""]
     for command in words.FORMS:
         out += [f"  {line}" for line in words.lines_of_forms(command)]
         out += [f"        {SHORT[command]}"]
     out += ["", "  bin/dvbt COMMAND --help     forms, files, an example and the statuses of a command"]
     out += ["  bin/dvbt --version          the sources, the toolchain and the program that would run"]
-    out += ["  bin/dvbt --program          the path of that program, which is built where it isn't yet"]
-    out += ["  -q                          the program alone: no explanation and no progress on standard error"]
+    out += ["  bin/dvbt --program          the path of that program, which is built if it isn't yet"]
+    out += ["  -q, --quiet                 the program alone: no explanation, verdict or progress on standard error"]
+    out += ["  --strict                    status 1 in place of 0 if there is a verdict: a line on what a run is worth"]
+    out += ["  --json                      the report as one object on one line (docs/JSON.md)"]
+    out += ["  -                           in place of a file: standard input, or output; the report then goes to standard error"]
     out += ["  $DVBT_PROGRAM               names another program to run in its place", ""]
     out += ["There and back:"]
     out += [f"  {EXAMPLES[it][0]}" for it in ("modulate", "receive")]
@@ -126,4 +130,4 @@ def lines_of_statuses(command):
     for number, text, of in STATUSES:
         if command is None or command in of:
             shown.setdefault(number, text)
-    return [f"  {number:3}  {text}" for number, text in [*shown.items(), *OF_THE_DOOR]]
+    return [f"  {number:3}  {text}" for number, text in sorted([*shown.items(), *OF_THE_DOOR])]

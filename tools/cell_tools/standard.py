@@ -1,18 +1,19 @@
 """What the standard (EN 300 744) says of a symbol's cells: carriers, levels, labels and the words of TPS."""
 import numpy as np
 
+from cell_tools.tps import SYNC, VALUES, bch_rest, differences, field, fields_of, read_word, tps_carriers  # noqa: F401
+
 UNIT = 16384  # the fixed-point value of 1 in the standard's normalised constellation
 BOOSTED = 21845  # 4/3 of it (EN 300 744, 4.5.5)
 FRAME = 68  # symbols of a frame (4.4)
 SUPER_FRAME = 4 * FRAME
 
-# Carriers of the 2K mode; the 8K mode has them four times, 1704 apart (4.5.4, 4.6).
+# Carriers of the 2K mode; the 8K mode has them four times, 1704 apart (4.5.4).
 CONTINUAL = [
     0, 48, 54, 87, 141, 156, 192, 201, 255, 279, 282, 333, 432, 450, 483, 525, 531, 618, 636, 714, 759, 765, 780,
     804, 873, 888, 918, 939, 942, 969, 984, 1050, 1101, 1107, 1110, 1137, 1140, 1146, 1206, 1269, 1323, 1377, 1491,
     1683, 1704,
 ]
-TPS = [34, 50, 209, 346, 413, 569, 595, 688, 790, 901, 1073, 1219, 1262, 1286, 1469, 1594, 1687]
 
 DATA, CONTINUAL_PILOT, SCATTERED_PILOT, TPS_CARRIER = range(4)
 NAMES = ["data", "continual", "scattered", "tps"]
@@ -24,24 +25,6 @@ KINDS = {
     "tps": [TPS_CARRIER],
 }
 
-SYNC = ["0011010111101110", "1100101000010001"]  # frames 1 and 3, frames 2 and 4 (4.6)
-RATES = ["1/2", "2/3", "3/4", "5/6", "7/8"]
-VALUES = {  # of the settings, in the order of their numbers in TPS
-    "constellation": ["qpsk", "16qam", "64qam"],
-    "hierarchy": ["none", "1", "2", "4"],
-    "rate_hp": RATES,
-    "rate_lp": RATES,
-    "guard": ["1/32", "1/16", "1/8", "1/4"],
-    "mode": ["2k", "8k"],
-}
-PLACES = {  # the first and the last bit of each field
-    "constellation": (25, 26),
-    "hierarchy": (27, 29),
-    "rate_hp": (30, 32),
-    "rate_lp": (33, 35),
-    "guard": (36, 37),
-    "mode": (38, 39),
-}
 # The first and the last bit of each row of the table of TPS bits (4.6.2), by its name.
 ROWS = [
     (0, 0, "s0: the reference sequence"),
@@ -81,7 +64,7 @@ class Carriers:
         self.mode = mode
         shifts = range(1) if mode == "2k" else range(4)
         self.count = 1 + 1704 * len(shifts)
-        self.tps = np.array([k + 1704 * j for j in shifts for k in TPS])
+        self.tps = np.array(tps_carriers(mode))
         self.continual = np.unique([k + 1704 * j for j in shifts for k in CONTINUAL])
         bits = [1] * 11  # the reference sequence (4.5.2)
         while len(bits) < self.count:
@@ -145,29 +128,6 @@ class Points:
         return np.moveaxis(bits, -2, -1).reshape(*parts.shape[:-1], self.width)
 
 
-def bch_rest(bits):
-    """What is left of the word, s1 the highest coefficient, after division by the generator of the TPS code (4.6)."""
-    rest = int(bits, 2)
-    for degree in range(66, 13, -1):
-        if rest >> degree & 1:
-            rest ^= 0b100001101110111 << degree - 14
-    return rest
-
-
-def field(bits, first, last):
-    """Bits s_first to s_last as a number."""
-    return int(bits[first - 1 : last], 2)
-
-
-def fields_of(bits):
-    """The fields of s1 to s67 as a dictionary of texts, `?` and the number where a value is reserved."""
-    found = {}
-    for key, (first, last) in PLACES.items():
-        number, values = field(bits, first, last), VALUES[key]
-        found[key] = values[number] if number < len(values) else f"?{number}"
-    return found
-
-
 def described(bits, settings):
     """A line that tells the fields of s1 to s67, and whether they are those of the settings."""
     frame = field(bits, 23, 24) + 1
@@ -189,51 +149,7 @@ def described(bits, settings):
     return ", ".join(words)
 
 
-def differences(bits, found, settings):
-    """The keys of the settings that the fields contradict."""
-    told = dict(settings)
-    if settings["hierarchy"] == "none":
-        told["rate_lp"] = "1/2"  # sent as 000
-    wrong = [key for key in PLACES if found[key] != told[key]]
-    cell = settings.get("cell_id")
-    length = 23 if cell is None else 31
-    byte = 0 if cell is None else cell >> 8 if field(bits, 23, 24) % 2 == 0 else cell & 255
-    if field(bits, 17, 22) != length or field(bits, 40, 47) != byte:
-        wrong.append("cell_id")
-    return wrong
-
-
 def spaced(bits):
     """The bits of a TPS word, field by field."""
     ends = [0, 16, 22, 24, 26, 29, 32, 35, 37, 39, 47, 53, 67]
     return " ".join(bits[a:b] for a, b in zip(ends, ends[1:]))
-
-
-# What is left of a word in which one bit or two are wrong: which bits these are.
-def one_or_two():
-    alone = {place: bch_rest("".join("1" if i == place else "0" for i in range(67))) for place in range(67)}
-    found = {0: ()} | {rest: (place,) for place, rest in alone.items()}
-    return found | {alone[a] ^ alone[b]: (a, b) for a in range(67) for b in range(a)}
-
-
-ERRORS = one_or_two()
-
-
-def read_word(bits):
-    """The word of the code within two bits of s1 to s67 and how many were wrong, or None; its fields are ones that can be sent."""
-    places = ERRORS.get(bch_rest(bits))
-    if places is None:
-        return None
-    word = "".join("10"[int(bit)] if place in places else bit for place, bit in enumerate(bits))
-    found, length = fields_of(word), field(word, 17, 22)
-    is_flat = found["hierarchy"] == "none"
-    is_valid = (
-        word[:16] == SYNC[field(word, 23, 24) % 2]
-        and length in (23, 31)
-        and not any(value.startswith("?") for value in found.values())
-        and (is_flat or found["constellation"] != "qpsk")
-        and (not is_flat or word[32:35] == "000")
-        and (length == 31 or word[39:47] == "00000000")
-        and word[47:53] == "000000"
-    )
-    return (word, len(places)) if is_valid else None

@@ -6,8 +6,6 @@ import sys
 from door import words as forms
 from door.names import Rejected
 
-OPTIONS = {"-q": "quiet", "--quiet": "quiet", "--json": "json"}  # they stand before the command
-
 
 def main(top, words, options, closed):
     """Runs the arguments; answers the exit status. `closed` are the descriptors that the program is to find closed."""
@@ -37,7 +35,7 @@ def told(top, words, options):
         import texts
 
         return texts.help_of_all()
-    if len(words) == 2 and words[0] in forms.FORMS and words[1] in ("--help", "-h"):
+    if len(words) > 1 and words[0] in forms.FORMS and words[-1] in ("--help", "-h"):
         import texts
 
         return texts.help_of(words[0])
@@ -154,8 +152,8 @@ def start(top, words):
     """As `main`, with every fault as a message. Where descriptors are closed the program finds them closed too."""
     sys.stderr = StandardError()
     closed = closed_descriptors()
-    number = next((at for at, word in enumerate(words) if word not in OPTIONS), len(words))
-    options, words = {OPTIONS[it] for it in words[:number]}, words[number:]
+    number = next((at for at, word in enumerate(words) if word not in forms.OPTIONS), len(words))
+    options, words = {forms.OPTIONS[it] for it in words[:number]}, words[number:]
     try:
         return main(top, words, options, closed)
     except Rejected as why:

@@ -28,6 +28,7 @@ class File:
 
 def given(form, closed):
     """The arguments for the program, and whether an output is our standard output. `closed` are those of 0 to 2 that are."""
+    reject_misplaced(form)
     files = [File(*it) for it in form.files]
     standard = {number: key_of_descriptor(number) for number in STANDARD if number not in closed}
     for at, file in enumerate(files):
@@ -47,6 +48,17 @@ def given(form, closed):
             raise Rejected(f"{file.path} holds data already and would begin anew; pipe through `cat`, or name the file", file.path)
     real = f"/dev/fd/{inheritable(os.dup(1))}" if any(it.number == 1 for it in data) else None
     return [form.command, *(real if it in data and it.number == 1 else it.path for it in files), *form.numbers], bool(data)
+
+
+def reject_misplaced(form):
+    """An option among the names is rejected, and so are cells of version 2 for `upgrade`, which would read them as noise."""
+    for _, name, path in form.files:
+        if path.startswith("-"):
+            raise Rejected(f"{path}: there are no options after the command; a file of that name is ./{path}", path)
+        if name == "OLD" and os.path.isfile(path) and os.access(path, os.R_OK):
+            with open(path, "rb") as file:
+                if file.read(5) == b"DVTC\x02":
+                    raise Rejected(f"{path} is of version 2 already", path)
 
 
 def inheritable(number):

@@ -12,10 +12,10 @@ BY_DEFAULT = 1_000_000  # max_symbols
 
 
 class Progress:
-    """The progress of the program with the number `pid`, on a terminal if `is_shown`."""
+    """The progress of the program, once its number `pid` is known; on a terminal if `is_shown`."""
 
-    def __init__(self, pid, form, is_shown):
-        self.pid, self.form, self.is_shown = pid, form, is_shown and form is not None
+    def __init__(self, form, is_shown):
+        self.pid, self.form, self.is_shown = None, form, is_shown and form is not None
         self.began = time.monotonic()
         self.next, self.is_there, self.last, self.counts, self.kept = self.began + FIRST, False, {}, {}, None
 

@@ -61,7 +61,8 @@ class Report:
     """The report of a run of `form` so far. What is printed goes to the descriptor `to`."""
 
     def __init__(self, form, to):
-        self.form, self.to, self.rest, self.at, self.found, self.refusal = form, to, "", None, {}, None
+        self.form, self.to, self.rest, self.at, self.found = form, to, "", None, {}
+        self.refusal, self.verdict = None, None
 
     def take(self, piece):
         """Takes what the program prints."""
@@ -87,8 +88,7 @@ class Report:
     def close(self, status, signal=None):
         """Writes the object of the run."""
         form, found = self.form, {"command": self.form and self.form.command, "status": status}
-        if signal:
-            found["signal"] = signal
+        found.update({"signal": signal} if signal else {}, **({"verdict": self.verdict} if self.verdict else {}))
         if self.refusal and form:
             self.refusal.update(cause_of(form, self.refusal))
         sizes = [{"file": it, "bytes": os.path.getsize(it)} for it in (form.outputs if form else []) if os.path.isfile(it)]

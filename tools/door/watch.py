@@ -24,6 +24,7 @@ class Child:
         mask = signal.pthread_sigmask(signal.SIG_BLOCK, passed_on)
         self.door, self.is_over = os.getpid(), False
         self.report, end = os.pipe()
+        self.wake = wakes()
         self.pid = os.fork()
         if self.pid == 0:
             self.become(program, words, closed, mask, end)
@@ -50,17 +51,44 @@ class Child:
             os._exit(126)
 
     def pass_on(self, number, _):
-        """Hands a signal on. A stop stops the door as well."""
+        """Hands a signal on. A stop stops both, also where nobody is at the terminal to go on with them."""
+        is_stop = number == signal.SIGTSTP
         if not self.is_over:
-            os.kill(self.pid, number)
-        if number == signal.SIGTSTP:
+            os.kill(self.pid, signal.SIGSTOP if is_stop else number)
+        if is_stop:
             os.kill(os.getpid(), signal.SIGSTOP)
 
-    def wait(self):
-        """Waits for its end; answers its status, or minus the signal that ended it."""
-        os.waitid(os.P_PID, self.pid, os.WEXITED | os.WNOWAIT)
+    def pieces(self, seconds):
+        """What it prints, piece by piece, until it has ended. A piece is empty if a signal or the end of so many seconds came first."""
+        while self.report or not os.waitid(os.P_PID, self.pid, os.WEXITED | os.WNOWAIT | os.WNOHANG):
+            ready = select.select([self.wake, self.report] if self.report else [self.wake], [], [], seconds)[0]
+            if self.wake in ready:
+                os.read(self.wake, 4096)
+            piece = os.read(self.report, 65536) if self.report in ready else b""
+            if self.report in ready and not piece:
+                self.let_go()
+            yield piece
+
+    def let_go(self):
+        """Reads no more of what it prints."""
+        os.close(self.report)
+        self.report = None
+
+    def status(self):
+        """Its status once it has ended, or minus the signal that ended it."""
         self.is_over = True  # no signal is passed on to another process of its number
         return os.waitstatus_to_exitcode(os.waitpid(self.pid, 0)[1])
+
+
+def wakes():
+    """A descriptor to read where each signal that has a handler, and the end of a child, leaves a byte. Else a signal that comes just
+    before we wait would be looked at only after the wait."""
+    read, write = os.pipe()
+    for number in (read, write):
+        os.set_blocking(number, False)
+    signal.set_wakeup_fd(write, warn_on_full_buffer=False)
+    signal.signal(signal.SIGCHLD, lambda *_: None)
+    return read
 
 
 def die_with(door):
@@ -87,11 +115,12 @@ def run(program, form, words, given, options, is_data, closed):
         report = Report(form, to)
     if form and not is_quiet:
         tell_limit(form)
-    child = Child(program, given, closed)
-    progress = Progress(child.pid, form, not is_quiet and sys.stderr.isatty())
+    progress = Progress(form, not is_quiet and sys.stderr.isatty())
     signal.signal(signal.SIGUSR1, progress.tell)
+    child = Child(program, given, closed)
+    progress.pid = child.pid
     lines, is_lost = handed_on(child, progress, report.take if report else lambda piece: put(piece, to), to)
-    status = child.wait()
+    status = child.status()
     progress.clear()
     if is_data:
         to_the_end(1)
@@ -104,9 +133,23 @@ def run(program, form, words, given, options, is_data, closed):
         from door import explain
 
         explain.of_refusal(form, words, status, lines[-1] if lines else "", before)
+    elif form and status == 0 and options != {"quiet"}:
+        status = judged(form, lines, options, report)
     if report:
         status = closed_with(report, status)
     return status if status >= 0 else end_by(-status)
+
+
+def judged(form, lines, options, report):
+    """Says what a run of status 0 is worth; answers its status, which --strict makes 1 if there is something to say."""
+    from door import verdict
+
+    said = verdict.of(form, verdict.facts_of(form, lines))
+    if report:
+        report.verdict = said
+    if said and "quiet" not in options:
+        say(said)
+    return 1 if said and "strict" in options else 0
 
 
 def closed_with(report, status):
@@ -141,13 +184,10 @@ def seen(path):
 def handed_on(child, progress, take, to):
     """Hands the program's report on; answers its last lines, and whether standard output did not take all of it."""
     text, rest, is_lost = b"", b"", False
-    while True:
-        if not select.select([child.report], [], [], EACH if progress.is_shown else None)[0]:
+    for piece in child.pieces(EACH if progress.is_shown else None):
+        if not piece:
             progress.show()
             continue
-        piece = os.read(child.report, 65536)
-        if not piece:
-            break
         text = (text + piece)[-65536:]
         *lines, rest = (rest + piece).split(b"\n")
         progress.note(lines)
@@ -158,8 +198,7 @@ def handed_on(child, progress, take, to):
             # what standard error does not take is dropped; else the program then meets a fault of its standard output
             if to == 1:
                 is_lost = True
-                break
-    os.close(child.report)
+                child.let_go()
     return text.decode("utf-8", "replace").splitlines(), is_lost
 
 

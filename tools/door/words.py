@@ -21,6 +21,9 @@ FORMS = {
     "inner": [(SETTINGS, TS, OUT)],
 }
 
+# Options stand before the command.
+OPTIONS = {"-q": "quiet", "--quiet": "quiet", "--strict": "strict", "--json": "json"}
+
 
 class Form:
     """The arguments of one call, matched to a form: each file by its kind. `-` is standard input or output."""

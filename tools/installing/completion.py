@@ -1,8 +1,8 @@
 """Completion of the command line in bash, zsh and fish."""
 import texts
-from door import main, words
+from door import words
 
-OPTIONS = [*main.OPTIONS, "--help", "--version"]
+OPTIONS = [*words.OPTIONS, "--help", "--version"]
 MOST = max(len(kinds) for forms in words.FORMS.values() for kinds in forms)  # arguments of a command
 
 BASH = """# Completion of dvbt in bash.

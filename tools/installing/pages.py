@@ -12,6 +12,7 @@ def placed(text, prefix):
         text = re.sub(rf"\[[^\]]*\]\((?:\.\./)?{re.escape(name)}[^)]*\)|(?<![\w/]){re.escape(name)}", page, text)
     text = re.sub(r"\[[^\]]*\]\(FILES\.md[^)]*\)", "dvbt-cells(5)", text)
     text = re.sub(r"\[([\w-]+\.md)\]\([^)]*\)", rf"{prefix}/share/doc/dvbt/\1", text)
+    text = re.sub(r"(?<![\w/])docs/([\w-]+\.md)", rf"{prefix}/share/doc/dvbt/\1", text)
     text = text.replace("tools/cells.py", "dvbt-cells").replace("bin/dvbt", "dvbt")
     return re.sub(r"((?<![\w/])|(?<=\\fB))examples/", f"{prefix}/share/dvbt/examples/", text)
 
@@ -26,7 +27,7 @@ def read(top, path):
 def options():
     """The options that `--help` lists, each with its text."""
     lines = texts.help_of_all().split("\nThere and back:")[0].split("\n")
-    return [found.groups() for found in (re.fullmatch(r"  ((?:bin/dvbt )?(?:COMMAND )?[-$]\S.*?)  +(\S.*)", line) for line in lines) if found]
+    return [found.groups() for found in (re.fullmatch(r"  ((?:bin/dvbt )?(?:COMMAND )?[-$]\S*(?: \S+)*?)  +(\S.*)", line) for line in lines) if found]
 
 
 def statuses():
