@@ -2,16 +2,18 @@
 """Looks into cell files, compares two, and measures one (docs/FILES.md, docs/CHECK-YOUR-EQUIPMENT.md).
 
     tools/cells.py SETTINGS CELLS               symbols, TPS and powers; with --out a picture of the constellation
-    tools/cells.py compare SETTINGS A B         where A differs from B: symbol, carrier, kind, label bit, clause
-    tools/cells.py measure SETTINGS CELLS       MER, pilots, data cells beyond the tolerance, TPS words read
+    tools/cells.py compare SETTINGS A B         how A differs from B: symbol, carrier, kind, label bit, clause, likeliest cause
+    tools/cells.py measure SETTINGS CELLS       MER, pilots, data cells beyond the tolerance, TPS words, what receive makes of it
     tools/cells.py disturb SETTINGS CELLS OUT   the same cells with noise, to try a receiver on
 
-Ends with 0 where all is as it should be, 1 where a check fails or a file can't be read, 2 where the words are wrong.
+A cell file may be a pipe, and `-` is standard input (of `disturb` OUT also standard output). Files are read a frame at a
+time, so their length costs no memory. Ends with 0 if all checks hold, with 1 if one fails or a file can't be read, with 2 if
+the arguments are invalid.
 
 Needs Python 3.9 or later, numpy, and for --out matplotlib too. On Debian:
     apt-get install python3-numpy python3-matplotlib
 Before Python 3.11 the settings have to be plain lines (cell_tools/plain_toml.py), as those of examples/settings are.
-Where the python3 on the PATH lacks numpy, it goes on by /usr/bin/python3 if that is there.
+If the python3 on the PATH lacks numpy, /usr/bin/python3 is tried.
 
 It is a reader's tool beside the program and shares no code with it. Other programs can use it as a module:
 read_settings(path), CellFile(path, settings).array() and Carriers(mode).kinds(l).
@@ -26,10 +28,13 @@ try:
 except ImportError as error:
     if __name__ == "__main__" and os.path.exists("/usr/bin/python3") and os.path.realpath(sys.executable) != os.path.realpath("/usr/bin/python3"):
         os.execv("/usr/bin/python3", ["/usr/bin/python3", *sys.argv])
-    sys.exit(f"cells.py: {error}; it needs numpy (Debian: python3-numpy)")
+    sys.exit(f"{os.path.basename(sys.argv[0])}: {error}; it needs numpy (Debian: python3-numpy)")
 
-from cell_tools.files import CellFile, Unfit, check, read_settings  # noqa: E402
+from cell_tools.files import CellFile, check  # noqa: E402
+from cell_tools.settings import Unfit, read_settings  # noqa: E402
 from cell_tools.standard import KINDS, Carriers  # noqa: E402, F401
+
+NAME = os.path.basename(sys.argv[0])  # cells.py, or dvbt-cells if it is installed
 
 
 def span(text):
@@ -58,13 +63,15 @@ def arguments(words):
     """The command line."""
     verb = words.pop(0) if words[:1] and words[0] in ("look", "compare", "measure", "disturb") else "look"
     about = {
-        "look": "Looks into a cell file: symbols, TPS, mean powers, and a picture of the constellation. Three more: cells.py compare --help, measure --help, disturb --help.",
-        "compare": "Compares the cell file A with B and tells where they differ first: symbol, carrier, kind, label bit, clause of EN 300 744.",
-        "measure": "Measures a cell file: MER over the data cells, pilots, TPS words, and whether the law on noise speaks of it. "
-        "Ends with 1 where a part of the law's premise fails or a TPS word can't be read.",
+        "look": "Looks into a cell file: symbols, TPS, mean powers, and a picture of the constellation. "
+        f"Three more: {NAME} compare --help, measure --help, disturb --help.",
+        "compare": "Compares the cell file A with B: the first difference with symbol, carrier, kind, label bit and clause of EN 300 744, counts, "
+        "and the likeliest cause.",
+        "measure": "Measures a cell file: MER over the data cells, pilots, TPS words, whether the theorem on noise applies, and if not, what to "
+        "expect of receive. Ends with 1 if a part of the theorem's premise fails or a TPS word can't be read.",
         "disturb": "Writes the cells with noise. The same seed gives the same noise everywhere.",
     }[verb]
-    parser = argparse.ArgumentParser(prog=f"cells.py {verb}" if verb != "look" else "cells.py", description=about)
+    parser = argparse.ArgumentParser(prog=f"{NAME} {verb}" if verb != "look" else NAME, description=about)
     add = parser.add_argument
     add("settings", metavar="SETTINGS", help="the settings of the transmission (docs/SETTINGS.md)")
     if verb == "compare":
@@ -72,9 +79,9 @@ def arguments(words):
         add("other", metavar="B", help="the cell file that it is judged by, as dvbt modulate writes it")
         add("--within", type=int, default=0, metavar="N", help="parts that differ by N at most count as the same (default: 0)")
     else:
-        add("cells", metavar="CELLS", help="the cell file (docs/FILES.md)")
+        add("cells", metavar="CELLS", help="the cell file (docs/FILES.md), - for standard input")
     if verb == "measure":
-        add("--sent", metavar="CELLS", help="measure against this file, what dvbt modulate wrote by the same settings, and not against the nearest points")
+        add("--sent", metavar="CELLS", help="measure against this file, which dvbt modulate wrote by the same settings, not against the nearest points")
         add("--list", choices=["symbols", "carriers"], help="print the MER of each symbol or of each carrier too")
         add("--out", metavar="PNG", help="draw the MER over carriers and over symbols to this file")
     if verb == "disturb":
@@ -82,7 +89,7 @@ def arguments(words):
         noise = parser.add_mutually_exclusive_group(required=True)
         noise.add_argument("--within", type=int, metavar="N", help="move each data cell evenly by at most N on each axis, pilots and TPS not at all")
         noise.add_argument("--mer", type=float, metavar="DB", help="Gaussian noise on all cells, for this MER of the data cells")
-        add("--seed", type=int, default=1, help="the number that the noise is drawn from (default: 1)")
+        add("--seed", type=int, default=1, help="the seed of the noise (default: 1)")
     if verb == "look":
         add("--frames", type=span, default=slice(None), metavar="A:B", help="the frames whose TPS is looked at, from 0 (default: all)")
         add("--verbose", action="store_true", help="three lines for each frame: where it is, s1 to s67, what they say")
@@ -103,7 +110,7 @@ def opened(path, settings):
 
 
 def main(words):
-    """Runs the words; answers whether all checks held."""
+    """Runs the command; answers whether all checks hold."""
     verb, words = arguments(words)
     settings = read_settings(words.settings)
     if verb == "compare":
@@ -128,6 +135,6 @@ if __name__ == "__main__":
     try:
         sys.exit(0 if main(sys.argv[1:]) else 1)
     except Unfit as error:
-        sys.exit(f"cells.py: {error}")
+        sys.exit(f"{NAME}: {error}")
     except BrokenPipeError:
         sys.exit(1)

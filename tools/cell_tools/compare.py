@@ -1,7 +1,10 @@
-"""Where two cell files differ: the first place, and counts by kind of carrier, by label bit and by TPS bit."""
+"""How two cell files differ: the first place, counts by kind of carrier, by label bit and by TPS bit, and the likeliest cause."""
 import numpy as np
 
+from cell_tools.causes import likeliest, plural
+from cell_tools.settings import Unfit
 from cell_tools.standard import CONTINUAL_PILOT, DATA, FRAME, NAMES, ROWS, SCATTERED_PILOT, TPS_CARRIER
+from cell_tools.sums import side_by_side
 
 # The clauses of EN 300 744 that say what such a carrier carries.
 CLAUSES = {
@@ -9,26 +12,30 @@ CLAUSES = {
     SCATTERED_PILOT: "4.5.3 (place), 4.5.2 and 4.5.5 (value)",
     TPS_CARRIER: "4.6",
 }
+LISTED = 12  # carriers that are listed
+SAMPLE = 24  # symbols by which causes are tried
 
 
 def compare(one, other, within):
     """Prints how the file `one` differs from `other`, the measure; answers whether it does not. Parts that differ by `within` at
     most count as the same."""
-    print(f"A {one.path}: {one.symbols} symbols, bytes left over {one.left_over}")
-    print(f"B {other.path}: {other.symbols} symbols, bytes left over {other.left_over}")
+    if str(one.path) == str(other.path) == "-":
+        raise Unfit("only one of the files can be standard input")
     found = Differences(one, within)
-    both = min(one.symbols, other.symbols)
-    weighed = 0
-    for m in range(both):
-        found.add(m, one.cells[m].astype(int), other.cells[m].astype(int))
-        weighed += int(np.count_nonzero(one.weights[m] != other.weights[m]))
+    both = 0
+    for ours, theirs in side_by_side(one, other):
+        if ours and theirs:
+            found.add(ours, theirs)
+            both += min(ours.symbols, theirs.symbols)
+    print(f"A {one.name}: {one.symbols} symbols, bytes left over {one.left_over}")
+    print(f"B {other.name}: {other.symbols} symbols, bytes left over {other.left_over}")
     found.show(both)
-    if weighed:
-        print(f"weights that differ: {weighed} of {both * one.carriers.count}")
+    if found.weighed:
+        print(f"weights that differ: {found.weighed} of {both * one.carriers.count}")
     is_same_length = (one.symbols, one.left_over) == (other.symbols, other.left_over)
     if not is_same_length:
         print("the files have different lengths")
-    is_same = is_same_length and found.counts.sum() == 0 and weighed == 0
+    is_same = is_same_length and found.counts.sum() == 0 and found.weighed == 0
     print("the same" if is_same and within == 0 else f"the same within {within}" if is_same else "DIFFERENT")
     return is_same
 
@@ -38,36 +45,66 @@ class Differences:
 
     def __init__(self, file, within):
         self.file, self.within = file, within
+        self.kinds = [file.carriers.kinds(l) for l in range(4)]
         self.counts, self.totals = np.zeros(4, int), np.zeros(4, int)
-        self.bits = np.zeros(max((file.points(m).width for m in range(file.symbols)), default=0), int)
+        self.by_carrier = np.zeros(file.carriers.count, int)
+        self.bits = np.zeros(0, int)
         self.only_size = 0  # data cells that differ and have the same label
-        self.first, self.first_symbols, self.sorted_alike, self.symbols = None, {}, 0, 0
+        self.first, self.first_symbols, self.sorted_alike, self.symbols, self.weighed = None, {}, 0, 0, 0
+        self.samples = []  # symbols of the first frames that differ, at most two: a cause that begins in mid-frame is whole in the next
 
-    def add(self, m, ours, theirs):
-        """Counts one symbol."""
-        kinds = self.file.carriers.kinds(m % FRAME)
-        self.totals += np.bincount(kinds, minlength=4)
-        wrong = np.any(abs(ours - theirs) > self.within, axis=1)
+    def add(self, one, other):
+        """Counts a frame of both files; of the longer one its symbols that the other has."""
+        symbols = min(one.symbols, other.symbols)
+        self.weighed += int(np.count_nonzero(one.weights[:symbols] != other.weights[:symbols]))
+        for l in range(min(4, symbols)):
+            self.totals += np.bincount(self.kinds[l], minlength=4) * len(range(l, symbols, 4))
+        if np.array_equal(one.words[:symbols], other.words[:symbols]):
+            return
+        ours, theirs = one.cells[:symbols].astype(int), other.cells[:symbols].astype(int)
+        wrong = np.any(abs(ours - theirs) > self.within, axis=2)
         if not wrong.any():
             return
-        self.symbols += 1
-        self.counts += np.bincount(kinds[wrong], minlength=4)
-        data = wrong & (kinds == DATA)
-        if data.any():
-            points = self.file.points(m)
-            turned = points.labels(ours[data]) != points.labels(theirs[data])
-            self.bits[: points.width] += turned.sum(axis=0)
-            self.only_size += int(np.sum(~turned.any(axis=1)))
-            whole = [np.sort(points.labels(it[kinds == DATA]) @ (1 << np.arange(points.width))) for it in (ours, theirs)]
-            self.sorted_alike += bool(np.array_equal(*whole))
-        if self.first is None:
-            k = int(np.argmax(wrong))
-            self.first = m, k, int(kinds[k]), ours[k], theirs[k]
-        for kind in set(kinds[wrong]):
-            self.first_symbols.setdefault(int(kind), m)
+        if len(self.samples) < 2:
+            begin = max(0, min(int(np.argmax(wrong.any(axis=1))), symbols - SAMPLE))
+            self.samples.append([it.cells[begin : begin + SAMPLE].astype(float)[: symbols - begin] for it in (one, other)])
+        self.symbols += int(np.count_nonzero(wrong.any(axis=1)))
+        self.by_carrier += wrong.sum(axis=0)
+        self.find_first(one.first, wrong, ours, theirs)
+        for l in range(min(4, symbols)):
+            self.counts += np.bincount(self.kinds[l], wrong[l::4].sum(axis=0), minlength=4).astype(int)
+            self.labels(self.file.points(one.first), self.kinds[l] == DATA, wrong[l::4], ours[l::4], theirs[l::4])
+
+    def find_first(self, first, wrong, ours, theirs):
+        """Keeps the first cell that differs, and the first symbol of each kind."""
+        for m in np.flatnonzero(wrong.any(axis=1)):
+            kinds = self.kinds[m % 4]
+            if self.first is None:
+                k = int(np.argmax(wrong[m]))
+                self.first = first + int(m), k, int(kinds[k]), ours[m, k], theirs[m, k]
+            for kind in set(kinds[wrong[m]].tolist()) - set(self.first_symbols):
+                self.first_symbols[kind] = first + int(m)
+            if len(self.first_symbols) == 4:
+                return
+
+    def labels(self, points, is_data, wrong, ours, theirs):
+        """Counts the label bits that differ in data cells, and the symbols that have the same labels in another order."""
+        data = wrong & is_data
+        if not data.any():
+            self.sorted_alike += int(np.count_nonzero(wrong.any(axis=1)))
+            return
+        turned = points.labels(ours[data]) != points.labels(theirs[data])
+        if len(self.bits) < points.width:
+            self.bits = np.pad(self.bits, (0, points.width - len(self.bits)))
+        self.bits[: points.width] += turned.sum(axis=0)
+        self.only_size += int(np.sum(~turned.any(axis=1)))
+        rows = np.flatnonzero(wrong.any(axis=1))
+        values = 1 << np.arange(points.width)
+        sorted_labels = [np.sort(points.labels(it[rows][:, is_data]) @ values, axis=1) for it in (ours, theirs)]
+        self.sorted_alike += int(np.sum(np.all(sorted_labels[0] == sorted_labels[1], axis=1)))
 
     def show(self, both):
-        """Prints the first difference and the counts."""
+        """Prints the first difference, the counts and where to look."""
         if self.first:
             print(*self.first_lines(), sep="\n")
         print(f"of {both} symbols {self.symbols} differ")
@@ -77,6 +114,11 @@ class Differences:
         if self.counts[DATA]:
             print("  label bits that differ: " + ", ".join(f"y{bit} {count}" for bit, count in enumerate(self.bits)))
             print(f"  data cells with the same label and another value: {self.only_size}")
+        always = np.flatnonzero(self.by_carrier == both) if both > 1 else []
+        if 0 < len(always) < self.file.carriers.count:
+            more = f" and {len(always) - LISTED} more" if len(always) > LISTED else ""
+            print(f"  carriers that differ in all symbols: {', '.join(map(str, always[:LISTED]))}{more}")
+        if self.first:
             print(f"  {self.hint()}")
 
     def first_lines(self):
@@ -100,7 +142,29 @@ class Differences:
         yield f"  clause: {CLAUSES[kind]}"
 
     def hint(self):
-        """Where to look first, by the pattern of the data cells that differ."""
+        """Where to look first: the likeliest cause, then pilots, TPS, and the pattern of the data cells that differ."""
+        if self.counts.sum() == 1:
+            return "a single cell differs: a fault of storing or passing on, not of modulation"
+        cause = likeliest(*self.samples[-1], self.within)
+        if cause:
+            return f"likeliest cause: {cause}"
+        pilots = self.counts[CONTINUAL_PILOT] + self.counts[SCATTERED_PILOT]
+        if pilots > 0.01 * (self.totals[CONTINUAL_PILOT] + self.totals[SCATTERED_PILOT]):
+            return self.hint_of_pilots()
+        if not self.counts[DATA]:
+            return "only TPS differs: look at the row of the table of TPS bits (4.6.2)" if not pilots else "only pilots differ: look at the first difference"
+        return self.hint_of_data()
+
+    def hint_of_pilots(self):
+        """Where to look when pilots differ: whatever comes after them can't be right."""
+        if self.only_size == self.counts[DATA] and not self.counts[SCATTERED_PILOT]:
+            return "continual pilots differ: look at their carriers and the reference sequence (4.5.2, 4.5.4), before anything else"
+        if not self.counts[CONTINUAL_PILOT]:
+            return "scattered pilots differ: is the first symbol number 0 of a frame (4.5.3)? Look at them before anything else"
+        return "pilots differ, too: look at their carriers, signs and values (4.5.2 to 4.5.5) before the data cells and their coding"
+
+    def hint_of_data(self):
+        """Where to look when data cells differ and pilots don't."""
         if self.only_size == self.counts[DATA]:
             return "all labels agree: look at the levels of the constellation (4.3.5)"
         if self.only_size > 0.9 * self.counts[DATA]:
@@ -110,5 +174,5 @@ class Differences:
         if np.count_nonzero(self.bits) < len(self.bits):
             return "some label bits always agree: look at the bit interleavers and the mapping of the others (4.3.4.1, 4.3.5)"
         if self.counts[DATA] > 0.4 * self.totals[DATA]:
-            return "about all of it differs: look at the coding before the interleavers (4.3.1 to 4.3.3), and at what was sent"
-        return "look at the first difference"
+            return "nearly all data cells differ: look at the coding before the interleavers (4.3.1 to 4.3.3), and at what was sent"
+        return f"{plural(int(self.counts[DATA]), 'data cell')} of {plural(self.symbols, 'symbol')} differ: look at the first difference"

@@ -1,40 +1,53 @@
-"""Noise on cells, drawn from a number."""
+"""Random noise on cells, generated from a seed."""
 import os
+import sys
 
 import numpy as np
 
-from cell_tools.files import Unfit
-from cell_tools.standard import DATA, FRAME, UNIT
+from cell_tools.settings import Unfit
+from cell_tools.standard import DATA, UNIT
 
 
 def disturb(file, words):
-    """Writes the cells of a file with noise, and their weights as they stand. numpy keeps what RandomState draws the same in all its versions."""
+    """Writes the cells of a file with noise, and their weights unchanged. RandomState generates the same numbers in all versions of
+    numpy, and the same for a frame as for its symbols one by one."""
     if file.left_over:
-        raise Unfit(f"{file.path}: only whole symbols are disturbed")
-    if os.path.exists(words.out) and os.path.samefile(words.out, file.path):
+        raise Unfit(f"{file.name}: only whole symbols are disturbed")
+    if os.path.exists(words.out) and os.path.exists(file.path) and os.path.samefile(words.out, file.path):
         raise Unfit(f"{words.out} is read and would be overwritten")
-    drawn = np.random.RandomState(words.seed)
-    deviation = None if words.mer is None else UNIT * 10 ** (-words.mer / 20) / 2**0.5
+    is_standard = words.out in ("-", "/dev/stdout")
+    generator = np.random.RandomState(words.seed)
     try:
-        with open(words.out, "wb") as out:
+        with open(1, "wb", closefd=False) if is_standard else open(words.out, "wb") as out:
             out.write(file.version.header(file.settings["mode"]))
-            for m in range(file.symbols):
-                parts = file.cells[m].astype(int)
-                if deviation is None:
-                    moved = drawn.randint(-words.within, words.within + 1, parts.shape)
-                    moved[file.carriers.kinds(m % FRAME) != DATA] = 0
-                else:
-                    moved = np.rint(drawn.normal(0, deviation, parts.shape)).astype(int)
-                out.write(cell_bytes(file.version, np.clip(parts + moved, -32768, 32767), file.weights[m]))
+            for frame in file.frames():
+                parts = frame.cells.astype(int) + noise(file, frame, words, generator)
+                out.write(cell_bytes(file.version, np.clip(parts, -32768, 32767), frame.weights))
+    except BrokenPipeError:
+        raise
     except OSError as error:
         raise Unfit(f"out: {error}") from None
-    print(f"symbols {file.symbols} written to {words.out}")
+    if file.left_over:
+        raise Unfit(f"{file.name}: {file.left_over} bytes after the last whole symbol are left out")
+    print(f"symbols {file.symbols} written to {words.out}", file=sys.stderr if is_standard else sys.stdout)
     return True
 
 
+def noise(file, frame, words, generator):
+    """The noise on the parts of a frame."""
+    if words.mer is not None:
+        deviation = UNIT * 10 ** (-words.mer / 20) / 2**0.5
+        return np.rint(generator.normal(0, deviation, frame.cells.shape)).astype(int)
+    moved = generator.randint(-words.within, words.within + 1, frame.cells.shape)
+    for l in range(min(4, frame.symbols)):
+        moved[l::4, file.carriers.kinds(l) != DATA] = 0
+    return moved
+
+
 def cell_bytes(version, parts, weights):
-    """The bytes of a symbol's cells in a file of this version."""
-    bytes_of = np.empty((len(parts), version.WIDTH), "u1")
-    bytes_of[:, :4] = parts.astype(">i2").view("u1").reshape(-1, 4)
-    bytes_of[:, 4:] = np.reshape(weights, (-1, 1))
-    return bytes_of.tobytes()
+    """The bytes of cells in a file of this version, by symbol and carrier, or of one symbol by carrier."""
+    bytes_of = np.empty(parts.shape[:-1] + (version.WIDTH,), "u1")
+    bytes_of[..., :4] = np.ascontiguousarray(parts.astype(">i2")).view("u1")
+    if version.WIDTH > 4:
+        bytes_of[..., 4] = weights
+    return bytes_of

@@ -1,89 +1,15 @@
-"""Settings and cell files, and what keeps them from being read."""
-import pathlib
+"""Cell files: read frame by frame, from a file or a pipe, and checked against the settings."""
+import os
+import stat
 import sys
 
 import numpy as np
 
-from cell_tools.standard import FRAME, LEVELS, SUPER_FRAME, UNIT, VALUES, Carriers, Points
-from door.explain import in_toml_1_0
+from cell_tools.settings import Unfit, settings_in
+from cell_tools.standard import FRAME, SUPER_FRAME, UNIT, Carriers, Points
 
-try:
-    from tomllib import loads
-except ImportError:  # before Python 3.11
-    from cell_tools.plain_toml import loads
-
-NUMBERS = {"cell_id": (0, 65535), "workers": (1, 16), "max_symbols": (1, 4294967295), "after": (1, 4294967295)}
-WORDS = VALUES | {"start": ["zero", "any"]}
-KEYS = ["mode", "constellation", "hierarchy", "rate_hp", "rate_lp", "guard", "cell_id", "start", "workers", "max_symbols", "plan"]
-NEEDED = ["mode", "constellation", "rate_hp", "guard"]
-ABSENT = {"hierarchy": "none", "start": "zero", "workers": 1, "max_symbols": 1000000, "plan": []}
-OF_ENTRY = ["after", "constellation", "hierarchy", "rate_hp", "rate_lp"]
-
-
-class Unfit(Exception):
-    """What keeps a file from being read, in words for its user."""
-
-
-def read_settings(path):
-    """The settings document as a dictionary. What `dvbt` refuses (docs/SETTINGS.md) is refused, with the line that it prints."""
-    try:
-        content = pathlib.Path(path).read_bytes()
-    except OSError as error:
-        raise Unfit(f"settings: {error}") from None
-    if len(content) > 65536:
-        raise Unfit(f"{path}: settings too long")
-    try:
-        found = loads(in_toml_1_0(content.decode("utf-8-sig")))
-    except (ValueError, RecursionError) as error:
-        raise Unfit(f"{path}: settings not toml, by Python's reader: {error}") from None
-    for place, key in enumerate(sorted(found, key=str.encode)):
-        if key not in KEYS:
-            raise Unfit(f"{path}: settings unknown {place}: {key}")
-    for key in KEYS:
-        if key not in found and key in NEEDED:
-            raise Unfit(f"{path}: settings missing {key}")
-        if key in found and not is_value(key, found[key]):
-            raise Unfit(f"{path}: settings value {key}: {found[key]!r}")
-    settings = ABSENT | found
-    reason = clash(settings)
-    if reason:
-        raise Unfit(f"{path}: settings clash {reason}")
-    return settings
-
-
-def clash(settings):
-    """Why parameters do not fit one another, or None."""
-    if (settings["constellation"], settings["hierarchy"]) not in LEVELS:
-        return "hierarchy: qpsk has none"
-    if ("rate_lp" in settings) == (settings["hierarchy"] == "none"):
-        return "rate_lp: it stands exactly with a hierarchy"
-    return None
-
-
-def is_value(key, value):
-    """Whether a key may have this value."""
-    if key == "plan":
-        is_list = type(value) is list and 1 <= len(value) <= 16 and all(map(is_entry, value))
-        return is_list and all(a["after"] < b["after"] for a, b in zip(value, value[1:]))
-    if key in NUMBERS:
-        least, most = NUMBERS[key]
-        return type(value) is int and least <= value <= most
-    return type(value) is str and value in WORDS[key]
-
-
-def is_entry(found):
-    """Whether this is an entry of a plan: its keys and no other, with values that fit one another."""
-    if type(found) is not dict or not {"after", "constellation", "rate_hp"} <= set(found) <= set(OF_ENTRY):
-        return False
-    return all(is_value(key, value) for key, value in found.items()) and clash({"hierarchy": "none"} | found) is None
-
-
-def settings_in(settings, super_frame):
-    """The settings with the parameters of a super-frame, from 0 (docs/SETTINGS.md, plans)."""
-    begun = [entry for entry in settings["plan"] if entry["after"] <= super_frame]
-    if not begun:
-        return settings
-    return {key: value for key, value in settings.items() if key not in OF_ENTRY} | {"hierarchy": "none"} | begun[-1]
+LOOKED_AT = 4  # symbols at the beginning by which a file is checked
+LARGEST = 5 * 6817  # bytes of a symbol: 8K, version 2
 
 
 class Version1:
@@ -102,14 +28,21 @@ class Version1:
         return b""
 
     @classmethod
-    def cells(cls, path, symbols, carriers):
-        """Symbols by carriers by real and imaginary part, as they stand."""
-        return parts_at(path, symbols, carriers, cls, 0, ">i2", 2)
+    def cells(cls, content, symbols, carriers):
+        """Symbols by carriers by real and imaginary part, a view of the bytes from the first cell on."""
+        return view_of(content, symbols, carriers, cls, 0, ">i2", (2,))
 
     @classmethod
-    def weights(cls, path, symbols, carriers):
-        """Symbols by carriers: each cell counts whole."""
+    def words(cls, content, symbols, carriers):
+        """Symbols by carriers: the four bytes of both parts as one number, in the byte order of the machine."""
+        return view_of(content, symbols, carriers, cls, 0, "u4", ())
+
+    @classmethod
+    def weights(cls, content, symbols, carriers):
+        """Symbols by carriers: each cell has the full weight."""
         return np.broadcast_to(np.uint8(15), (symbols, carriers))
+
+    weights_as_written = weights
 
 
 class Version2(Version1):
@@ -126,44 +59,123 @@ class Version2(Version1):
         return b"DVTC\x02" + bytes([["2k", "8k"].index(mode), 0, 0])
 
     @classmethod
-    def weights(cls, path, symbols, carriers):
+    def weights(cls, content, symbols, carriers):
         """Symbols by carriers: a byte above 15 counts as 15."""
-        return np.minimum(parts_at(path, symbols, carriers, cls, 4, "u1", 1)[..., 0], 15)
+        return np.minimum(cls.weights_as_written(content, symbols, carriers), 15)
+
+    @classmethod
+    def weights_as_written(cls, content, symbols, carriers):
+        return view_of(content, symbols, carriers, cls, 4, "u1", ())
 
 
-def parts_at(path, symbols, carriers, version, offset, kind, count):
-    """Symbols by carriers by `count` numbers, which stand in each cell from byte `offset` on."""
-    shape = (symbols, carriers, count)
+def view_of(content, symbols, carriers, version, offset, kind, shape):
+    """Symbols by carriers by `shape` numbers, which begin at byte `offset` of each cell: a view of the bytes."""
+    strides = (version.WIDTH * carriers, version.WIDTH) + (np.dtype(kind).itemsize,) * len(shape)
     if not symbols:
-        return np.zeros(shape, kind)
-    strides = (version.WIDTH * carriers, version.WIDTH, np.dtype(kind).itemsize)
-    return np.ndarray(shape, kind, np.memmap(path, "u1", "r"), version.HEADER + offset, strides)
+        return np.zeros((0, carriers) + shape, kind)
+    return np.ndarray((symbols, carriers) + shape, kind, content, offset, strides)
 
 
 VERSIONS = [Version2, Version1]  # the first that fits
 
 
+class Frame:
+    """The symbols of a frame, from symbol `first` of the file on. The last frame of a file may have fewer than 68."""
+
+    def __init__(self, file, number, content):
+        self.number, self.first = number, FRAME * number
+        self.content, self.version, self.count = content, file.version, file.carriers.count
+        self.symbols = len(content) // file.size
+
+    @property
+    def cells(self):
+        """The values as they stand, by symbol, carrier and part (real, imaginary)."""
+        return self.version.cells(self.content, self.symbols, self.count)
+
+    @property
+    def words(self):
+        """Both parts of a cell as one number, by symbol and carrier, to copy and to compare."""
+        return self.version.words(self.content, self.symbols, self.count)
+
+    @property
+    def weights(self):
+        """The weights, by symbol and carrier."""
+        return self.version.weights(self.content, self.symbols, self.count)
+
+    @property
+    def is_weightless(self):
+        """Whether a cell has weight 0, by symbol and carrier."""
+        return self.version.weights_as_written(self.content, self.symbols, self.count).copy() == 0
+
+
 class CellFile:
-    """A cell file: `cells` has the values as they stand, by symbol, carrier and part (real, imaginary), and `weights` the weights, by
-    symbol and carrier."""
+    """A cell file or a pipe of cells, `-` for standard input. `frames` reads it once, a frame at a time. `symbols` and `left_over`
+    count the whole symbols and the bytes after them: of a pipe those read so far."""
 
     def __init__(self, path, settings):
         self.path = path
+        self.name = "standard input" if str(path) == "-" else str(path)
         self.settings = settings
         self.carriers = Carriers(settings["mode"])
         self.constellations = {}
         try:
-            with open(path, "rb") as file:
-                head = file.read(8)
-            self.version = next(version for version in VERSIONS if version.is_of(head))
-            self.size = self.version.WIDTH * self.carriers.count
-            content = pathlib.Path(path).stat().st_size - self.version.HEADER
-            self.symbols, self.left_over = divmod(max(content, 0), self.size)
-            self.head = head[: self.version.HEADER]
-            self.cells = self.version.cells(path, self.symbols, self.carriers.count)
-            self.weights = self.version.weights(path, self.symbols, self.carriers.count)
+            self.input = self.opened()
+            seen = os.fstat(self.input.fileno())
+            self.begin = self.read(bytearray(Version2.HEADER + LOOKED_AT * LARGEST))
         except OSError as error:
             raise Unfit(f"cells: {error}") from None
+        self.is_plain = stat.S_ISREG(seen.st_mode) and self.name == str(path)
+        if self.is_plain:
+            self.input.close()  # each use opens it anew
+        self.version = next(version for version in VERSIONS if version.is_of(self.begin))
+        self.size = self.version.WIDTH * self.carriers.count
+        self.head = bytes(self.begin[: self.version.HEADER])
+        content = seen.st_size - self.version.HEADER if self.is_plain else 0
+        self.symbols, self.left_over = divmod(max(content, 0), self.size)
+
+    def opened(self):
+        """The file or pipe, opened."""
+        if self.name != str(self.path):
+            return open(0, "rb", buffering=0, closefd=False)
+        return open(self.path, "rb", buffering=0)
+
+    def read(self, room, filled=0):
+        """Reads until the room is full or the input ends; answers the part of the room that is filled."""
+        with memoryview(room) as view:
+            while filled < len(room):
+                count = self.input.readinto(view[filled:])
+                if not count:
+                    break
+                filled += count
+        return room if filled == len(room) else room[:filled]
+
+    def frames(self):
+        """Each frame in turn. The last one may have fewer symbols; bytes after its last whole symbol are counted."""
+        try:
+            if self.is_plain:
+                self.input = self.opened()
+                self.input.seek(len(self.begin))
+            with self.input:
+                yield from self.frames_of_input()
+        except OSError as error:
+            raise Unfit(f"cells: {error}") from None
+        if self.left_over:
+            warn(f"the file is no whole number of symbols of {self.size} bytes ({self.settings['mode']})")
+
+    def frames_of_input(self):
+        """The frames, from the bytes that were read first and from the input."""
+        waiting = self.begin[self.version.HEADER :]
+        self.symbols, self.left_over, symbols = 0, 0, FRAME
+        while symbols == FRAME:
+            room = bytearray(FRAME * self.size)
+            taken = min(len(waiting), len(room))
+            room[:taken], waiting = waiting[:taken], waiting[taken:]
+            content = self.read(room, taken)
+            symbols, self.left_over = divmod(len(content), self.size)
+            if symbols:
+                number = self.symbols // FRAME
+                self.symbols += symbols
+                yield Frame(self, number, content[: symbols * self.size] if self.left_over else content)
 
     def settings_at(self, m):
         """The settings with the parameters of symbol m."""
@@ -177,64 +189,95 @@ class CellFile:
             self.constellations[name] = Points(settings)
         return self.constellations[name]
 
+    def mapped(self):
+        """The bytes of a plain file from the first cell on."""
+        if not self.is_plain:
+            raise Unfit(f"{self.name}: cells of a pipe can be read once only, by frames()")
+        if not self.symbols:
+            return np.zeros(0, "u1")
+        return np.memmap(self.path, "u1", "r")[self.version.HEADER :]
+
+    @property
+    def cells(self):
+        """All values of a plain file as they stand, by symbol, carrier and part (real, imaginary)."""
+        return self.version.cells(self.mapped(), self.symbols, self.carriers.count)
+
+    @property
+    def weights(self):
+        """All weights of a plain file, by symbol and carrier."""
+        return self.version.weights(self.mapped(), self.symbols, self.carriers.count)
+
     def array(self, symbols=slice(None)):
-        """Symbols by carriers as complex numbers of the standard's normalised constellation."""
+        """Symbols by carriers of a plain file as complex numbers of the standard's normalised constellation."""
         parts = self.cells[symbols].astype(np.float32) / UNIT
         return parts[..., 0] + 1j * parts[..., 1]
 
-    def tps_sums(self):
-        """For each symbol the sum over the TPS carriers of re re' + im im', with those of the symbol before."""
-        tps = self.cells[:, self.carriers.tps].astype(np.int64)
-        return np.concatenate([[0], np.sum(tps[1:] * tps[:-1], axis=(1, 2))])
 
-    def tps_words(self):
-        """s1 to s67 of each whole frame, by the votes of its symbols."""
-        sums = self.tps_sums()
-        ends = range(FRAME, self.symbols + 1, FRAME)
-        return ["".join("1" if x < 0 else "0" for x in sums[end - FRAME + 1 : end]) for end in ends]
+class Votes:
+    """The bits of TPS, one from each symbol and the one before (4.6.2)."""
+
+    def __init__(self, carriers):
+        self.tps, self.last, self.bits = carriers.tps, None, []
+
+    def add(self, frame):
+        """Takes a frame."""
+        cells = frame.cells[:, self.tps].astype(np.int64)
+        before = cells[:1] if self.last is None else self.last
+        sums = np.sum(cells * np.concatenate([before, cells[:-1]]), axis=(1, 2))
+        if self.last is None:
+            sums[0] = 0
+        self.bits.append("".join("1" if x < 0 else "0" for x in sums))
+        self.last = cells[-1:]
+
+    def words(self):
+        """s1 to s67 of each whole frame."""
+        return [bits[1:] for bits in self.bits if len(bits) == FRAME]
 
 
 def wrong_guess(file):
-    """Why the pilots of a file do not stand where those of its mode do: the first reason that fits, or None."""
+    """Why the pilots of a file do not stand at their places in its mode: the first reason that fits, or None."""
     mode = file.settings["mode"]
     other = "8k" if mode == "2k" else "2k"
     little = "the two bytes of each value stand the wrong way round; a cell file has the high byte first"
     guesses = [
         (other, False, 0, f"it is of the {other} mode; the settings say {mode}"),
         (mode, True, 0, little),
-        (other, True, 0, f"{little}; and it is of the {other} mode, where the settings say {mode}"),
+        (other, True, 0, f"{little}; and it is of the {other} mode, and the settings say {mode}"),
     ]
     for l in range(1, 4):
         text = f"its first symbol is number {l}, {l + 4}, .. of a frame; a cell file begins with number 0"
         guesses.append((mode, False, l, text))
-    content = pathlib.Path(file.path).stat().st_size - file.version.HEADER
     for guess, turned, l, text in guesses:
         carriers = Carriers(guess)
-        symbols = min(4, content // (file.version.WIDTH * carriers.count))
-        cells = np.array(file.version.cells(file.path, symbols, carriers.count))
-        if symbols and carriers.fit(cells.byteswap() if turned else cells, l):
+        cells = first_cells(file, carriers)
+        if len(cells) and carriers.fit(cells.byteswap() if turned else cells, l):
             return text
     return None
 
 
+def first_cells(file, carriers):
+    """The cells of the first symbols, at most four, read with these carriers."""
+    content = file.begin[file.version.HEADER :]
+    symbols = min(LOOKED_AT, len(content) // (file.version.WIDTH * carriers.count))
+    return file.version.cells(content, symbols, carriers.count)
+
+
 def check(file):
-    """Refuses a file that is plainly another than its settings say; what is only strange is told on standard error."""
-    size = file.size
+    """Rejects a file that plainly does not fit its settings. What is only unusual is said on standard error."""
     mode = file.settings["mode"]
     if file.version is Version2 and file.head != Version2.header(mode):
-        raise Unfit(f"{file.path}: cells header: its header is not that of the {mode} mode, which the settings say")
+        raise Unfit(f"{file.name}: cells header: its header is not that of the {mode} mode, which the settings say")
     if file.version is Version1:
         warn("the file has no header: read as one of version 1, which dvbt upgrade turns into one of version 2")
-    if file.symbols == 0 or not file.carriers.fit(file.cells[:4], 0):
+    cells = first_cells(file, file.carriers)
+    if len(cells) == 0 or not file.carriers.fit(cells, 0):
         reason = wrong_guess(file)
         if reason:
-            raise Unfit(f"{file.path}: {reason}")
-        if file.symbols:
-            warn("the pilots are not where they should be: no cell file, or badly disturbed")
-    if file.left_over:
-        warn(f"the file is no whole number of symbols of {size} bytes ({mode})")
+            raise Unfit(f"{file.name}: {reason}")
+        if len(cells):
+            warn("the pilots are not at their places: no cell file, or badly disturbed")
 
 
 def warn(text):
     """A line on standard error."""
-    print(f"cells.py: {text}", file=sys.stderr)
+    print(f"{os.path.basename(sys.argv[0])}: {text}", file=sys.stderr)

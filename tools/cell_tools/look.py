@@ -1,34 +1,76 @@
 """What is in a cell file: symbols, TPS, powers, and a picture of the constellation."""
 import numpy as np
 
-from cell_tools.files import Unfit, settings_in
+from cell_tools.files import Votes
+from cell_tools.settings import Unfit, settings_in
 from cell_tools.standard import (
     CONTINUAL_PILOT, DATA, FRAME, KINDS, SCATTERED_PILOT, SYNC, TPS_CARRIER, UNIT,
     bch_rest, described, field, ideal_points, spaced,
 )
 
 
+class Look:
+    """What is gathered of a file as it is read: TPS, powers, and the cells that are drawn."""
+
+    def __init__(self, file, symbols, names):
+        self.file, self.symbols = file, symbols
+        self.votes = Votes(file.carriers)
+        self.totals, self.counts = np.zeros(4), np.zeros(4, int)
+        self.found = {kind: [np.zeros(0, "u4"), 0] for name in names for kind in KINDS[name]}
+        kinds = [file.carriers.kinds(l) for l in range(4)]
+        if (symbols.start or 0) < 0 or (symbols.stop or 0) < 0 or (symbols.step or 1) < 0:
+            if not file.is_plain:
+                raise Unfit("--symbols counts from the end, which is not known in a pipe")
+        self.chosen = range(file.symbols)[symbols] if file.is_plain else range(1 << 62)[symbols]
+        for frame in file.frames():
+            self.votes.add(frame)
+            for l in range(min(4, frame.symbols)):
+                self.powers(kinds[l], frame.cells[l::4].astype(np.float32))
+            self.choose(frame, kinds)
+        self.chosen = range(file.symbols)[symbols]
+
+    def powers(self, kinds, parts):
+        """Counts and powers of the four kinds of carriers."""
+        power = np.einsum("mkp,mkp->k", parts, parts, dtype=float)
+        self.totals += np.bincount(kinds, power, 4)
+        self.counts += np.bincount(kinds, minlength=4) * len(parts)
+
+    def choose(self, frame, kinds):
+        """Gathers the points of a frame that are drawn, each once, and counts the cells."""
+        for m in range(frame.symbols) if self.found else ():
+            if frame.first + m in self.chosen:
+                words = np.ascontiguousarray(frame.words[m])
+                for kind, kept in self.found.items():
+                    cells = words[kinds[m % 4] == kind]
+                    kept[0], kept[1] = np.union1d(kept[0], cells), kept[1] + len(cells)
+
+    def points(self):
+        """For each kind that is drawn the distinct points, and how many cells stand on them."""
+        return {kind: (words.view(">i2").reshape(-1, 2) / UNIT, count) for kind, (words, count) in sorted(self.found.items())}
+
+
 def look(file, words):
     """Prints what is in the file and draws it; answers whether each TPS word is as the settings say."""
     symbols = words.symbols or slice(0, 4)
-    if (words.symbols or words.out) and not range(file.symbols)[symbols]:
+    seen = Look(file, symbols, words.kinds if words.out else [])
+    if (words.symbols or words.out) and not seen.chosen:
         raise Unfit(f"no symbol of the {file.symbols} in the file is in --symbols")
-    if words.out and len({file.points(m) for m in range(file.symbols)[symbols]}) > 1:
+    if words.out and len({file.points(m) for m in seen.chosen}) > 1:
         raise Unfit("the symbols of --symbols have different constellations; draw those of one")
     print(f"symbols {file.symbols} of {file.size} bytes, bytes left over {file.left_over}")
     is_well = True
     if file.symbols:
-        is_well = print_tps(file, words.frames, words.verbose)
-        print_powers(file)
+        is_well = print_tps(file, seen.votes, words.frames, words.verbose)
+        print_powers(seen)
     if words.out:
-        draw(file, symbols, words.kinds, words.labels, words.out)
+        draw(file, seen, words.labels, words.out)
         print(f"picture {words.out}")
     return is_well
 
 
-def print_tps(file, frames, is_verbose):
+def print_tps(file, votes, frames, is_verbose):
     """The TPS words of whole frames: a line for words that say the same, or with `is_verbose` three lines for each."""
-    words = file.tps_words()
+    words = votes.words()
     numbers = range(len(words))[frames]
     said, wrong = {}, 0
     for n in numbers:
@@ -43,13 +85,13 @@ def print_tps(file, frames, is_verbose):
             print(f"  {text}")
             if not is_placed:
                 print("  (a cell file begins with frame 1 of a super-frame; this one does not)")
-    print(f"frames {len(words)}, symbols behind the last whole one {file.symbols % FRAME}")
-    print(f"TPS words looked at {len(numbers)}, not as they should be {wrong}")
+    print(f"frames {len(words)}, symbols after the last whole one {file.symbols % FRAME}")
+    print(f"TPS words looked at {len(numbers)}, wrong {wrong}")
     if not is_verbose:
         for text, at in said.items():
             print(f"  {text} ({len(at)} frame{'s' * (len(at) > 1)}, from 0: {listed(at)})")
     if words and not any(bits[:16] in SYNC for bits in words):
-        print_shifted("".join("1" if x < 0 else "0" for x in file.tps_sums()))
+        print_shifted("".join(votes.bits))
     return wrong == 0
 
 
@@ -59,39 +101,22 @@ def listed(numbers):
 
 
 def print_shifted(votes):
-    """Says where frames begin in a file that does not begin with one."""
+    """Says which symbol begins a frame in a file that does not begin with one."""
     for m in range(len(votes) - FRAME + 1):
         if votes[m + 1 : m + 17] in SYNC and bch_rest(votes[m + 1 : m + 68]) == 0:
-            print(f"  no frame begins where it should, but one at symbol {m}: a cell file begins with a frame")
+            print(f"  no frame begins where it should, but one begins at symbol {m}: a cell file begins with a frame")
             return
 
 
-def print_powers(file):
+def print_powers(seen):
     """Counts and mean powers of the four kinds of carriers, over all symbols."""
-    totals, counts = np.zeros(4), np.zeros(4, int)
-    kinds = [file.carriers.kinds(l) for l in range(4)]
-    for m in range(file.symbols):
-        power = np.sum(file.cells[m].astype(float) ** 2, axis=1)
-        totals += np.bincount(kinds[m % 4], power, 4)
-        counts += np.bincount(kinds[m % 4], minlength=4)
     names = ["data", "continual pilots", "scattered pilots", "TPS"]
     print(f"mean power (1 is {UNIT}^2)")
-    for name, total, count in zip(names, totals, counts):
+    for name, total, count in zip(names, seen.totals, seen.counts):
         print(f"  {name:17} {total / count / UNIT**2:.4f}  of {count} cells")
 
 
-def chosen(file, symbols, names):
-    """For each kind that is wanted the distinct points that stand there, and how many cells."""
-    out = {}
-    numbers = range(file.symbols)[symbols]
-    for kind in sorted({kind for name in names for kind in KINDS[name]}):
-        parts = [file.cells[m][file.carriers.kinds(m % FRAME) == kind] for m in numbers]
-        cells = np.concatenate(parts) if parts else np.zeros((0, 2))
-        out[kind] = (np.unique(cells.astype(int), axis=0) / UNIT, len(cells))
-    return out
-
-
-def draw(file, symbols, names, labels, out):
+def draw(file, seen, labels, out):
     """Draws the constellation to a PNG."""
     try:
         import matplotlib
@@ -101,16 +126,14 @@ def draw(file, symbols, names, labels, out):
     except ImportError as error:
         raise Unfit(f"{error}; --out needs matplotlib (Debian: python3-matplotlib)") from None
 
-    found = chosen(file, symbols, names)
-    if sum(count for _, count in found.values()) == 0:
-        raise Unfit("no symbol of the file is in --symbols")
+    found = seen.points()
     figure, axes = plt.subplots(figsize=(8, 8.4), dpi=100)
     frame_axes(axes, found)
     for kind, (points, count) in found.items():
         draw_kind(axes, kind, points, count)
     if DATA in found:
-        draw_ideal(axes, file.settings_at(range(file.symbols)[symbols][0]), labels)
-    axes.set_title(title(file, symbols))
+        draw_ideal(axes, file.settings_at(seen.chosen[0]), labels)
+    axes.set_title(title(file, seen.chosen))
     legend = axes.legend(loc="upper center", bbox_to_anchor=(0.5, -0.08), ncol=2, frameon=False)
     handles = legend.legend_handles if hasattr(legend, "legend_handles") else legend.legendHandles
     for handle in handles:
@@ -123,7 +146,7 @@ def draw(file, symbols, names, labels, out):
 
 
 def draw_kind(axes, kind, points, count):
-    """The cells of one kind: large marks where they stand on few points, small ones for clouds."""
+    """The cells of one kind: large marks for few points, small ones for clouds."""
     colour, mark, name, large, small, height = {
         DATA: ("#1f5fa8", "o", "data cells", 26, 4, 4),
         SCATTERED_PILOT: ("#e67e22", "D", "scattered pilots", 90, 5, 5),
@@ -135,9 +158,8 @@ def draw_kind(axes, kind, points, count):
     axes.scatter(points[:, 0], points[:, 1], label=f"{count} {name}", **shown)
 
 
-def title(file, symbols):
-    """The title of a picture."""
-    numbers = range(file.symbols)[symbols]
+def title(file, numbers):
+    """The title of a picture of these symbols."""
     first, last = numbers[0], numbers[-1]
     settings = file.settings_at(first)
     words = [settings["mode"].upper(), settings["constellation"].upper().replace("QAM", "-QAM")]

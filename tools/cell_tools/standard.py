@@ -1,7 +1,7 @@
 """What the standard (EN 300 744) says of a symbol's cells: carriers, levels, labels and the words of TPS."""
 import numpy as np
 
-from cell_tools.tps import PLACES, SYNC, VALUES, bch_rest, field, fields_of, read_word, tps_carriers  # noqa: F401
+from cell_tools.tps import SYNC, VALUES, bch_rest, differences, field, fields_of, read_word, tps_carriers  # noqa: F401
 
 UNIT = 16384  # the fixed-point value of 1 in the standard's normalised constellation
 BOOSTED = 21845  # 4/3 of it (EN 300 744, 4.5.5)
@@ -147,20 +147,6 @@ def described(bits, settings):
     wrong = differences(bits, found, settings)
     words.append("DIFFERS from the settings in " + ", ".join(wrong) if wrong else "as the settings say")
     return ", ".join(words)
-
-
-def differences(bits, found, settings):
-    """The keys of the settings that the fields contradict."""
-    told = dict(settings)
-    if settings["hierarchy"] == "none":
-        told["rate_lp"] = "1/2"  # sent as 000
-    wrong = [key for key in PLACES if found[key] != told[key]]
-    cell = settings.get("cell_id")
-    length = 23 if cell is None else 31
-    byte = 0 if cell is None else cell >> 8 if field(bits, 23, 24) % 2 == 0 else cell & 255
-    if field(bits, 17, 22) != length or field(bits, 40, 47) != byte:
-        wrong.append("cell_id")
-    return wrong
 
 
 def spaced(bits):

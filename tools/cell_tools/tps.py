@@ -1,4 +1,5 @@
-"""The TPS words of a transmission (EN 300 744, 4.6), by the standard library alone: bin/dvbt reads them without numpy."""
+"""The TPS words of a transmission (EN 300 744, 4.6), by the standard library alone."""
+import functools
 
 # Carriers of the 2K mode; the 8K mode has them four times, 1704 apart (4.6).
 TPS = [34, 50, 209, 346, 413, 569, 595, 688, 790, 901, 1073, 1219, 1262, 1286, 1469, 1594, 1687]
@@ -25,24 +26,6 @@ PLACES = {  # the first and the last bit of each field
 def tps_carriers(mode):
     """The TPS carriers of a mode, rising."""
     return [k + 1704 * j for j in range(1 if mode == "2k" else 4) for k in TPS]
-
-
-def votes_in(content, mode, header=8, width=5):
-    """The bit of each whole symbol in these bytes of a cell file, by the TPS carriers of it and the symbol before (4.6.1).
-    The first symbol has none before it and counts as 0."""
-    size, before, votes = width * (1704 * (1 if mode == "2k" else 4) + 1), None, ""
-    places = [width * k for k in tps_carriers(mode)]
-    for start in range(header, len(content) - size + 1, size):
-        ends = [(start + place, start + place + 2) for place in places]
-        cells = [(number(content[at:it]), number(content[it : it + 2])) for at, it in ends]
-        votes += "01"[before is not None and sum(a * c + b * d for (a, b), (c, d) in zip(cells, before)) < 0]
-        before = cells
-    return votes
-
-
-def number(two):
-    """Two bytes as a signed number."""
-    return int.from_bytes(two, "big", signed=True)
 
 
 def first_frame(votes):
@@ -77,19 +60,32 @@ def fields_of(bits):
     return found
 
 
-# What is left of a word in which one bit or two are wrong: which bits these are.
+def differences(bits, found, settings):
+    """The keys of the settings that the fields contradict."""
+    told = dict(settings)
+    if settings["hierarchy"] == "none":
+        told["rate_lp"] = "1/2"  # sent as 000
+    wrong = [key for key in PLACES if found[key] != told[key]]
+    cell = settings.get("cell_id")
+    length = 23 if cell is None else 31
+    byte = 0 if cell is None else cell >> 8 if field(bits, 23, 24) % 2 == 0 else cell & 255
+    if field(bits, 17, 22) != length or field(bits, 40, 47) != byte:
+        wrong.append("cell_id")
+    return wrong
+
+
+@functools.lru_cache(None)
 def one_or_two():
+    """Which bits are wrong if one is or two are, by what is left of the word."""
     alone = {place: bch_rest("".join("1" if i == place else "0" for i in range(67))) for place in range(67)}
-    found = {0: ()} | {rest: (place,) for place, rest in alone.items()}
+    found = {rest: (place,) for place, rest in alone.items()}
     return found | {alone[a] ^ alone[b]: (a, b) for a in range(67) for b in range(a)}
-
-
-ERRORS = one_or_two()
 
 
 def corrected(bits):
     """The word of the code within two bits of s1 to s67 and how many were wrong, or None."""
-    places = ERRORS.get(bch_rest(bits))
+    rest = bch_rest(bits)
+    places = one_or_two().get(rest) if rest else ()
     if places is None:
         return None
     return "".join("10"[int(bit)] if place in places else bit for place, bit in enumerate(bits)), len(places)

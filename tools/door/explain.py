@@ -1,30 +1,17 @@
-"""What bin/dvbt says on standard error: refusals, each with its file, its place and what stands in the outputs."""
+"""What bin/dvbt says on standard error if a run fails: which file, key or byte, and what the outputs hold."""
 import os
 import re
 import stat
 import sys
 
 PACKET, SYNC = 188, 0x47
-CARRIERS = {"2k": 1705, "8k": 6817}
 USEFUL = {"2k": 224e-6, "8k": 896e-6}  # seconds of a symbol without guard in a channel of 8 MHz
-VALUES = {
-    "mode": '"2k" or "8k"',
-    "constellation": '"qpsk", "16qam" or "64qam"',
-    "hierarchy": '"none", "1", "2" or "4"',
-    "rate_hp": '"1/2", "2/3", "3/4", "5/6" or "7/8"',
-    "rate_lp": '"1/2", "2/3", "3/4", "5/6" or "7/8"',
-    "guard": '"1/32", "1/16", "1/8" or "1/4"',
-    "cell_id": "a whole number from 0 to 65535",
-    "start": '"zero" or "any"',
-    "workers": "a whole number from 1 to 16",
-    "max_symbols": "a whole number from 1 to 4294967295",
-    "plan": "an array of 1 to 16 tables",
-}
-OF_ENTRY = ["after", "constellation", "hierarchy", "rate_hp", "rate_lp"]
+OTHERS = {204: "the last 16 bytes of each, its parity", 192: "the first 4 bytes of each, its time stamp"}  # packets not read
+STANDS = {4: "output for the packets before it", 5: "output for what was read", 6: "a prefix of the full output", 8: "output within the limit"}
 
 
 def say(text):
-    """Each line on standard error, behind the program's name."""
+    """Prints each line on standard error, after the program's name."""
     for line in [text] if isinstance(text, str) else text:
         print(f"dvbt: {line}", file=sys.stderr, flush=True)
 
@@ -47,137 +34,55 @@ def spoken(seconds):
     return f"{round(seconds / 60)} minutes" if seconds < 7200 else f"{seconds / 3600:.1f} hours"
 
 
-# One file named twice
-
-
-def named_twice(form):
-    """Why the words may not be run: a file that is written is named twice. None where all is well."""
-    seen = {}
-    for kind, name, path in form.files:
-        is_written = kind.startswith("out")
-        for key in keys_of(path):
-            if key in seen and (is_written or seen[key][1]):
-                return told_twice(seen[key], name, path)
-            seen[key] = name, is_written, path
-    return None
-
-
-def keys_of(path):
-    """What a file is known by: device and inode of a plain file, the place of one that isn't there yet; nothing of a pipe, a
-    terminal or a device, which may be named twice."""
-    try:
-        found = os.stat(path)
-    except OSError:
-        return [os.path.realpath(path)]
-    return [(found.st_dev, found.st_ino)] if stat.S_ISREG(found.st_mode) or stat.S_ISBLK(found.st_mode) else []
-
-
-def told_twice(first, name, path):
-    other, was_written, other_path = first
-    same = path if path == other_path else f"{path}, which is {other_path},"
-    if was_written:
-        return f"refused before it began: {same} would be written as {other} and as {name}; give each its own file"
-    return f"refused before it began: {same} is read as {other} and would be overwritten as {name}; nothing was touched"
-
-
-# Refusals
-
-
 def of_usage(words):
-    """Words of no form."""
+    """An invalid command line."""
+    from difflib import get_close_matches
     from door import words as forms
 
-    if words and words[0] in forms.FORMS:
-        say(f"{words[0]} has these words, and no options:")
-        say(f"  {line}" for line in forms.lines_of_forms(words[0]))
-        say(f"bin/dvbt {words[0]} --help says what they are")
+    command = (words or [""])[0]
+    if command in forms.FORMS:
+        say(option_in(words) or f"{command} takes these arguments:")
+        say(f"  {line}" for line in forms.lines_of_forms(command))
+    elif command.startswith("-"):
+        say(f"there is no option {command}; the options are {', '.join(forms.OPTIONS)}, before the command")
+    elif command in ("help", "version"):
+        say(f"{command} is --{command}: bin/dvbt --{command}")
     else:
-        said = f"there is no command {words[0]!r}" if words else "no command was given"
-        say([f"{said}; the commands are {', '.join(forms.FORMS)}", "bin/dvbt --help says more"])
+        near = get_close_matches(command.lower(), forms.FORMS, 1)
+        what = f"there is no command {command!r}" if words else "no command was given"
+        say(f"{what}: did you mean {near[0]}?" if near else f"{what}; the commands are {', '.join(forms.FORMS)}")
+    say(f"bin/dvbt {command} --help explains them" if command in forms.FORMS else "bin/dvbt --help explains the commands")
+
+
+def option_in(words):
+    """What is wrong with an option among the arguments of a command, or None."""
+    found = next((word for word in words[1:] if word.startswith("-") and word != "-"), None)
+    return found and f"{found}: there are no options after the command; a file of that name is ./{found}"
 
 
 def of_refusal(form, words, status, text, before):
-    """Explains a run that ended with another status than 0: its last line is `text`, empty where it was not seen, and
-    `before` says how the outputs stood when it began."""
-    if status == 7 and not text and not all(is_utf8(word) for word in words):
-        say("the words could not be taken: they are not UTF-8")
-        return
-    if form is None:
+    """Explains a status other than 0. `text` is the last line of the report, empty if it was not seen, and `before` has
+    what tells whether an output was written."""
+    if status == 7 and not text and any(0xDC80 <= ord(it) <= 0xDCFF for word in words for it in word):
+        say("an argument is not UTF-8")
+    elif form is None:
         of_usage(words)
-        return
-    lines = {3: of_settings, 4: of_packet, 5: of_reading, 6: of_writing, 7: of_memory, 8: of_limit, 9: of_header, 10: of_no_frame, 11: of_form}.get(status)
-    for line in lines(form, text) if lines else []:
-        say(line)
-    if status in (4, 5, 6, 8, 9, 10, 11):
-        say(what_stands(form, status, before))
-
-
-def is_utf8(word):
-    """Whether a word of the command line is UTF-8: what is not, Python keeps as surrogates."""
-    return not any(0xDC80 <= ord(it) <= 0xDCFF for it in word)
+    else:
+        causes = {3: of_settings, 4: of_packet, 5: of_reading, 6: of_writing, 8: of_limit, 9: of_header, 10: of_no_frame, 11: of_form}
+        say(causes[status](form, text) if status in causes else "there is not enough memory" if status == 7 else [])
+        say(what_stands(form, status, before) if status > 3 else [])
 
 
 def of_settings(form, text):
-    """The settings file is refused."""
-    path, kind, key = form.settings, *(text.split()[1:] + ["", ""])[:2]
-    if kind == "too":
-        return [f"{path} has more than the 65,536 bytes that a settings file may have"]
-    if kind == "not":
-        return [f"{path} is no TOML document{why_not_toml(path)}"]
-    if kind == "unknown":
-        return [f"{name_of_key(path, key)} is no key of the settings; the keys are {', '.join(VALUES)}"]
-    if kind == "missing":
-        return [f"{path} lacks {key}, which is {VALUES.get(key, 'needed')}"]
-    if kind == "value" and key == "plan":
-        document = document_of(path)
-        return [f"{path}: {no_plan(document.get('plan')) if document else 'its plan is refused; docs/SETTINGS.md says what a plan may hold'}"]
-    if kind == "value":
-        return [f"{path} has {key} = {value_in(path, key)}; it is {VALUES.get(key, 'another')}"]
-    if kind == "clash":
-        if key == "hierarchy":
-            return [f"{path} has qpsk with a hierarchy; only 16qam and 64qam have one"]
-        return [f"{path} has rate_lp without a hierarchy, or a hierarchy without rate_lp; they stand together"]
-    if kind == "form":
-        one = "names one stream, and the settings have a hierarchy, at the top or in their plan"
-        has = one if len(form.files) == 3 else "names two streams, and neither the settings nor their plan have a hierarchy"
-        return [f"the call {has}: see bin/dvbt {form.command} --help and the key hierarchy of {path}"]
-    return [f"{path} is refused; docs/SETTINGS.md says what it may hold"]
+    """The settings are rejected."""
+    from cell_tools import settings
 
-
-def no_plan(plan):
-    """What is wrong with the value of `plan`: the first that is found."""
-    if not isinstance(plan, list) or not 1 <= len(plan) <= 16:
-        return f"plan is {VALUES['plan']}"
-    last = 0
-    for number, entry in enumerate(plan, 1):
-        reason = no_entry(entry, last)
-        if reason:
-            return f"table {number} of plan {reason}"
-        last = entry["after"]
-    return "docs/SETTINGS.md says what a plan may hold"
-
-
-def no_entry(entry, last):
-    """What is wrong with an entry of a plan behind that of number `last`, or None."""
-    if not isinstance(entry, dict):
-        return "is no table"
-    for key in entry:
-        if key not in OF_ENTRY:
-            return f"has {key!r}; its keys are {', '.join(OF_ENTRY)}"
-    for key in ("after", "constellation", "rate_hp"):
-        if key not in entry:
-            return f"lacks {key}"
-    if type(entry["after"]) is not int or not last < entry["after"] <= 4294967295:
-        return f"has after = {entry['after']!r}; it is a whole number from {last + 1} to 4294967295"
-    for key in OF_ENTRY[1:]:
-        if key in entry and entry[key] not in re.findall('"(.*?)"', VALUES[key]):
-            return f"has {key} = {entry[key]!r}; it is {VALUES[key]}"
-    is_flat = entry.get("hierarchy", "none") == "none"
-    if entry["constellation"] == "qpsk" and not is_flat:
-        return "has qpsk with a hierarchy; only 16qam and 64qam have one"
-    if ("rate_lp" in entry) == is_flat:
-        return "has rate_lp without a hierarchy, or a hierarchy without rate_lp; they stand together"
-    return None
+    path, refusal = form.settings, text.partition(" ")[2]
+    if refusal == "form":
+        no_lp = "has no hierarchy, so there is no LP: leave its file out, or set hierarchy and rate_lp"
+        return f"{path} {no_lp if len(form.files) > 3 else 'has a hierarchy, at the top or in its plan: name a file of LP too'}"
+    name = f"{path}, read as SETTINGS," if refusal in ("too long", "not toml") else path
+    return f"{name} {settings.why_rejected(piece(path, 0, 65536), refusal)} (docs/SETTINGS.md)"
 
 
 def of_packet(form, text):
@@ -185,245 +90,136 @@ def of_packet(form, text):
     found = re.fullmatch(r"(hp|lp) packet (\d+)", text)
     path = dict(form.inputs).get(found[1]) if found else None
     if not path:
-        return ["a packet of an input does not begin with the sync byte 47"]
-    number = int(found[2])
-    at, byte = PACKET * number, byte_at(path, PACKET * number)
-    is_there = f" is {byte:02X} and" if byte is not None else " is"
-    lines = [f"{path}: byte {at:,}, the first of packet {number:,} (from 0),{is_there} not the sync byte 47"]
-    spacing = spacing_of(path)
-    if spacing:
-        lines.append(f"{path} looks like packets of {spacing} bytes; only those of 188 are read")
+        return "a packet does not begin with the sync byte 47"
+    number, at = int(found[2]), PACKET * int(found[2])
+    head = piece(path, at, 8 * 204)
+    there = f" is {head[0]:02X}, not" if head else " is not"
+    lines = [f"{path}: byte {at:,}, the first of packet {number:,} (counted from 0),{there} the sync byte 47"]
+    spacing, offset = sync_in(head)
+    if spacing in OTHERS:
+        lines.append(f"{path} has packets of {spacing} bytes, and only those of 188 are read: leave out {OTHERS[spacing]}")
+    elif spacing and number == 0:
+        lines.append(f"{path} begins within a packet: sync at offset {offset} (tail -c +{offset + 1} cuts it there)")
+    elif spacing:
+        lines.append(f"{path}: sync again at byte {at + offset:,}; bytes were lost or added before it")
     return lines
+
+
+def sync_in(head):
+    """How far apart four sync bytes or more stand, and where the first one is. (None, None) if they do not."""
+    for spacing in (PACKET, *OTHERS):
+        for offset in range(spacing):
+            run = head[offset::spacing]
+            if len(run) > 3 and set(run) == {SYNC}:
+                return spacing, offset
+    return None, None
 
 
 def of_reading(form, text):
     """A file can't be opened or read."""
-    named = [path for kind, _, path in form.files if kind in ("settings", "hp", "lp", "cells")]
+    named = [path for kind, _, path in form.files if not kind.startswith("out")]
     for path in named:
-        why = None
         if not os.path.exists(path):
-            why = "there is no such file"
-        elif os.path.isdir(path):
-            why = "it is a folder"
-        elif not os.access(path, os.R_OK):
-            why = "it may not be read by this user"
-        if why:
-            return [f"{path} can't be read: {why}"]
-    return [f"{' or '.join(named)} could not be read; the system gave a fault"]
+            return f"{path} can't be read: there is no such file"
+        if os.path.isdir(path) or not os.access(path, os.R_OK):
+            return f"{path} can't be read: {'it is a folder' if os.path.isdir(path) else 'this user may not read it'}"
+    return f"{' or '.join(named)} could not be read"
 
 
 def of_writing(form, text):
     """A file can't be made, written or closed."""
     for path in form.outputs:
-        folder, why = os.path.dirname(path) or ".", None
-        if not os.path.isdir(folder):
-            why = f"there is no folder {folder}"
-        elif os.path.isdir(path):
-            why = "it is a folder"
-        elif not os.access(path if os.path.exists(path) else folder, os.W_OK):
-            why = "it may not be written by this user"
-        elif os.path.isdir(folder) and os.statvfs(folder).f_bavail == 0:
-            why = "the disk is full"
-        if why:
-            return [f"{path} can't be written: {why}"]
-    return [f"{' or '.join([*form.outputs, 'standard output'])} could not be written; the system gave a fault"]
-
-
-def of_memory(form, text):
-    """Memory is wanting."""
-    if form.command == "tune":
-        return ["there is not enough memory for the work; an output that was made is empty"]
-    return ["there is not enough memory for the work; no input was opened and no output was made"]
+        folder = os.path.dirname(path) or "."
+        if not os.path.isdir(folder) or os.path.isdir(path):
+            return f"{path} can't be written: {'it is a folder' if os.path.isdir(path) else f'there is no folder {folder}'}"
+        if not os.access(path if os.path.exists(path) else folder, os.W_OK):
+            return f"{path} can't be written: this user may not write it"
+        if os.statvfs(folder).f_bavail == 0:
+            return f"{path} can't be written: the disk is full"
+    return f"{' or '.join([path for path in form.outputs if path != '/dev/stdout'] + ['standard output'])} could not be written"
 
 
 def of_limit(form, text):
     """More packets or symbols than the limit."""
-    number = int(text.split()[1]) if re.fullmatch(r"limit \d+", text) else None
-    named = f"{number:,}" if number is not None else "the limit"
+    if not re.fullmatch(r"limit \d+", text):
+        return "there are more packets or symbols than the limit"
+    number = int(text.split()[1])
     if form.command in ("disperse", "outer", "inner") or form.command == "modulate" and number == 100_000_000:
-        return [f"an input has more than {named} packets ({(number or 0) * PACKET / 1e9:.1f} GB), the most that one run takes"]
-    air = air_of(form.settings, number)
-    if form.command == "trial":
-        return [f"max_symbols in {form.settings} is {named}, and a trial sends whole super-frames of 272 symbols"]
-    what = "the transmission has" if form.command == "modulate" else "the cells have"
-    lines = [f"{what} more than {named} symbols{air}, which is max_symbols in {form.settings}"]
-    return [*lines, "max_symbols may be up to 4294967295; without it, it is 1,000,000"]
-
-
-def of_header(form, text):
-    """Cells that do not begin with their header."""
-    path = form.of("cells")[0]
-    try:
-        with open(path, "rb") as file:
-            head = file.read(8) if stat.S_ISREG(os.fstat(file.fileno()).st_mode) else None
-    except OSError:
-        head = None
-    if head is None:
-        return [f"{path} does not begin with the header of a cell file of the mode in {form.settings}"]
-    if head[:5] == b"DVTC\x02" and head[5:6] in (b"\0", b"\1"):
-        mode = ["2k", "8k"][head[5]]
-        return [f"{path} is a cell file of the {mode} mode, and {form.settings} says another"]
-    found = head.hex(" ").upper() if head else "nothing"
-    return [f"{path} begins {found}, and no cell file of version 2 begins so (docs/FILES.md)"]
-
-
-def of_no_frame(form, text):
-    """No frame is found in the cells."""
-    path = form.of("cells")[0]
-    return [
-        f"no 68 symbols of {path} have a TPS word of the mode in {form.settings} with at most two wrong bits",
-        "its symbols are of the other mode, or too disturbed, or fewer than 68, or their TPS has bits beyond those of 4.6 (DVB-H, 4K)",
-    ]
-
-
-def of_form(form, text):
-    """The signal announces a hierarchy and LP is not named, or the reverse."""
-    path = form.of("cells")[0]
-    if len(form.outputs) == 1:
-        return [f"the signal in {path} has a hierarchy, and the words name one output: name a second one for LP"]
-    return [f"the signal in {path} has no hierarchy, and the words name two outputs: leave LP out"]
-
-
-def what_stands(form, status, before):
-    """What the outputs hold after a refusal, and how large they are."""
-    what = {
-        ("modulate", 4): "the header and the symbols before it",
-        ("modulate", 5): "the header and the symbols that the packets read suffice for",
-        ("modulate", 8): "the header and the symbols before the limit",
-        ("receive", 5): "what is decided by the symbols read",
-        ("receive", 8): "what is decided by the symbols within the limit",
-        ("rescue", 5): "what is decided by the symbols read",
-        ("rescue", 8): "what is decided by the symbols within the limit",
-        ("tune", 5): "what is decided by the symbols read from the super-frame behind the frame on",
-        ("tune", 8): "what is decided by the symbols within the limit from the super-frame behind the frame on",
-        ("tune", 10): "nothing was received",
-        ("tune", 11): "nothing was received",
-        ("upgrade", 5): "the header and the symbols read",
-        ("equalise", 5): "the header and the symbols read, corrected",
-        ("equalise", 8): "the header and the symbols within the limit, corrected",
-        ("upgrade", 8): "the header and the symbols within the limit",
-    }.get((form.command, status), "what the packets before it give")
-    if status == 6:
-        what = "a front of what the command comes to"
-    lines = []
-    for path in form.outputs:
-        now = seen(path)
-        if now is None:
-            lines.append(f"{path} was not made")
-        elif now == before.get(path):
-            lines.append(f"{path} is as it was")
-        elif stat.S_ISREG(now[3]):
-            lines.append(f"{path} holds {now[1]:,} bytes: {what}")
-    return lines
-
-
-def seen(path):
-    """What tells whether a file was written: its time, size, inode and kind."""
-    try:
-        found = os.stat(path)
-    except OSError:
-        return None
-    return found.st_mtime_ns, found.st_size, found.st_ino, found.st_mode
-
-
-# What is read of the files, for the explanation alone
-
-
-def text_of(path):
-    try:
-        if not os.path.isfile(path):
-            return ""
-        with open(path, "rb") as file:
-            return file.read(65536).decode("utf-8-sig", "replace")
-    except OSError:
-        return ""
-
-
-def document_of(path):
-    """The document by Python's own reader, or None where that refuses it; by its plain lines where there is none (before 3.11)."""
-    text = text_of(path)
-    try:
-        import tomllib
-
-        return tomllib.loads(in_toml_1_0(text))
-    except ImportError:
-        pass
-    except (ValueError, RecursionError):
-        return None
-    top = re.split(r"(?m)^[ \t]*\[", text)[0]
-    found = re.findall(r"(?m)^[ \t]*([\w-]+)[ \t]*=[ \t]*([^#\n]*)", top)
-    tables = re.findall(r"(?m)^[ \t]*\[+[ \t]*([\w-]+)", text)
-    return {**dict.fromkeys(tables), **{key: value.strip().strip("\"'") for key, value in found}}
-
-
-def in_toml_1_0(text):
-    """The text with the escapes that TOML 1.1 added (`\\x32`, `\\e`) as 1.0 writes them: Python's reader knows no others."""
-
-    def written(found):
-        if len(found[1]) == 3:
-            return "\\u00" + found[1][1:]
-        return "\\u001b" if found[1] == "e" else found[0]
-
-    return re.sub(r"(?s)\\(x[0-9A-Fa-f]{2}|.)", written, text)
-
-
-def name_of_key(path, number):
-    """The key that has this number among those of the document, in byte order, or why it has no name here."""
-    document = document_of(path)
-    if document is None:
-        return f"a key of {path} (number {number} in byte order, from 0; it can't be named, as Python's TOML reader refuses the file)"
-    keys = sorted(document, key=lambda key: key.encode())
-    return f"{keys[int(number)]!r} in {path}" if number.isdigit() and int(number) < len(keys) else f"a key of {path}"
-
-
-def value_in(path, key):
-    found = re.search(rf"(?m)^[ \t]*[\"']?{re.escape(key)}[\"']?[ \t]*=[ \t]*(.*)$", text_of(path))
-    return found[1].strip() if found else "another value"
-
-
-def why_not_toml(path):
-    try:
-        import tomllib
-
-        tomllib.loads(in_toml_1_0(text_of(path)))
-    except ImportError:
-        pass
-    except ValueError as error:
-        return f": {error}"
-    except RecursionError:
-        return ": its values stand too deep in one another"
-    return ""
-
-
-def byte_at(path, at):
-    try:
-        if not os.path.isfile(path):
-            return None
-        with open(path, "rb") as file:
-            file.seek(at)
-            return file.read(1)[0]
-    except (OSError, IndexError):
-        return None
-
-
-def spacing_of(path):
-    """204 or 192 where the sync byte stands so far apart at the head of the file."""
-    try:
-        with open(path, "rb") as file:
-            head = file.read(6 * 204) if os.path.isfile(path) else b""
-    except OSError:
-        return None
-    for spacing, first in ((204, 0), (192, 4)):
-        places = range(first, len(head), spacing)
-        if len(places) > 4 and all(head[place] == SYNC for place in places):
-            return spacing
-    return None
+        return f"an input has more than {number:,} packets ({number * PACKET / 1e9:.1f} GB), the most for one run"
+    what = {"modulate": "the transmission has", "trial": "the trial has"}.get(form.command, "the cells have")
+    has = f"{what} more than {number:,} symbols{air_of(form.settings, number)}, which is max_symbols in {form.settings}"
+    return [has, "max_symbols may be up to 4294967295; without the key it is 1,000,000"]
 
 
 def air_of(path, symbols):
     """How long so many symbols are on air in a channel of 8 MHz."""
     document = document_of(path) or {}
-    mode, guard = document.get("mode"), str(document.get("guard", "")).partition("/")
-    if symbols is None or mode not in USEFUL or guard[0] != "1" or not guard[2].isdigit():
-        return ""
-    return f" ({spoken(symbols * USEFUL[mode] * (1 + 1 / int(guard[2])))} of air in a channel of 8 MHz)"
+    useful, guard = USEFUL.get(str(document.get("mode"))), re.fullmatch(r"1/(\d+)", str(document.get("guard")))
+    return f" ({spoken(symbols * useful * (1 + 1 / int(guard[1])))} of air in a channel of 8 MHz)" if useful and guard else ""
+
+
+def of_header(form, text):
+    """The cells do not begin with the header of the mode."""
+    from cell_tools import beginning
+
+    path = form.of("cells")[0]
+    begin = piece(path, 0, beginning.BYTES["8k"])
+    if begin[:8] in (b"DVTC\x02\0\0\0", b"DVTC\x02\1\0\0"):
+        return f"{path} has cells of the {['2k', '8k'][begin[5]]} mode; {form.settings} has the other mode"
+    if begin and beginning.is_version_1(begin, os.path.getsize(path)):
+        return f"{path} looks like version 1: bin/dvbt upgrade {form.settings} {path} NEW makes a file of version 2"
+    begins = f" ({begin[:8].hex(' ').upper()})" if begin else ""
+    return f"{path} does not begin with the header of a cell file of version 2{begins}: docs/FILES.md"
+
+
+def of_no_frame(form, text):
+    """`tune` finds no frame."""
+    from cell_tools import beginning
+
+    path = form.of("cells")[0]
+    none = f"{path}: no 68 symbols in a row have a TPS word that can be read (EN 300 744, 4.6)"
+    begin = piece(path, 0, beginning.BYTES["8k"])
+    return [none, f"{path}: {beginning.why_no_frame(begin)}"]
+
+
+def of_form(form, text):
+    """The signal has a hierarchy and LP is not named, or the reverse."""
+    has = "a hierarchy: name a second output, for LP" if len(form.outputs) == 1 else "no hierarchy: leave out the output of LP"
+    return f"the signal in {form.of('cells')[0]} has {has}"
+
+
+def what_stands(form, status, before):
+    """What the outputs hold after a failed run, and how large they are."""
+    from door.watch import seen
+
+    for path in form.outputs:
+        now = seen(path)
+        what = f": {STANDS[status]}" if status in STANDS else ""
+        if now is None:
+            yield f"{path} was not made"
+        elif stat.S_ISREG(now[3]) and now == before.get(path):
+            yield f"{path} is unchanged"
+        elif stat.S_ISREG(now[3]):
+            yield f"{path} holds {now[1]:,} bytes{what}" if now[1] else f"{path} is empty"
+
+
+def piece(path, at, size):
+    """At most so many bytes of a file from a place on. Nothing that is not a regular file is opened again."""
+    try:
+        if os.path.isfile(path):
+            with open(path, "rb") as file:
+                file.seek(at)
+                return file.read(size)
+    except OSError:
+        pass
+    return b""
+
+
+def document_of(path):
+    """The settings as Python reads them, or None if it rejects them."""
+    from cell_tools import settings
+
+    try:
+        return settings.document(piece(path, 0, 65536))
+    except (ValueError, RecursionError):
+        return None

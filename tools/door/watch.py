@@ -1,138 +1,244 @@
-"""Runs the program: its text is handed on as it comes, progress is shown on a terminal, a refusal is explained."""
+"""Runs the program as a child that dies with the door: signals are passed on, and its report is handed on as it comes."""
 import os
 import select
-import signal
-import subprocess
+import _signal as signal  # the built-in part alone: the rest takes as long to import as Python to start
 import sys
-import time
 
-from door import explain
+from door.progress import Progress
 
-FIRST, EACH = 1.0, 0.5  # seconds until progress is shown, and between two times
+EACH = 0.5  # seconds between two looks at the progress
+
+# SIGUSR1 asks for the progress. What ends the door by a fault of its own ends the child by its parent-death signal.
+OWN = {signal.SIGUSR1, signal.SIGCHLD, signal.SIGPIPE, signal.SIGKILL, signal.SIGSTOP, signal.SIGWINCH, signal.SIGURG}
+FAULTS = {signal.SIGSEGV, signal.SIGBUS, signal.SIGILL, signal.SIGFPE, signal.SIGTRAP, signal.SIGSYS}
+PASSED_ON = signal.valid_signals() - OWN - FAULTS - {signal.SIGTTIN, signal.SIGTTOU}
+PR_SET_PDEATHSIG = 1
 
 
-def run(program, words, form):
-    """Runs the program with these words; answers its status."""
-    before = {path: explain.seen(path) for path in form.outputs} if form else {}
-    is_seen = not (form and any(is_standard_output(path) for path in form.outputs))
-    how = {"executable": program, "stdout": subprocess.PIPE if is_seen else None}
-    child = subprocess.Popen(["dvbt", *words], **how)
-    for number in (signal.SIGINT, signal.SIGQUIT):
-        signal.signal(number, signal.SIG_IGN)  # the terminal sends them to the program too
-    for number in (signal.SIGTERM, signal.SIGHUP):
-        signal.signal(number, lambda number, _: child.send_signal(number))
-    progress = Progress(child.pid, form)
-    text, is_lost = handed_on(child, progress)
-    while True:
+class Child:
+    """The program as a child."""
+
+    def __init__(self, program, words, closed):
+        """Starts it. Signals wait from before the start until they can be passed on."""
+        passed_on = {it for it in PASSED_ON if signal.getsignal(it) != signal.SIG_IGN}
+        mask = signal.pthread_sigmask(signal.SIG_BLOCK, passed_on)
+        self.door, self.is_over = os.getpid(), False
+        self.report, end = os.pipe()
+        self.wake = wakes()
+        self.pid = os.fork()
+        if self.pid == 0:
+            self.become(program, words, closed, mask, end)
+        os.close(end)
+        for number in passed_on:
+            signal.signal(number, self.pass_on)
+        signal.pthread_sigmask(signal.SIG_SETMASK, mask)
+
+    def become(self, program, words, closed, mask, end):
+        """In the child: becomes the program, with `end` as its standard output; or ends."""
         try:
-            status = child.wait(EACH)
-            break
-        except subprocess.TimeoutExpired:
-            progress.show()
-    progress.end()
-    if status < 0:
-        end_by(-status)
+            die_with(self.door)
+            if 1 not in closed:
+                os.dup2(end, 1)
+            for number in closed:
+                os.close(number)
+            for number in (signal.SIGPIPE, signal.SIGXFSZ):
+                signal.signal(number, signal.SIG_DFL)  # Python ignores them
+            signal.pthread_sigmask(signal.SIG_SETMASK, mask)
+            os.execv(program, ["dvbt", *words])
+        except OSError as error:
+            print(f"dvbt: {program} can't be run: {error.strerror}", file=sys.stderr, flush=True)
+        finally:
+            os._exit(126)
+
+    def pass_on(self, number, _):
+        """Hands a signal on. A stop stops both, also where nobody is at the terminal to go on with them."""
+        is_stop = number == signal.SIGTSTP
+        if not self.is_over:
+            os.kill(self.pid, signal.SIGSTOP if is_stop else number)
+        if is_stop:
+            os.kill(os.getpid(), signal.SIGSTOP)
+
+    def pieces(self, seconds):
+        """What it prints, piece by piece, until it has ended. A piece is empty if a signal or the end of so many seconds came first."""
+        while self.report or not os.waitid(os.P_PID, self.pid, os.WEXITED | os.WNOWAIT | os.WNOHANG):
+            ready = select.select([self.wake, self.report] if self.report else [self.wake], [], [], seconds)[0]
+            if self.wake in ready:
+                os.read(self.wake, 4096)
+            piece = os.read(self.report, 65536) if self.report in ready else b""
+            if self.report in ready and not piece:
+                self.let_go()
+            yield piece
+
+    def let_go(self):
+        """Reads no more of what it prints."""
+        os.close(self.report)
+        self.report = None
+
+    def status(self):
+        """Its status once it has ended, or minus the signal that ended it."""
+        self.is_over = True  # no signal is passed on to another process of its number
+        return os.waitstatus_to_exitcode(os.waitpid(self.pid, 0)[1])
+
+
+def wakes():
+    """A descriptor to read where each signal that has a handler, and the end of a child, leaves a byte. Else a signal that comes just
+    before we wait would be looked at only after the wait."""
+    read, write = os.pipe()
+    for number in (read, write):
+        os.set_blocking(number, False)
+    signal.set_wakeup_fd(write, warn_on_full_buffer=False)
+    signal.signal(signal.SIGCHLD, lambda *_: None)
+    return read
+
+
+def die_with(door):
+    """Has the system kill this process once its parent, the process `door`, is gone. Where Python has no ctypes it lives on."""
+    try:
+        import _ctypes  # without the classes of ctypes, which take half as long to import as Python to start
+
+        number = type("Number", (_ctypes._SimpleCData,), {"_type_": "i"})
+        call = type("Call", (_ctypes.CFuncPtr,), {"_flags_": _ctypes.FUNCFLAG_CDECL, "_restype_": number})
+        call(_ctypes.dlsym(_ctypes.dlopen(None, 0), "prctl"))(PR_SET_PDEATHSIG, int(signal.SIGKILL))
+    except (ImportError, AttributeError):
+        pass
+    if os.getppid() != door:
+        os._exit(126)
+
+
+def run(program, form, words, given, options, is_data, closed):
+    """Runs the program with the arguments `given`; answers its status. With `is_data` the report goes to standard error."""
+    before = {path: seen(path) for path in form.outputs} if form else {}
+    is_quiet, to, report = "quiet" in options, 2 if is_data else 1, None
+    if "json" in options:
+        from door.report import Report
+
+        report = Report(form, to)
+    if form and not is_quiet:
+        tell_limit(form)
+    progress = Progress(form, not is_quiet and sys.stderr.isatty())
+    signal.signal(signal.SIGUSR1, progress.tell)
+    child = Child(program, given, closed)
+    progress.pid = child.pid
+    lines, is_lost = handed_on(child, progress, report.take if report else lambda piece: put(piece, to), to)
+    status = child.status()
+    progress.clear()
+    if is_data:
+        to_the_end(1)
     if is_lost and status == 0:
-        explain.say("standard output took no more, so the last lines are lost")
-        return 6
-    if status:
-        explain.of_refusal(form, words, status, text, before)
+        say("standard output took no more, so the last lines are lost")
+        status = 6
+    elif status < 0 and not is_quiet:
+        tell_end(-status, progress, before)
+    elif status and not is_quiet:
+        from door import explain
+
+        explain.of_refusal(form, words, status, lines[-1] if lines else "", before)
+    elif form and status == 0 and options != {"quiet"}:
+        status = judged(form, lines, options, report)
+    if report:
+        status = closed_with(report, status)
+    return status if status >= 0 else end_by(-status)
+
+
+def judged(form, lines, options, report):
+    """Says what a run of status 0 is worth; answers its status, which --strict makes 1 if there is something to say."""
+    from door import verdict
+
+    said = verdict.of(form, verdict.facts_of(form, lines))
+    if report:
+        report.verdict = said
+    if said and "quiet" not in options:
+        say(said)
+    return 1 if said and "strict" in options else 0
+
+
+def closed_with(report, status):
+    """Prints the object of a run; answers the status."""
+    try:
+        report.close(*((status,) if status >= 0 else (128 - status, name_of(-status))))
+    except OSError as error:
+        say(f"standard output could not be written: {error.strerror}")
+        return status or 6
     return status
 
 
+def tell_limit(form):
+    """Says where a run ends that reads a pipe, if max_symbols is near its default."""
+    if form.settings and any(os.path.exists(path) and not os.path.isfile(path) and path != os.devnull for _, path in form.inputs):
+        from door.progress import of_limit
+
+        said = of_limit(form)
+        if said:
+            say(said)
+
+
+def seen(path):
+    """What tells whether a file was written: its time, size, inode and kind."""
+    try:
+        found = os.stat(path)
+    except OSError:
+        return None
+    return found.st_mtime_ns, found.st_size, found.st_ino, found.st_mode
+
+
+def handed_on(child, progress, take, to):
+    """Hands the program's report on; answers its last lines, and whether standard output did not take all of it."""
+    text, rest, is_lost = b"", b"", False
+    for piece in child.pieces(EACH if progress.is_shown else None):
+        if not piece:
+            progress.show()
+            continue
+        text = (text + piece)[-65536:]
+        *lines, rest = (rest + piece).split(b"\n")
+        progress.note(lines)
+        progress.clear()
+        try:
+            take(piece)
+        except OSError:
+            # what standard error does not take is dropped; else the program then meets a fault of its standard output
+            if to == 1:
+                is_lost = True
+                child.let_go()
+    return text.decode("utf-8", "replace").splitlines(), is_lost
+
+
+def put(data, to=1):
+    while data:
+        data = data[os.write(to, data) :]
+
+
+def to_the_end(number):
+    """What follows in the file of a descriptor stands after what the program wrote: it opened the file anew."""
+    try:
+        os.lseek(number, 0, os.SEEK_END)
+    except OSError:
+        pass
+
+
+def tell_end(number, progress, before):
+    """Says what a signal ended and what stands."""
+    why = ": so it ends if it has too little stack or address space (docs/FILES.md)" if number == signal.SIGSEGV else ""
+    say(f"the program was ended by {name_of(number)}{why}")
+    say(progress.stands(before, seen) if progress.form else [])
+
+
 def end_by(number):
-    """Ends by the signal that ended the program, without a second core file."""
+    """Ends by the signal that ended the program, without a second core file; else with 128 and its number, as shells do."""
     import resource
 
-    why = ": so it ends where it has too little stack or address space (docs/FILES.md)" if number == signal.SIGSEGV else ""
-    explain.say(f"the program was ended by signal {number}{why}")
     resource.setrlimit(resource.RLIMIT_CORE, (0, 0))
     if number != signal.SIGKILL:
         signal.signal(number, signal.SIG_DFL)
     os.kill(os.getpid(), number)
+    return 128 + number
 
 
-def is_standard_output(path):
-    """Whether the program would write this output to our standard output: it then keeps that as its own."""
-    try:
-        return os.path.samestat(os.stat(path), os.fstat(1))
-    except OSError:
-        return False
+def say(text):
+    from door import explain
+
+    explain.say(text)
 
 
-def handed_on(child, progress):
-    """Hands the program's text on to standard output; answers its last line, and whether some of it could not be written."""
-    text, is_lost = b"", False
-    while child.stdout:
-        if not select.select([child.stdout], [], [], EACH)[0]:
-            progress.show()
-            continue
-        piece = os.read(child.stdout.fileno(), 65536)
-        if not piece:
-            break
-        text = (text + piece)[-4096:]
-        progress.clear()
-        try:
-            while piece:
-                piece = piece[os.write(1, piece) :]
-        except OSError:
-            is_lost = True
-            child.stdout.close()
-            break
-    lines = text.decode("utf-8", "replace").splitlines()
-    return (lines[-1] if lines else ""), is_lost
-
-
-class Progress:
-    """How far the inputs are read, by /proc, on one line of a terminal."""
-
-    def __init__(self, pid, form):
-        self.pid, self.began, self.shown = pid, time.monotonic(), False
-        self.next = self.began + FIRST
-        self.is_on = form is not None and sys.stderr.isatty() and os.path.isdir(f"/proc/{pid}/fdinfo")
-        self.command = form.command if form else ""
-        self.files, self.last = [], {}
-        for _, path in form.inputs if self.is_on else []:
-            try:
-                if os.path.isfile(path):
-                    self.files.append((os.stat(path), path))
-            except OSError:
-                pass
-
-    def show(self):
-        now = time.monotonic()
-        if not self.is_on or now < self.next:
-            return
-        self.next = now + EACH
-        gone = now - self.began
-        shares = {path: self.position(found, path) / max(found.st_size, 1) for found, path in self.files}
-        parts = [f"{100 * share:.0f} % of {os.path.basename(path)}" for path, share in shares.items()]
-        least = min(shares.values(), default=0)
-        left = f", about {explain.clock(gone * (1 - least) / least)} more" if 0.02 < least < 1 else ""
-        line = f"dvbt: {self.command} {', '.join(parts)}{' after' if parts else ''} {explain.clock(gone)}{left}"
-        sys.stderr.write(f"\r{line}\033[K")
-        sys.stderr.flush()
-        self.shown = True
-
-    def position(self, found, path):
-        """Where the program stands in a file; where it stood last, where the file isn't open."""
-        try:
-            for name in os.listdir(f"/proc/{self.pid}/fd"):
-                try:
-                    seen = os.stat(f"/proc/{self.pid}/fd/{name}")
-                    if int(name) > 2 and os.path.samestat(seen, found):
-                        with open(f"/proc/{self.pid}/fdinfo/{name}", encoding="ascii") as file:
-                            self.last[path] = int(file.readline().split()[1])
-                except OSError:
-                    pass
-        except OSError:
-            pass
-        return self.last.get(path, 0)
-
-    def clear(self):
-        if self.shown:
-            sys.stderr.write("\r\033[K")
-            sys.stderr.flush()
-            self.shown = False
-
-    end = clear
+def name_of(number):
+    named = (name for name, value in vars(signal).items() if value == number and name.startswith("SIG") and "_" not in name)
+    return next(named, f"signal {number}")

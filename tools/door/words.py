@@ -1,12 +1,12 @@
-"""The commands of dvbt, their forms and what --help says of them."""
+"""The commands of dvbt and their forms. tools/texts.py has what --help says of them."""
 
-# Each word of a form is a kind and the name that the help gives it. Kinds: `settings`, inputs `hp`, `lp` and `cells`,
-# outputs `out` (of one stream or of cells), `out-hp` and `out-lp`, and `number`.
+# Each argument of a form is a kind and the name that the help gives it. Kinds: `settings`, inputs `hp`, `lp` and `cells`,
+# outputs `out` (of one stream), `out-cells`, `out-hp` and `out-lp`, and `number`.
 SETTINGS, HP, LP, CELLS = ("settings", "SETTINGS"), ("hp", "HP"), ("lp", "LP"), ("cells", "CELLS")
-TS, OUT, TO_CELLS = ("hp", "TS"), ("out", "OUT"), ("out", "CELLS")
+TS, OUT, TO_CELLS = ("hp", "TS"), ("out", "OUT"), ("out-cells", "CELLS")
 TO_HP, TO_LP, NUMBER = ("out-hp", "HP"), ("out-lp", "LP"), ("number", "NUMBER")
-OLD, NEW = ("cells", "OLD"), ("out", "NEW")
-IN, CORRECTED = ("cells", "IN"), ("out", "OUT")
+OLD, NEW = ("cells", "OLD"), ("out-cells", "NEW")
+IN, CORRECTED = ("cells", "IN"), ("out-cells", "OUT")
 
 FORMS = {
     "modulate": [(SETTINGS, HP, TO_CELLS), (SETTINGS, HP, LP, TO_CELLS)],
@@ -21,101 +21,21 @@ FORMS = {
     "inner": [(SETTINGS, TS, OUT)],
 }
 
-SHORT = {
-    "modulate": "transport packets to the cells of the OFDM carriers",
-    "receive": "cells, noisy ones too, back to transport packets",
-    "rescue": "cells back to transport packets, more of them out of noise, at some cost in time",
-    "tune": "cells from any symbol on, their settings read from the signal",
-    "upgrade": "a cell file of version 1 as one of version 2",
-    "equalise": "cells corrected by the pilots of their own symbols",
-    "trial": "packets drawn from a number, there and back over disturbed cells",
-    "disperse": "energy dispersal alone, 188 bytes a packet",
-    "outer": "dispersal, Reed-Solomon code and outer interleaver, 204 bytes a packet",
-    "inner": "those bytes, convolutionally coded and punctured",
-}
-
-FILES = {
-    "SETTINGS": "a TOML document of the transmission (docs/SETTINGS.md; examples/settings/)",
-    "HP": "a transport file, packets of 188 bytes: the only stream, or the sturdier of two",
-    "LP": "a transport file: the second stream, with a hierarchy",
-    "TS": "a transport file, packets of 188 bytes",
-    "CELLS": "a cell file: a header, then five bytes a carrier, symbol after symbol (docs/FILES.md)",
-    "OLD": "a cell file of version 1: four bytes a carrier, without a header (docs/FILES.md)",
-    "NEW": "the cell file of version 2 to write: a header, then five bytes a carrier",
-    "IN": "a cell file of version 2, from the first symbol of a super-frame on (docs/FILES.md)",
-    "OUT": "the file to write",
-    "NUMBER": "one to ten digits, at most 4294967295; the same number gives the same lines everywhere",
-}
-
-MORE = {
-    "modulate": """Writes whole super-frames, at least one: the fewest that carry all packets and let a receiver have them
-back. Null packets fill the rest. LP is given exactly where the settings have a hierarchy, at the top or in their plan.""",
-    "receive": """Reads cells from the first symbol of a super-frame on and writes packets as they are decided. A
-packet that could not be corrected is written with transport_error_indicator set. LP is given exactly where the
-settings have a hierarchy, at the top or in their plan. Set start = "any" where the cells do not begin at the start of
-a transmission. Each cell has a weight of 0 to 15, by which its costs count.""",
-    "rescue": """Reads cells and writes packets as `receive` does. Where a word of 204 bytes has more than eight errors, its eight
-least sure bytes are erased, and it is decoded once more: with up to four errors among the others it comes back, and
-is counted as rescued. Packets come later than those of `receive`, and no line `tps` is printed.""",
-    "tune": """Finds the first 68 symbols whose TPS word can be read, takes constellation, hierarchy, rates and guard interval from
-it, and receives from the next super-frame on. Of the settings mode, workers and max_symbols alone have an effect. LP is
-given exactly where the signal has a hierarchy. `tune at I frame F` tells the first symbol of the frame, counted from 0.
-What stands before that super-frame is not received.""",
-    "upgrade": """Writes the header of the settings' mode, and each cell of OLD's whole symbols with the weight 15, at
-which it counts whole. Of the settings the mode and max_symbols alone have an effect.""",
-    "equalise": """Divides each cell by the gain on the line between the two pilots around it, and writes it with a weight of
-0 to 15 by how strong that gain is. Serves one gain a symbol, or one that bends slowly over the carriers. Of the
-settings the mode and max_symbols alone have an effect.""",
-    "trial": """Writes no file: the lines count what was sent and what came back, null packets too. `cells` and `sum` are sums of
-bytes modulo 2^32.""",
-    "disperse": "EN 300 744, 4.3.1.",
-    "outer": "EN 300 744, 4.3.1 and 4.3.2.",
-    "inner": "EN 300 744, 4.3.1 to 4.3.3, at rate_hp of the settings. Zero bits fill the last byte.",
-}
-
-EXAMPLES = {
-    "modulate": ["bin/dvbt modulate examples/settings/64qam.toml examples/sample.ts out.cells"],
-    "receive": ["bin/dvbt receive examples/settings/64qam.toml out.cells back.ts"],
-    "rescue": ["bin/dvbt rescue examples/settings/64qam.toml noisy.cells back.ts"],
-    "tune": ["bin/dvbt tune examples/settings/64qam.toml recorded.cells back.ts"],
-    "upgrade": ["bin/dvbt upgrade examples/settings/64qam.toml old.cells new.cells"],
-    "equalise": ["bin/dvbt equalise examples/settings/64qam.toml received.cells corrected.cells"],
-    "trial": ["bin/dvbt trial examples/settings/qpsk.toml 7"],
-    "disperse": ["bin/dvbt disperse examples/sample.ts out.ts"],
-    "outer": ["bin/dvbt outer examples/sample.ts out.bin"],
-    "inner": ["bin/dvbt inner examples/settings/qpsk.toml examples/sample.ts out.bin"],
-}
-
-# The statuses, in one line each, and which commands have them.
-STATUSES = [
-    (0, "the work was done whole; the lines say what was counted", FORMS),
-    (2, "the words are of no form: `usage`", FORMS),
-    (3, "the settings are refused: `settings ..` says why", ("modulate", "receive", "rescue", "tune", "upgrade", "equalise", "trial", "inner")),
-    (4, "a packet does not begin with the sync byte 47: `hp packet N`, `lp packet N`, counted from 0",
-     ("modulate", "disperse", "outer", "inner")),
-    (5, "a file can't be opened or read: `read fault`", FORMS),
-    (6, "a file can't be made, written or closed: `write fault`", FORMS),
-    (7, "memory is wanting: `memory`; no line where the words are not UTF-8 or the files' buffers can't be taken",
-     ("modulate", "receive", "rescue", "tune", "upgrade", "equalise", "trial", "outer", "inner")),
-    (7, "the words are not UTF-8, or the files' buffers can't be taken: no line", ("disperse",)),
-    (8, "more packets or symbols than the limit: `limit N`", FORMS),
-    (9, "the cells do not begin with the header of the settings' mode: `cells header`", ("receive", "rescue", "tune", "equalise")),
-    (10, "no frame is found in the cells: `tune none`", ("tune",)),
-    (11, "the signal has a hierarchy and LP is not given, or the reverse: `tune form`", ("tune",)),
-]
-OF_THE_DOOR = [
-    (64, "bin/dvbt itself refused: one file is named twice, and would be destroyed"),
-    (126, "the program could not be built, or its proof failed, or the one that $DVBT_PROGRAM names can't be run"),
-    (127, "the program is not built, and the toolchain's command rt is not on the PATH"),
-]
+# Options stand before the command.
+OPTIONS = {"-q": "quiet", "--quiet": "quiet", "--strict": "strict", "--json": "json"}
 
 
 class Form:
-    """The words of one call, matched to a form: each file by its kind."""
+    """The arguments of one call, matched to a form: each file by its kind. `-` is standard input or output."""
 
     def __init__(self, command, kinds, words):
-        self.command = command
-        self.files = [(kind, name, word) for (kind, name), word in zip(kinds, words) if kind != "number"]
+        self.command, self.files, self.numbers = command, [], []
+        for (kind, name), word in zip(kinds, words):
+            if kind == "number":
+                self.numbers.append(word)
+            else:
+                standard = "/dev/stdout" if kind.startswith("out") else "/dev/stdin"
+                self.files.append((kind, name, standard if word == "-" else word))
 
     def of(self, *kinds):
         """The paths of these kinds."""
@@ -132,11 +52,16 @@ class Form:
 
     @property
     def outputs(self):
-        return self.of("out", "out-hp", "out-lp")
+        return [word for kind, _, word in self.files if kind.startswith("out")]
+
+    @property
+    def cells(self):
+        """The cell file of version 2 by which symbols are counted, or None: what is read, or else what is written."""
+        return ((self.of("cells") if self.command != "upgrade" else []) or self.of("out-cells") or [None])[0]
 
 
 def form_of(words):
-    """The form that these words have, or None."""
+    """The form that these arguments have, or None."""
     if not words:
         return None
     for kinds in FORMS.get(words[0], ()):
@@ -154,42 +79,3 @@ def is_number(word):
 
 def lines_of_forms(command):
     return [" ".join(["dvbt", command, *(name for _, name in kinds)]) for kinds in FORMS[command]]
-
-
-def help_of_all():
-    """What `bin/dvbt --help` prints."""
-    out = ["dvbt: a DVB-T modulator and streaming soft receiver (EN 300 744, between transport packets and OFDM cells)", ""]
-    out += ["usage: bin/dvbt [-q] COMMAND WORDS..", ""]
-    for command in FORMS:
-        out += [f"  {line}" for line in lines_of_forms(command)]
-        out += [f"        {SHORT[command]}"]
-    out += ["", "  bin/dvbt COMMAND --help     forms, files, an example and the statuses of a command"]
-    out += ["  bin/dvbt --version          the sources, the toolchain and the program that would run"]
-    out += ["  bin/dvbt --program          the path of that program, which is built where it isn't yet"]
-    out += ["  -q                          the program alone: no explanation and no progress on standard error"]
-    out += ["  $DVBT_PROGRAM               names another program to run in its place", ""]
-    out += ["There and back:"]
-    out += [f"  {EXAMPLES[it][0]}" for it in ("modulate", "receive")]
-    out += ["", "Statuses:"] + lines_of_statuses(None)
-    out += ["", "docs/SETTINGS.md lists the settings, docs/FILES.md describes the files."]
-    return "\n".join(out)
-
-
-def help_of(command):
-    """What `bin/dvbt COMMAND --help` prints."""
-    out = [f"dvbt {command}: {SHORT[command]}", ""]
-    out += [f"  {line}" for line in lines_of_forms(command)] + [""]
-    names = dict.fromkeys(name for kinds in FORMS[command] for _, name in kinds)
-    width = max(map(len, names))
-    out += [f"  {name:{width}}  {FILES[name]}" for name in names]
-    out += ["", MORE[command], "", "Example:"] + [f"  {line}" for line in EXAMPLES[command]]
-    out += ["", "Statuses:"] + lines_of_statuses(command)
-    return "\n".join(out)
-
-
-def lines_of_statuses(command):
-    shown = {}
-    for number, text, of in STATUSES:
-        if command is None or command in of:
-            shown.setdefault(number, text)
-    return [f"  {number:3}  {text}" for number, text in [*shown.items(), *OF_THE_DOOR]]

@@ -6,11 +6,10 @@ leaves none.
 import contextlib
 import fcntl
 import os
-import shutil
 import sys
 import time
 
-from door import program, proofs
+from builder import program, proofs, stamp
 from door.explain import clock, fail, say, spoken
 
 # Seconds that the proof and build of the program took when it was measured, from nothing, by processors.
@@ -20,8 +19,8 @@ EACH = 2_000_000_000
 
 
 def build(top, is_quiet):
-    """Builds out/dvbt and answers its path; ends with 126 or 127 where that can't be."""
-    if not shutil.which("rt"):
+    """Builds out/dvbt and answers its path; ends with 126 or 127 if that can't be."""
+    if not stamp.path_of_rt():
         fail(127, "the program is not built from these sources, and the toolchain's command rt is not on the PATH")
     with alone(top) as has_waited:
         file = has_waited and program.built_here(top, program.sums_of(top))
@@ -50,7 +49,9 @@ def built(top, level, is_quiet=False):
     toolchain, sums = program.toolchain_of(), program.sums_of(top)
     began = time.monotonic()
     target = f"{top}/out/dvbt"
-    link(prove(top, is_quiet), level, f"{target}.new")
+    work = prove(top, is_quiet)
+    link(work, level, f"{target}.new")
+    work.stop()
     if program.sums_of(top) != sums:
         fail(126, "the sources changed while the program was built; run the command again")
     seconds = round(time.monotonic() - began)

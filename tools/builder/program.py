@@ -6,14 +6,15 @@ toolchain whose line (`rt version`) stands with its sums. `dist/` has programs t
 """
 import hashlib
 import os
-import shutil
 import subprocess
+import time
 
-from door.explain import fail, say
+from builder import stamp
+from builder.level import LEVELS, level_of_processor
+from door.explain import say
+from door.main import program_named
 
-# The flags of /proc/cpuinfo that tell x86-64-v3, the instructions of processors since about 2013.
-V3 = {"avx2", "bmi1", "bmi2", "fma", "movbe", "f16c", "abm"}
-LEVELS = ("x86-64-v3", "x86-64-v2")
+PARTS = ("src", "specs", "proofs")  # the folders of a crate that the program is built from
 
 
 def named_of(top):
@@ -49,20 +50,18 @@ def crates_of(top):
 def sources_of(top, crate):
     """The paths of the files that a crate is built from."""
     files = []
-    for part in ("src", "specs", "proofs"):
+    for part in PARTS:
         for at, _, names in os.walk(f"{top}/crates/{crate}/{part}"):
             files += [os.path.relpath(f"{at}/{name}", top) for name in names if name.endswith((".rt", ".antt"))]
     return files
 
 
-def sums_of(top, *crates):
-    """The checksum of each file that the program is built from, or these crates of it alone, by its path from the top."""
+def sums_of(top, *crates, known={}):
+    """The checksum of each file that the program is built from, or these crates of it alone, by its path from the top. `known` has some
+    of them, by path and state."""
     files = [it for crate in crates or crates_of(top) for it in sources_of(top, crate)]
-    sums = {}
-    for path in sorted(files + ([] if crates else ["crates.txt", "HANDLES"])):
-        with open(f"{top}/{path}", "rb") as file:
-            sums[path] = hashlib.sha256(file.read()).hexdigest()
-    return sums
+    files = sorted(files + ([] if crates else ["crates.txt", "HANDLES"]))
+    return {it: known and known.get((it, stamp.state(f"{top}/{it}"))) or sum_of(f"{top}/{it}") for it in files}
 
 
 def written(sums, toolchain):
@@ -95,8 +94,8 @@ def sum_of(path):
 
 
 def toolchain_of():
-    """The line of `rt version`, or None where there is no rt on the PATH."""
-    if not shutil.which("rt"):
+    """The line of `rt version`, or None if there is no rt on the PATH."""
+    if not stamp.path_of_rt():
         return None
     ran = subprocess.run(["rt", "version"], stdin=subprocess.DEVNULL, stdout=subprocess.PIPE, stderr=subprocess.DEVNULL, text=True)
     return ran.stdout.strip() or None
@@ -104,23 +103,8 @@ def toolchain_of():
 
 def stat_of_rt():
     """What tells that rt is the one whose line was asked: where it is, its time and size. Asking it takes 0.2 s."""
-    rt = shutil.which("rt")
-    if not rt:
-        return None
-    seen = os.stat(rt)
-    return f"{os.path.realpath(rt)} {seen.st_mtime_ns} {seen.st_size}"
-
-
-def level_of_processor():
-    """x86-64-v3 where this processor has its instructions, else x86-64-v2, or None for another processor."""
-    if os.uname().machine != "x86_64":
-        return None
-    try:
-        with open("/proc/cpuinfo", encoding="utf-8", errors="replace") as file:
-            flags = next((line for line in file if line.startswith("flags")), "")
-    except OSError:
-        flags = ""
-    return LEVELS[0] if V3 <= set(flags.split()) else LEVELS[1]
+    rt = stamp.path_of_rt()
+    return f"{rt} {os.stat(rt).st_mtime_ns} {os.stat(rt).st_size}" if rt else None
 
 
 def built_here(top, sums):
@@ -159,37 +143,54 @@ def of_dist(top, sums):
     return f"{top}/dist/{name}"
 
 
-def given():
-    """The program that $DVBT_PROGRAM names, which is run as it is."""
-    file = os.environ.get("DVBT_PROGRAM")
-    if file and not (os.path.isfile(file) and os.access(file, os.X_OK)):
-        fail(126, f"$DVBT_PROGRAM is {file}, and no program that can be run")
-    return os.path.abspath(file) if file else None
+def found(top, known=None):
+    """The program to run, or None if it has to be built. `known` has the checksums of the stamp; without it all are made anew, and no
+    stamp is written."""
+    named = program_named(top)
+    if named:
+        return named
+    begun = time.monotonic_ns()
+    sums = sums_of(top, known=known or {})
+    file = built_here(top, sums) or of_dist(top, sums)
+    if file and known is not None:
+        stamp.write(top, file, sums, others_of(top), begun)
+    return file
 
 
-def found(top):
-    """The program to run, or None where it has to be built."""
-    file = given()
-    if file:
-        return file
-    sums = sums_of(top)
-    return built_here(top, sums) or of_dist(top, sums)
+def others_of(top):
+    """What the program is found by beside the sources, whether it is there or not: folders of sources, the programs and their sums."""
+    folders = []
+    for crate in crates_of(top):
+        for part in PARTS:
+            folders += [f"crates/{crate}/{part}"] + [os.path.relpath(at, top) for at, _, _ in os.walk(f"{top}/crates/{crate}/{part}")][1:]
+    names = [f"dvbt-{it}" for it in LEVELS] + ["SOURCES.sha256", "SHA256SUMS"]
+    return folders + [f"out/dvbt{it}" for it in ("", ".sources", ".by")] + [f"dist/{it}" for it in names]
+
+
+def sum_of_all(sums):
+    """One checksum of all sources."""
+    return hashlib.sha256("".join(f"{value}  {path}\n" for path, value in sums.items()).encode()).hexdigest()
+
+
+def version(top):
+    """What VERSION says."""
+    try:
+        with open(f"{top}/VERSION", encoding="ascii") as file:
+            return file.read().strip()
+    except OSError:
+        return "of no version"
 
 
 def described(top):
     """The lines of --version."""
     sums = sums_of(top)
-    whole = hashlib.sha256("".join(f"{value}  {path}\n" for path, value in sums.items()).encode()).hexdigest()
-    lines = [f"dvbt, sources {whole[:16]} ({len(sums)} files)"]
-    file = given() or built_here(top, sums) or of_dist(top, sums)
+    lines = [f"dvbt {version(top)}, sources {sum_of_all(sums)[:16]} ({len(sums)} files)"]
+    file = program_named(top) or built_here(top, sums) or of_dist(top, sums)
     if not file:
         lines.append("program: none of these sources is built yet; the first command builds it")
-        lines.append(f"toolchain: {toolchain_of() or 'rt is not on the PATH'}")
-        return lines
+        return [*lines, f"toolchain: {toolchain_of() or 'rt is not on the PATH'}"]
     lines.append(f"program: {os.path.relpath(file, top) if file.startswith(top + os.sep) else file}")
     if os.environ.get("DVBT_PROGRAM"):
-        lines.append("named by $DVBT_PROGRAM: its sources are not known")
-    else:
-        kept = read_sums(f"{top}/out/dvbt.sources" if file == f"{top}/out/dvbt" else f"{top}/dist/SOURCES.sha256")
-        lines.append(f"proved and built by {kept[0]}")
-    return lines
+        return [*lines, "named by $DVBT_PROGRAM: its sources are not known"]
+    kept = read_sums(f"{top}/out/dvbt.sources" if file == f"{top}/out/dvbt" else f"{top}/dist/SOURCES.sha256")
+    return [*lines, f"proved and built by {kept[0]}"]

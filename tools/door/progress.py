@@ -1,0 +1,129 @@
+"""How far a run is, by what the system tells of the program's descriptors. Nothing is asked of the program."""
+import os
+import stat
+import sys
+import time
+
+FIRST, EACH = 1.0, 0.5  # seconds until the progress is shown, and between two times
+HEADER, SYMBOL = 8, {"2k": 8525, "8k": 34085}  # bytes of a cell file
+PACKET = {"outer": 204, "inner": 0}  # bytes of an output for each packet, if not 188; `inner` has no whole number
+LOADER = 832  # bytes that the loader reads of the C library, before the program reads its files
+BY_DEFAULT = 1_000_000  # max_symbols
+
+
+class Progress:
+    """The progress of the program, once its number `pid` is known; on a terminal if `is_shown`."""
+
+    def __init__(self, form, is_shown):
+        self.pid, self.form, self.is_shown = None, form, is_shown and form is not None
+        self.began = time.monotonic()
+        self.next, self.is_there, self.last, self.counts, self.kept = self.began + FIRST, False, {}, {}, None
+
+    def show(self):
+        """Shows the line, if it is time."""
+        now = time.monotonic()
+        if self.is_shown and now >= self.next:
+            self.next, self.is_there = now + EACH, True
+            write(f"\rdvbt: {self.line(now - self.began)}\033[K")
+
+    def tell(self, *_):
+        """Answers SIGUSR1 by a line of its own."""
+        self.clear()
+        if self.form:
+            write(f"dvbt: {self.line(time.monotonic() - self.began)}\n")
+
+    def note(self, lines):
+        """Counts the words of a command that reports them while it runs."""
+        for line in lines:
+            head, *words = line.decode("utf-8", "replace").split()[1:] or [""]
+            if head == "bits":
+                found = dict(zip(words[1::2], words[2::2]))
+                for name, shown in (("words", "words"), ("bad", "bad words")):
+                    self.counts[shown] = self.counts.get(shown, 0) + int(found[name])
+
+    def clear(self):
+        if self.is_there:
+            self.is_there = False
+            write("\r\033[K")
+
+    def line(self, gone):
+        """What can be known after so many seconds: counts, and the shares of the regular files that are read."""
+        from door.explain import clock
+
+        shares = {path: self.position(path) / max(os.path.getsize(path), 1) for _, path in self.form.inputs if os.path.isfile(path)}
+        parts = [*self.symbols(gone), *(f"{number:,} {name}" for name, number in self.counts.items())]
+        parts += [f"{100 * share:.0f} % of {os.path.basename(path)}" for path, share in shares.items()]
+        least = min(shares.values(), default=0)
+        left = f", about {clock(gone * (1 - least) / least)} more" if 0.02 < least < 1 else ""
+        return f"{self.form.command} {', '.join(parts)}{' after' if parts else ''} {clock(gone)}{left}"
+
+    def symbols(self, gone):
+        """Symbols that were read or written so far, their time on air, and that time beside the clock's."""
+        symbol, air = self.settings()
+        if not symbol or not self.form.cells:
+            return []
+        number = max(0, self.position(self.form.cells) - HEADER) // symbol
+        counted = f"{'' if os.path.isfile(self.form.cells) else 'about '}{number:,} symbols"
+        return [counted, f"{number * air:.3g} s of air", f"{number * air / gone:.2g} times real time"] if air else [counted]
+
+    def settings(self):
+        """Bytes of a symbol and its seconds on air in a channel of 8 MHz, if the settings say so. `tune` takes the guard interval
+        from the signal."""
+        if self.kept is None:
+            from door.explain import USEFUL, document_of
+
+            document = (self.form.settings and document_of(self.form.settings)) or {}
+            mode, guard = str(document.get("mode")), str(document.get("guard")).partition("/")[2]
+            is_known = guard.isdigit() and mode in USEFUL and self.form.command not in ("tune", "align")
+            self.kept = SYMBOL.get(mode), USEFUL[mode] * (1 + 1 / int(guard)) if is_known else None
+        return self.kept
+
+    def position(self, path):
+        """The bytes of a file that were read or written: by its descriptor, or of a pipe by all that the program read or wrote."""
+        try:
+            found = os.stat(path)
+            if not stat.S_ISREG(found.st_mode):
+                self.last[path] = self.of_all(path)
+                return self.last[path]
+            for name in os.listdir(f"/proc/{self.pid}/fd"):
+                if int(name) > 2 and os.path.samestat(os.stat(f"/proc/{self.pid}/fd/{name}"), found):
+                    self.last[path] = number_in(f"/proc/{self.pid}/fdinfo/{name}", "pos:")
+        except (OSError, StopIteration):
+            pass  # it is closed, or the program is gone
+        return self.last.get(path, 0)
+
+    def of_all(self, path):
+        if path in self.form.outputs:
+            return number_in(f"/proc/{self.pid}/io", "wchar:")
+        return number_in(f"/proc/{self.pid}/io", "rchar:") - LOADER - os.path.getsize(self.form.settings)
+
+    def stands(self, before, seen):
+        """What the outputs hold that were written, a line each, if they are regular files."""
+        for kind, _, path in self.form.files:
+            if kind.startswith("out") and os.path.isfile(path) and seen(path) != before.get(path):
+                size = os.path.getsize(path)
+                each = self.settings()[0] if kind == "out-cells" else PACKET.get(self.form.command, 188)
+                number = max(0, size - (HEADER if kind == "out-cells" else 0)) // each if each else 0
+                what = f", {number:,} {'symbols' if kind == 'out-cells' else 'packets'}" if each else ""
+                yield f"{path} holds {size:,} bytes{what}"
+
+
+def number_in(path, name):
+    """The number after a name in a file of /proc."""
+    with open(path, encoding="ascii") as file:
+        return int(next(line for line in file if line.startswith(name)).split()[1])
+
+
+def write(text):
+    sys.stderr.write(text)
+    sys.stderr.flush()
+
+
+def of_limit(form):
+    """What to say at the start of a run that reads a pipe and ends at max_symbols, if that is near its default; or None."""
+    from door.explain import air_of, document_of
+
+    most = (document_of(form.settings) or {}).get("max_symbols", BY_DEFAULT)
+    if form.command == "trial" or type(most) is not int or most >= 2 * BY_DEFAULT:
+        return None
+    return f"the run ends with status 8 after {most:,} symbols{air_of(form.settings, most)}: max_symbols in {form.settings} sets that"

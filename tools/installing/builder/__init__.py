@@ -1,0 +1,1 @@
+"""What stands in an installed dvbt for tools/builder: nothing is built, and no sources are there."""
