@@ -7,6 +7,7 @@ toolchain whose line (`rt version`) stands with its sums. `dist/` has programs t
 import hashlib
 import os
 import subprocess
+import sys
 import time
 
 from builder import stamp
@@ -17,6 +18,11 @@ from door.main import program_named
 V3 = {"avx2", "bmi1", "bmi2", "fma", "movbe", "f16c", "abm"}
 LEVELS = ("x86-64-v3", "x86-64-v2")
 PARTS = ("src", "specs", "proofs")  # the folders of a crate that the program is built from
+
+
+def fail(status, text):
+    say(text)
+    sys.exit(status)
 
 
 def named_of(top):

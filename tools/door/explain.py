@@ -18,11 +18,6 @@ def say(text):
         print(f"dvbt: {line}", file=sys.stderr, flush=True)
 
 
-def fail(status, text):
-    say(text)
-    sys.exit(status)
-
-
 def clock(seconds):
     """Seconds as minutes and seconds, or with hours."""
     seconds = round(seconds)

@@ -6,8 +6,6 @@ from commands import forms
 from door import names, watch
 from door.names import Rejected
 
-HELP = ("--help", "-h")
-
 
 def main(top, words, options, closed):
     """Runs the arguments; answers the exit status. `closed` are the descriptors that the program is to find closed."""
@@ -31,7 +29,7 @@ def main(top, words, options, closed):
 
 def told(top, words, options):
     """The text that these arguments ask for, or None if they are for the program."""
-    if words and words[-1] in HELP and (len(words) == 1 or words[0] in forms.FORMS):
+    if words and words[-1] in ("--help", "-h") and (len(words) == 1 or words[0] in forms.FORMS):
         from commands import texts
 
         return texts.help_of(words[0]) if len(words) > 1 else texts.help_of_all()

@@ -4,6 +4,7 @@ import stat
 import sys
 import time
 
+from commands.lines import parsed
 from door import explain
 
 FIRST, EACH = 1.0, 0.5  # seconds until the progress is shown, and between two times
@@ -26,27 +27,23 @@ class Progress:
         now = time.monotonic()
         if self.is_shown and now >= self.next:
             self.next, self.is_there = now + EACH, True
-            write(f"\rdvbt: {self.line(now - self.began)}\033[K")
+            print(f"\rdvbt: {self.line(now - self.began)}\033[K", end="", file=sys.stderr, flush=True)
 
     def tell(self, *_):
         """Answers SIGUSR1 by a line of its own."""
         self.clear()
-        if self.form:
-            write(f"dvbt: {self.line(time.monotonic() - self.began)}\n")
+        explain.say(self.line(time.monotonic() - self.began) if self.form else [])
 
     def note(self, lines):
         """Counts the words of a command that reports them while it runs."""
-        for line in lines:
-            head, *words = line.decode("utf-8", "replace").split()[1:] or [""]
-            if head == "bits":
-                found = dict(zip(words[1::2], words[2::2]))
-                for name, shown in (("words", "words"), ("bad", "bad words")):
-                    self.counts[shown] = self.counts.get(shown, 0) + int(found[name])
+        for found in (parsed(it.decode("utf-8", "replace"))[1] for it in lines if b" bits " in it):
+            for name, shown in (("words", "words"), ("bad", "bad words")):
+                self.counts[shown] = self.counts.get(shown, 0) + found.get(name, 0)
 
     def clear(self):
         if self.is_there:
             self.is_there = False
-            write("\r\033[K")
+            print("\r\033[K", end="", file=sys.stderr, flush=True)
 
     def line(self, gone):
         """What can be known after so many seconds: counts, and the shares of the regular files that are read."""
@@ -108,11 +105,6 @@ def number_in(path, name):
     """The number after a name in a file of /proc."""
     with open(path, encoding="ascii") as file:
         return int(next(line for line in file if line.startswith(name)).split()[1])
-
-
-def write(text):
-    sys.stderr.write(text)
-    sys.stderr.flush()
 
 
 def of_limit(form):

@@ -5,6 +5,7 @@ import os
 from commands import lines
 from door.watch import name_of, printed, put
 
+
 class Report:
     """The report of a run of `form` so far. What is printed goes to the descriptor `to`."""
 

@@ -5,9 +5,7 @@ import _signal as signal  # the built-in part alone: the rest takes as long to i
 import sys
 
 from door import explain
-from door.progress import Progress, of_limit
-
-EACH = 0.5  # seconds between two looks at the progress
+from door.progress import EACH, Progress, of_limit
 
 # SIGUSR1 asks for the progress. What ends the door by a fault of its own ends the child by its parent-death signal.
 OWN = {signal.SIGUSR1, signal.SIGCHLD, signal.SIGPIPE, signal.SIGKILL, signal.SIGSTOP, signal.SIGWINCH, signal.SIGURG}
@@ -119,14 +117,14 @@ def run(program, form, words, given, options, is_data, closed):
     lines, is_lost = handed_on(child, progress, report.take if report else lambda piece: put(piece, to), to)
     status = child.status()
     progress.clear()
-    if is_data:
-        to_the_end(1)
+    if is_data and os.path.isfile("/dev/fd/1"):
+        os.lseek(1, 0, os.SEEK_END)  # the program opened the file anew: what follows stands after what it wrote
     if is_lost and status == 0:
         explain.say("standard output took no more, so the last lines are lost")
         status = 6
     elif status < 0:
-        tell(ended_by(-status))
-        tell(progress.stands(before) if form else [])
+        why = ": so it ends if it has too little stack or address space (docs/FILES.md)" if status == -signal.SIGSEGV else ""
+        tell([f"the program was ended by {name_of(-status)}{why}", *(progress.stands(before) if form else [])])
     elif status and "quiet" not in options:
         explain.of_refusal(form, words, status, lines[-1] if lines else "", before)
     elif form and status == 0 and options != {"quiet"}:
@@ -191,19 +189,6 @@ def printed(text, status=0, to=1):
         explain.say(f"{'standard output' if to == 1 else 'standard error'} could not be written: {error.strerror}")
         return status or 6
     return status
-
-
-def to_the_end(number):
-    """What follows in the file of a descriptor stands after what the program wrote: it opened the file anew."""
-    try:
-        os.lseek(number, 0, os.SEEK_END)
-    except OSError:
-        pass
-
-
-def ended_by(number):
-    why = ": so it ends if it has too little stack or address space (docs/FILES.md)" if number == signal.SIGSEGV else ""
-    return f"the program was ended by {name_of(number)}{why}"
 
 
 def end_by(number):
