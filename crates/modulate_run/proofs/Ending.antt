@@ -22,8 +22,8 @@ use Rattle.run_clauses.specs.SettingsFile.{most_settings, settings_refusal}
 use Rattle.run_clauses.specs.StatedSettings.{settings_of}
 use Rattle.run_clauses.specs.StreamForm.{fits_form, form_refusal}
 use Rattle.run_clauses.specs.Text.{status_of}
-use Rattle.run_steps.specs.Causes.{HasEndCause}
-use Rattle.run_steps.specs.Ended.{AreMade, Ended, Hold, IsCaused, IsExact, IsWriteFault, Leaves}
+use Rattle.run_steps.specs.Causes.{AreReadsKept, HasEndCause, IsSettled}
+use Rattle.run_steps.specs.Ended.{AreMade, Ended, Hold, IsCaused, IsExact, IsSettledAt, IsWriteFault, Leaves}
 use Rattle.modulate_run.specs.declared.counts.TransmissionCounts.{TransmissionCounts}
 use Rattle.modulate_run.specs.ModulateCommand.{HoldsSymbolsSoFar, cells_sent, files_of, inputs_of, left_unread, modulate_command, modulation_lines, modulation_refusal, transmission_counts, transmission_lines}
 use Rattle.modulate_run.specs.Inputs.{left_of, lp_left}
@@ -68,6 +68,7 @@ KeepsElse old end = end ≡ record old {
   write_faults = end.write_faults;
   close_faults = end.close_faults;
   report_faults = end.report_faults;
+  pending = end.pending;
 }
 
 -- the ports as a run leaves them
@@ -267,12 +268,13 @@ module _ (limit : ℕ) (name hp : List ℕ) (lp : Option (List ℕ)) (cells : Li
     took t ins.Lp is attached = ports.lp_few t attached
     took t ins.Cells is attached = absurd (true≢false (sym is))
 
-    ended : (r : Option Refusal) → is_among (status_of r) c.statuses ≡ true → IsCaused c limit start end r → start.read_faults ≤ end.read_faults → start.write_faults ≤ end.write_faults
+    ended : (r : Option Refusal) → is_among (status_of r) c.statuses ≡ true → IsCaused c limit start end r → IsSettledAt start end r → start.read_faults ≤ end.read_faults → start.write_faults ≤ end.write_faults
         → IsExact c limit start r → (r ≡ None → (port : InPort) → IsInput c port → (source_at port end).attached ≡ true)
         → (r ≡ None → start.tells ≡ true → (port : InPort) → IsInput c port → (source_at port end).left ≡ []) → Leaves c limit start end r → Ended c limit start end r
-    ended r known caused reads writes exact opened read_out leaves = record {
+    ended r known caused settled reads writes exact opened read_out leaves = record {
       known = known;
       caused = caused;
+      settled = settled;
       later_reads = reads;
       later_writes = writes;
       later_report = ports.later_report;
@@ -299,10 +301,10 @@ module _ (limit : ℕ) (name hp : List ℕ) (lp : Option (List ℕ)) (cells : Li
     }
 
     -- the same of a run that was refused
-    refused : (r : Refusal) → is_among (status_of (Some r)) c.statuses ≡ true → IsCaused c limit start end (Some r) → start.read_faults ≤ end.read_faults → start.write_faults ≤ end.write_faults
+    refused : (r : Refusal) → is_among (status_of (Some r)) c.statuses ≡ true → IsCaused c limit start end (Some r) → IsSettledAt start end (Some r) → start.read_faults ≤ end.read_faults → start.write_faults ≤ end.write_faults
         → IsExact c limit start (Some r) → Leaves c limit start end (Some r) → Ended c limit start end (Some r)
-    refused r known caused reads writes exact leaves =
-        ended (Some r) known caused reads writes exact (λ none. absurd (let e : Some r ≡ None = none in cc)) (λ none. absurd (let e : Some r ≡ None = none in cc)) leaves
+    refused r known caused settled reads writes exact leaves =
+        ended (Some r) known caused settled reads writes exact (λ none. absurd (let e : Some r ≡ None = none in cc)) (λ none. absurd (let e : Some r ≡ None = none in cc)) leaves
 
   -- ---- what stands by the outcome
   module _ (end : Meaning) where
@@ -353,12 +355,23 @@ module _ (limit : ℕ) (name hp : List ℕ) (lp : Option (List ℕ)) (cells : Li
     fault (inl rose) = inl rose
     fault (inr shut) = inr (shut.0, λ t. refusal_is t ∙ shut.1 t)
 
+    -- the settings change nothing of what waits
+    settled_is : IsSettled before end → IsSettled start end
+    settled_is x = record { settled = x.settled; writes = x.writes }
+
+    later_writes : IsSettled before end → start.write_faults ≤ end.write_faults
+    later_writes x = omega (arith, x.writes)
+
+    later_reads : AreReadsKept before end → start.read_faults ≤ end.read_faults
+    later_reads (inl same) = omega (arith, same)
+    later_reads (inr both) = both.0
+
     by_refusal : (r : Refusal) → HasEndCause {T = TransmissionCounts} (start.tells ≡ true → IsAccepted s limit files) before end (Err r) → OpensAll hp lp cells before end (Err r) ⊎ Worked s limit hp lp cells before end (Err r) → Ended c limit start end (Some r)
     by_refusal Usage cause ran = absurd cause
     by_refusal (Cells reason) cause ran = absurd cause
     by_refusal (Settings reason) cause ran = absurd cause
     by_refusal Memory cause ran = absurd cause
-    by_refusal ReadFault cause ran = refused end ports ReadFault refl cause.0 cause.1 cause.2 tt (record {
+    by_refusal ReadFault cause ran = refused end ports ReadFault refl cause.0 (settled_is cause.2) cause.1 (later_writes cause.2) tt (record {
       outputs = λ t. only (λ out. (sink_at out end).created ≡ true → c.ComesSoFar limit start.file (unread c end) out (sink_at out end).written) (stands t);
       report = λ t. printed t ∙ fresh.report_empty t;
     })
@@ -398,7 +411,7 @@ module _ (limit : ℕ) (name hp : List ℕ) (lp : Option (List ℕ)) (cells : Li
           ]
           | inr w ↦ w.printed t
         ]
-    by_refusal WriteFault cause ran = refused end ports WriteFault refl (cause.0, fault cause.1) (omega (arith, cause.0)) cause.2 tt (record {
+    by_refusal WriteFault cause ran = refused end ports WriteFault refl (cause.0, fault cause.1) tt (later_reads cause.0) cause.2 tt (record {
       outputs = λ t. only (λ out. (sink_at out end).created ≡ true → (bytes : List ℕ) × c.Comes limit start.file out bytes × ((k : ℕ) × ((sink_at out end).written ≡ take k bytes))) (stands t);
       report = λ t. (lines, (s, settings.stated t, refl), printed t);
     })
@@ -422,17 +435,17 @@ module _ (limit : ℕ) (name hp : List ℕ) (lp : Option (List ℕ)) (cells : Li
         ]
     by_refusal (NotSync σ p) cause ran = elim ran [
       | inl opens ↦ absurd opens
-      | inr w ↦ refused end (has_worked limit hp lp cells start at fresh end s (Err (NotSync σ p)) w) (NotSync σ p) refl cause.0 (omega (arith, cause.0)) cause.1
+      | inr w ↦ refused end (has_worked limit hp lp cells start at fresh end s (Err (NotSync σ p)) w) (NotSync σ p) refl cause.0 (settled_is cause.1) (omega (arith, cause.0)) (later_writes cause.1)
           (λ t. refusal_is t ∙ (w.modulates t).0.0) (holds (NotSync σ p) w (λ t. (w.modulates t).0) w.printed)
     ]
     by_refusal (Limit n) cause ran = elim ran [
       | inl opens ↦ absurd opens
-      | inr w ↦ refused end (has_worked limit hp lp cells start at fresh end s (Err (Limit n)) w) (Limit n) refl cause.0 (omega (arith, cause.0)) cause.1
+      | inr w ↦ refused end (has_worked limit hp lp cells start at fresh end s (Err (Limit n)) w) (Limit n) refl cause.0 (settled_is cause.1) (omega (arith, cause.0)) (later_writes cause.1)
           (λ t. refusal_is t ∙ (w.modulates t).0.0) (holds (Limit n) w (λ t. (w.modulates t).0) w.printed)
     ]
 
     pub by_outcome : (o : Result TransmissionCounts Refusal) → HasEndCause (start.tells ≡ true → IsAccepted s limit files) before end o → Ran s limit hp lp cells before end o → Ended c limit start end (refusal_in o)
-    by_outcome (Ok counts) cause w = ended end (has_worked limit hp lp cells start at fresh end s (Ok counts) w) None refl (cause.0.reads, cause.0.writes, cause.1) (omega (arith, cause.0.reads)) (omega (arith, cause.0.writes))
+    by_outcome (Ok counts) cause w = ended end (has_worked limit hp lp cells start at fresh end s (Ok counts) w) None refl (cause.0.reads, cause.0.writes, cause.1) tt (omega (arith, cause.0.reads)) (omega (arith, cause.0.writes))
         (λ t. refusal_is t ∙ (w.modulates t).3)
         (λ is. open_at end (has_worked limit hp lp cells start at fresh end s (Ok counts) w) (hp_open (Ok counts) w, lp_open (Ok counts) w))
         (λ is t. read_out t)

@@ -1,5 +1,5 @@
 -- What the parts of a run leave together, from the opening of the ports to their closing.
-use Rattle.std.proofs.Common.{◌≡◌, ◌≤◌, inr, ℕ, Bool, true, false, if◌then◌else◌, List, [], ◌++◌, length, take, Option, Some, None, Result, Ok, Err, refl, ap, sym, subst, ◌∙◌, arith}
+use Rattle.std.proofs.Common.{◌≡◌, ◌≤◌, ◌<◌, ◌+◌, inl, inr, ℕ, Bool, true, false, if◌then◌else◌, List, [], ◌++◌, length, take, Option, Some, None, Result, Ok, Err, refl, ap, sym, subst, ◌∙◌, arith}
 use Rattle.std.specs.Prelude.{is_some, IsTrue}
 use Rattle.std.proofs.lemmas.List.{append-nil, take_all}
 use Rattle.std.specs.Bool.{beq}
@@ -9,19 +9,28 @@ use Rattle.mode_set.specs.declared.modes.Stream.{Stream}
 use Rattle.mode_set.specs.declared.modes.Stream.TheVariants.{Lp}
 use Rattle.mode_set.specs.declared.settings.Settings.{Settings as TheSettings}
 use Rattle.symbol_spans.specs.Spans.{exists_in}
-use Rattle.transmission.specs.Transmission.{Inputs}
+use Rattle.std.proofs.lemmas.Bool.{cases_lt}
+use Rattle.std.proofs.Math.Seq.{take-append-add}
+use Rattle.frame_build.specs.CellFile.{header}
+use Rattle.transmission.specs.Transmission.{Inputs, first_symbols}
+use Rattle.transmission.specs.SuperFrames.{symbols_of}
+use Rattle.transmission.specs.Agenda.{first_refusal, symbols_sent}
+use Rattle.transmission.specs.Agenda as agenda
+use Rattle.transmission.specs.Laws.{PartOfSymbols}
 use Rattle.transmission.specs.AgendaLaws.{IsAt, WorkBegins}
 use Rattle.modulate_run.specs.declared.counts.TransmissionCounts.{TransmissionCounts}
 use Rattle.run_clauses.specs.declared.work.Refusal.{Refusal}
 use Rattle.run_clauses.specs.declared.work.Refusal.TheVariants.{Usage, Settings, ReadFault, WriteFault, NotSync, Memory, Limit, Cells}
 use Rattle.run_clauses.specs.Command.{named}
 use Rattle.run_clauses.specs.StreamForm.{fits_form}
-use Rattle.modulate_run.specs.ModulateCommand.{files_of, inputs_of, modulation_lines, modulation_refusal, transmission_counts, transmission_lines}
+use Rattle.modulate_run.proofs.Keeping.{keeps_again}
+use Rattle.modulate_run.specs.ModulateCommand.{cells_sent, file_of_symbols, files_of, inputs_of, sent_by, modulation_lines, modulation_refusal, transmission_counts, transmission_lines}
 use Rattle.modulate_run.specs.Inputs.{Reads, left_of, lp_left}
 use Rattle.modulate_run.specs.Seen.{Seen}
 use Rattle.modulate_run.specs.Work.{AreOpen, AreWithin, Ends, IsAtWork, KeepsOthers, Modulates, TakeFew}
 use Rattle.modulate_run.specs.Reporting.{Finishes, IsFinish}
-use Rattle.modulate_run.specs.Steps.{ClosesRefused, HasPrinted, IsClosed, IsNew, OpensAll, Ran, first_inputs, lp_source}
+use Rattle.run_steps.specs.Causes.{Settles}
+use Rattle.modulate_run.specs.Steps.{ClosesOutput, ClosesRefused, HasPrinted, IsClosed, IsNew, OpensAll, Ran, first_inputs, lp_source}
 
 -- Cells is closed; what is left of the inputs, what was written and the counts may differ
 abbrev closed_as : Meaning → Meaning → Meaning
@@ -34,10 +43,37 @@ closed_as new m = record m {
   write_faults = new.write_faults;
   close_faults = new.close_faults;
   report_faults = new.report_faults;
+  pending = new.pending;
 }
 
 abbrev ClosedSince : Meaning → Meaning → Type 0
 ClosedSince m new = new ≡ closed_as new m
+
+-- ---- fronts of the cells that are sent
+-- the symbols so far are
+front_so_far : PartOfSymbols → (s : TheSettings) (limit : ℕ) (inputs : Inputs) (m : ℕ) → m < symbols_of s inputs → m ≤ symbols_sent s limit inputs → (j : ℕ) × (file_of_symbols s inputs m ≡ take j (cells_sent s limit inputs))
+front_so_far part s limit inputs m more sent = go (first_refusal s limit inputs)
+  where
+    behind : (n : ℕ) → m ≤ n → (j : ℕ) × (file_of_symbols s inputs m ≡ take j (file_of_symbols s inputs n))
+    behind n le = elim (cases_lt m n) [
+      | inl lt ↦
+          let p = part s inputs m n 0 lt in (
+            length (header s.mode) + p.0,
+            ap (λ (l : List ℕ). header s.mode ++ l) (sym (append-nil (first_symbols s inputs m)) ∙ p.1) ∙ sym (take-append-add (header s.mode) (first_symbols s inputs n) p.0),
+          )
+      | inr ge ↦
+          let same : m ≡ n = omega (arith, le, ge) in
+          let all : List ℕ = file_of_symbols s inputs n in
+          (length all, ap (λ (k : ℕ). file_of_symbols s inputs k) same ∙ sym (take_all (length all) all (omega arith)))
+    ]
+
+    go : (o : Option agenda.Refusal) → (j : ℕ) × (file_of_symbols s inputs m ≡ take j (sent_by s limit inputs o))
+    go None = behind (symbols_of s inputs) (omega (arith, more))
+    go (Some r) = behind (symbols_sent s limit inputs) sent
+
+-- the whole is
+front_of_sent : (written sent : List ℕ) → written ≡ sent → (k : ℕ) × (written ≡ take k sent)
+front_of_sent written sent is = (length written, sym (take_all (length written) written (omega arith)) ∙ ap (λ (l : List ℕ). take (length written) l) is)
 
 -- ---- before the first symbol
 -- the file of LP is there to be read from its beginning, or there is none
@@ -106,8 +142,8 @@ module _ (s : TheSettings) (limit : ℕ) (hp : List ℕ) (lp : Option (List ℕ)
     ends_same n (Limit most) e = e
 
     -- the work was refused: nothing was printed
-    pub refused_with : (r : Refusal) → (mid.tells ≡ true → Modulates s limit files fin (Err r)) → ClosesRefused fin new → Ran s limit hp lp cells old new (Err r)
-    refused_with r work closes = inr (record {
+    shut_with : (r : Refusal) → (mid.tells ≡ true → Modulates s limit files fin (Err r)) → ClosesOutput fin new → Ran s limit hp lp cells old new (Err r)
+    shut_with r work closes = inr (record {
       ports = is_closed (subst (λ (x : Meaning). ClosedSince fin x) (sym closes.closed) refl) (omega (arith, same_faults, ap (λ (x : Meaning). x.report_faults) closes.closed));
       modulates = λ t. subst (λ (x : Meaning). Modulates s limit files x (Err r)) (sym closes.closed)
           (let w = work (tells ∙ t) in (ends_same new.close_faults r w.0, w.1));
@@ -181,6 +217,59 @@ module _ (s : TheSettings) (limit : ℕ) (hp : List ℕ) (lp : Option (List ℕ)
 
         whole : (l : List ℕ) → l ≡ take (length l) l
         whole l = sym (take_all (length l) l (omega arith))
+
+  -- ---- the work was refused, and the output was then flushed and closed
+  module _ (part : PartOfSymbols) (fin new : Meaning) (keeps : KeepsOthers mid fin) where
+    -- flushing changes nothing of what stands
+    ends_flushed : (n : ℕ) (waits : Bool) (r : Refusal) → Ends s limit files fin r → Ends s limit files (record fin { write_faults = n; pending = waits }) r
+    ends_flushed n waits Usage e = e
+    ends_flushed n waits (Cells reason) e = e
+    ends_flushed n waits (Settings reason) e = e
+    ends_flushed n waits ReadFault e = e
+    ends_flushed n waits WriteFault e = e
+    ends_flushed n waits (NotSync σ p) e = e
+    ends_flushed n waits Memory e = e
+    ends_flushed n waits (Limit most) e = e
+
+    -- what stands is a front of the cells that are sent
+    lost : (m : Meaning) (r : Refusal) → Ends s limit files m r → Ends s limit files m WriteFault
+    lost m Usage e = front_of_sent m.cells_out.written (cells_sent s limit (inputs_of files)) e.1
+    lost m (Cells reason) e = front_of_sent m.cells_out.written (cells_sent s limit (inputs_of files)) e.1
+    lost m (Settings reason) e = front_of_sent m.cells_out.written (cells_sent s limit (inputs_of files)) e.1
+    lost m ReadFault e =
+        let f = front_so_far part s limit (inputs_of files) e.symbols e.among e.in_order in (f.0, e.is ∙ f.1)
+    lost m WriteFault e = e
+    lost m (NotSync σ p) e = front_of_sent m.cells_out.written (cells_sent s limit (inputs_of files)) e.1
+    lost m Memory e = front_of_sent m.cells_out.written (cells_sent s limit (inputs_of files)) e.1
+    lost m (Limit n) e = front_of_sent m.cells_out.written (cells_sent s limit (inputs_of files)) e.1
+
+    pub refused_with : (r r' : Refusal) → (mid.tells ≡ true → Modulates s limit files fin (Err r)) → ClosesRefused r fin new r' → Ran s limit hp lp cells old new (Err r')
+    refused_with r r' work closes = by closes.settles
+      where
+        keeps' : KeepsOthers mid closes.flushed
+        keeps' = keeps_again mid fin closes.flushed keeps (subst (λ (x : Meaning). KeepsOthers fin x) (sym closes.flushes) refl)
+
+        work' : mid.tells ≡ true → Modulates s limit files closes.flushed (Err r)
+        work' t = subst (λ (x : Meaning). Modulates s limit files x (Err r)) (sym closes.flushes)
+            (let w = work t in (ends_flushed closes.flushed.write_faults closes.flushed.pending r w.0, w.1))
+
+        by : Settles r fin closes.flushed r' → Ran s limit hp lp cells old new (Err r')
+        by (inl same) = subst (λ (x : Refusal). Ran s limit hp lp cells old new (Err x)) (sym same.0) (shut_with closes.flushed new keeps' r work' closes.closes)
+        by (inr failed) = subst (λ (x : Refusal). Ran s limit hp lp cells old new (Err x)) (sym failed.0)
+            (shut_with closes.flushed new keeps' WriteFault (λ t. let w = work' t in (lost closes.flushed r w.0, w.1)) closes.closes)
+
+-- where a port was not opened nothing was given to the output
+pub unopened_waits : (hp : List ℕ) (lp : Option (List ℕ)) (cells : List ℕ) (old mid : Meaning) (r : Refusal) → OpensAll hp lp cells old mid (Err r) → mid.pending ≡ old.pending
+unopened_waits hp lp cells old mid ReadFault (inl e) = ap (λ (x : Meaning). x.pending) e
+unopened_waits hp None cells old mid ReadFault (inr e) = absurd e
+unopened_waits hp (Some name) cells old mid ReadFault (inr e) = ap (λ (x : Meaning). x.pending) e
+unopened_waits hp lp cells old mid WriteFault e = ap (λ (x : Meaning). x.pending) e
+unopened_waits hp lp cells old mid (NotSync σ n) e = absurd e
+unopened_waits hp lp cells old mid (Limit n) e = absurd e
+unopened_waits hp lp cells old mid Usage e = absurd e
+unopened_waits hp lp cells old mid (Cells reason) e = absurd e
+unopened_waits hp lp cells old mid (Settings reason) e = absurd e
+unopened_waits hp lp cells old mid Memory e = absurd e
 
 -- ---- what the work asks of the form
 -- where LP is read it exists in the transmission

@@ -28,6 +28,7 @@ keeps_cells m m' m'' p q =
       cells_out = record x.cells_out { written = m''.cells_out.written };
       read_faults = m''.read_faults;
       write_faults = m''.write_faults;
+      pending = m''.pending;
     }) p
 
 -- a front of the header is a front of the cells that are sent

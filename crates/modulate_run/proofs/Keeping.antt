@@ -11,4 +11,5 @@ keeps_again a b c p q =
       cells_out = record x.cells_out { written = c.cells_out.written };
       read_faults = c.read_faults;
       write_faults = c.write_faults;
+      pending = c.pending;
     }) p

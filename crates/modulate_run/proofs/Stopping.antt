@@ -1,6 +1,6 @@
 -- A packet more of a stream, or the stop of the work before its symbol.
-use Rattle.std.proofs.Common.{◌≡◌, ℕ, ◌+◌, ◌<◌, ◌≤◌, Bool, true, false, cond, List, [], Option, Some, None, Ok, Err, refl, ap, sym, subst, ◌∙◌, arith}
-use Rattle.std.specs.Prelude.{is_some, IfSome, nat_lt}
+use Rattle.std.proofs.Common.{◌≡◌, ℕ, ◌+◌, ◌<◌, ◌≤◌, Bool, true, false, cond, List, [], ◌∷◌, ◌⊎◌, inl, inr, Option, Some, None, Ok, Err, refl, ap, sym, subst, ◌∙◌, arith}
+use Rattle.std.specs.Prelude.{◌&&◌, is_some, IfSome, nat_lt}
 use Rattle.std.specs.Option.{option_map}
 use Rattle.std.proofs.lemmas.Bool.{ltb-true, true≢false}
 use Rattle.station_core.specs.Meaning.{Meaning}
@@ -46,6 +46,42 @@ not_write_fault : (a : agenda.Refusal) → Some (refused_by a) ≡ Some WriteFau
 not_write_fault (agenda.Limit n) e = cc
 not_write_fault (agenda.NotSync σ p) e = cc
 
+-- ---- the streams whose end was met, where the read of one has failed
+abbrev empty : List ℕ → Bool
+empty [] = true
+empty (x ∷ l) = false
+
+abbrev other : Stream → Stream → Bool
+other Hp Hp = false
+other Hp Lp = true
+other Lp Hp = true
+other Lp Lp = false
+
+-- another stream, of which nothing is left
+abbrev met_of : Stream → Stream → List ℕ → Bool
+met_of σ τ l = other σ τ && empty l
+
+none_left : (o : Bool) (l : List ℕ) → (o && empty l) ≡ true → l ≡ []
+none_left true [] e = refl
+none_left true (x ∷ l) e = absurd (true≢false (sym e))
+none_left false l e = absurd (true≢false (sym e))
+
+own_unmet : (σ : Stream) (l : List ℕ) → met_of σ σ l ≡ false
+own_unmet Hp l = refl
+own_unmet Lp l = refl
+
+unmet_is : (σ τ : Stream) (l : List ℕ) → met_of σ τ l ≡ false → (τ ≡ σ) ⊎ (empty l ≡ false)
+unmet_is Hp Hp l e = inl refl
+unmet_is Hp Lp l e = inr e
+unmet_is Lp Hp l e = inr e
+unmet_is Lp Lp l e = inl refl
+
+unmet_own : (σ τ : Stream) (l : List ℕ) → l ≡ [] → met_of σ τ l ≡ false → τ ≡ σ
+unmet_own σ τ l none e = elim (unmet_is σ τ l e) [
+  | inl is ↦ is
+  | inr some ↦ absurd (true≢false (ap empty (sym none) ∙ some))
+]
+
 module _ (at_packet : StopsAtPacket) (so_far : SentSoFar) (at_fault : SentAtFault)
     (limit : ℕ) (files : Stream → List ℕ) (σ : Stream) (t : Seen) (is_wanted : wanted t ≡ Some σ) (due : IsDue files t)
     (at : IsAt t.settings limit (inputs_of files) t.made t.hp t.lp) where
@@ -69,13 +105,23 @@ module _ (at_packet : StopsAtPacket) (so_far : SentSoFar) (at_fault : SentAtFaul
       go (Some a) is = not_write_fault a is
 
   module _ (m : Meaning) (inputs : PacketInputs) (tail_is : (by_stream inputs.hp inputs.lp σ).tail ≡ None) (tell : BothTell files m inputs t) where
-    -- the streams whose end was met
     abbrev met : Stream → Bool
-    met τ = is_some (by_stream inputs.hp inputs.lp τ).tail
+    met τ = met_of σ τ (left_of m τ)
 
-    not_met : (o : Option ℕ) → is_some o ≡ false → o ≡ None
-    not_met None e = refl
-    not_met (Some n) e = absurd (true≢false e)
+    -- of a stream of which something is left the end was not met
+    not_ended : (o : Option ℕ) (l : List ℕ) → (is_some o ≡ true → l ≡ []) → empty l ≡ false → o ≡ None
+    not_ended None l none some = refl
+    not_ended (Some n) l none some = absurd (true≢false (ap empty (sym (none refl)) ∙ some))
+
+    ended_empty : (τ : Stream) → is_some (by_stream inputs.hp inputs.lp τ).tail ≡ true → left_of m τ ≡ []
+    ended_empty Hp = tell.hp.none
+    ended_empty Lp = tell.lp.none
+
+    not_met : (τ : Stream) → met τ ≡ false → (by_stream inputs.hp inputs.lp τ).tail ≡ None
+    not_met τ e = elim (unmet_is σ τ (left_of m τ) e) [
+      | inl is ↦ subst (λ (υ : Stream). (by_stream inputs.hp inputs.lp υ).tail ≡ None) (sym is) tail_is
+      | inr some ↦ not_ended (by_stream inputs.hp inputs.lp τ).tail (left_of m τ) (ended_empty τ) some
+    ]
 
     put_is : (τ : Stream) → (by_stream inputs.hp inputs.lp τ).tail ≡ None → taken_of files (left_of m) τ ≡ by_stream t.hp t.lp τ
     put_is Hp none = tell.hp.all none
@@ -99,18 +145,19 @@ module _ (at_packet : StopsAtPacket) (so_far : SentSoFar) (at_fault : SentAtFaul
     within Lp p l = omega (arith, l, tell.lp.most)
 
     at_end : (τ : Stream) → met τ ≡ true → left_of m τ ≡ []
-    at_end Hp = tell.hp.none
-    at_end Lp = tell.lp.none
+    at_end τ e = none_left (other σ τ) (left_of m τ) e
 
     -- a read that has failed
     failed : HoldsSymbolsSoFar t.settings limit files (left_of m) (file_of_symbols t.settings (inputs_of files) t.made)
     failed = record {
       met = met;
       at_end = at_end;
+      one_unmet = λ τ υ none unmet none' unmet'. unmet_own σ τ (left_of m τ) none unmet ∙ sym (unmet_own σ υ (left_of m υ) none' unmet');
       symbols = t.made;
+      among = due.more;
       enough = at_fault t.settings (taken_of files (left_of m)) met t.made σ
-          (λ τ e. through (packets_for t.settings τ t.made) (taken_of files (left_of m) τ) (by_stream t.hp t.lp τ) (put_is τ (not_met (by_stream inputs.hp inputs.lp τ).tail e)) (least τ))
-          (ap is_some tail_is)
+          (λ τ e. through (packets_for t.settings τ t.made) (taken_of files (left_of m) τ) (by_stream t.hp t.lp τ) (put_is τ (not_met τ e)) (least τ))
+          (own_unmet σ (left_of m σ))
           (before (taken_of files (left_of m) σ) (by_stream t.hp t.lp σ) (packets_for t.settings σ (t.made + 1)) (put_is σ tail_is) (is_short t.settings t.made t.hp t.lp σ is_wanted));
       is = refl;
       in_order = so_far t.settings limit (inputs_of files) t.made t.hp t.lp at (at_most t.made (symbols_of t.settings (inputs_of files)) due.more);

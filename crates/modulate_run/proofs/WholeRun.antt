@@ -63,6 +63,7 @@ module _ (limit : ℕ) (name hp : List ℕ) (lp : Option (List ℕ)) (cells : Li
       cells = fresh.cells_out.asked;
       report = fresh.report;
       report_open = fresh.report_open;
+      settled = fresh.settled;
     })
 
     settings : SettingsDone name lp s start mid.settings

@@ -8,7 +8,7 @@ use Rattle.mode_set.specs.declared.modes.Stream.TheVariants.{Hp, Lp}
 use Rattle.mode_set.specs.declared.settings.Settings.{Settings as TheSettings}
 use Rattle.frame_build.specs.CellFile.{header}
 use Rattle.transmission.specs.Transmission.{Inputs, by_stream, first_symbols}
-use Rattle.transmission.specs.SuperFrames.{super_frames, tx}
+use Rattle.transmission.specs.SuperFrames.{super_frames, symbols_of, tx}
 use Rattle.transmission.specs.Agenda.{IsEnoughFor, first_refusal, symbols_sent, packet_refusal}
 use Rattle.transmission.specs.Agenda as agenda
 use Rattle.run_clauses.specs.declared.work.Refusal.{Refusal}
@@ -80,7 +80,12 @@ taken_of files left σ = (length (files σ) - length (left σ)) / 188
 pub record HoldsSymbolsSoFar (s : TheSettings) (limit : ℕ) (files left : Stream → List ℕ) (written : List ℕ) : Type 0 where
   pub met : Stream → Bool
   pub at_end : (σ : Stream) → met σ ≡ true → left σ ≡ []
+  -- Of the streams with nothing left at most one is not met: the one whose read has failed, where that read would have
+  -- met its end.
+  pub one_unmet : (σ τ : Stream) → left σ ≡ [] → met σ ≡ false → left τ ≡ [] → met τ ≡ false → σ ≡ τ
   pub symbols : ℕ
+  -- they are not all of the transmission
+  pub among : symbols < symbols_of s (inputs_of files)
   pub enough : IsEnoughFor s (taken_of files left) met symbols
   pub is : written ≡ file_of_symbols s (inputs_of files) symbols
   pub in_order : symbols ≤ symbols_sent s limit (inputs_of files)

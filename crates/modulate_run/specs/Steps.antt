@@ -8,7 +8,7 @@ use Rattle.mode_set.specs.declared.settings.Settings.{Settings as TheSettings}
 use Rattle.run_clauses.specs.declared.work.Refusal.{Refusal}
 use Rattle.run_clauses.specs.declared.work.Refusal.TheVariants.{ReadFault, WriteFault, Memory}
 use Rattle.run_clauses.specs.Text.{refusal_text, refusal_status}
-use Rattle.run_steps.specs.Causes.{HasEndCause}
+use Rattle.run_steps.specs.Causes.{FlushesOnly, HasEndCause, Settles}
 use Rattle.run_steps.specs.Report.{WritesText}
 use Rattle.modulate_run.specs.declared.inputs.PacketInputs.{PacketInputs}
 use Rattle.modulate_run.specs.Seen.{Seen}
@@ -16,7 +16,7 @@ use Rattle.modulate_run.specs.Work.{Modulates}
 use Rattle.modulate_run.specs.ModulateCommand.{files_of, inputs_of, modulation_lines, modulation_refusal}
 use Rattle.modulate_run.specs.declared.counts.TransmissionCounts.{TransmissionCounts}
 
--- nothing was asked on HP, LP and Cells, and Report is open
+-- nothing was asked on HP, LP and Cells, Report is open, and nothing waits
 pub record IsReady (m : Meaning) : Type 0 where
   pub hp : m.hp.asked ≡ None
   pub lp : m.lp.asked ≡ None
@@ -24,6 +24,7 @@ pub record IsReady (m : Meaning) : Type 0 where
   pub cells : m.cells_out.asked ≡ None
   pub report : m.report.created ≡ true
   pub report_open : m.report.closed ≡ false
+  pub settled : m.pending ≡ false
 
 -- a transmitter before its first packet
 pub record IsNew (t : Seen) : Type 0 where
@@ -73,7 +74,7 @@ OpensAll hp lp cells old new (Err ReadFault) = FailsAtHp hp old new ⊎ FailsAtL
 OpensAll hp lp cells old new (Err WriteFault) = FailsAtCells hp lp cells old new
 OpensAll hp lp cells old new (Err refusal) = ⊥
 
--- all ports were opened, and Cells is closed; what is left of the inputs, what was written and the counts may differ
+-- all ports were opened, and Cells is closed; what is left of the inputs, what was written, what waits and the counts may differ
 pub record IsClosed (hp : List ℕ) (lp : Option (List ℕ)) (cells : List ℕ) (old new : Meaning) : Type 0 where
   pub others : new ≡ record old {
     hp = record (hp_source hp old) { left = new.hp.left };
@@ -84,6 +85,7 @@ pub record IsClosed (hp : List ℕ) (lp : Option (List ℕ)) (cells : List ℕ) 
     write_faults = new.write_faults;
     close_faults = new.close_faults;
     report_faults = new.report_faults;
+    pending = new.pending;
   }
   pub later_report : old.report_faults ≤ new.report_faults
 
@@ -108,10 +110,17 @@ Ran s limit hp lp cells old new (Err refusal) = OpensAll hp lp cells old new (Er
 abbrev pub IsAccepted : TheSettings → ℕ → (Stream → List ℕ) → Type 0
 IsAccepted s limit files = modulation_refusal s limit (inputs_of files) ≡ None
 
--- after a refusal in the work the output is closed all the same, and whether that failed is only counted
-pub record ClosesRefused (old new : Meaning) : Type 0 where
+-- the output is closed, and whether that failed is only counted
+pub record ClosesOutput (old new : Meaning) : Type 0 where
   pub closed : new ≡ record old { cells_out = record old.cells_out { closed = true }; close_faults = new.close_faults }
   pub later : old.close_faults ≤ new.close_faults
+
+-- after a refusal in the work the output is flushed, which may make it a write fault, and then closed all the same
+pub record ClosesRefused (refusal : Refusal) (old new : Meaning) (result : Refusal) : Type 0 where
+  pub flushed : Meaning
+  pub flushes : FlushesOnly old flushed
+  pub settles : Settles refusal old flushed result
+  pub closes : ClosesOutput flushed new
 
 -- the status of an outcome
 abbrev pub outcome_status : Result TransmissionCounts Refusal → ℕ

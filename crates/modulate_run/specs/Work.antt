@@ -34,7 +34,7 @@ pub record AreWithin (limit : ℕ) (inputs : PacketInputs) : Type 0 where
 abbrev pub KeepsOutputs : Meaning → Meaning → Type 0
 KeepsOutputs old new = new ≡ record old { hp = record old.hp { left = new.hp.left }; lp = record old.lp { left = new.lp.left }; read_faults = new.read_faults }
 
--- only what is left of the inputs, what is written to Cells and the counts of faults have changed
+-- only what is left of the inputs, what is written to Cells and waits there, and the counts of faults have changed
 abbrev pub KeepsOthers : Meaning → Meaning → Type 0
 KeepsOthers old new = new ≡ record old {
   hp = record old.hp { left = new.hp.left };
@@ -42,6 +42,7 @@ KeepsOthers old new = new ≡ record old {
   cells_out = record old.cells_out { written = new.cells_out.written };
   read_faults = new.read_faults;
   write_faults = new.write_faults;
+  pending = new.pending;
 }
 
 -- both inputs were read as far as their packets were put
@@ -112,9 +113,9 @@ Ends s limit files m WriteFault = (k : ℕ) × (m.cells_out.written ≡ take k (
 Ends s limit files m refusal =
     (modulation_refusal s limit (inputs_of files) ≡ Some refusal) × (m.cells_out.written ≡ cells_sent s limit (inputs_of files))
 
--- only what is written to Cells and the count of write faults have changed
+-- only what is written to Cells and waits there, and the count of write faults have changed
 abbrev pub WritesCells : Meaning → Meaning → Type 0
-WritesCells old new = new ≡ record old { cells_out = record old.cells_out { written = new.cells_out.written }; write_faults = new.write_faults }
+WritesCells old new = new ≡ record old { cells_out = record old.cells_out { written = new.cells_out.written }; write_faults = new.write_faults; pending = new.pending }
 
 -- these bytes were written, or a front of them
 abbrev pub WritesBytes : List ℕ → Meaning → Meaning → Result (Unit {0}) Refusal → Type 0

@@ -1,5 +1,5 @@
 // What a modulation counts, and the closing line of its super-frames.
-ghost use Rattle.std.specs.Prelude.{◌≡◌};
+ghost use Rattle.std.specs.Prelude.{◌≡◌, ◌<◌, length};
 ghost use Rattle.modulate_run.specs.ModulateCommand.{super_frames_line};
 
 use report_line::{Line, push_count};
@@ -18,7 +18,8 @@ pub struct TransmissionCounts {
 
 // The closing line of the super-frames that were sent.
 pub(crate) fn super_frames_line_of(super_frames: u64) -> Line
-    ensures { result.bytes ≡ super_frames_line super_frames }
+    ensures text { result.bytes ≡ super_frames_line super_frames }
+    ensures some { 0 < length result.bytes }
 {
     let mut line = Line::new();
     push_count(&mut line, "superframes ", super_frames);

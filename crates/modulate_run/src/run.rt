@@ -1,5 +1,5 @@
 // A whole run behind its settings.
-ghost use Rattle.std.specs.Prelude.{◌≡◌, ◌≤◌, true, length};
+ghost use Rattle.std.specs.Prelude.{◌≡◌, ◌≤◌, ◌<◌, true, length};
 ghost use Rattle.std.specs.Option.{option_copied};
 ghost use Rattle.transmission.specs.Transmission.{Inputs};
 ghost use Rattle.run_clauses.specs.StreamForm.{fits_form};
@@ -16,7 +16,7 @@ use mode_set::Settings;
 use run_clauses::{Limits, Refusal};
 use run_steps::refuse;
 use station_core::Station;
-use transmission::laws::work;
+use transmission::laws::{symbols, work};
 
 /// The names of the files of a modulation.
 #[derive(Clone, Copy)]
@@ -45,10 +45,12 @@ fn modulate_all<'a, T: Transmitter, S: Station<'a>>(
     requires new { IsNew (T.seen tx.old) }
     requires stands { (inputs : Inputs) → T.stands tx.old inputs }
     requires long { length bytes.old ≡ T.symbol_len }
+    requires some { 0 < T.symbol_len }
     ensures cause { HasEndCause ((S.meaning station.old).tells ≡ true → IsAccepted (T.seen tx.old).settings limits.now.packets (files_of (S.meaning station.old).file names.entry.hp.now (option_copied names.entry.lp))) (S.meaning station.old) (S.meaning station.new) result }
     ensures ran { Ran (T.seen tx.old).settings limits.now.packets names.entry.hp.now (option_copied names.entry.lp) names.entry.cells.now (S.meaning station.old) (S.meaning station.new) result }
 {
     work();
+    symbols();
     open(names.hp, names.lp, names.cells, station)?;
     let two = names.lp.is_some();
     match send_file(
@@ -60,10 +62,7 @@ fn modulate_all<'a, T: Transmitter, S: Station<'a>>(
         station,
     ) {
         Ok(counts) => finish(two, counts, station),
-        Err(refusal) => {
-            close_refused(station);
-            Err(refusal)
-        }
+        Err(refusal) => Err(close_refused(refusal, station)),
     }
 }
 
@@ -84,6 +83,7 @@ pub(crate) fn run_modulation<'a, T: Transmitter, S: Station<'a>>(
     requires new { IsNew (T.seen tx.old) }
     requires stands { (inputs : Inputs) → T.stands tx.old inputs }
     requires long { length bytes.old ≡ T.symbol_len }
+    requires some { 0 < T.symbol_len }
     ensures runs { RunsModulation (T.seen tx.old).settings limits.now.packets names.entry.hp.now (option_copied names.entry.lp) names.entry.cells.now (S.meaning station.old) (S.meaning station.new) result }
 {
     match modulate_all(names, limits, settings, tx, bytes, station) {

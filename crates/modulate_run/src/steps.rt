@@ -8,12 +8,12 @@ ghost use Rattle.run_steps.specs.Causes.{HasCause, HasEndCause};
 ghost use Rattle.run_steps.specs.Lines.{IsWriting, WritesLines};
 ghost use Rattle.modulate_run.specs.ModulateCommand.{super_frames_line, transmission_lines};
 ghost use Rattle.modulate_run.specs.Reporting.{Finishes, IsFinish};
-ghost use Rattle.modulate_run.specs.Steps.{ClosesRefused, OpensAll, OpensLp};
+ghost use Rattle.modulate_run.specs.Steps.{ClosesOutput, ClosesRefused, OpensAll, OpensLp};
 
 use crate::counts::{TransmissionCounts, super_frames_line_of};
 use mode_set::Stream;
 use run_clauses::{Counts, Refusal, packets_line_of};
-use run_steps::write_line;
+use run_steps::{settle, write_line};
 use station_core::{Failed, InPort, OutPort, Station};
 
 // Opens the file of LP to be read, if there is one.
@@ -131,11 +131,22 @@ pub(crate) fn finish<'a, S: Station<'a>>(
     }
 }
 
-/// Closes the output after a refusal. What it answers changes neither status nor text.
-pub(crate) fn close_refused<'a, S: Station<'a>>(station: &mut S)
+// Closes the output. What that answers changes neither status nor text.
+fn close_output<'a, S: Station<'a>>(station: &mut S)
     requires cells { (S.meaning station.old).cells_out.created ≡ true }
     requires cells_open { (S.meaning station.old).cells_out.closed ≡ false }
-    ensures closed { ClosesRefused (S.meaning station.old) (S.meaning station.new) }
+    ensures closed { ClosesOutput (S.meaning station.old) (S.meaning station.new) }
 {
     let _ = station.close(OutPort::Cells);
+}
+
+/// Flushes the output after a refusal, and closes it. A flush that fails makes it a write fault.
+pub(crate) fn close_refused<'a, S: Station<'a>>(refusal: Refusal, station: &mut S) -> Refusal
+    requires cells { (S.meaning station.old).cells_out.created ≡ true }
+    requires cells_open { (S.meaning station.old).cells_out.closed ≡ false }
+    ensures closed { ClosesRefused refusal (S.meaning station.old) (S.meaning station.new) result }
+{
+    let settled = settle(refusal, station);
+    close_output(station);
+    settled
 }

@@ -68,6 +68,7 @@ fn send_symbol<'a, T: Transmitter, S: Station<'a>>(
     requires suffices { wanted (T.seen tx.old) ≡ None }
     requires few { (T.seen tx.old).made < 2 ^ 32 }
     requires long { length bytes.old ≡ T.symbol_len }
+    requires some { 0 < T.symbol_len }
     requires created { (S.meaning station.old).cells_out.created ≡ true }
     requires open { (S.meaning station.old).cells_out.closed ≡ false }
     ensures long { length bytes.new ≡ length bytes.old }
@@ -95,6 +96,7 @@ fn next_symbol<'a, T: Transmitter, S: Station<'a>>(
 ) -> Result<(), Refusal>
     requires few { (T.seen tx.old).made < 2 ^ 32 }
     requires long { length bytes.old ≡ T.symbol_len }
+    requires some { 0 < T.symbol_len }
     requires created { (S.meaning station.old).cells_out.created ≡ true }
     requires open { (S.meaning station.old).cells_out.closed ≡ false }
     requires inputs_open { AreOpen inputs.old (S.meaning station.old) }
@@ -133,6 +135,7 @@ fn send_all<'a, T: Transmitter, S: Station<'a>>(
     requires two { inputs.lp.tail ≡ None → IsTrue (exists_in (T.seen tx.old).settings Lp) }
     requires none_made { (T.seen tx.old).made ≡ 0 }
     requires long { length bytes.old ≡ T.symbol_len }
+    requires some { 0 < T.symbol_len }
     requires created { (S.meaning station.old).cells_out.created ≡ true }
     requires open { (S.meaning station.old).cells_out.closed ≡ false }
     requires inputs_open { AreOpen inputs (S.meaning station.old) }
@@ -175,6 +178,7 @@ pub(crate) fn send_file<'a, T: Transmitter, S: Station<'a>>(
     requires two { inputs.lp.tail ≡ None → IsTrue (exists_in (T.seen tx.old).settings Lp) }
     requires none_made { (T.seen tx.old).made ≡ 0 }
     requires long { length bytes.old ≡ T.symbol_len }
+    requires some { 0 < T.symbol_len }
     requires created { (S.meaning station.old).cells_out.created ≡ true }
     requires open { (S.meaning station.old).cells_out.closed ≡ false }
     requires inputs_open { AreOpen inputs (S.meaning station.old) }

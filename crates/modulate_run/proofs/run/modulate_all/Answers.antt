@@ -14,9 +14,9 @@ use Rattle.modulate_run.specs.Steps.{IsAccepted, OpensAll, Ran, first_inputs}
 use Rattle.run_steps.proofs.Fitting.{copied_some}
 use Rattle.run_steps.proofs.HandedOn.{handed_on}
 use Rattle.run_steps.specs.Causes.{HasEndCause}
-use Rattle.run_steps.proofs.EndCauses.{finished_cause, refused_cause}
+use Rattle.run_steps.proofs.EndCauses.{finished_cause, refused_cause, settled_cause}
 use Rattle.modulate_run.specs.declared.counts.TransmissionCounts.{TransmissionCounts}
-use Rattle.modulate_run.proofs.Endings.{starts, unwritten, refused_with, finished, lp_exists, first_open, first_within}
+use Rattle.modulate_run.proofs.Endings.{starts, unwritten, refused_with, finished, lp_exists, first_open, first_within, unopened_waits}
 use Rattle.modulate_run.proofs.run.modulate_all.Goals as goal
 
 pub send_file-requires : goal.send_file-requires
@@ -39,7 +39,7 @@ send_file-requires g c κs =
             two,
             (
               c.requires.new.made,
-              (c.requires.long, (ap (λ (x : Meaning). x.cells_out.created) opened, (ap (λ (x : Meaning). x.cells_out.closed) opened, (inputs_open, within)))),
+              (c.requires.long, (c.requires.some, (ap (λ (x : Meaning). x.cells_out.created) opened, (ap (λ (x : Meaning). x.cells_out.closed) opened, (inputs_open, within))))),
             ),
           ),
         ),
@@ -93,7 +93,7 @@ returns-in-Err-clause-ran g c =
     let first : c.first.result ≡ first_inputs (is_some lp) = c.first.ensures ∙ ap first_inputs two in
     let start = starts t.settings limit hp lp cells old mid c.in_ok-open.ensures.opened c.work.ensures.begins c.requires.ready.lp_attached t put c.requires.new (c.requires.stands (inputs_of files)) in
     let start' = subst (λ (i : PacketInputs). IsAtWork limit files mid i t put) (sym first) start in
-    refused_with t.settings limit hp lp cells old mid c.in_ok-open.ensures.opened fin new c.send_file.ensures.others c.in-Err.refusal
+    refused_with t.settings limit hp lp cells old mid c.in_ok-open.ensures.opened c.symbols.ensures.part fin new c.send_file.ensures.others c.in-Err.refusal c.close_refused.result
     (λ told. c.in-Err.ensures.modulates told files start' (unwritten t.settings limit hp lp cells old mid c.in_ok-open.ensures.opened)) c.close_refused.ensures.closed
 
 pub returns-in_err-open-clause-cause : goal.returns-in_err-open-clause-cause
@@ -103,7 +103,8 @@ returns-in_err-open-clause-cause g c =
     let files : Stream → List ℕ = files_of old.file c.args.names.hp.now (option_copied c.args.names.lp) in
     let whole : Type 0 = old.tells ≡ true → IsAccepted (g.T.Transmitter.seen c.args.tx.now).settings c.args.limits.now.packets files in
     handed_on c.from_residual.result c.in_err-open.field-0.0 (HasEndCause whole old mid) c.from_residual.ensures.1
-    (refused_cause (Unit {0}) TransmissionCounts whole old old mid mid c.in_err-open.field-0.0 (record { reads = refl; writes = refl }) c.in_err-open.ensures.cause refl refl)
+    (refused_cause (Unit {0}) TransmissionCounts whole old old mid mid c.in_err-open.field-0.0 (record { reads = refl; writes = refl }) c.in_err-open.ensures.cause refl refl
+    (unopened_waits c.args.names.hp.now (option_copied c.args.names.lp) c.args.names.cells.now old mid c.in_err-open.field-0.0 c.in_err-open.ensures.opened ∙ c.requires.ready.settled))
 
 pub returns-in-Ok-clause-cause : goal.returns-in-Ok-clause-cause
 returns-in-Ok-clause-cause g c =
@@ -138,5 +139,5 @@ returns-in-Err-clause-cause g c =
     let new : Meaning = g.S.Station.meaning c.close_refused.new.station in
     let files : Stream → List ℕ = files_of old.file c.args.names.hp.now (option_copied c.args.names.lp) in
     let shut = c.close_refused.ensures.closed in
-    refused_cause TransmissionCounts TransmissionCounts (old.tells ≡ true → IsAccepted (g.T.Transmitter.seen c.args.tx.now).settings c.args.limits.now.packets files) old mid fin new c.in-Err.refusal
-    c.in_ok-open.ensures.cause c.in-Err.ensures.cause (ap (λ (x : Meaning). x.read_faults) shut.closed) (ap (λ (x : Meaning). x.write_faults) shut.closed)
+    settled_cause TransmissionCounts TransmissionCounts (old.tells ≡ true → IsAccepted (g.T.Transmitter.seen c.args.tx.now).settings c.args.limits.now.packets files) old mid fin shut.flushed new c.in-Err.refusal c.close_refused.result
+    c.in_ok-open.ensures.cause c.in-Err.ensures.cause shut.settles (ap (λ (x : Meaning). x.read_faults) shut.closes.closed) (ap (λ (x : Meaning). x.write_faults) shut.closes.closed) (ap (λ (x : Meaning). x.pending) shut.closes.closed)

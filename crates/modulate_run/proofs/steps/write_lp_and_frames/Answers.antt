@@ -15,7 +15,7 @@ returns-clause-writes g c =
     let m'' : Meaning = g.S.Station.meaning c.write_line.new.station in
     let lp : List ℕ = if c.args.two then packets_line Lp c.args.counts.now.lp else [] in
     writes_then lp (super_frames_line c.args.counts.now.super_frames) m m' m'' c.write_line.result c.in_ok-write_lp_line.ensures.writes
-    (subst (λ (l : List ℕ). WritesLines l m' m'' c.write_line.result) c.super_frames_line_of.ensures c.write_line.ensures.writes)
+    (subst (λ (l : List ℕ). WritesLines l m' m'' c.write_line.result) c.super_frames_line_of.ensures.text c.write_line.ensures.writes)
 
 pub returns-in_err-write_lp_line-clause-writes : goal.returns-in_err-write_lp_line-clause-writes
 returns-in_err-write_lp_line-clause-writes g c =
