@@ -1,0 +1,5 @@
+pub mod Sums
+pub mod Tables
+pub mod Bytes
+pub mod Centred
+pub mod Corrected

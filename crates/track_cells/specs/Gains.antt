@@ -1,0 +1,30 @@
+-- The gains of a symbol as lists.
+use Rattle.std.specs.Prelude.{◌≡◌, ℕ, ◌^◌, ◌<◌, List, length, get_or, flat_map, slice_index}
+use Rattle.spec_words.specs.Words.{numbers}
+use Rattle.mode_set.specs.declared.modes.Guard.{Guard}
+use Rattle.mode_set.specs.declared.modes.Mode.{Mode}
+use Rattle.qam_map.specs.Cells.{cell_of}
+use Rattle.qam_map.specs.declared.cell.Cell.{Cell}
+use Rattle.channel_tracking.specs.Comb.{points}
+use Rattle.channel_tracking.specs.Correction.{corrected}
+use Rattle.channel_tracking.specs.InFrequency.{centred}
+use Rattle.channel_tracking.specs.Tracking.{bytes_of}
+use Rattle.track_arithmetic.specs.Laws.{IsWithin}
+use Rattle.track_arithmetic.specs.Numbers.{nothing}
+use Rattle.track_arithmetic.specs.declared.complex.Complex.{Complex}
+
+-- the gain at a number
+abbrev pub gain_of : List Complex → ℕ → Complex
+gain_of gains k = get_or gains k nothing
+
+-- no part of a gain exceeds n
+abbrev pub AreWithin : ℕ → List Complex → Type 0
+AreWithin n gains = (k : ℕ) → k < length gains → IsWithin n (gain_of gains k)
+
+-- the bytes of the first n carriers after their correction
+unfoldable pub corrected_bytes : ℕ → List Complex → List Cell → List ℕ → ℕ → List ℕ
+corrected_bytes full gains cells weights n = flat_map (λ k. bytes_of (corrected full (gain_of gains k) (cell_of cells k) (slice_index weights k))) (numbers n)
+
+-- the gains at the points of a symbol are turned so that the middle of the guard interval has no delay
+abbrev pub AreCentred : Guard → Mode → (ℕ → Complex) → List Complex → Type 0
+AreCentred guard mode gains list = (j : ℕ) → j < points mode → gain_of list j ≡ centred guard gains j

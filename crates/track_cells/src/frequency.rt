@@ -1,0 +1,119 @@
+// Interpolation in frequency.
+ghost use Rattle.std.specs.Prelude.{◌≡◌, ℕ, ◌+◌, ◌*◌, ◌-◌, ◌/◌, ◌<◌, ◌≤◌, ◌^◌, length, get_or, pos};
+ghost use Rattle.spec_words.specs.Words.{numbers};
+ghost use Rattle.mode_set.specs.StreamTable.{carriers};
+ghost use Rattle.channel_tracking.specs.Comb.{points};
+ghost use Rattle.channel_tracking.specs.InFrequency.{carrier_gain, first_point, slope};
+ghost use Rattle.track_arithmetic.specs.Laws.{IsWithin};
+ghost use Rattle.track_arithmetic.specs.Numbers.{near, scaled, sum_of, times, turned_by};
+ghost use Rattle.track_arithmetic.specs.declared.complex.Complex.{Complex as Gain};
+ghost use Rattle.track_cells.specs.Gains.{gain_of, AreCentred, AreWithin};
+ghost use Rattle.track_cells.specs.Sizes.{size_to};
+
+use crate::rows::row;
+use crate::turns::turned_by;
+use mode_set::{Guard, Mode};
+use track_arithmetic::{Complex, near};
+
+// Sixty-fourths of a turn from a carrier to the next.
+fn slope(guard: Guard) -> u32
+    ensures is { result ≡ slope guard }
+    ensures few { result ≤ 8 }
+{
+    match guard {
+        Guard::G1of4 => 8,
+        Guard::G1of8 => 4,
+        Guard::G1of16 => 2,
+        Guard::G1of32 => 1,
+    }
+}
+
+// A gain turned by so many sixty-fourths of a turn.
+fn turn(gain: Complex, i: u32) -> Complex
+    requires gain { IsWithin (2 ^ 40) gain }
+    requires i { i < 2 ^ 31 }
+    ensures is { result ≡ near 14 (times gain (turned_by i)) }
+    ensures within { (a : ℕ) → IsWithin a gain → IsWithin (2 * a) result }
+{
+    near(gain.times(turned_by(i)), 14)
+}
+
+// The sum of twelve points, each times its coefficient.
+fn weighted(row: &[i16; 12], points: &[Complex]) -> Complex
+    requires long { length points.now ≡ 12 }
+    requires points { AreWithin (2 ^ 22) points.now }
+    requires row { size_to 12 row.now ≤ 58154 }
+    ensures is { result ≡ sum_of (λ i. scaled (get_or row.now i (pos 0)) (gain_of points.now i)) (numbers 12) }
+    ensures within { IsWithin (2 ^ 16 * 2 ^ 22) result }
+{
+    let mut sum = Complex { re: 0, im: 0 };
+    for i in 0..12 {
+        sum = sum.plus(points[i].scaled(i64::from(row[i])));
+    }
+    sum
+}
+
+// Turns the gains at the points so that the middle of the guard interval has no delay.
+fn centre(guard: Guard, gains: &[Complex], centred: &mut [Complex])
+    requires gains { AreWithin (2 ^ 21) gains.now }
+    requires few { length gains.now ≤ 2273 }
+    requires long { length centred.old ≡ length gains.now }
+    ensures long { length centred.new ≡ length gains.now }
+    ensures is { (j : ℕ) → j < length gains.now → gain_of centred.new j ≡ near 14 (times (gain_of gains.now j) (turned_by (3 * j * slope guard))) }
+    ensures within { AreWithin (2 ^ 22) centred.new }
+{
+    let slope = slope(guard);
+    for j in 0..centred.len() {
+        centred[j] = turn(gains[j], 3 * j as u32 * slope);
+    }
+}
+
+// The first of the twelve points for a carrier.
+fn first_point(mode: Mode, k: usize) -> usize
+    requires { k < carriers mode }
+    ensures is { result ≡ first_point mode k }
+    ensures within { result + 12 ≤ points mode }
+    ensures below { 3 * result ≤ k }
+    ensures near { k - 3 * result < 34 }
+{
+    let points = (mode.carriers() as usize + 2) / 3;
+    (k / 3).saturating_sub(5).min(points - 12)
+}
+
+// The gain at a carrier, by the centred gains at the points.
+fn carrier_gain(guard: Guard, mode: Mode, centred: &[Complex], k: usize) -> Complex
+    requires long { length centred.now ≡ points mode }
+    requires centred { AreWithin (2 ^ 22) centred.now }
+    requires carrier { k < carriers mode }
+    ensures is { (gains : ℕ → Gain) → AreCentred guard mode gains centred.now → result ≡ carrier_gain guard mode gains k }
+    ensures within { IsWithin (2 ^ 25) result }
+{
+    let first = first_point(mode, k);
+    let sum = weighted(row(guard, k - 3 * first), &centred[first..first + 12]);
+    turn(near(sum, 14), 63 * (k as u32 * slope(guard)))
+}
+
+/// The gain at each carrier of a symbol, from that at its comb points, every third carrier. Both are 16
+/// times the value of a pilot. `centred` is room for as many gains as there are points. No part of a
+/// point's gain exceeds 2^21, and none of a carrier's 2^25.
+pub fn interpolate(
+    guard: Guard,
+    mode: Mode,
+    gains: &[Complex],
+    centred: &mut [Complex],
+    to: &mut [Complex],
+)
+    requires points { length gains.now ≡ points mode }
+    requires gains { AreWithin (2 ^ 21) gains.now }
+    requires room { length centred.old ≡ points mode }
+    requires carriers { length to.old ≡ carriers mode }
+    ensures room { length centred.new ≡ points mode }
+    ensures carriers { length to.new ≡ carriers mode }
+    ensures is { (k : ℕ) → k < carriers mode → gain_of to.new k ≡ carrier_gain guard mode (gain_of gains.now) k }
+    ensures within { AreWithin (2 ^ 25) to.new }
+{
+    centre(guard, gains, centred);
+    for k in 0..to.len() {
+        to[k] = carrier_gain(guard, mode, centred, k);
+    }
+}

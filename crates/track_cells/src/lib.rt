@@ -1,0 +1,16 @@
+//! A symbol corrected by the gains at its comb points: the gains at all carriers, the power with which a
+//! cell counts whole, and the corrected cells with their weights.
+//!
+//! The rules are this project's own.
+#![tactic(auto)]
+
+mod coefficients;
+mod correction;
+mod frequency;
+mod reference_power;
+mod rows;
+mod turns;
+
+pub use correction::push_corrected;
+pub use frequency::interpolate;
+pub use reference_power::{full_power, mean_power};
