@@ -1,3 +1,4 @@
 pub mod Counting
 pub mod Summing
 pub mod Placing
+mod Vectors

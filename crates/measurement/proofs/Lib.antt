@@ -1,0 +1,5 @@
+pub mod Lists
+pub mod Staying
+pub mod Once
+pub mod Begins
+mod Vectors

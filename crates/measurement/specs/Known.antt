@@ -1,0 +1,64 @@
+-- The decided bits that are known for a symbol, and the cells that they stand for (this project's profile).
+use Rattle.std.specs.Prelude.{ℕ, ◌+◌, ◌*◌, ◌<◌, ◌≤◌, ◌%◌, nat_le, ◌&&◌, ◌||◌, not, Bool, true, false, List, ◌++◌, length, take, replicate}
+use Rattle.spec_words.specs.Bits.{bit}
+use Rattle.code_paths.specs.Streams.{Given, Ended}
+use Rattle.mode_set.specs.StreamTable.{has_stream}
+use Rattle.mode_set.specs.declared.modes.Start.{Start}
+use Rattle.mode_set.specs.declared.modes.Start.TheVariants.{Zero, Any}
+use Rattle.mode_set.specs.declared.modes.Stream.{Stream}
+use Rattle.mode_set.specs.declared.modes.Stream.TheVariants.{Hp, Lp}
+use Rattle.mode_set.specs.declared.settings.Settings.{Settings}
+use Rattle.symbol_spans.specs.Spans.{settings_at, steps_before}
+use Rattle.symbol_interleave.specs.Carried.{is_odd}
+use Rattle.inner_chain.specs.Labels.{Paths, from_step, label_bit, coded_bits}
+use Rattle.symbol_sums.specs.Comparing.{Comparison}
+use Rattle.reception.specs.Cells.{symbol_length, symbols, symbol_cells, symbol_weights}
+use Rattle.reception.specs.Costs.{costs}
+use Rattle.reception.specs.Streams.{memory, start_of}
+
+-- the bytes of the first n symbols
+abbrev pub first_symbols : Settings → ℕ → List ℕ → List ℕ
+first_symbols s n bytes = take (n * symbol_length s) bytes
+
+-- the bits of a stream that are known for symbol m: those given of the first m + 4 symbols, or those at the end where fewer are whole
+pub record IsKnown (s : Settings) (bytes : List ℕ) (σ : Stream) (m : ℕ) (bits : List Bool) : Type 0 where
+  pub so_far : m + 4 ≤ symbols s bytes → Given memory (start_of s.start) (costs s (first_symbols s (m + 4) bytes) σ) bits
+  pub at_end : symbols s bytes < m + 4 → Ended memory (start_of s.start) (costs s bytes σ) bits
+
+-- the path of known bits: six zeros and then the bits, whatever the start
+abbrev pub known_path : List Bool → ℕ → Bool
+known_path bits = bit (replicate 6 false ++ bits)
+
+-- the paths of both streams from the first step of symbol m on
+abbrev pub known_paths : Settings → (Stream → List Bool) → ℕ → Paths
+known_paths s known m σ = from_step (known_path (known σ)) (steps_before s σ m)
+
+-- whether a stream exists in symbol m
+abbrev pub is_present : Settings → ℕ → Stream → Bool
+is_present s m σ = has_stream (settings_at s m).hierarchy σ
+
+abbrev pub is_zero : Start → Bool
+is_zero Zero = true
+is_zero Any = false
+
+-- the known bits of a stream reach to the end of symbol m, and with start any the register before it is known too; or the stream does not exist there
+abbrev pub suffices : Settings → ℕ → (Stream → List Bool) → Stream → Bool
+suffices s m known σ = not (is_present s m σ) || (nat_le (steps_before s σ (m + 1)) (length (known σ)) && (is_zero s.start || nat_le 6 (steps_before s σ m)))
+
+-- symbol m is compared if the known bits of each stream that exists in it suffice
+unfoldable pub is_compared : Settings → ℕ → (Stream → List Bool) → Bool
+is_compared s m known = suffices s m known Hp && suffices s m known Lp
+
+-- remade bit e on payload place q of symbol m: the coded bit that stands there, of the symbol's sent bits of the known paths
+unfoldable pub remade_bit : Settings → (Stream → List Bool) → ℕ → ℕ → ℕ → Bool
+remade_bit s known m q e = label_bit (settings_at s m) (is_odd m) (coded_bits (settings_at s m) (known_paths s known m)) q e
+
+-- symbol m of the bytes beside its remade labels
+unfoldable pub comparison : Settings → List ℕ → (Stream → List Bool) → ℕ → Comparison
+comparison s bytes known m = record {
+  settings = settings_at s m;
+  cells = symbol_cells s bytes m;
+  weights = symbol_weights s bytes m;
+  symbol = m % 68;
+  labels = remade_bit s known m;
+}

@@ -1,0 +1,4 @@
+pub mod Known
+pub mod SuperFrames
+pub mod Lines
+pub mod Laws

@@ -1,0 +1,37 @@
+// The laws of measurement, as contracts of functions that do nothing.
+ghost use Rattle.measurement.specs.Laws.{SumsStay, OneSums, LiveBeginsLive, LiveBeginsFinal};
+
+use code_paths::{ended_once, given_once, reports_grow, reports_once};
+use path_laws::laws::existence;
+use symbol_spans::laws::steps;
+
+/// More bytes leave the sums of a super-frame once its lines are defined.
+pub fn sums_stay()
+    ensures law { SumsStay }
+{
+    steps();
+    reports_grow();
+    existence();
+    reception::laws::symbols();
+    reception::laws::costs();
+    reception::laws::events();
+}
+
+/// A super-frame has one record of sums.
+pub fn one_sums()
+    ensures law { OneSums }
+{
+    given_once();
+    ended_once();
+    reports_once();
+    outer_chain::laws::growth();
+}
+
+/// What bytes tell so far begins what more bytes tell, so far and at the end.
+pub fn beginnings()
+    ensures live { LiveBeginsLive }
+    ensures last { LiveBeginsFinal }
+{
+    sums_stay();
+    one_sums();
+}
