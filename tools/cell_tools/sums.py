@@ -40,10 +40,10 @@ class FrameSums:
 
 
 class Summing:
-    """Adds up frames. Without `is_sent` the ideal cell is the nearest point; with it, the cell of the other file."""
+    """Adds up frames. The ideal cell is that of the other file if there is one, else the nearest point."""
 
-    def __init__(self, file, is_sent):
-        self.file, self.is_sent = file, is_sent
+    def __init__(self, file):
+        self.file = file
         kinds = [file.carriers.kinds(l) for l in range(4)]
         self.columns = [np.flatnonzero(it == DATA) for it in kinds]
         self.pilots = [[np.flatnonzero(it == kind) for kind in (CONTINUAL_PILOT, SCATTERED_PILOT)] for it in kinds]

@@ -21,7 +21,8 @@ def read(top, path):
     """A document without the sentences about the repository alone: its crates and its checks."""
     with open(f"{top}/{path}", encoding="utf-8") as file:
         text = file.read()
-    return re.sub(r"(?:(?<=\. )|(?<=\n\n))(?:(?!\. )[^|\n#]|\n(?!\n))*`(?:crates/|tools/check-|tools/settings_)(?:(?!\. )[^|]|\n(?!\n))*?\.(?=\s)", "", text)
+    begin, about = r"(?:(?<=\. )|(?<=\n\n))(?:(?!\. )[^|\n#]|\n(?!\n))*", r"`(?:crates/|tools/check-|tools/settings_)"
+    return re.sub(rf"{begin}{about}(?:(?!\. )[^|]|\n(?!\n))*?\.(?=\s)", "", text)
 
 
 def options():
