@@ -10,7 +10,8 @@ import sys
 import time
 
 from builder import program, proofs, stamp
-from door.explain import clock, fail, say, spoken
+from builder.program import fail
+from door.explain import clock, say, spoken
 
 # Seconds that the proof and build of the program took when it was measured, from nothing, by processors.
 MEASURED = {2: 1102, 4: 684}

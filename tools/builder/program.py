@@ -7,6 +7,7 @@ toolchain whose line (`rt version`) stands with its sums. `dist/` has programs t
 import hashlib
 import os
 import subprocess
+import sys
 import time
 
 from builder import stamp
@@ -15,6 +16,11 @@ from door.explain import say
 from door.main import program_named
 
 PARTS = ("src", "specs", "proofs")  # the folders of a crate that the program is built from
+
+
+def fail(status, text):
+    say(text)
+    sys.exit(status)
 
 
 def named_of(top):

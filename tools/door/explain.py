@@ -1,8 +1,10 @@
 """What bin/dvbt says on standard error if a run fails: which file, key or byte, and what the outputs hold."""
 import os
-import re
 import stat
 import sys
+
+from commands import forms
+from commands.lines import values_of
 
 PACKET, SYNC = 188, 0x47
 USEFUL = {"2k": 224e-6, "8k": 896e-6}  # seconds of a symbol without guard in a channel of 8 MHz
@@ -14,11 +16,6 @@ def say(text):
     """Prints each line on standard error, after the program's name."""
     for line in [text] if isinstance(text, str) else text:
         print(f"dvbt: {line}", file=sys.stderr, flush=True)
-
-
-def fail(status, text):
-    say(text)
-    sys.exit(status)
 
 
 def clock(seconds):
@@ -37,7 +34,6 @@ def spoken(seconds):
 def of_usage(words):
     """An invalid command line."""
     from difflib import get_close_matches
-    from door import words as forms
 
     command = (words or [""])[0]
     if command in forms.FORMS:
@@ -87,11 +83,11 @@ def of_settings(form, text):
 
 def of_packet(form, text):
     """A packet does not begin with the sync byte."""
-    found = re.fullmatch(r"(hp|lp) packet (\d+)", text)
-    path = dict(form.inputs).get(found[1]) if found else None
+    found = values_of("S packet {packet}", text) or {"stream": None}
+    path = dict(form.inputs).get(found["stream"])
     if not path:
         return "a packet does not begin with the sync byte 47"
-    number, at = int(found[2]), PACKET * int(found[2])
+    number, at = found["packet"], PACKET * found["packet"]
     head = piece(path, at, 8 * 204)
     there = f" is {head[0]:02X}, not" if head else " is not"
     lines = [f"{path}: byte {at:,}, the first of packet {number:,} (counted from 0),{there} the sync byte 47"]
@@ -141,9 +137,9 @@ def of_writing(form, text):
 
 def of_limit(form, text):
     """More packets or symbols than the limit."""
-    if not re.fullmatch(r"limit \d+", text):
+    number = (values_of("limit {limit}", text) or {}).get("limit")
+    if not number:
         return "there are more packets or symbols than the limit"
-    number = int(text.split()[1])
     if form.command in ("disperse", "outer", "inner") or form.command == "modulate" and number == 100_000_000:
         return f"an input has more than {number:,} packets ({number * PACKET / 1e9:.1f} GB), the most for one run"
     what = {"modulate": "the transmission has", "trial": "the trial has"}.get(form.command, "the cells have")
@@ -153,9 +149,14 @@ def of_limit(form, text):
 
 def air_of(path, symbols):
     """How long so many symbols are on air in a channel of 8 MHz."""
-    document = document_of(path) or {}
-    useful, guard = USEFUL.get(str(document.get("mode"))), re.fullmatch(r"1/(\d+)", str(document.get("guard")))
-    return f" ({spoken(symbols * useful * (1 + 1 / int(guard[1])))} of air in a channel of 8 MHz)" if useful and guard else ""
+    seconds = seconds_of_symbol(document_of(path) or {})
+    return f" ({spoken(symbols * seconds)} of air in a channel of 8 MHz)" if seconds else ""
+
+
+def seconds_of_symbol(document):
+    """The seconds of a symbol on air in a channel of 8 MHz by the settings, or None."""
+    useful, guard = USEFUL.get(str(document.get("mode"))), str(document.get("guard")).partition("1/")[2]
+    return useful * (1 + 1 / int(guard)) if useful and guard.isdecimal() else None
 
 
 def of_header(form, text):
@@ -190,8 +191,6 @@ def of_form(form, text):
 
 def what_stands(form, status, before):
     """What the outputs hold after a failed run, and how large they are."""
-    from door.watch import seen
-
     for path in form.outputs:
         now = seen(path)
         what = f": {STANDS[status]}" if status in STANDS else ""
@@ -201,6 +200,15 @@ def what_stands(form, status, before):
             yield f"{path} is unchanged"
         elif stat.S_ISREG(now[3]):
             yield f"{path} holds {now[1]:,} bytes{what}" if now[1] else f"{path} is empty"
+
+
+def seen(path):
+    """What tells whether a file was written: its time, size, inode and kind."""
+    try:
+        found = os.stat(path)
+    except OSError:
+        return None
+    return found.st_mtime_ns, found.st_size, found.st_ino, found.st_mode
 
 
 def piece(path, at, size):

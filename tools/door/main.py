@@ -1,9 +1,9 @@
 """What bin/dvbt does with its arguments."""
 import os
-import _signal as signal  # the built-in part alone: the rest takes as long to import as Python to start
 import sys
 
-from door import words as forms
+from commands import forms
+from door import names, watch
 from door.names import Rejected
 
 
@@ -11,9 +11,7 @@ def main(top, words, options, closed):
     """Runs the arguments; answers the exit status. `closed` are the descriptors that the program is to find closed."""
     said = told(top, words, options)
     if said is not None:
-        return printed(said)
-    from door import names, watch
-
+        return watch.printed(said)
     form = forms.form_of(words)
     given, is_data = names.given(form, closed) if form else (words, False)
     file = program_of(top, form, options)
@@ -23,22 +21,18 @@ def main(top, words, options, closed):
             from door import explain
 
             explain.of_usage(words)
-        return object_of(words, 2, "usage") if "json" in options else printed("usage", 2)
+        return object_of(words, 2, "usage") if "json" in options else watch.printed("usage", 2)
     if options == {"quiet"} and not is_data:
-        become(file, given, closed)
+        watch.become(file, given, closed)
     return watch.run(file, form, words, given, options, is_data, closed)
 
 
 def told(top, words, options):
     """The text that these arguments ask for, or None if they are for the program."""
-    if words in (["--help"], ["-h"]):
-        import texts
+    if words and words[-1] in ("--help", "-h") and (len(words) == 1 or words[0] in forms.FORMS):
+        from commands import texts
 
-        return texts.help_of_all()
-    if len(words) > 1 and words[0] in forms.FORMS and words[-1] in ("--help", "-h"):
-        import texts
-
-        return texts.help_of(words[0])
+        return texts.help_of(words[0]) if len(words) > 1 else texts.help_of_all()
     if words == ["--version"]:
         from builder import program
 
@@ -63,39 +57,12 @@ def program_of(top, form, options):
 
 def program_named(top):
     """The program that $DVBT_PROGRAM names, which is run as it is, or None."""
-    file, why = os.environ.get("DVBT_PROGRAM"), None
-    if not file:
-        return None
-    if not (os.path.isfile(file) and os.access(file, os.X_OK)):
-        why = "not a program that can be run"
-    elif os.path.samefile(file, f"{top}/bin/dvbt"):
-        why = "bin/dvbt itself"
-    if why:
-        from door import explain
-
-        explain.fail(126, f"$DVBT_PROGRAM is {file}, which is {why}")
-    return os.path.abspath(file)
-
-
-def printed(text, status=0):
-    """Prints a text; answers the status, or 6 in place of 0 if standard output does not take it."""
-    from door.watch import put
-
-    try:
-        put(f"{text}\n".encode())
-    except OSError as error:
-        print(f"dvbt: standard output could not be written: {error.strerror}", file=sys.stderr, flush=True)
-        return status or 6
-    return status
-
-
-def become(file, words, closed):
-    """The program alone, in our place."""
-    for number in (signal.SIGPIPE, signal.SIGXFSZ):
-        signal.signal(number, signal.SIG_DFL)  # Python ignores them
-    for number in closed:
-        os.close(number)
-    os.execv(file, ["dvbt", *words])
+    file = os.environ.get("DVBT_PROGRAM")
+    if file and not (os.path.isfile(file) and os.access(file, os.X_OK)):
+        raise Rejected(f"$DVBT_PROGRAM is {file}, which is not a program that can be run", status=126)
+    if file and os.path.samefile(file, f"{top}/bin/dvbt"):
+        raise Rejected(f"$DVBT_PROGRAM is {file}, which is bin/dvbt itself", status=126)
+    return file and os.path.abspath(file)
 
 
 def closed_descriptors():
@@ -106,13 +73,7 @@ def closed_descriptors():
             os.fstat(number)
         except OSError:
             closed.append(number)
-    for number in closed:
-        # the lowest that is free, which is this one
-        held = os.open(os.devnull, os.O_RDWR)
-        os.set_inheritable(held, True)
-        if held != number:
-            os.dup2(held, number)
-            os.close(held)
+            os.set_inheritable(os.open(os.devnull, os.O_RDWR), True)  # it is the lowest that is free
     return closed
 
 
@@ -128,8 +89,7 @@ class StandardError:
     def flush(self):
         data, self.text, self.last = self.text.encode("utf-8", "backslashreplace"), "", self.text.strip()
         try:
-            while data:
-                data = data[os.write(self.to, data) :]
+            watch.put(data, self.to)
         except OSError:
             pass
 
@@ -140,12 +100,12 @@ class StandardError:
 
 def object_of(words, status, text, path=None):
     """Prints the object of a call that is not run; answers the status."""
-    from door import report, watch
+    from door.report import Report
 
     form = forms.form_of(words)
-    of_call = report.Report(form, 2 if form and "/dev/stdout" in form.outputs else 1)
-    of_call.refusal = {"text": text, **({"file": path} if path else {})}
-    return watch.closed_with(of_call, status)
+    report = Report(form, 2 if form and "/dev/stdout" in form.outputs else 1)
+    report.refusal = {"text": text, **({"file": path} if path else {})}
+    return report.close(status)
 
 
 def start(top, words):
@@ -157,7 +117,7 @@ def start(top, words):
     try:
         return main(top, words, options, closed)
     except Rejected as why:
-        status, path, sys.stderr.to = 64, why.path, why.to
+        status, path, sys.stderr.to = why.status, why.path, why.to
         print(f"dvbt: {why}", file=sys.stderr, flush=True)
     except OSError as error:
         status, path = 126, error.filename

@@ -11,11 +11,11 @@ STANDARD = {1: "standard output", 2: "standard error"}
 
 
 class Rejected(Exception):
-    """The call is not run. Its message, the name that it is about, and the descriptor for the message."""
+    """The call is not run. Its message, the name that it is about, the descriptor for the message, and the status."""
 
-    def __init__(self, why, path, to=2):
+    def __init__(self, why, path=None, to=2, status=64):
         super().__init__(f"rejected before the start: {why}")
-        self.path, self.to = path, to
+        self.path, self.to, self.status = path, to, status
 
 
 class File:
@@ -30,7 +30,7 @@ def given(form, closed):
     """The arguments for the program, and whether an output is our standard output. `closed` are those of 0 to 2 that are."""
     reject_misplaced(form)
     files = [File(*it) for it in form.files]
-    standard = {number: key_of_descriptor(number) for number in STANDARD if number not in closed}
+    standard = {number: key_of_status(os.fstat(number)) for number in STANDARD if number not in closed}
     for at, file in enumerate(files):
         if file.number in closed or is_not_open(file.path):
             raise Rejected(f"{file.path} stands for a descriptor that is not open", file.path)
@@ -46,8 +46,12 @@ def given(form, closed):
         number = 1 if file in data else file.number
         if file.is_output and number is not None and is_begun(number):
             raise Rejected(f"{file.path} holds data already and would begin anew; pipe through `cat`, or name the file", file.path)
-    real = f"/dev/fd/{inheritable(os.dup(1))}" if any(it.number == 1 for it in data) else None
-    return [form.command, *(real if it in data and it.number == 1 else it.path for it in files), *form.numbers], bool(data)
+    for file in data:
+        if file.number == 1:
+            real = os.dup(1)  # the report takes the place of this one
+            os.set_inheritable(real, True)
+            file.path = f"/dev/fd/{real}"
+    return [form.command, *(it.path for it in files), *form.numbers], bool(data)
 
 
 def reject_misplaced(form):
@@ -59,11 +63,6 @@ def reject_misplaced(form):
             with open(path, "rb") as file:
                 if file.read(5) == b"DVTC\x02":
                     raise Rejected(f"{path} is of version 2 already", path)
-
-
-def inheritable(number):
-    os.set_inheritable(number, True)
-    return number
 
 
 def descriptor_of(path):
@@ -107,10 +106,6 @@ def key_of(path):
         return folder.st_dev, folder.st_ino, os.path.basename(path)
     except OSError:
         return path
-
-
-def key_of_descriptor(number):
-    return key_of_status(os.fstat(number))
 
 
 def key_of_status(found):

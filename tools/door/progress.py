@@ -4,6 +4,9 @@ import stat
 import sys
 import time
 
+from commands.lines import parsed
+from door import explain
+
 FIRST, EACH = 1.0, 0.5  # seconds until the progress is shown, and between two times
 HEADER, SYMBOL = 8, {"2k": 8525, "8k": 34085}  # bytes of a cell file
 PACKET = {"outer": 204, "inner": 0}  # bytes of an output for each packet, if not 188; `inner` has no whole number
@@ -24,38 +27,33 @@ class Progress:
         now = time.monotonic()
         if self.is_shown and now >= self.next:
             self.next, self.is_there = now + EACH, True
-            write(f"\rdvbt: {self.line(now - self.began)}\033[K")
+            line = f"\rdvbt: {self.line(now - self.began)}"[: os.get_terminal_size(2).columns or None]
+            print(f"{line}\033[K", end="", file=sys.stderr, flush=True)
 
     def tell(self, *_):
         """Answers SIGUSR1 by a line of its own."""
         self.clear()
-        if self.form:
-            write(f"dvbt: {self.line(time.monotonic() - self.began)}\n")
+        explain.say(self.line(time.monotonic() - self.began) if self.form else [])
 
     def note(self, lines):
         """Counts the words of a command that reports them while it runs."""
-        for line in lines:
-            head, *words = line.decode("utf-8", "replace").split()[1:] or [""]
-            if head == "bits":
-                found = dict(zip(words[1::2], words[2::2]))
-                for name, shown in (("words", "words"), ("bad", "bad words")):
-                    self.counts[shown] = self.counts.get(shown, 0) + int(found[name])
+        for found in (parsed(it.decode("utf-8", "replace"))[1] for it in lines if b" bits " in it):
+            for name, shown in (("words", "words"), ("bad", "bad words")):
+                self.counts[shown] = self.counts.get(shown, 0) + found.get(name, 0)
 
     def clear(self):
         if self.is_there:
             self.is_there = False
-            write("\r\033[K")
+            print("\r\033[K", end="", file=sys.stderr, flush=True)
 
     def line(self, gone):
         """What can be known after so many seconds: counts, and the shares of the regular files that are read."""
-        from door.explain import clock
-
         shares = {path: self.position(path) / max(os.path.getsize(path), 1) for _, path in self.form.inputs if os.path.isfile(path)}
         parts = [*self.symbols(gone), *(f"{number:,} {name}" for name, number in self.counts.items())]
         parts += [f"{100 * share:.0f} % of {os.path.basename(path)}" for path, share in shares.items()]
         least = min(shares.values(), default=0)
-        left = f", about {clock(gone * (1 - least) / least)} more" if 0.02 < least < 1 else ""
-        return f"{self.form.command} {', '.join(parts)}{' after' if parts else ''} {clock(gone)}{left}"
+        left = f", about {explain.clock(gone * (1 - least) / least)} more" if 0.02 < least < 1 else ""
+        return f"{self.form.command} {', '.join(parts)}{' after' if parts else ''} {explain.clock(gone)}{left}"
 
     def symbols(self, gone):
         """Symbols that were read or written so far, their time on air, and that time beside the clock's."""
@@ -67,15 +65,11 @@ class Progress:
         return [counted, f"{number * air:.3g} s of air", f"{number * air / gone:.2g} times real time"] if air else [counted]
 
     def settings(self):
-        """Bytes of a symbol and its seconds on air in a channel of 8 MHz, if the settings say so. `tune` takes the guard interval
-        from the signal."""
+        """Bytes of a symbol and its seconds on air, if the settings tell. `tune` and `align` take the guard interval from the signal."""
         if self.kept is None:
-            from door.explain import USEFUL, document_of
-
-            document = (self.form.settings and document_of(self.form.settings)) or {}
-            mode, guard = str(document.get("mode")), str(document.get("guard")).partition("/")[2]
-            is_known = guard.isdigit() and mode in USEFUL and self.form.command not in ("tune", "align")
-            self.kept = SYMBOL.get(mode), USEFUL[mode] * (1 + 1 / int(guard)) if is_known else None
+            document = (self.form.settings and explain.document_of(self.form.settings)) or {}
+            air = explain.seconds_of_symbol(document) if self.form.command not in ("tune", "align") else None
+            self.kept = SYMBOL.get(str(document.get("mode"))), air
         return self.kept
 
     def position(self, path):
@@ -97,10 +91,10 @@ class Progress:
             return number_in(f"/proc/{self.pid}/io", "wchar:")
         return number_in(f"/proc/{self.pid}/io", "rchar:") - LOADER - os.path.getsize(self.form.settings)
 
-    def stands(self, before, seen):
+    def stands(self, before):
         """What the outputs hold that were written, a line each, if they are regular files."""
         for kind, _, path in self.form.files:
-            if kind.startswith("out") and os.path.isfile(path) and seen(path) != before.get(path):
+            if kind.startswith("out") and os.path.isfile(path) and explain.seen(path) != before.get(path):
                 size = os.path.getsize(path)
                 each = self.settings()[0] if kind == "out-cells" else PACKET.get(self.form.command, 188)
                 number = max(0, size - (HEADER if kind == "out-cells" else 0)) // each if each else 0
@@ -114,16 +108,10 @@ def number_in(path, name):
         return int(next(line for line in file if line.startswith(name)).split()[1])
 
 
-def write(text):
-    sys.stderr.write(text)
-    sys.stderr.flush()
-
-
 def of_limit(form):
-    """What to say at the start of a run that reads a pipe and ends at max_symbols, if that is near its default; or None."""
-    from door.explain import air_of, document_of
-
-    most = (document_of(form.settings) or {}).get("max_symbols", BY_DEFAULT)
-    if form.command == "trial" or type(most) is not int or most >= 2 * BY_DEFAULT:
-        return None
-    return f"the run ends with status 8 after {most:,} symbols{air_of(form.settings, most)}: max_symbols in {form.settings} sets that"
+    """What to say at the start of a run that reads a pipe and ends at max_symbols, if that is near its default; else nothing."""
+    if not form.settings or all(os.path.isfile(path) or path == os.devnull or not os.path.exists(path) for _, path in form.inputs):
+        return []
+    most = (explain.document_of(form.settings) or {}).get("max_symbols", BY_DEFAULT)
+    air = explain.air_of(form.settings, most) if type(most) is int and most < 2 * BY_DEFAULT else None
+    return [f"the run ends with status 8 after {most:,} symbols{air}: max_symbols in {form.settings} sets that"] if air is not None else []

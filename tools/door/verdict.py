@@ -90,15 +90,3 @@ CHECKS = {
     "upgrade": [written, symbols],
     "equalise": [signal, written, symbols],
 }
-
-
-def facts_of(form, lines):
-    """The values of a report by name, those of a stream or the like by its name first."""
-    from door.report import Report
-
-    report = Report(form, None)
-    report.write = lambda found: None  # lines with an object of their own are not looked at
-    for line in lines:
-        if "unmerged at" not in line:
-            report.line(line)
-    return report.found

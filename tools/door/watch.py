@@ -4,9 +4,8 @@ import select
 import _signal as signal  # the built-in part alone: the rest takes as long to import as Python to start
 import sys
 
-from door.progress import Progress
-
-EACH = 0.5  # seconds between two looks at the progress
+from door import explain
+from door.progress import EACH, Progress, of_limit
 
 # SIGUSR1 asks for the progress. What ends the door by a fault of its own ends the child by its parent-death signal.
 OWN = {signal.SIGUSR1, signal.SIGCHLD, signal.SIGPIPE, signal.SIGKILL, signal.SIGSTOP, signal.SIGWINCH, signal.SIGURG}
@@ -27,26 +26,22 @@ class Child:
         self.wake = wakes()
         self.pid = os.fork()
         if self.pid == 0:
-            self.become(program, words, closed, mask, end)
+            self.begin(program, words, closed, mask, end)
         os.close(end)
         for number in passed_on:
             signal.signal(number, self.pass_on)
         signal.pthread_sigmask(signal.SIG_SETMASK, mask)
 
-    def become(self, program, words, closed, mask, end):
+    def begin(self, program, words, closed, mask, end):
         """In the child: becomes the program, with `end` as its standard output; or ends."""
         try:
             die_with(self.door)
             if 1 not in closed:
                 os.dup2(end, 1)
-            for number in closed:
-                os.close(number)
-            for number in (signal.SIGPIPE, signal.SIGXFSZ):
-                signal.signal(number, signal.SIG_DFL)  # Python ignores them
             signal.pthread_sigmask(signal.SIG_SETMASK, mask)
-            os.execv(program, ["dvbt", *words])
+            become(program, words, closed)
         except OSError as error:
-            print(f"dvbt: {program} can't be run: {error.strerror}", file=sys.stderr, flush=True)
+            explain.say(f"{program} can't be run: {error.strerror}")
         finally:
             os._exit(126)
 
@@ -107,78 +102,48 @@ def die_with(door):
 
 def run(program, form, words, given, options, is_data, closed):
     """Runs the program with the arguments `given`; answers its status. With `is_data` the report goes to standard error."""
-    before = {path: seen(path) for path in form.outputs} if form else {}
-    is_quiet, to, report = "quiet" in options, 2 if is_data else 1, None
+    before = {path: explain.seen(path) for path in form.outputs} if form else {}
+    tell = (lambda text: None) if "quiet" in options else explain.say
+    tell(of_limit(form) if form else [])
+    progress = Progress(form, "quiet" not in options and sys.stderr.isatty())
+    signal.signal(signal.SIGUSR1, progress.tell)
+    to, report = 2 if is_data else 1, None
     if "json" in options:
         from door.report import Report
 
         report = Report(form, to)
-    if form and not is_quiet:
-        tell_limit(form)
-    progress = Progress(form, not is_quiet and sys.stderr.isatty())
-    signal.signal(signal.SIGUSR1, progress.tell)
     child = Child(program, given, closed)
     progress.pid = child.pid
     lines, is_lost = handed_on(child, progress, report.take if report else lambda piece: put(piece, to), to)
     status = child.status()
     progress.clear()
-    if is_data:
-        to_the_end(1)
+    if is_data and os.path.isfile("/dev/fd/1"):
+        os.lseek(1, 0, os.SEEK_END)  # the program opened the file anew: what follows stands after what it wrote
     if is_lost and status == 0:
-        say("standard output took no more, so the last lines are lost")
+        explain.say("standard output took no more, so the last lines are lost")
         status = 6
-    elif status < 0 and not is_quiet:
-        tell_end(-status, progress, before)
-    elif status and not is_quiet:
-        from door import explain
-
+    elif status < 0:
+        why = ": so it ends if it has too little stack or address space (docs/FILES.md)" if status == -signal.SIGSEGV else ""
+        tell([f"the program was ended by {name_of(-status)}{why}", *(progress.stands(before) if form else [])])
+    elif status and "quiet" not in options:
         explain.of_refusal(form, words, status, lines[-1] if lines else "", before)
     elif form and status == 0 and options != {"quiet"}:
-        status = judged(form, lines, options, report)
+        status = judged(form, lines, tell, options, report)
     if report:
-        status = closed_with(report, status)
+        status = report.close(status)
     return status if status >= 0 else end_by(-status)
 
 
-def judged(form, lines, options, report):
+def judged(form, lines, tell, options, report):
     """Says what a run of status 0 is worth; answers its status, which --strict makes 1 if there is something to say."""
+    from commands.lines import facts_of
     from door import verdict
 
-    said = verdict.of(form, verdict.facts_of(form, lines))
+    said = verdict.of(form, facts_of([it for it in lines if "unmerged at" not in it]))
     if report:
         report.verdict = said
-    if said and "quiet" not in options:
-        say(said)
+    tell(said or [])
     return 1 if said and "strict" in options else 0
-
-
-def closed_with(report, status):
-    """Prints the object of a run; answers the status."""
-    try:
-        report.close(*((status,) if status >= 0 else (128 - status, name_of(-status))))
-    except OSError as error:
-        say(f"standard output could not be written: {error.strerror}")
-        return status or 6
-    return status
-
-
-def tell_limit(form):
-    """Says where a run ends that reads a pipe, if max_symbols is near its default."""
-    if form.settings and any(os.path.exists(path) and not os.path.isfile(path) and path != os.devnull for _, path in form.inputs):
-        from door.progress import of_limit
-
-        said = of_limit(form)
-        if said:
-            say(said)
-
-
-def seen(path):
-    """What tells whether a file was written: its time, size, inode and kind."""
-    try:
-        found = os.stat(path)
-    except OSError:
-        return None
-    return found.st_mtime_ns, found.st_size, found.st_ino, found.st_mode
 
 
 def handed_on(child, progress, take, to):
@@ -202,24 +167,28 @@ def handed_on(child, progress, take, to):
     return text.decode("utf-8", "replace").splitlines(), is_lost
 
 
-def put(data, to=1):
+def become(program, words, closed):
+    """The program in the place of this process."""
+    for number in (signal.SIGPIPE, signal.SIGXFSZ):
+        signal.signal(number, signal.SIG_DFL)  # Python ignores them
+    for number in closed:
+        os.close(number)
+    os.execv(program, ["dvbt", *words])
+
+
+def put(data, to):
     while data:
         data = data[os.write(to, data) :]
 
 
-def to_the_end(number):
-    """What follows in the file of a descriptor stands after what the program wrote: it opened the file anew."""
+def printed(text, status=0, to=1):
+    """Prints a text; answers the status, or 6 in place of 0 if it can't be written."""
     try:
-        os.lseek(number, 0, os.SEEK_END)
-    except OSError:
-        pass
-
-
-def tell_end(number, progress, before):
-    """Says what a signal ended and what stands."""
-    why = ": so it ends if it has too little stack or address space (docs/FILES.md)" if number == signal.SIGSEGV else ""
-    say(f"the program was ended by {name_of(number)}{why}")
-    say(progress.stands(before, seen) if progress.form else [])
+        put(f"{text}\n".encode(), to)
+    except OSError as error:
+        explain.say(f"{'standard output' if to == 1 else 'standard error'} could not be written: {error.strerror}")
+        return status or 6
+    return status
 
 
 def end_by(number):
@@ -231,12 +200,6 @@ def end_by(number):
         signal.signal(number, signal.SIG_DFL)
     os.kill(os.getpid(), number)
     return 128 + number
-
-
-def say(text):
-    from door import explain
-
-    explain.say(text)
 
 
 def name_of(number):

@@ -1,5 +1,5 @@
 """The texts of `bin/dvbt --help`. The pages of the manual are made of the same."""
-from door import words
+from commands import forms
 
 SHORT = {
     "modulate": "transport packets to the cells of the OFDM carriers",
@@ -68,17 +68,17 @@ EXAMPLES = {
 
 # The statuses, in one line each, and which commands have them.
 STATUSES = [
-    (0, "the work was done whole; the lines say what was counted", words.FORMS),
-    (2, "invalid command line: `usage`", words.FORMS),
+    (0, "the work was done whole; the lines say what was counted", forms.FORMS),
+    (2, "invalid command line: `usage`", forms.FORMS),
     (3, "the settings are rejected: `settings ..` says why", ("modulate", "receive", "rescue", "tune", "upgrade", "equalise", "trial", "inner")),
     (4, "a packet does not begin with the sync byte 47: `hp packet N`, `lp packet N`, counted from 0",
      ("modulate", "disperse", "outer", "inner")),
-    (5, "a file can't be opened or read: `read fault`", words.FORMS),
-    (6, "a file can't be made, written or closed: `write fault`", words.FORMS),
+    (5, "a file can't be opened or read: `read fault`", forms.FORMS),
+    (6, "a file can't be made, written or closed: `write fault`", forms.FORMS),
     (7, "memory runs out: `memory`; no line if an argument is not UTF-8 or the files' buffers can't be taken",
      ("modulate", "receive", "rescue", "tune", "upgrade", "equalise", "trial", "outer", "inner")),
     (7, "an argument is not UTF-8, or the files' buffers can't be taken: no line", ("disperse",)),
-    (8, "more packets or symbols than the limit: `limit N`", words.FORMS),
+    (8, "more packets or symbols than the limit: `limit N`", forms.FORMS),
     (9, "the cells do not begin with the header of the settings' mode: `cells header`", ("receive", "rescue", "tune", "equalise")),
     (10, "no frame is found in the cells: `tune none`", ("tune",)),
     (11, "the signal has a hierarchy and LP is not given, or the reverse: `tune form`", ("tune",)),
@@ -95,8 +95,8 @@ def help_of_all():
     """What `bin/dvbt --help` prints."""
     out = ["dvbt: a DVB-T modulator and streaming soft receiver (EN 300 744, between transport packets and OFDM cells)", ""]
     out += ["usage: bin/dvbt [-q] [--strict] [--json] COMMAND ARGUMENTS", ""]
-    for command in words.FORMS:
-        out += [f"  {line}" for line in words.lines_of_forms(command)]
+    for command in forms.FORMS:
+        out += [f"  {line}" for line in forms.lines_of_forms(command)]
         out += [f"        {SHORT[command]}"]
     out += ["", "  bin/dvbt COMMAND --help     forms, files, an example and the statuses of a command"]
     out += ["  bin/dvbt --version          the sources, the toolchain and the program that would run"]
@@ -116,8 +116,8 @@ def help_of_all():
 def help_of(command):
     """What `bin/dvbt COMMAND --help` prints."""
     out = [f"dvbt {command}: {SHORT[command]}", ""]
-    out += [f"  {line}" for line in words.lines_of_forms(command)] + [""]
-    names = dict.fromkeys(name for kinds in words.FORMS[command] for _, name in kinds)
+    out += [f"  {line}" for line in forms.lines_of_forms(command)] + [""]
+    names = dict.fromkeys(name for kinds in forms.FORMS[command] for _, name in kinds)
     width = max(map(len, names))
     out += [f"  {name:{width}}  {FILES[name]}" for name in names]
     out += ["", MORE[command], "", "Example:"] + [f"  {line}" for line in EXAMPLES[command]]

@@ -1,4 +1,4 @@
-"""The commands of dvbt and their forms. tools/texts.py has what --help says of them."""
+"""The commands of dvbt and their forms. `texts` has what --help says of them."""
 
 # Each argument of a form is a kind and the name that the help gives it. Kinds: `settings`, inputs `hp`, `lp` and `cells`,
 # outputs `out` (of one stream), `out-cells`, `out-hp` and `out-lp`, and `number`.
