@@ -81,7 +81,8 @@ def lay(top, folder, prefix):
         tree.put(f"{LIBRARY}/tools/builder/{os.path.basename(path)}", text_of(path))
     for path in sorted(glob.glob(f"{top}/tools/door/*.py")):
         tree.put(f"{LIBRARY}/tools/door/{os.path.basename(path)}", re.sub(r"(?<![\w/])bin/dvbt(?= )", "dvbt", text_of(path)))
-    tree.put(f"{LIBRARY}/tools/texts.py", pages.placed(text_of(f"{top}/tools/texts.py"), prefix))
+    for path in sorted(glob.glob(f"{top}/tools/commands/*.py")):
+        tree.put(f"{LIBRARY}/tools/commands/{os.path.basename(path)}", pages.placed(text_of(path), prefix))
     tree.put(f"{LIBRARY}/SOURCES", f"{sources}\n")
     tree.put(f"{LIBRARY}/TOOLCHAIN", f"{toolchain}\n")
     for pattern in DOCUMENTS:

@@ -1,8 +1,8 @@
 """The pages of the manual, of the same texts as `--help` and docs/."""
 import re
 
-import texts
-from door import words
+from commands import forms as words
+from commands import texts
 from installing import roff
 
 
