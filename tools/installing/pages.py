@@ -13,6 +13,7 @@ def placed(text, prefix):
     text = re.sub(r"\[[^\]]*\]\(FILES\.md[^)]*\)", "dvbt-cells(5)", text)
     text = re.sub(r"\[([\w-]+\.md)\]\([^)]*\)", rf"{prefix}/share/doc/dvbt/\1", text)
     text = re.sub(r"(?<![\w/])docs/([\w-]+\.md)", rf"{prefix}/share/doc/dvbt/\1", text)
+    text = re.sub(r"bin/dvbt((?: COMMAND)? --\w+ {2,})", r"dvbt\1    ", text)  # the columns of --help
     text = text.replace("tools/cells.py", "dvbt-cells").replace("bin/dvbt", "dvbt")
     return re.sub(r"((?<![\w/])|(?<=\\fB))examples/", f"{prefix}/share/dvbt/examples/", text)
 
