@@ -81,7 +81,8 @@ def arguments(words):
     else:
         add("cells", metavar="CELLS", help="the cell file (docs/FILES.md), - for standard input")
     if verb == "measure":
-        add("--sent", metavar="CELLS", help="measure against this file, which dvbt modulate wrote by the same settings, not against the nearest points")
+        add("--sent", metavar="CELLS",
+            help="measure against this file, which dvbt modulate wrote by the same settings, not against the nearest points")
         add("--list", choices=["symbols", "carriers"], help="print the MER of each symbol or of each carrier too")
         add("--out", metavar="PNG", help="draw the MER over carriers and over symbols to this file")
     if verb == "disturb":
@@ -138,3 +139,5 @@ if __name__ == "__main__":
         sys.exit(f"{NAME}: {error}")
     except BrokenPipeError:
         sys.exit(1)
+    except KeyboardInterrupt:
+        sys.exit(130)

@@ -73,7 +73,7 @@ def ratio(cells, wanted):
 
 
 def likeliest(ours, theirs, within):
-    """The cause that fits cells best, in words, or None. Both are arrays of cells, symbols by carriers by two parts, as numbers of double precision."""
+    """The cause that fits cells best, in words, or None. Both are arrays of symbols by carriers by two parts, of double precision."""
     ours, theirs = (it[..., 0] + 1j * it[..., 1] for it in (ours, theirs))
     shifts = [(late, up) for late in SHIFTS for up in SHIFTS if abs(late) < len(ours)]
     found = max(
@@ -89,5 +89,7 @@ def likeliest(ours, theirs, within):
     before, after = ratio(ours, theirs), ratio(found.undone(), found.theirs)
     if is_same.mean() < 0.5 and not (before < CLOSE and after > before + CLEAR):
         return None
-    agreed = f"{100 * is_same.mean():.3g} % of the cells agree" if is_same.mean() >= 0.5 else f"the cells are {after:.1f} dB apart, before {before:.1f}"
+    agreed = f"{100 * is_same.mean():.3g} % of the cells agree"
+    if is_same.mean() < 0.5:
+        agreed = f"the cells are {after:.1f} dB apart, before {before:.1f}"
     return f"{', '.join(parts)}; with that undone {agreed}"

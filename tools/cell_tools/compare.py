@@ -134,7 +134,8 @@ class Differences:
             bits = [f"y{bit}" for bit in range(points.width) if a[bit] != b[bit]]
             differs = f"{', '.join(bits)} differ{'s' * (len(bits) == 1)}" if bits else "the same label: levels, 4.3.5"
             yield f"  payload carrier {q} of the symbol; label of the nearest point: A {a}, B {b}; {differs}"
-            yield f"  clauses: 4.3.4.1 (demultiplexing, bit interleavers), 4.3.4.2 (symbol interleaver, {'odd' if m % 2 else 'even'} symbol), 4.3.5 (mapping)"
+            interleaver = f"symbol interleaver, {'odd' if m % 2 else 'even'} symbol"
+            yield f"  clauses: 4.3.4.1 (demultiplexing, bit interleavers), 4.3.4.2 ({interleaver}), 4.3.5 (mapping)"
             return
         if kind == TPS_CARRIER:
             row = next(text for first, last, text in ROWS if first <= l <= last)
@@ -152,7 +153,8 @@ class Differences:
         if pilots > 0.01 * (self.totals[CONTINUAL_PILOT] + self.totals[SCATTERED_PILOT]):
             return self.hint_of_pilots()
         if not self.counts[DATA]:
-            return "only TPS differs: look at the row of the table of TPS bits (4.6.2)" if not pilots else "only pilots differ: look at the first difference"
+            only_tps = "only TPS differs: look at the row of the table of TPS bits (4.6.2)"
+            return "few pilots differ, and no data cells: look at the first difference" if pilots else only_tps
         return self.hint_of_data()
 
     def hint_of_pilots(self):

@@ -31,7 +31,7 @@ class Measure:
         self.shares = {}  # data cells of each constellation
         self.pilots = [(0, 0, 0, 0)] * 2
         self.votes = Votes(file.carriers)
-        summing = Summing(file, sent is not None)
+        summing = Summing(file)
         for sums in in_turn(summing.frame, self.pieces()):
             self.add(sums)
         if not file.symbols:
@@ -125,7 +125,8 @@ def lines_of_theorem(found):
     tolerances = ", ".join(map(str, dict.fromkeys(points.tolerance for points in found.shares)))
     beyond = f"data cells beyond it {found.beyond}"
     if found.beyond:
-        beyond += f" of {found.data} ({percent(found.beyond, found.data)}), the furthest moved by {round(found.furthest)}, {found.times:.1f} times the tolerance"
+        beyond += f" of {found.data} ({percent(found.beyond, found.data)}), "
+        beyond += f"the furthest moved by {round(found.furthest)}, {found.times:.1f} times the tolerance"
     yield f"tolerance {tolerances} on each axis: {beyond}"
     yield f"data cells of weight 0: {found.weightless}"
     failing = failing_parts(found)

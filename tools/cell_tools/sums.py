@@ -40,10 +40,10 @@ class FrameSums:
 
 
 class Summing:
-    """Adds up frames. Without `is_sent` the ideal cell is the nearest point; with it, the cell of the other file."""
+    """Adds up frames. The ideal cell is that of the other file if there is one, else the nearest point."""
 
-    def __init__(self, file, is_sent):
-        self.file, self.is_sent = file, is_sent
+    def __init__(self, file):
+        self.file = file
         kinds = [file.carriers.kinds(l) for l in range(4)]
         self.columns = [np.flatnonzero(it == DATA) for it in kinds]
         self.pilots = [[np.flatnonzero(it == kind) for kind in (CONTINUAL_PILOT, SCATTERED_PILOT)] for it in kinds]
@@ -85,11 +85,11 @@ class Summing:
         """Adds the data cells of the symbols l, l + 4 .. of a frame."""
         columns = self.columns[l]
         shape = len(words), len(columns)
-        parts = np.take(words, columns, axis=1, out=self.room("parts", shape, "u4"), mode="clip").view("u2")
+        parts = np.take(words, columns, axis=1, out=self.room("parts", shape, "u4"), mode="wrap").view("u2")
         if sent is None:
             ideal, error = self.decided(found.points, parts)
         else:
-            sent = np.take(sent, columns, axis=1, out=self.room("sent parts", shape, "u4"), mode="clip").view("u2")
+            sent = np.take(sent, columns, axis=1, out=self.room("sent parts", shape, "u4"), mode="wrap").view("u2")
             ideal, error = self.known(found, parts, sent)
         for place, powers in enumerate((ideal, error)):
             found.of_symbols[l::4, place] = powers.sum(axis=1)
@@ -104,15 +104,15 @@ class Summing:
         """Powers of the nearest levels and of the distances to them."""
         tables, index = self.tables_of(points), self.room("index", parts.shape, np.intp)
         index[:] = parts
-        ideal = np.take(tables.ideal, index, out=self.room("ideal", parts.shape, "f4"), mode="clip")
-        return ideal, np.take(tables.error, index, out=self.room("error", parts.shape, "f4"), mode="clip")
+        ideal = np.take(tables.ideal, index, out=self.room("ideal", parts.shape, "f4"), mode="wrap")
+        return ideal, np.take(tables.error, index, out=self.room("error", parts.shape, "f4"), mode="wrap")
 
     def known(self, found, parts, sent):
         """Powers of the parts that were sent and of the distances to them."""
         ideal, error = self.room("ideal", parts.shape, "f4"), self.room("error", parts.shape, "f4")
         ideal[:], error[:] = sent.view(">i2"), parts.view(">i2")
         np.subtract(error, ideal, out=error)
-        is_off = np.take(self.tables_of(found.points).is_off, sent, mode="clip")
+        is_off = np.take(self.tables_of(found.points).is_off, sent, mode="wrap")
         found.off += int(np.count_nonzero(is_off.view("u2")))
         return np.square(ideal, out=ideal), np.square(error, out=error)
 

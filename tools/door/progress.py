@@ -27,7 +27,8 @@ class Progress:
         now = time.monotonic()
         if self.is_shown and now >= self.next:
             self.next, self.is_there = now + EACH, True
-            print(f"\rdvbt: {self.line(now - self.began)}\033[K", end="", file=sys.stderr, flush=True)
+            line = f"\rdvbt: {self.line(now - self.began)}"[: os.get_terminal_size(2).columns or None]
+            print(f"{line}\033[K", end="", file=sys.stderr, flush=True)
 
     def tell(self, *_):
         """Answers SIGUSR1 by a line of its own."""

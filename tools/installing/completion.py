@@ -1,6 +1,6 @@
 """Completion of the command line in bash, zsh and fish."""
-import texts
-from door import words
+from commands import forms as words
+from commands import texts
 
 OPTIONS = [*words.OPTIONS, "--help", "--version"]
 MOST = max(len(kinds) for forms in words.FORMS.values() for kinds in forms)  # arguments of a command

@@ -1,8 +1,8 @@
 """The pages of the manual, of the same texts as `--help` and docs/."""
 import re
 
-import texts
-from door import words
+from commands import forms as words
+from commands import texts
 from installing import roff
 
 
@@ -13,6 +13,7 @@ def placed(text, prefix):
     text = re.sub(r"\[[^\]]*\]\(FILES\.md[^)]*\)", "dvbt-cells(5)", text)
     text = re.sub(r"\[([\w-]+\.md)\]\([^)]*\)", rf"{prefix}/share/doc/dvbt/\1", text)
     text = re.sub(r"(?<![\w/])docs/([\w-]+\.md)", rf"{prefix}/share/doc/dvbt/\1", text)
+    text = re.sub(r"bin/dvbt((?: COMMAND)? --\w+ {2,})", r"dvbt\1    ", text)  # the columns of --help
     text = text.replace("tools/cells.py", "dvbt-cells").replace("bin/dvbt", "dvbt")
     return re.sub(r"((?<![\w/])|(?<=\\fB))examples/", f"{prefix}/share/dvbt/examples/", text)
 
@@ -21,7 +22,8 @@ def read(top, path):
     """A document without the sentences about the repository alone: its crates and its checks."""
     with open(f"{top}/{path}", encoding="utf-8") as file:
         text = file.read()
-    return re.sub(r"(?:(?<=\. )|(?<=\n\n))(?:(?!\. )[^|\n#]|\n(?!\n))*`(?:crates/|tools/check-|tools/settings_)(?:(?!\. )[^|]|\n(?!\n))*?\.(?=\s)", "", text)
+    begin, about = r"(?:(?<=\. )|(?<=\n\n))(?:(?!\. )[^|\n#]|\n(?!\n))*", r"`(?:crates/|tools/check-|tools/settings_)"
+    return re.sub(rf"{begin}{about}(?:(?!\. )[^|]|\n(?!\n))*?\.(?=\s)", "", text)
 
 
 def options():

@@ -58,7 +58,7 @@ def table(rows):
 
 
 def entry(head, row):
-    """A row of a table as an entry of a list, each of its cells behind the head of its column."""
+    """A row of a table as an entry of a list, each of its cells after the head of its column."""
     cells = [f"{inline(name)}: {inline(cell)}" for name, cell in zip(head[1:], row[1:]) if cell]
     return f".TP\n{inline(row[0])}\n" + "\n.br\n".join(cells) + "\n"
 

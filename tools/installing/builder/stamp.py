@@ -2,16 +2,15 @@
 import os
 
 from builder.level import level_of_processor
+from door.names import Rejected
 
 
 def program_of(top):
-    """The program to run. It always is there: an installation that lacks it says so and ends."""
-    from door.explain import fail
-
+    """The program to run. An installation that lacks it is rejected with status 126."""
     level = level_of_processor()
     if level is None:
-        fail(126, "the installed programs are for x86-64; on another processor build dvbt from its repository")
+        raise Rejected("the installed programs are for x86-64; on another processor build dvbt from its repository", status=126)
     file = f"{top}/dist/dvbt-{level}"
     if not os.access(file, os.X_OK):
-        fail(126, f"{file} is missing or can't be run; install dvbt again")
+        raise Rejected(f"{file} is missing or can't be run; install dvbt again", status=126)
     return file
