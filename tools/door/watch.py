@@ -7,10 +7,9 @@ import sys
 from door import explain
 from door.progress import EACH, Progress, of_limit
 
-# SIGUSR1 asks for the progress. What ends the door by a fault of its own ends the child by its parent-death signal.
-OWN = {signal.SIGUSR1, signal.SIGCHLD, signal.SIGPIPE, signal.SIGKILL, signal.SIGSTOP, signal.SIGWINCH, signal.SIGURG}
-FAULTS = {signal.SIGSEGV, signal.SIGBUS, signal.SIGILL, signal.SIGFPE, signal.SIGTRAP, signal.SIGSYS}
-PASSED_ON = signal.valid_signals() - OWN - FAULTS - {signal.SIGTTIN, signal.SIGTTOU}
+# Signals that are not passed on. SIGUSR1 asks for the progress. A fault of the door ends the program by its parent-death signal.
+OWN = "USR1 CHLD PIPE KILL STOP WINCH URG TTIN TTOU SEGV BUS ILL FPE TRAP SYS".split()
+PASSED_ON = signal.valid_signals() - {getattr(signal, f"SIG{name}") for name in OWN}
 PR_SET_PDEATHSIG = 1
 
 
@@ -173,6 +172,7 @@ def become(program, words, closed):
         signal.signal(number, signal.SIG_DFL)  # Python ignores them
     for number in closed:
         os.close(number)
+    os.environ.pop("DVBT_PROGRAM", None)  # a script of that name may call bin/dvbt
     os.execv(program, ["dvbt", *words])
 
 
