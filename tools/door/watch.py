@@ -45,7 +45,7 @@ class Child:
             os._exit(126)
 
     def pass_on(self, number, _):
-        """Hands a signal on. A stop stops both, also where nobody is at the terminal to go on with them."""
+        """Hands a signal on. A stop stops both, by SIGSTOP: without job control the system drops SIGTSTP."""
         is_stop = number == signal.SIGTSTP
         if not self.is_over:
             os.kill(self.pid, signal.SIGSTOP if is_stop else number)
@@ -75,8 +75,8 @@ class Child:
 
 
 def wakes():
-    """A descriptor to read where each signal that has a handler, and the end of a child, leaves a byte. Else a signal that comes just
-    before we wait would be looked at only after the wait."""
+    """A descriptor that can be read after each signal that has a handler, and after the end of a child. Else a signal that comes just
+    before a wait would be handled only after it."""
     read, write = os.pipe()
     for number in (read, write):
         os.set_blocking(number, False)
