@@ -4,7 +4,6 @@ import sys
 
 from commands import forms
 from door import names, watch
-from door.names import Rejected
 
 
 def main(top, words, options, closed):
@@ -59,9 +58,9 @@ def program_named(top):
     """The program that $DVBT_PROGRAM names, which is run as it is, or None."""
     file = os.environ.get("DVBT_PROGRAM")
     if file and not (os.path.isfile(file) and os.access(file, os.X_OK)):
-        raise Rejected(f"$DVBT_PROGRAM is {file}, which is not a program that can be run", status=126)
+        raise names.Rejected(f"$DVBT_PROGRAM is {file}, which is not a program that can be run", status=126)
     if file and os.path.samefile(file, f"{top}/bin/dvbt"):
-        raise Rejected(f"$DVBT_PROGRAM is {file}, which is bin/dvbt itself", status=126)
+        raise names.Rejected(f"$DVBT_PROGRAM is {file}, which is bin/dvbt itself", status=126)
     return file and os.path.abspath(file)
 
 
@@ -93,9 +92,8 @@ class StandardError:
         except OSError:
             pass
 
-    @staticmethod
-    def isatty():
-        return os.isatty(2)
+    def isatty(self):
+        return os.isatty(self.to)
 
 
 def object_of(words, status, text, path=None):
@@ -116,7 +114,7 @@ def start(top, words):
     options, words = {forms.OPTIONS[it] for it in words[:number]}, words[number:]
     try:
         return main(top, words, options, closed)
-    except Rejected as why:
+    except names.Rejected as why:
         status, path, sys.stderr.to = why.status, why.path, why.to
         print(f"dvbt: {why}", file=sys.stderr, flush=True)
     except OSError as error:

@@ -46,11 +46,10 @@ def given(form, closed):
         number = 1 if file in data else file.number
         if file.is_output and number is not None and is_begun(number):
             raise Rejected(f"{file.path} holds data already and would begin anew; pipe through `cat`, or name the file", file.path)
-    for file in data:
-        if file.number == 1:
-            real = os.dup(1)  # the report takes the place of this one
-            os.set_inheritable(real, True)
-            file.path = f"/dev/fd/{real}"
+    for file in (it for it in files if it.number == 1):
+        real = os.dup(1)  # the report takes the place of this one
+        os.set_inheritable(real, True)
+        file.path = f"/dev/fd/{real}"
     return [form.command, *(it.path for it in files), *form.numbers], bool(data)
 
 

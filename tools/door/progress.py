@@ -76,20 +76,16 @@ class Progress:
         """The bytes of a file that were read or written: by its descriptor, or of a pipe by all that the program read or wrote."""
         try:
             found = os.stat(path)
-            if not stat.S_ISREG(found.st_mode):
-                self.last[path] = self.of_all(path)
-                return self.last[path]
-            for name in os.listdir(f"/proc/{self.pid}/fd"):
+            is_file, is_output = stat.S_ISREG(found.st_mode), path in self.form.outputs
+            if not is_file:
+                before = 0 if is_output else LOADER + os.path.getsize(self.form.settings)
+                self.last[path] = number_in(f"/proc/{self.pid}/io", "wchar:" if is_output else "rchar:") - before
+            for name in os.listdir(f"/proc/{self.pid}/fd") if is_file else []:
                 if int(name) > 2 and os.path.samestat(os.stat(f"/proc/{self.pid}/fd/{name}"), found):
                     self.last[path] = number_in(f"/proc/{self.pid}/fdinfo/{name}", "pos:")
         except (OSError, StopIteration):
             pass  # it is closed, or the program is gone
         return self.last.get(path, 0)
-
-    def of_all(self, path):
-        if path in self.form.outputs:
-            return number_in(f"/proc/{self.pid}/io", "wchar:")
-        return number_in(f"/proc/{self.pid}/io", "rchar:") - LOADER - os.path.getsize(self.form.settings)
 
     def stands(self, before):
         """What the outputs hold that were written, a line each, if they are regular files."""

@@ -3,6 +3,7 @@ import json
 import os
 
 from commands import lines
+from door.explain import document_of
 from door.watch import name_of, printed, put
 
 
@@ -45,7 +46,7 @@ def cause_of(form, refusal):
     if kind == "settings":
         return {"file": form.settings, **key_at(form, refusal.get("index"))}
     if "packet" in refusal:
-        return {"file": dict(form.inputs)[refusal["stream"]], "offset": 188 * refusal["packet"]}
+        return {"file": dict(form.inputs).get(refusal["stream"]), "offset": 188 * refusal["packet"]}
     if kind in ("cells", "tune"):
         return {"file": form.cells, **({"offset": 0} if kind == "cells" else {})}
     if kind == "limit" and form.settings and form.command != "inner" and (form.command, refusal["limit"]) != ("modulate", 100_000_000):
@@ -56,10 +57,8 @@ def cause_of(form, refusal):
 
 def key_at(form, index):
     """The key of the settings with this number among those in byte order, if Python reads the document."""
-    from door.explain import document_of
-
     keys = sorted((document_of(form.settings) or {}) if index is not None else [], key=str.encode)
-    return {"key": keys[index]} if keys else {}
+    return {"key": keys[index]} if keys and index < len(keys) else {}
 
 
 def may_be(path, kind):

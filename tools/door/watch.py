@@ -7,10 +7,9 @@ import sys
 from door import explain
 from door.progress import EACH, Progress, of_limit
 
-# SIGUSR1 asks for the progress. What ends the door by a fault of its own ends the child by its parent-death signal.
-OWN = {signal.SIGUSR1, signal.SIGCHLD, signal.SIGPIPE, signal.SIGKILL, signal.SIGSTOP, signal.SIGWINCH, signal.SIGURG}
-FAULTS = {signal.SIGSEGV, signal.SIGBUS, signal.SIGILL, signal.SIGFPE, signal.SIGTRAP, signal.SIGSYS}
-PASSED_ON = signal.valid_signals() - OWN - FAULTS - {signal.SIGTTIN, signal.SIGTTOU}
+# Signals that are not passed on. SIGUSR1 asks for the progress. A fault of the door ends the program by its parent-death signal.
+OWN = "USR1 CHLD PIPE KILL STOP WINCH URG TTIN TTOU SEGV BUS ILL FPE TRAP SYS".split()
+PASSED_ON = signal.valid_signals() - {getattr(signal, f"SIG{name}") for name in OWN}
 PR_SET_PDEATHSIG = 1
 
 
@@ -46,7 +45,7 @@ class Child:
             os._exit(126)
 
     def pass_on(self, number, _):
-        """Hands a signal on. A stop stops both, also where nobody is at the terminal to go on with them."""
+        """Hands a signal on. A stop stops both, by SIGSTOP: without job control the system drops SIGTSTP."""
         is_stop = number == signal.SIGTSTP
         if not self.is_over:
             os.kill(self.pid, signal.SIGSTOP if is_stop else number)
@@ -76,8 +75,8 @@ class Child:
 
 
 def wakes():
-    """A descriptor to read where each signal that has a handler, and the end of a child, leaves a byte. Else a signal that comes just
-    before we wait would be looked at only after the wait."""
+    """A descriptor that can be read after each signal that has a handler, and after the end of a child. Else a signal that comes just
+    before a wait would be handled only after it."""
     read, write = os.pipe()
     for number in (read, write):
         os.set_blocking(number, False)
@@ -173,6 +172,7 @@ def become(program, words, closed):
         signal.signal(number, signal.SIG_DFL)  # Python ignores them
     for number in closed:
         os.close(number)
+    os.environ.pop("DVBT_PROGRAM", None)  # a script of that name may call bin/dvbt
     os.execv(program, ["dvbt", *words])
 
 
