@@ -1,5 +1,6 @@
 //! Each call of the station in memory that a command makes fails once, at its first turn, at its last and at
-//! the one-and-thirtieth: the status, the report and what stands of each output.
+//! the one-and-thirtieth: the status, the report and what stands of each output. And each refusal in the work
+//! whose flush fails.
 //!
 //! The crate has tests alone.
 #![tactic(auto)]
@@ -8,6 +9,8 @@
 mod cases;
 #[cfg(test)]
 mod cells;
+#[cfg(test)]
+mod flushed;
 #[cfg(test)]
 mod received;
 #[cfg(test)]

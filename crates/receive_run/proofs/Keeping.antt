@@ -10,22 +10,22 @@ use Rattle.receive_run.specs.Writing.{Appends, IsPrinting, ReportOnly, WritesLp,
 abbrev pub told : Bool → List ℕ → List ℕ → List ℕ
 told tells before bytes = if tells then before ++ bytes else before
 
-at_hp : (old new : Meaning) (w : List ℕ) (n : ℕ) → new ≡ record old { hp_out = record old.hp_out { written = w }; write_faults = n } → WritesOnly old new
-at_hp old new w n p = subst (λ (x : Meaning). WritesOnly old x) (sym p) refl
+at_hp : (old new : Meaning) (w : List ℕ) (n : ℕ) (b : Bool) → new ≡ record old { hp_out = record old.hp_out { written = w }; write_faults = n; pending = b } → WritesOnly old new
+at_hp old new w n b p = subst (λ (x : Meaning). WritesOnly old x) (sym p) refl
 
-at_lp : (old new : Meaning) (w : List ℕ) (n : ℕ) → new ≡ record old { lp_out = record old.lp_out { written = w }; write_faults = n } → WritesOnly old new
-at_lp old new w n p = subst (λ (x : Meaning). WritesOnly old x) (sym p) refl
+at_lp : (old new : Meaning) (w : List ℕ) (n : ℕ) (b : Bool) → new ≡ record old { lp_out = record old.lp_out { written = w }; write_faults = n; pending = b } → WritesOnly old new
+at_lp old new w n b p = subst (λ (x : Meaning). WritesOnly old x) (sym p) refl
 
 at_report : (old new : Meaning) (w : List ℕ) (n k : ℕ) → new ≡ record old { report = record old.report { written = w }; write_faults = n; report_faults = k } → WritesOnly old new
 at_report old new w n k p = subst (λ (x : Meaning). WritesOnly old x) (sym p) refl
 
 pub hp_frame : (bytes : List ℕ) (old new : Meaning) (r : Result (Unit {0}) Stop) → WritesAt outs.Hp bytes old new r → WritesOnly old new
-hp_frame bytes old new (Ok u) w = at_hp old new (told old.tells old.hp_out.written bytes) old.write_faults w
-hp_frame bytes old new (Err r) w = at_hp old new (told old.tells old.hp_out.written (take w.1 bytes)) new.write_faults w.2
+hp_frame bytes old new (Ok u) w = at_hp old new (told old.tells old.hp_out.written bytes) old.write_faults new.pending w
+hp_frame bytes old new (Err r) w = at_hp old new (told old.tells old.hp_out.written (take w.1 bytes)) new.write_faults new.pending w.2
 
 pub lp_frame : (two : Bool) (bytes : List ℕ) (old new : Meaning) (r : Result (Unit {0}) Stop) → WritesLp two bytes old new r → WritesOnly old new
-lp_frame true bytes old new (Ok u) w = at_lp old new (told old.tells old.lp_out.written bytes) old.write_faults w
-lp_frame true bytes old new (Err r) w = at_lp old new (told old.tells old.lp_out.written (take w.1 bytes)) new.write_faults w.2
+lp_frame true bytes old new (Ok u) w = at_lp old new (told old.tells old.lp_out.written bytes) old.write_faults new.pending w
+lp_frame true bytes old new (Err r) w = at_lp old new (told old.tells old.lp_out.written (take w.1 bytes)) new.write_faults new.pending w.2
 lp_frame false bytes old new (Ok u) w = subst (λ (x : Meaning). WritesOnly old x) (sym w) refl
 lp_frame false bytes old new (Err r) w = absurd w
 
@@ -40,6 +40,7 @@ writes_again a b c p q =
       report = record x.report { written = c.report.written };
       write_faults = c.write_faults;
       report_faults = c.report_faults;
+      pending = c.pending;
     }) p
 
 pub report_again : (a b c : Meaning) → ReportOnly a b → ReportOnly b c → ReportOnly a c

@@ -29,7 +29,7 @@ Pushes line text text' before after (Err r) = (r ≡ WriteFault) × (k : ℕ) ×
 abbrev pub ReportOnly : Meaning → Meaning → Type 0
 ReportOnly old new = new ≡ record old { report = record old.report { written = new.report.written }; write_faults = new.write_faults; report_faults = new.report_faults }
 
--- only what is written to Hp, Lp and Report and the counts of write faults have changed
+-- only what is written to Hp, Lp and Report, whether it waits, and the counts of write faults have changed
 abbrev pub WritesOnly : Meaning → Meaning → Type 0
 WritesOnly old new = new ≡ record old {
   hp_out = record old.hp_out { written = new.hp_out.written };
@@ -37,6 +37,7 @@ WritesOnly old new = new ≡ record old {
   report = record old.report { written = new.report.written };
   write_faults = new.write_faults;
   report_faults = new.report_faults;
+  pending = new.pending;
 }
 
 -- Report is open

@@ -127,10 +127,7 @@ pub fn write_lines<'a, C: ClosingLines, S: Station<'a>>(
 {
     for number in 0..4u8 {
         match counts.line(number) {
-            Some(line) => match station.write(OutPort::Report, line.as_str().as_bytes()) {
-                Ok(()) => {}
-                Err(_) => return Err(Stop::WriteFault),
-            },
+            Some(line) => write_some(OutPort::Report, line.as_str().as_bytes(), station)?,
             None => return Ok(()),
         }
     }

@@ -1,5 +1,5 @@
 // A station for a run of a command, and what the run leaves there.
-ghost use Rattle.std.specs.Prelude.{◌≡◌, ◌≤◌, None, IfOk};
+ghost use Rattle.std.specs.Prelude.{◌≡◌, ◌≤◌, None, IfOk, false};
 ghost use Rattle.station_core.specs.Meaning.{IsFresh};
 ghost use Rattle.station_core.specs.Memory.{memory_meaning};
 
@@ -49,16 +49,19 @@ pub struct Conditions {
     pub room: u32,
     /// The call that fails, if one does.
     pub failing: Option<Failing>,
+    /// Whether each flush fails.
+    pub flush_fails: bool,
 }
 
 /// A station with room for these bytes at each output, of which no call fails.
 pub fn ample(room: u32) -> Conditions
-    ensures { result ≡ record { most = 4294967295; room = room; failing = None } }
+    ensures { result ≡ record { most = 4294967295; room = room; failing = None; flush_fails = false } }
 {
     Conditions {
         most: u32::MAX,
         room,
         failing: None,
+        flush_fails: false,
     }
 }
 
@@ -99,6 +102,9 @@ fn station_of<'a>(
     let mut failing = Vec::new(alloc);
     if let Some(call) = conditions.failing {
         failing.push(call)?;
+    }
+    if conditions.flush_fails {
+        failing.push(Failing::Flush)?;
     }
     MemoryStation::new(alloc, files, conditions.most, conditions.room, failing)
 }

@@ -16,6 +16,8 @@ pub enum Call<'n> {
     Create(&'n str),
     /// Writes to Bytes.
     Write(&'n [u8]),
+    /// Flushes the outputs.
+    Flush,
     /// Closes Bytes.
     Close,
     /// Writes a line of five bytes to Report.
@@ -81,10 +83,17 @@ fn write<'a, S: Station<'a>>(ports: &mut Ports, station: &mut S, bytes: &[u8]) -
     requires { AreTrue ports.old.bytes_asked ports.old.bytes_open ports.old.hp_asked ports.old.hp_attached (S.meaning station.old) }
     ensures { AreTrue ports.new.bytes_asked ports.new.bytes_open ports.new.hp_asked ports.new.hp_attached (S.meaning station.new) }
 {
-    if !ports.bytes_open {
+    if !ports.bytes_open || bytes.is_empty() {
         return Answer::Barred;
     }
     done(station.write(OutPort::Bytes, bytes))
+}
+
+fn flush<'a, S: Station<'a>>(_ports: &Ports, station: &mut S) -> Answer
+    requires { AreTrue _ports.now.bytes_asked _ports.now.bytes_open _ports.now.hp_asked _ports.now.hp_attached (S.meaning station.old) }
+    ensures { AreTrue _ports.now.bytes_asked _ports.now.bytes_open _ports.now.hp_asked _ports.now.hp_attached (S.meaning station.new) }
+{
+    done(station.flush())
 }
 
 fn close<'a, S: Station<'a>>(ports: &mut Ports, station: &mut S) -> Answer
@@ -167,6 +176,7 @@ fn make_call<'a, S: Station<'a>>(
     match call {
         Call::Create(name) => create(ports, station, name),
         Call::Write(bytes) => write(ports, station, bytes),
+        Call::Flush => flush(ports, station),
         Call::Close => close(ports, station),
         Call::Line => done(station.write(OutPort::Report, b"line\n")),
         Call::Attach(name) => attach(ports, station, name),

@@ -2,7 +2,9 @@
 ghost use Rattle.station_core.specs.Meaning.{IsFresh};
 
 use crate::calls::Answer::{All, Bytes, Done, Failed};
-use crate::calls::Call::{Attach, Close, Create, Length, Line, Printed, Read, ReadAll, Write};
+use crate::calls::Call::{
+    Attach, Close, Create, Flush, Length, Line, Printed, Read, ReadAll, Write,
+};
 use crate::calls::{buffered, unbuffered};
 use station_core::{InPort, OutPort, Station};
 use station_files::FileStation;
@@ -47,6 +49,57 @@ fn files_that_are_not_there(rt: HostRuntime) {
 fn a_fault_of_the_file_is_answered_at_close(rt: HostRuntime) -> Result<(), Fail> {
     let answers = buffered(&rt, &[Create("/dev/full"), Write(&[1, 2, 3]), Close])?;
     assert_eq!(rt; answers.as_slice(), [Done, Done, Failed].as_slice());
+    Ok(())
+}
+
+// A flush answers it as well, and again, since nothing was handed over. Without a write it has nothing to say.
+#[test]
+fn a_fault_of_the_file_is_answered_at_a_flush(rt: HostRuntime) -> Result<(), Fail> {
+    let calls = [
+        Flush,
+        Create("/dev/full"),
+        Flush,
+        Write(&[1, 2, 3]),
+        Flush,
+        Flush,
+        Write(&[4]),
+        Close,
+    ];
+    let want = [Done, Done, Done, Done, Failed, Failed, Failed, Done];
+    assert_eq!(rt; buffered(&rt, &calls)?.as_slice(), want.as_slice());
+    Ok(())
+}
+
+// Behind a flush the bytes stand in the file, and more may be written.
+#[test]
+fn flushed_bytes_stand_in_the_file(rt: HostRuntime) -> Result<(), Fail> {
+    let calls = [
+        Create("out.ts"),
+        Write(&[1, 2, 3]),
+        Length("out.ts"),
+        Flush,
+        Length("out.ts"),
+        Write(&[4]),
+        Close,
+        Length("out.ts"),
+    ];
+    let want = [Done, Done, Bytes(0), Done, Bytes(3), Done, Done, Bytes(4)];
+    assert_eq!(rt; buffered(&rt, &calls)?.as_slice(), want.as_slice());
+    Ok(())
+}
+
+// An output that is an input is not made, and the input stays. A device may be both.
+#[test]
+fn an_open_file_is_no_output(rt: HostRuntime) -> Result<(), Fail> {
+    let made = [Create("in.ts"), Write(&[1, 2, 3]), Close];
+    let answers = buffered(&rt, &made)?;
+    assert_eq!(rt; answers.as_slice(), [Done, Done, Done].as_slice());
+    let again = [Attach("in.ts"), Create("in.ts"), Length("in.ts"), Read(9)];
+    let want = [Done, Failed, Bytes(3), Bytes(3)];
+    assert_eq!(rt; buffered(&rt, &again)?.as_slice(), want.as_slice());
+    let device = [Attach("/dev/null"), Create("/dev/null"), Write(&[1]), Close];
+    let want = [Done, Done, Done, Done];
+    assert_eq!(rt; buffered(&rt, &device)?.as_slice(), want.as_slice());
     Ok(())
 }
 

@@ -1,5 +1,5 @@
 // The station in memory, call by call.
-ghost use Rattle.std.specs.Prelude.{◌≡◌, true, false, IfOk, OnOk};
+ghost use Rattle.std.specs.Prelude.{◌≡◌, ◌<◌, length, true, false, IfOk, OnOk};
 ghost use Rattle.station_core.specs.Meaning.{IsFresh};
 ghost use Rattle.station_core.specs.Memory.{memory_meaning};
 
@@ -39,6 +39,7 @@ fn next<'a, S: Station<'a>>(station: &mut S, buf: &mut [u8; 4]) -> Option<usize>
 
 // Writes to HP, and tells whether it did not fail.
 fn put<'a, S: Station<'a>>(station: &mut S, bytes: &[u8]) -> bool
+    requires some { 0 < length bytes.now }
     requires created { (S.meaning station.old).hp_out.created ≡ true }
     requires open { (S.meaning station.old).hp_out.closed ≡ false }
     ensures created { (S.meaning station.new).hp_out.created ≡ true }
@@ -117,5 +118,25 @@ fn half_a_write_and_no_room(rt: HostRuntime) -> Result<(), Fail> {
         [1u8, 2, 3, 6, 7, 8].as_slice()
     );
     assert_eq!(rt; (half, no_room), ([true, false], [false, true, false]));
+    Ok(())
+}
+
+// Makes a file, writes to it, and flushes it twice.
+fn write_and_flush<'a, S: Station<'a>>(station: &mut S) -> Result<[bool; 3], Failed>
+    requires { IsFresh (S.meaning station.old) }
+{
+    station.create(OutPort::Hp, "out")?;
+    let written = put(station, &[1, 2]);
+    Ok([written, station.flush().is_ok(), station.flush().is_ok()])
+}
+
+// A flush that fails leaves what was written.
+#[test]
+fn flushes_that_fail(rt: HostRuntime) -> Result<(), Fail> {
+    let mut failing = station(rt.alloc(), 6, &[Failing::Flush])?;
+    assert_eq!(rt; write_and_flush(&mut failing)?, [true, false, false]);
+    assert_eq!(rt; failing.written(OutPort::Hp), [1u8, 2].as_slice());
+    let mut kept = station(rt.alloc(), 6, &[])?;
+    assert_eq!(rt; write_and_flush(&mut kept)?, [true, true, true]);
     Ok(())
 }

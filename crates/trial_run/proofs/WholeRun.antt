@@ -22,7 +22,7 @@ use Rattle.run_clauses.proofs.Stated.{stated}
 use Rattle.run_steps.specs.Causes.{HasCause}
 use Rattle.run_steps.specs.Report.{WritesText}
 use Rattle.run_steps.specs.SettingsStep.{AsksSettings, ReadsSettings}
-use Rattle.run_steps.specs.Ended.{Ended, IsCaused, IsExact, Leaves}
+use Rattle.run_steps.specs.Ended.{Ended, IsCaused, IsExact, IsSettledAt, Leaves}
 use Rattle.run_steps.proofs.Early.{RefusedEarly, refused_early, early_ended}
 use Rattle.run_steps.proofs.Whole.{run_done, run_refused}
 use Rattle.trial_run.specs.Steps.{IsReady, Ran, ReportOnly, RunsOrLacks, Tells, outcome_status}
@@ -142,11 +142,12 @@ module _ (limit : ℕ) (name : List ℕ) (number : ℕ) (start mid : Meaning) (l
       input_is ins.Lp other is = true≢false (sym is)
       input_is ins.Cells other is = true≢false (sym is)
 
-      ended : (r : Option Refusal) → is_among (status_of r) c.statuses ≡ true → IsCaused c limit start end r → start.write_faults ≤ end.write_faults → start.report_faults ≤ end.report_faults
+      ended : (r : Option Refusal) → is_among (status_of r) c.statuses ≡ true → IsCaused c limit start end r → IsSettledAt start end r → start.write_faults ≤ end.write_faults → start.report_faults ≤ end.report_faults
           → IsExact c limit start r → Leaves c limit start end r → Ended c limit start end r
-      ended r known caused writes reports exact leaves = record {
+      ended r known caused settled writes reports exact leaves = record {
         known = known;
         caused = caused;
+        settled = settled;
         later_reads = omega (arith, ap (λ (x : Meaning). x.read_faults) others, accepts.0);
         later_writes = writes;
         later_report = reports;
@@ -204,7 +205,7 @@ module _ (limit : ℕ) (name : List ℕ) (number : ℕ) (start mid : Meaning) (l
       limit_refused n few t = refusal_is t ∙ sym from_zero ∙ few
 
       by_outcome : (o : Result (Unit {0}) Refusal) → HasCause mid end o → Ran (at_zero s) number mid end o → Ended c limit start end (refusal_in o)
-      by_outcome (Ok u) cause ran = ended end others None refl (same_reads, cause.writes ∙ same_writes, same_closes) (omega (arith, cause.writes, same_writes)) (omega (arith, ran.writes.later_report, same_reports))
+      by_outcome (Ok u) cause ran = ended end others None refl (same_reads, cause.writes ∙ same_writes, same_closes) tt (omega (arith, cause.writes, same_writes)) (omega (arith, ran.writes.later_report, same_reports))
           (nothing_refused ran.enough)
           (record {
             made = λ out is. absurd (true≢false (sym is));
@@ -220,7 +221,7 @@ module _ (limit : ℕ) (name : List ℕ) (number : ℕ) (start mid : Meaning) (l
       by_outcome (Err (Cells reason)) cause ran = absurd ran
       by_outcome (Err (Settings reason)) cause ran = absurd ran
       by_outcome (Err ReadFault) cause ran = absurd ran
-      by_outcome (Err WriteFault) cause ran = ended end others (Some WriteFault) refl (same_reads, inl (omega (arith, cause.1, same_writes))) (omega (arith, cause.2, same_writes)) (omega (arith, ran.writes.later_report, same_reports))
+      by_outcome (Err WriteFault) cause ran = ended end others (Some WriteFault) refl (inl same_reads, inl (omega (arith, cause.1, same_writes))) tt (omega (arith, cause.2, same_writes)) (omega (arith, ran.writes.later_report, same_reports))
           tt
           (record {
             outputs = λ t out is. absurd (true≢false (sym is));
@@ -232,6 +233,7 @@ module _ (limit : ℕ) (name : List ℕ) (number : ℕ) (start mid : Meaning) (l
       by_outcome (Err (NotSync stream n)) cause ran = absurd ran
       by_outcome (Err Memory) cause ran = absurd ran
       by_outcome (Err (Limit n)) cause ran = ended end others (Some (Limit n)) refl same_reads
+          (record { settled = ap (λ (x : Meaning). x.pending) others ∙ ap (λ (x : Meaning). x.pending) asks.others ∙ fresh.settled; writes = ap (λ (x : Meaning). x.write_faults) ran.1 ∙ same_writes })
           (omega (arith, ap (λ (x : Meaning). x.write_faults) ran.1, same_writes)) (omega (arith, ap (λ (x : Meaning). x.report_faults) ran.1, same_reports))
           (limit_refused n ran.0)
           (record {

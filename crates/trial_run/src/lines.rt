@@ -1,5 +1,5 @@
 // The closing lines of a trial.
-ghost use Rattle.std.specs.Prelude.{◌≡◌, ◌++◌, true, false};
+ghost use Rattle.std.specs.Prelude.{◌≡◌, ◌<◌, ◌++◌, length, true, false};
 ghost use Rattle.mode_set.specs.declared.modes.Stream.TheVariants.{Hp};
 ghost use Rattle.trial_run.specs.TrialCommand.{cells_line, lp_return_line, return_line, trial_lines};
 ghost use Rattle.run_steps.specs.Causes.{HasCause};
@@ -14,7 +14,8 @@ use trial::{StreamReturn, TrialCounts};
 
 // The closing line of the cells that a trial has fed.
 fn cells_line_of(counts: &TrialCounts) -> Line
-    ensures { result.bytes ≡ cells_line counts.now }
+    ensures text { result.bytes ≡ cells_line counts.now }
+    ensures some { 0 < length result.bytes }
 {
     let mut line = Line::new();
     push_count(&mut line, "cells ", u64::from(counts.cells));
@@ -24,7 +25,8 @@ fn cells_line_of(counts: &TrialCounts) -> Line
 
 // The closing line of what came back of a stream in a trial.
 fn return_line_of(stream: Stream, counts: &StreamReturn) -> Line
-    ensures { result.bytes ≡ return_line stream counts.now }
+    ensures text { result.bytes ≡ return_line stream counts.now }
+    ensures some { 0 < length result.bytes }
 {
     let mut line = Line::new();
     line.push_str(name_of(stream));
