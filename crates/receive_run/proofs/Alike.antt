@@ -8,7 +8,7 @@ use Rattle.reception.specs.Cells.{symbols}
 use Rattle.worker_laws.specs.Alike.{DifferInWorkers}
 use Rattle.receive_run.specs.Kinds.{Kind, lines_of}
 use Rattle.receive_run.specs.Received.{cells_in, IsAll, IsCutOff, IsSoFar, within_limit}
-use Rattle.receive_run.proofs.OfKinds.{IsReceived, LinesCome, LinesSoFar, OutputComes, OutputSoFar}
+use Rattle.receive_run.proofs.OfKinds.{LinesCome, LinesSoFar, OutputComes, OutputSoFar}
 
 -- what is received so far and in the end is the same, and so are the lines
 pub record SameOf (k : Kind) : Type 0 where

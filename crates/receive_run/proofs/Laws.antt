@@ -1,5 +1,5 @@
 -- The laws of what `receive` comes to.
-use Rattle.std.proofs.Common.{◌≡◌, ℕ, List, Option, subst}
+use Rattle.std.proofs.Common.{ℕ, List, Option, subst}
 use Rattle.mode_set.specs.declared.settings.Settings.{Settings}
 use Rattle.reception.specs.Streams.{Final}
 use Rattle.code_paths.specs.Laws.{SharedBeginsLeast}

@@ -1,5 +1,5 @@
 -- What every kind of reception comes to is one output.
-use Rattle.std.proofs.Common.{◌≡◌, ◌⊎◌, inl, inr, ℕ, ◌*◌, ◌<◌, ◌≤◌, List, ◌++◌, Option, Some, refl, ◌∙◌, sym, ap, subst, arith}
+use Rattle.std.proofs.Common.{◌≡◌, ◌⊎◌, inl, inr, ℕ, ◌<◌, ◌≤◌, List, ◌++◌, Some, refl, ◌∙◌, sym, ap, subst, arith}
 use Rattle.std.proofs.lemmas.Bool.{cases_lt}
 use Rattle.std.proofs.lemmas.List.{append_cancel_right}
 use Rattle.station_core.specs.declared.ports.OutPort.{OutPort}
@@ -7,7 +7,7 @@ use Rattle.mode_set.specs.declared.settings.Settings.{Settings}
 use Rattle.reception.specs.Cells.{symbols}
 use Rattle.receive_run.specs.Kinds.{Kind, lines_of}
 use Rattle.receive_run.specs.OneOutput.{AtMostOne, ExactlyOne, IsOneOutput}
-use Rattle.receive_run.specs.Received.{cells_in, IsAll, IsCutOff, IsSoFar, packets_at, within_limit}
+use Rattle.receive_run.specs.Received.{cells_in, IsSoFar, packets_at, within_limit}
 use Rattle.receive_run.proofs.OfKinds.{IsReceived, KindLaws, LinesCome, LinesSoFar, OutputComes, OutputSoFar}
 
 module _ {k : Kind} (laws : KindLaws k) (s : Settings) (file : List ℕ) where

@@ -1,5 +1,5 @@
 -- The number of workers stands in no definition of what is rescued.
-use Rattle.std.proofs.Common.{◌≡◌, ℕ, ◌*◌, ◌/◌, ◌%◌, Bool, List, Option, length, ◌∙◌, ap, ap₂, subst, sym}
+use Rattle.std.proofs.Common.{ℕ, ◌*◌, ◌/◌, ◌%◌, Bool, List, Option, length, ◌∙◌, ap, ap₂, subst, sym}
 use Rattle.std.specs.Prelude.{Some, None, flat_map, if◌then◌else◌}
 use Rattle.std.specs.List.{concat}
 use Rattle.code_paths.specs.declared.costs.CostPair.{CostPair}
@@ -9,7 +9,6 @@ use Rattle.mode_set.specs.declared.modes.Mode.{Mode}
 use Rattle.mode_set.specs.declared.modes.Stream.{Stream}
 use Rattle.mode_set.specs.declared.modes.Stream.TheVariants.{Hp, Lp}
 use Rattle.mode_set.specs.declared.settings.Settings.{Settings}
-use Rattle.symbol_spans.specs.Spans.{exists_in}
 use Rattle.rx_report.specs.Text.{event_line}
 use Rattle.rx_report.specs.declared.counts.Event.{Event}
 use Rattle.reception.specs.Cells.{symbols}

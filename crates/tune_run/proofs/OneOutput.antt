@@ -21,7 +21,7 @@ use Rattle.tune_in.specs.LeastPlace.{held}
 use Rattle.tune_in.specs.OfBytes.{rest}
 use Rattle.tune_in.specs.declared.frame.Found.{Found}
 use Rattle.tune_run.specs.Tuned.{ComesTo, GivesLive, IsNothing, Tuned, at_place, fits}
-use Rattle.tune_run.specs.TuneCommand.{IsSoFar, LinesSoFar, PortComes, PortSoFar}
+use Rattle.tune_run.specs.TuneCommand.{LinesSoFar, PortComes, PortSoFar}
 use Rattle.tune_run.proofs.Coming.{Laws, total}
 
 -- the same at every port
