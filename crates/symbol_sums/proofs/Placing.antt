@@ -1,6 +1,6 @@
 -- What one payload place adds.
-use Rattle.std.proofs.Common.{◌≡◌, ℕ, zero, suc, ◌+◌, ◌^◌, ◌<◌, ◌≤◌, ◌≢◌, ◌⊎◌, inl, inr, Bool, true, false, cond, not, ◌&&◌, List, [], ◌∷◌, length, get_or, set, refl, sym, ap, ap₂, ◌∙◌, subst, arith}
-use Rattle.std.specs.Prelude.{ℤ, count_by}
+use Rattle.std.proofs.Common.{◌≡◌, ℕ, zero, suc, ◌+◌, ◌^◌, ◌<◌, ◌≤◌, ◌≢◌, ◌⊎◌, inl, inr, Bool, true, false, not, ◌&&◌, List, [], ◌∷◌, length, get_or, set, refl, sym, ap, ◌∙◌, subst, arith}
+use Rattle.std.specs.Prelude.{count_by}
 use Rattle.std.specs.Bool.{beq}
 use lib.Pointwise.{pointwise}
 use Rattle.std.proofs.lemmas.Bool.{cases_lt}
@@ -19,7 +19,6 @@ use Rattle.qam_map.specs.declared.cell.Cell.{Cell}
 use Rattle.hard_decision.specs.Hard.{axis_bit, hard_bit}
 use Rattle.symbol_sums.specs.Comparing.{is_same, power_of, squared_distance}
 use Rattle.symbol_sums.specs.Tables.{ArePoints, bits_of_label, wrong_among, counted_bits, counted_sums}
-use Rattle.measure_report.specs.declared.sums.BitSums.{BitSums}
 use Rattle.measure_report.specs.declared.sums.SymbolSums.{SymbolSums}
 use Rattle.symbol_sums.proofs.Counting.{none_wrong, wrong_same}
 

@@ -1,8 +1,8 @@
 -- The sums of a symbol, one payload place more at a time.
-use Rattle.std.proofs.Common.{◌≡◌, ℕ, zero, suc, ◌+◌, ◌*◌, ◌/◌, ◌<◌, ◌≤◌, min, Bool, true, false, cond, not, ◌&&◌, List, [], ◌∷◌, ◌++◌, length, get_or, map, refl, sym, ap, ap₂, ◌∙◌, arith}
-use Rattle.std.specs.Prelude.{count_by, sum_by, nat_lt, pos}
+use Rattle.std.proofs.Common.{◌≡◌, ℕ, zero, suc, ◌+◌, ◌*◌, ◌/◌, ◌<◌, min, Bool, true, false, cond, not, ◌&&◌, List, [], ◌∷◌, ◌++◌, length, get_or, map, refl, sym, ap, ap₂, ◌∙◌, arith}
+use Rattle.std.specs.Prelude.{count_by, sum_by, nat_lt}
 use Rattle.std.specs.Bool.{beq}
-use Rattle.std.proofs.lemmas.Bool.{lt-ltb, le-ltb}
+use Rattle.std.proofs.lemmas.Bool.{lt-ltb}
 use Rattle.std.proofs.lemmas.List.{map-append}
 use Rattle.spec_words.specs.Words.{numbers}
 use Rattle.spec_words.specs.Bits.{is_set}
@@ -14,12 +14,11 @@ use Rattle.mode_set.specs.declared.modes.Hierarchy.{Hierarchy}
 use Rattle.mode_set.specs.declared.modes.Stream.{Stream}
 use Rattle.mode_set.specs.declared.modes.Stream.TheVariants.{Hp, Lp}
 use Rattle.mode_set.specs.declared.settings.Settings.{Settings}
-use Rattle.qam_map.specs.Points.{map_cell, real_bits, imaginary_bits, value_of}
+use Rattle.qam_map.specs.Points.{map_cell, value_of}
 use Rattle.qam_map.specs.declared.cell.Cell.{Cell}
-use Rattle.measure_report.specs.declared.sums.BitSums.{BitSums}
 use Rattle.measure_report.specs.declared.sums.SymbolSums.{SymbolSums}
-use Rattle.symbol_sums.specs.Comparing.{Comparison, counts, carries, is_wrong, label_places, received, remade, power_of, squared_distance, symbol_sums, AreAlike, AlikeAreSummedAlike}
-use Rattle.symbol_sums.specs.Tables.{place_adds, plus, no_sums, AreLittle, IsLittle}
+use Rattle.symbol_sums.specs.Comparing.{Comparison, counts, carries, is_wrong, label_places, received, remade, power_of, squared_distance, symbol_sums, AlikeAreSummedAlike}
+use Rattle.symbol_sums.specs.Tables.{place_adds, plus, no_sums, AreLittle}
 use Rattle.hard_decision.specs.Hard.{hard_bit}
 use Rattle.symbol_sums.proofs.Counting.{no_numbers, sum_more, sum_same, count_same}
 

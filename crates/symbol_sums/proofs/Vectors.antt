@@ -2,11 +2,8 @@
 use Rattle.std.proofs.Common.{◌≡◌, ℕ, ◌*◌, refl}
 use Rattle.std.specs.Prelude.{pos, neg_ℤ}
 use Rattle.spec_words.specs.Words.{numbers}
-use Rattle.mode_set.specs.declared.modes.Shape.{Shape}
 use Rattle.mode_set.specs.declared.modes.Shape.TheVariants.{Qpsk, Qam16}
-use Rattle.mode_set.specs.declared.modes.Hierarchy.{Hierarchy}
 use Rattle.mode_set.specs.declared.modes.Hierarchy.TheVariants.{Flat, Alpha2}
-use Rattle.qam_map.specs.declared.cell.Cell.{Cell}
 use Rattle.hard_decision.specs.Hard.{nearest, hard_bit}
 use Rattle.symbol_sums.specs.Tables.{counted_sums, place_adds}
 use Rattle.measure_report.specs.declared.sums.SymbolSums.{SymbolSums}
