@@ -20,6 +20,7 @@ read_settings(path), CellFile(path, settings).array() and Carriers(mode).kinds(l
 """
 import argparse
 import os
+import signal
 import sys
 
 sys.path.insert(0, os.path.dirname(os.path.realpath(__file__)))
@@ -133,11 +134,10 @@ def main(words):
 
 
 if __name__ == "__main__":
+    signal.signal(signal.SIGINT, signal.SIG_DFL)  # Ctrl-C shows no traceback
     try:
         sys.exit(0 if main(sys.argv[1:]) else 1)
     except Unfit as error:
         sys.exit(f"{NAME}: {error}")
     except BrokenPipeError:
         sys.exit(1)
-    except KeyboardInterrupt:
-        sys.exit(130)
