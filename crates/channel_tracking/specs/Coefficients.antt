@@ -18,7 +18,7 @@ time_taps Fast =
     (neg_ℤ (pos 381) ∷ pos 2429 ∷ pos 2429 ∷ neg_ℤ (pos 381) ∷ []) ∷
     (neg_ℤ (pos 268) ∷ pos 1233 ∷ pos 3426 ∷ neg_ℤ (pos 295) ∷ []) ∷ []
 
--- rows 0 to 16 of the interpolation in frequency, by the guard interval, as 16384 times the weight of a comb point
+-- the first seventeen rows of the interpolation in frequency, by the guard interval, as 16384 times the weight of a comb point
 unfoldable pub frequency_rows : Guard → List (List ℤ)
 frequency_rows G1of32 =
     (pos 13948 ∷ pos 4381 ∷ neg_ℤ (pos 488) ∷ neg_ℤ (pos 1757) ∷ neg_ℤ (pos 1000) ∷ pos 260 ∷ pos 975 ∷ pos 778 ∷ neg_ℤ (pos 46) ∷ neg_ℤ (pos 798) ∷ neg_ℤ (pos 705) ∷ pos 753 ∷ []) ∷
