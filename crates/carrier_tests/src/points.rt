@@ -3,7 +3,7 @@ ghost use Rattle.std.specs.Prelude.{◌<◌, ◌^◌};
 ghost use Rattle.mode_set.specs.StreamTable.{label_bits};
 
 use mode_set::{Hierarchy, Shape};
-use qam_map::{Cell, map, tolerance};
+use qam_map::{Cell, map, spacing, tolerance};
 use std::process::Abort;
 use std::rt::HostRuntime;
 
@@ -59,4 +59,27 @@ fn points_of_the_figures(rt: HostRuntime) {
     );
     stands(&rt, Shape::Qam64, Hierarchy::Alpha4, 0b001100, 6306, 6306);
     assert_eq!(rt; tolerance(Shape::Qam64, Hierarchy::Alpha4), 788);
+}
+
+/// The constellations with their hierarchies, and the least distance of two values of an axis. Those are the levels of the
+/// standard (EN 300 744, 4.3.5), whole numbers over a square root, times 16384 and rounded.
+const SPACINGS: [(Shape, Hierarchy, u16); 9] = [
+    (Shape::Qpsk, Hierarchy::Flat, 23_170),
+    (Shape::Qam16, Hierarchy::Flat, 10_362),
+    (Shape::Qam16, Hierarchy::Alpha1, 10_362),
+    (Shape::Qam16, Hierarchy::Alpha2, 7_327),
+    (Shape::Qam16, Hierarchy::Alpha4, 4_544),
+    (Shape::Qam64, Hierarchy::Flat, 5_056),
+    (Shape::Qam64, Hierarchy::Alpha1, 5_056),
+    (Shape::Qam64, Hierarchy::Alpha2, 4_230),
+    (Shape::Qam64, Hierarchy::Alpha4, 3_153),
+];
+
+// Each spacing, and the quarter of it that noise may move a cell.
+#[test]
+fn spacings_of_the_levels(rt: HostRuntime) {
+    for (shape, hierarchy, least) in SPACINGS {
+        let found = (spacing(shape, hierarchy), tolerance(shape, hierarchy));
+        assert_eq!(rt; found, (least, least / 4));
+    }
 }

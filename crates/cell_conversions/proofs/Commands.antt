@@ -122,7 +122,7 @@ module _ (by : Mode → Conversion) (statuses : List ℕ) (sound : IsSound by st
       come (new_file v (within_limit most v.size bytes)) [] given gives (inr (more, refl)) (inr (more, refl)),
       refusal_is (Some (Limit most)) (ap (λ (b : Bool). if b then Some (Limit most) else None) (lt-ltb most (symbols v.size bytes) more)),
     );
-    refused = λ taken left given r are within reason refuses. absurd reason;
+    refused = λ unread taken given r are within reason refuses. absurd reason;
     so_far = λ unread taken given are within gives. record {
       outputs = λ port output. (s, stated, record { taken = taken; are = are; within = within; is = gives port ∙ at_output (new_file v taken) [] port output });
       report = gives outs.Report;
@@ -132,7 +132,7 @@ module _ (by : Mode → Conversion) (statuses : List ℕ) (sound : IsSound by st
   }
 
 pub command_of : (by : Mode → Conversion) (statuses : List ℕ) (sound : IsSound by statuses) (laws : Files → Type 0) (limit : ℕ) (settings old new : List ℕ) (s : TheSettings) (start : Meaning)
-    → (start.tells ≡ true → settings_of (start.file settings) ≡ Some s) → laws start.file
+    → (start.tells ≡ true → settings_of (start.file settings) ≡ Some s) → ((file : Files) → laws file)
     → CellCommand (conversion_command by statuses laws settings old new) limit settings old (by s.mode).old_header (cell_names new) (conversion_work (by s.mode)) s.max_symbols start
 command_of by statuses sound laws limit settings old new s start stated own = record {
   reads = elim [ ins.Settings ↦ refl | ins.Hp ↦ refl | ins.Lp ↦ refl | ins.Cells ↦ refl ];

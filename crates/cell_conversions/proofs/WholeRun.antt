@@ -25,7 +25,7 @@ use Rattle.cell_conversions.specs.Runs.{RunsConversion, RunsOrLacks}
 use Rattle.cell_conversions.specs.Working.{conversion_work}
 use Rattle.cell_conversions.proofs.Commands.{IsSound, command_of}
 
-module _ (by : Mode → Conversion) (statuses : List ℕ) (sound : IsSound by statuses) (laws : Files → Type 0) (limit : ℕ) (name old_name new_name : List ℕ) (start mid new : Meaning) (own : laws start.file) (fresh : IsFresh start)
+module _ (by : Mode → Conversion) (statuses : List ℕ) (sound : IsSound by statuses) (laws : Files → Type 0) (limit : ℕ) (name old_name new_name : List ℕ) (start mid new : Meaning) (own : (file : Files) → laws file) (fresh : IsFresh start)
     (asks : AsksSettings name start mid) where
   abbrev c : Command
   c = conversion_command by statuses laws name old_name new_name

@@ -23,10 +23,12 @@ fn letter(sent: Sent) -> char {
     }
 }
 
+/// What is sent of the first eight steps at each rate.
+const STEPS: [&str; 5] = ["BBBBBBBB", "BYBYBYBY", "BYXBYXBY", "BYXYXBYX", "BYYYXYXB"];
+
 #[test]
 fn table_of_the_five_rates(rt: HostRuntime) {
-    let wanted = ["BBBBBBBB", "BYBYBYBY", "BYXBYXBY", "BYXYXBYX", "BYYYXYXB"];
-    for (rate, steps) in RATES.into_iter().zip(wanted) {
+    for (rate, steps) in RATES.into_iter().zip(STEPS) {
         let mut row = String::new(rt.alloc());
         for step in 0..8u64 {
             row.push(letter(sent(rate, step))).expect(&rt, "memory");
@@ -179,5 +181,41 @@ fn costs_at_three_quarters(rt: HostRuntime) {
             (needed, (pair.x0, pair.x1), (pair.y0, pair.y1)),
             (needs, x, y)
         );
+    }
+}
+
+// The costs of a sent bit, by its number: those of no two numbers are the same.
+fn costs_of(number: u16) -> (u16, u16) {
+    (1 + number % 2000, 4095 - number % 2000)
+}
+
+// The costs of the coded bits of a step of which this is sent, where so many bits were sent before it; and how many of them are.
+fn costs_sent(sent: Sent, before: u16) -> ((u16, u16), (u16, u16), u16) {
+    let first = costs_of(before);
+    match sent {
+        Sent::Both => (first, costs_of(before.wrapping_add(1)), 2),
+        Sent::OnlyX => (first, (0, 0), 1),
+        Sent::OnlyY => ((0, 0), first, 1),
+    }
+}
+
+// Twelve hundred steps at each rate, beside the costs that the table gives each step: its own bits', by their numbers.
+#[test]
+fn costs_at_each_rate(rt: HostRuntime) {
+    for rate in RATES {
+        let mut depuncturer = Depuncturer::start(rate);
+        let mut before = 0u16;
+        for step in 0..1200u64 {
+            let (x, y, count) = costs_sent(sent(rate, step), before);
+            let needed = depuncturer.needs();
+            let first = costs_of(before);
+            let second = costs_of(before.wrapping_add(1));
+            let pair = depuncturer.pair(first, second);
+            assert_eq!(rt;
+                ((pair.x0, pair.x1), (pair.y0, pair.y1), u16::from(needed)),
+                (x, y, count)
+            );
+            before = before.wrapping_add(count);
+        }
     }
 }

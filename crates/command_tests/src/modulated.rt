@@ -1,6 +1,8 @@
 // The command `modulate`. The expected reports and sums are those of an independent program.
 use crate::cells::SUPER_FRAME;
-use run_tools::{BASE, Conditions, File, LAYERED, ample, checksum, run_files, text_bytes};
+use run_tools::{
+    BASE, Conditions, File, LAYERED, Made, UNMADE, ample, checksum, run_files, text_bytes,
+};
 use station_core::{Failing, InPort, OutPort};
 use std::alloc::{AllocError, Global};
 use std::test::Fail;
@@ -18,7 +20,8 @@ const TWO: &str = "modulate s a b cells";
 // What is to be found: the status, the report, how many bytes of cells stand, and their sum.
 type Found = (u8, &'static str, usize, u32);
 
-// Modulates two transport files, at most 100 packets of each, and tells whether what is to be found stands.
+// Modulates two transport files, at most 100 packets of each, and tells whether what is to be found stands. In none of the tables
+// a file of cells was made and is empty.
 fn is_found<R: Threads + Sync>(
     rt: &R,
     alloc: Global,
@@ -36,7 +39,12 @@ fn is_found<R: Threads + Sync>(
     };
     let ran = run_files(rt, alloc, text, settings, files, 100, conditions)?;
     let is_told = ran.status == found.0 && ran.report.as_slice() == found.1.as_bytes();
-    Ok(is_told && ran.cells.len() == found.2 && checksum(&ran.cells) == found.3)
+    let made = Made {
+        cells: found.2 > 0,
+        ..UNMADE
+    };
+    let is_held = ran.cells.len() == found.2 && checksum(&ran.cells) == found.3;
+    Ok(is_told && is_held && ran.made == made)
 }
 
 // The super-frame that carries null packets: how it begins, its first scattered pilot past carrier 0, and a TPS
@@ -148,7 +156,7 @@ fn refused_packets_and_limits(rt: HostRuntime) -> Result<(), Fail> {
 }
 
 /// Words of no form, settings that do not fit the form or are refused, and a file that is not there: no cells are made.
-static UNMADE: [(&str, &str, Found); 6] = [
+static REFUSED_WORDS: [(&str, &str, Found); 6] = [
     (
         "modulate s gone cells",
         "colour = \"red\"\n",
@@ -164,7 +172,7 @@ static UNMADE: [(&str, &str, Found); 6] = [
 #[test]
 fn refused_words_and_settings(rt: HostRuntime) -> Result<(), Fail> {
     let alloc = rt.alloc();
-    for (text, settings, found) in &UNMADE {
+    for (text, settings, found) in &REFUSED_WORDS {
         let stands = is_found(
             &rt,
             alloc,
@@ -200,7 +208,7 @@ static FAULTS: [(Failing, usize, Found); 8] = [
     (Failing::Create(OutPort::Cells, 1), 2, (6, WRITE, 0, 0)),
     (
         Failing::Write(OutPort::Cells, 1),
-        2,
+        0,
         (6, WRITE, 4, 2_111_105),
     ),
     (

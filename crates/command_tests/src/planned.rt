@@ -1,6 +1,6 @@
 // Transmissions with a plan. The expected reports, lengths and sums are those of an independent program.
 use run_tools::{
-    BASE, File, Found, LAYERED, NONE, SUPER_FRAME, SYMBOL, ample, checksum, noisy, run_files,
+    BASE, File, Found, Held, LAYERED, SUPER_FRAME, SYMBOL, ample, checksum, noisy, run_files,
     stands, text_bytes,
 };
 use std::alloc::{AllocError, Global};
@@ -39,9 +39,9 @@ const RECEIVED: &str =
 const RESCUED: &str =
     "symbols 544 tail 0\nhp words 493 clean 493 corrected 0 rescued 0 bad 0 unphased 0 unmerged 0\nlp words 367 clean 367 corrected 0 rescued 0 bad 0 unphased 0 unmerged 0\n";
 
-const HP: (usize, u32) = (92_684, 260_642_531);
+const HP: Held = Some((92_684, 260_642_531));
 
-const LP: (usize, u32) = (68_996, 1_482_550_705);
+const LP: Held = Some((68_996, 1_482_550_705));
 
 // The cells of these two files, the status and the report.
 fn sent<R: Threads + Sync>(
@@ -74,6 +74,46 @@ fn comes_back<R: Threads + Sync>(
     Ok(stands(&ran, found))
 }
 
+// Whether a carrier's cell is turned in a symbol against the symbol before it: a TPS bit (EN 300 744, 4.6). The signs of the
+// real parts are compared.
+fn is_turned(cells: &[u8], symbol: usize, carrier: usize) -> bool {
+    let at = 8 + symbol.min(600) * SYMBOL + 5 * carrier.min(1704);
+    at < cells.len() && (cells[at] ^ cells[at.saturating_sub(SYMBOL)]) >= 128
+}
+
+/// The TPS bits s25 to s35 of the first super-frame: 16-QAM, alpha 4, 1/2 and 3/4, which are those of the next one.
+const ANNOUNCED: [bool; 11] = [
+    false, true, false, true, true, false, false, false, false, true, false,
+];
+
+// Whether each of the four frames of the first super-frame announces that, at one TPS carrier.
+fn are_announced(cells: &[u8]) -> bool {
+    for frame in 0..4usize {
+        for (place, bit) in ANNOUNCED.iter().enumerate() {
+            if is_turned(cells, 68 * frame + 25 + place, 34) != *bit {
+                return false;
+            }
+        }
+    }
+    true
+}
+
+// What comes back of a transmission of two files: their packets, and null packets after them.
+#[test]
+fn packets_of_a_plan(rt: HostRuntime) -> Result<(), Fail> {
+    let alloc = rt.alloc();
+    let (_, _, cells) = sent(&rt, alloc, (BASE, LP_COMES), (300, 100), TWO_SUPER_FRAMES)?;
+    assert!(rt; cells.len() == 4_637_608 && are_announced(&cells));
+    let settings = text_bytes(alloc, BASE, LP_COMES)?;
+    let words = "receive s a hp lp";
+    let inputs = (cells, Vec::new(alloc));
+    let ran = run_files(&rt, alloc, words, settings, inputs, 1, ample(SUPER_FRAME))?;
+    assert!(rt; ran.status == 0 && ran.report.as_slice() == RECEIVED.as_bytes());
+    assert!(rt; ran.hp == File::Counted(300, 193).bytes(alloc)?);
+    assert!(rt; ran.lp == File::Counted(100, 267).bytes(alloc)?);
+    Ok(())
+}
+
 // A transmission that becomes one of two streams, and what comes back of it.
 #[test]
 fn lp_comes(rt: HostRuntime) -> Result<(), Fail> {
@@ -84,8 +124,8 @@ fn lp_comes(rt: HostRuntime) -> Result<(), Fail> {
     let cases = [
         ("receive s a hp lp", (0, RECEIVED, HP, LP)),
         ("rescue s a hp lp", (0, RESCUED, HP, LP)),
-        ("receive s a hp", (3, "settings form\n", NONE, NONE)),
-        ("rescue s a hp", (3, "settings form\n", NONE, NONE)),
+        ("receive s a hp", (3, "settings form\n", None, None)),
+        ("rescue s a hp", (3, "settings form\n", None, None)),
     ];
     for (words, found) in cases {
         assert!(rt;
@@ -135,9 +175,9 @@ fn lp_comes_again(rt: HostRuntime) -> Result<(), Fail> {
     );
     let mut file = noisy(alloc, &cells[..FRONT.min(cells.len())], 2_680)?;
     spoil(&mut file);
-    let hp = (165_064, 1_009_138_521);
-    let received = (0, RECEIVED_OUT_OF_NOISE, hp, (82_908, 2_747_265_385));
-    let rescued = (0, RESCUED_OUT_OF_NOISE, hp, (82_908, 3_297_524_247));
+    let hp = Some((165_064, 1_009_138_521));
+    let received = (0, RECEIVED_OUT_OF_NOISE, hp, Some((82_908, 2_747_265_385)));
+    let rescued = (0, RESCUED_OUT_OF_NOISE, hp, Some((82_908, 3_297_524_247)));
     for (words, found) in [
         ("receive s a hp lp", received),
         ("rescue s a hp lp", rescued),

@@ -5,7 +5,8 @@ use crate::cells::{HEADER, SUPER_FRAME, SYMBOL, number_at, put_number, zero_cell
 use mode_set::Mode;
 use pilots::tps_carriers;
 use run_tools::{
-    BASE, Conditions, File, LAYERED, WHOLE_NULLS, ample, checksum, run_files, text_bytes,
+    BASE, Conditions, File, LAYERED, Made, UNMADE, WHOLE_NULLS, ample, checksum, run_files,
+    text_bytes,
 };
 use station_core::{Failing, InPort, OutPort};
 use std::alloc::{AllocError, Global};
@@ -44,11 +45,12 @@ const BEFORE_A_WEIGHT: &str =
 const EIGHT: &str =
     "mode = \"8k\"\nconstellation = \"qpsk\"\nrate_hp = \"1/2\"\nguard = \"1/32\"\n";
 
-// What is to be found: the status, the report, and how many bytes of null packets stand at HP.
-type Found = (u8, &'static str, usize);
+// What is to be found: the status, the report, and how many bytes of null packets stand at HP, if it was made. No other output
+// is made.
+type Found = (u8, &'static str, Option<usize>);
 
 /// Null packets in all words.
-const NULLS: Found = (0, WHOLE_NULLS, 45_308);
+const NULLS: Found = (0, WHOLE_NULLS, Some(45_308));
 
 // Cells, from the file of the super-frame that carries null packets.
 #[derive(Clone, Copy)]
@@ -63,6 +65,8 @@ enum Cells {
     Headless,
     // The header of version 1, and a front of the file.
     OtherVersion,
+    // A file of version 1: the cells without header and weights.
+    Old,
 }
 
 // Receives these cells, and tells whether what is to be found stands.
@@ -88,8 +92,13 @@ fn leaves<R: Threads + Sync>(
         conditions,
     )?;
     let is_told = ran.status == found.0 && ran.report.as_slice() == found.1.as_bytes();
-    let nulls = File::Nulls(found.2 / 188, found.2 % 188).bytes(alloc)?;
-    Ok(is_told && ran.hp == nulls && ran.lp.is_empty())
+    let count = found.2.unwrap_or(0);
+    let nulls = File::Nulls(count / 188, count % 188).bytes(alloc)?;
+    let made = Made {
+        hp: found.2.is_some(),
+        ..UNMADE
+    };
+    Ok(is_told && ran.made == made && ran.hp == nulls)
 }
 
 // The cells of the super-frame that carries null packets.
@@ -128,6 +137,15 @@ fn bytes_of(alloc: Global, file: &[u8], cells: Cells) -> Result<Vec<u8>, AllocEr
             bytes.extend_from_slice(&file[..100.min(file.len())])?;
             Ok(bytes)
         }
+        Cells::Old => {
+            let mut bytes = Vec::new(alloc);
+            for (place, byte) in file[header..].iter().enumerate() {
+                if place % 5 != 4 {
+                    bytes.push(*byte)?;
+                }
+            }
+            Ok(bytes)
+        }
     }
 }
 
@@ -160,7 +178,11 @@ static WHOLE: [(&str, (Cells, u32), Found); 4] = [
     ("", (Cells::Whole, WIDE), NULLS),
     ("", (Cells::Whole, 1), NULLS),
     (LIMIT, (Cells::Whole, WIDE), NULLS),
-    (LIMIT, (Cells::OneMore, WIDE), (8, "limit 272\n", 45_120)),
+    (
+        LIMIT,
+        (Cells::OneMore, WIDE),
+        (8, "limit 272\n", Some(45_120)),
+    ),
 ];
 
 #[test]
@@ -189,7 +211,7 @@ fn parts_of_the_null_super_frame(rt: HostRuntime) -> Result<(), Fail> {
     let alloc = rt.alloc();
     let file = null_cells(&rt, alloc)?;
     for (place, (cells, report)) in PARTS.iter().enumerate() {
-        let stands = is_found(&rt, alloc, &file, (BASE, ""), *cells, (0, *report, 0))?;
+        let stands = is_found(&rt, alloc, &file, (BASE, ""), *cells, (0, *report, Some(0)))?;
         assert!(rt; stands, "run {place}");
     }
     Ok(())
@@ -199,15 +221,30 @@ const HALF_LINE: &str = "symbols 2write fault\n";
 
 /// One call of the station fails, and this stands of the null super-frame.
 static FAULTS: [(Failing, Found); 9] = [
-    (Failing::Attach(InPort::Cells, 1), (5, "read fault\n", 0)),
-    (Failing::Read(InPort::Cells, 1), (5, "read fault\n", 0)),
-    (Failing::Read(InPort::Cells, 2), (5, "read fault\n", 0)),
-    (Failing::Read(InPort::Cells, 32), (5, "read fault\n", 3_008)),
-    (Failing::Create(OutPort::Hp, 1), (6, "write fault\n", 0)),
-    (Failing::Write(OutPort::Hp, 1), (6, "write fault\n", 94)),
-    (Failing::Write(OutPort::Hp, 2), (6, "write fault\n", 282)),
-    (Failing::Write(OutPort::Report, 1), (6, HALF_LINE, 45_308)),
-    (Failing::Close(OutPort::Hp, 1), (6, CLOSED, 45_308)),
+    (Failing::Attach(InPort::Cells, 1), (5, "read fault\n", None)),
+    (Failing::Read(InPort::Cells, 1), (5, "read fault\n", None)),
+    (
+        Failing::Read(InPort::Cells, 2),
+        (5, "read fault\n", Some(0)),
+    ),
+    (
+        Failing::Read(InPort::Cells, 32),
+        (5, "read fault\n", Some(3_008)),
+    ),
+    (Failing::Create(OutPort::Hp, 1), (6, "write fault\n", None)),
+    (
+        Failing::Write(OutPort::Hp, 1),
+        (6, "write fault\n", Some(94)),
+    ),
+    (
+        Failing::Write(OutPort::Hp, 2),
+        (6, "write fault\n", Some(282)),
+    ),
+    (
+        Failing::Write(OutPort::Report, 1),
+        (6, HALF_LINE, Some(45_308)),
+    ),
+    (Failing::Close(OutPort::Hp, 1), (6, CLOSED, Some(45_308))),
 ];
 
 #[test]
@@ -227,12 +264,13 @@ fn faults_of_the_station(rt: HostRuntime) -> Result<(), Fail> {
 }
 
 /// A file that does not begin with the header of its mode is refused, before an output is made: shorter ones, one without a
-/// header, one whose header has another version, and one of the other mode. The settings, and the cells.
-static HEADERS: [(&str, (Cells, u32)); 6] = [
+/// header, a file of version 1, one whose header has another version, and one of the other mode. The settings, and the cells.
+static HEADERS: [(&str, (Cells, u32)); 7] = [
     (BASE, (Cells::Front(0), WIDE)),
     (BASE, (Cells::Front(7), WIDE)),
     (BASE, (Cells::Front(7), 1)),
     (BASE, (Cells::Headless, WIDE)),
+    (BASE, (Cells::Old, WIDE)),
     (BASE, (Cells::OtherVersion, WIDE)),
     (EIGHT, (Cells::Whole, WIDE)),
 ];
@@ -242,26 +280,26 @@ fn refused_headers(rt: HostRuntime) -> Result<(), Fail> {
     let alloc = rt.alloc();
     let file = null_cells(&rt, alloc)?;
     for (place, (settings, cells)) in HEADERS.iter().enumerate() {
-        let found = (9, "cells header\n", 0);
+        let found = (9, "cells header\n", None);
         let stands = is_found(&rt, alloc, &file, (*settings, ""), *cells, found)?;
         assert!(rt; stands, "run {place}");
     }
     Ok(())
 }
 
-/// Words of no form, a file that is not there, and settings that do not fit the form or are refused: no packet is written.
+/// Words of no form, a file that is not there, and settings that do not fit the form or are refused: no output is made.
 static REFUSED: [(&str, &str, Found); 7] = [
     (
         "receive s gone hp",
         "colour = \"red\"\n",
-        (3, "settings unknown 0\n", 0),
+        (3, "settings unknown 0\n", None),
     ),
-    ("receive s a", BASE, (2, "usage\n", 0)),
-    ("receive s a hp lp more", LAYERED, (2, "usage\n", 0)),
-    ("Receive s a hp", BASE, (2, "usage\n", 0)),
-    ("receive s gone hp", BASE, (5, "read fault\n", 0)),
-    (ONE, LAYERED, (3, "settings form\n", 0)),
-    ("receive s a hp lp", BASE, (3, "settings form\n", 0)),
+    ("receive s a", BASE, (2, "usage\n", None)),
+    ("receive s a hp lp more", LAYERED, (2, "usage\n", None)),
+    ("Receive s a hp", BASE, (2, "usage\n", None)),
+    ("receive s gone hp", BASE, (5, "read fault\n", None)),
+    (ONE, LAYERED, (3, "settings form\n", None)),
+    ("receive s a hp lp", BASE, (3, "settings form\n", None)),
 ];
 
 #[test]
@@ -305,7 +343,7 @@ fn weighted(
 fn weights_of_the_null_super_frame(rt: HostRuntime) -> Result<(), Fail> {
     let alloc = rt.alloc();
     let cells = null_cells(&rt, alloc)?;
-    for (weight, found) in [(1, NULLS), (255, NULLS), (0, (0, ERASED, 0))] {
+    for (weight, found) in [(1, NULLS), (255, NULLS), (0, (0, ERASED, Some(0)))] {
         let bytes = weighted(&rt, alloc, &cells, weight)?;
         let stands = leaves(&rt, alloc, ONE, (BASE, ""), bytes, ample(50_000), found)?;
         assert!(rt; stands, "weight {weight}");
@@ -340,7 +378,7 @@ fn turned_tps_bits(rt: HostRuntime) -> Result<(), Fail> {
     for symbol in [60usize, 61, 62, 63, 67] {
         negate_tps(&rt, &mut cells, symbol);
     }
-    let found = (0, ONE_BAD, 45_308);
+    let found = (0, ONE_BAD, Some(45_308));
     assert!(rt; leaves(&rt, alloc, ONE, (BASE, ""), cells, wide, found)?);
     Ok(())
 }
@@ -356,7 +394,7 @@ fn unmerged_at_2049(rt: HostRuntime) -> Result<(), Fail> {
     let report =
         "hp unmerged at 2049\nsymbols 2 tail 0\ntps read 0 bad 0\nhp words 0 clean 0 corrected 0 bad 0 unphased 0 unmerged 1\n";
     let settings = (BASE, "start = \"any\"\n");
-    let found = (0, report, 0);
+    let found = (0, report, Some(0));
     assert!(rt; leaves(&rt, alloc, ONE, settings, cells, ample(50_000), found)?);
     Ok(())
 }
@@ -368,7 +406,7 @@ fn cells_of_zeros(rt: HostRuntime) -> Result<(), Fail> {
     let alloc = rt.alloc();
     for lines in ["", "start = \"any\"\n"] {
         let cells = zero_cells(alloc)?;
-        let found = (0, UNPHASED, 0);
+        let found = (0, UNPHASED, Some(0));
         let stands = leaves(&rt, alloc, ONE, (BASE, lines), cells, ample(50_000), found)?;
         assert!(rt; stands, "{lines}");
     }

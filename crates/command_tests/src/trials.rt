@@ -1,12 +1,12 @@
 // The command `trial` over a station in memory. The expected lines are those of an independent program.
-use run_tools::{BASE, Conditions, LAYERED, ample, run_files, text_bytes};
+use run_tools::{BASE, Conditions, LAYERED, UNMADE, ample, run_files, text_bytes};
 use station_core::{Failing, InPort, OutPort};
 use std::alloc::{AllocError, Global};
 use std::process::Abort;
 use std::test::Fail;
 use std::thread::Threads;
 
-// Runs the words with these settings, and compares the status and the report.
+// Runs the words with these settings, and compares the status and the report. No output is made.
 fn expect<R: Abort + Threads + Sync>(
     rt: &R,
     alloc: Global,
@@ -23,7 +23,11 @@ fn expect<R: Abort + Threads + Sync>(
     };
     let ran = run_files(rt, alloc, text, settings, none, 1, conditions)?;
     let is_told = ran.status == found.0 && ran.report.as_slice() == found.1.as_bytes();
-    assert!(rt; is_told, "{text}: status or report beside {}", found.1);
+    assert!(rt;
+        is_told && ran.made == UNMADE,
+        "{text}: status or report beside {}",
+        found.1
+    );
     Ok(())
 }
 
@@ -93,5 +97,16 @@ fn two_streams_and_a_failed_write(rt: HostRuntime) -> Result<(), Fail> {
     let second = Some(Failing::Write(OutPort::Report, 2));
     let half = "cells 227682593\nhp packets 150 bacwrite fault\n";
     expect(&rt, alloc, "trial s 7", (BASE, ""), second, (6, half))?;
+    Ok(())
+}
+
+/// QPSK at 1/2 in the 8K mode.
+const EIGHT: &str =
+    "mode = \"8k\"\nconstellation = \"qpsk\"\nrate_hp = \"1/2\"\nguard = \"1/32\"\n";
+
+#[test]
+fn one_stream_of_the_8k_mode(rt: HostRuntime) -> Result<(), Fail> {
+    let lines = "cells 914590089\nhp packets 150 back 997 sum 41380676\n";
+    expect(&rt, rt.alloc(), "trial s 7", (EIGHT, ""), None, (0, lines))?;
     Ok(())
 }

@@ -297,7 +297,7 @@ module _ (limit : ℕ) (name hp : List ℕ) (lp : Option (List ℕ)) (cells : Li
       same_files = file_same;
       report_open = ap (λ (x : Meaning). x.report.closed) ports.others;
       leaves = leaves;
-      own = tt;
+      own = λ file. tt;
     }
 
     -- the same of a run that was refused

@@ -47,7 +47,7 @@ module _ (limit : ℕ) (name hp : List ℕ) (lp : Option (List ℕ)) (cells : Li
   pub refused : (r : Refusal) → Accepts name lp start mid (Err r) → (status : ℕ) → status ≡ refusal_status r → WritesText (refusal_text r) mid new → Run c limit start new status
   refused r accepts status is text =
       let ended : Ended c limit start mid (Some r) =
-      early_ended c limit name start mid refl (inr (refl, refl)) (λ u whole. refl) tt fresh asks r (early r accepts) (known r accepts) in
+      early_ended c limit name start mid refl (inr (refl, refl)) (λ u whole. refl) (λ file. tt) fresh asks r (early r accepts) (known r accepts) in
       subst (λ (n : ℕ). Run c limit start new n) (sym is) (run_refused c limit start mid new r ended text)
 
   -- ---- the settings were accepted

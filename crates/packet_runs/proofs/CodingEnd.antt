@@ -499,7 +499,7 @@ module _ (settings : Option (List ℕ)) (statuses : List ℕ) (knows : KnowsStat
       same_files = ap (λ (x : Meaning). x.file) asks.others;
       report_open = ap (λ (x : Meaning). x.report.closed) asks.others;
       leaves = leaves_by o cause ran;
-      own = tt;
+      own = λ file. tt;
     }
       where
         work_of : (port : InPort) → port ≢ ins.Settings → IsInput c port → IsUntaken c mid port ⊎ AreMade c mid

@@ -86,7 +86,7 @@ module _ (name input output : List ℕ) (limit : ℕ) (old mid new : Meaning) (f
 
   early_run : (r : Refusal) → RefusedEarly c limit old mid r → is_among (status_of (Some r)) c.statuses ≡ true → WritesText (refusal_text r) mid new → Run c limit old new (refusal_status r)
   early_run r h known tells =
-      run_refused c limit old mid new r (early_ended c limit name old mid refl (inr (refl, refl)) (λ u same. refl) tt fresh asks r h known) tells
+      run_refused c limit old mid new r (early_ended c limit name old mid refl (inr (refl, refl)) (λ u same. refl) (λ file. tt) fresh asks r h known) tells
 
   -- there was no memory
   pub inner_without_memory : mid.read_faults ≡ old.read_faults → WritesText (refusal_text Memory) mid new → Run c limit old new (refusal_status Memory)

@@ -151,7 +151,7 @@ module _ {k : Kind} (laws : KindLaws k) (Own : Option TheSettings → List ℕ �
           come gives.0 _ given gives.2 (inr cut) (gives.0, inr (cut, refl)),
           refusal_is (Some (Limit s.max_symbols)) (ap (λ (b : Bool). if b then Some (Limit s.max_symbols) else None) (lt-ltb s.max_symbols (symbols s bytes) more)),
         );
-    refused = λ taken left given r are within reason refuses. absurd reason;
+    refused = λ unread taken given r are within reason refuses. absurd reason;
     so_far = λ unread taken given are within gives.
         let same : cells_in (take 8 (file cells) ++ taken) ≡ taken = behind 8 (file cells) taken (unread ins.Cells) are in
         let so_far : IsSoFar k.Live s (file cells) (unread ins.Cells) gives.0 = record {
@@ -185,7 +185,7 @@ command_of {k} laws Own own limit name cells hp lp s start stated = record {
   comes = λ t. comes laws Own limit name cells hp lp start.file s (stated t);
   unread = λ t unread taken. no_lines laws (settings_of (start.file name)) (start.file cells) (unread ins.Cells) taken.0 taken.1 taken.2;
   its = λ r reason. absurd reason;
-  own = own (settings_of (start.file name)) (start.file cells);
+  own = λ file. own (settings_of (file name)) (file cells);
 }
 
 -- the work writes where the files of the streams are made

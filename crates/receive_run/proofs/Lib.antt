@@ -4,6 +4,8 @@ pub mod Lines
 pub mod Events
 pub mod Parts
 pub mod OfKinds
+pub mod OneOutput
+pub mod Alike
 pub mod Ends
 pub mod Begun
 pub mod Laws

@@ -5,7 +5,8 @@ use Rattle.station_core.specs.declared.ports.InPort.TheVariants as ins
 use Rattle.station_core.specs.declared.ports.OutPort.{OutPort}
 use Rattle.mode_set.specs.declared.modes.Stream.{Stream}
 use Rattle.mode_set.specs.declared.settings.Settings.{Settings}
-use Rattle.reception.specs.Laws.{IsWithin, NoEvents, NothingLive, TailIsUnfinished, nothing}
+use Rattle.reception.specs.Laws.{AreSame, IsWithin, NoEvents, NothingLive, OneFinal, OneLive, TailIsUnfinished, nothing}
+use Rattle.reception.specs.Streams.{Reception}
 use Rattle.reception_laws.specs.Laws.{SomeLive, SomeFinal, LiveBeginsLive, LiveBeginsFinal, WholeSymbolsGive}
 use Rattle.run_clauses.specs.Command.{Command}
 use Rattle.run_clauses.specs.Ports.{by_input, stream_names}
@@ -44,7 +45,7 @@ module _ (k : Kind) where
     writes = stream_names hp lp;
     statuses = 0 ∷ 3 ∷ 5 ∷ 6 ∷ 7 ∷ 8 ∷ 9 ∷ [];
     memory_at_work = false;
-    LacksAtWork = λ limit file. ⊥;
+    LacksAtWork = λ limit file unread. ⊥;
     early_refusal = λ file. fitting_refusal (file settings) lp;
     header = λ file. header_by (settings_of (file settings));
     work_refusal = λ limit file. option_and_then (λ s. reception_refusal s (cells_in (file cells))) (settings_of (file settings));
@@ -68,6 +69,9 @@ module _ (k : Kind) where
     -- bytes give something so far, and in the end
     pub some_live : (s : Settings) (bytes : List ℕ) → (r : k.Received) × k.Live s bytes r
     pub some_final : (s : Settings) (bytes : List ℕ) → (r : k.Received) × k.Final s bytes r
+    -- and one thing only
+    pub one_live : (s : Settings) (bytes : List ℕ) (r q : k.Received) → k.Live s bytes r → k.Live s bytes q → r ≡ q
+    pub one_final : (s : Settings) (bytes : List ℕ) (r q : k.Received) → k.Final s bytes r → k.Final s bytes q → r ≡ q
     -- what they give so far begins what more give
     pub live : (s : Settings) (bytes more : List ℕ) (r q : k.Received) → k.Live s bytes r → k.Live s (bytes ++ more) q → Begins s bytes (bytes ++ more) r q
     pub last : (s : Settings) (bytes more : List ℕ) (r q : k.Received) → k.Live s bytes r → k.Final s (bytes ++ more) q → Begins s bytes (bytes ++ more) r q
@@ -79,11 +83,17 @@ module _ (k : Kind) where
     pub none_live : (s : Settings) → k.Live s [] none
     pub no_events : NoEvents
 
+-- receptions that are the same in all that is received are one
+pub one_of : {r q : Reception} → AreSame r q → r ≡ q
+one_of a = λ i. record { packets = λ σ. a.packets σ i; reports = λ σ. a.reports σ i; tally = λ σ. a.tally σ i; read = a.read i; bad = a.bad i }
+
 -- those of the plain kind
-abbrev pub plain_laws : SomeLive → SomeFinal → LiveBeginsLive → LiveBeginsFinal → WholeSymbolsGive → TailIsUnfinished → NothingLive → NoEvents → KindLaws plain
-plain_laws some_live some_final live last whole unfinished nothing_live no_events = record {
+abbrev pub plain_laws : SomeLive → SomeFinal → OneLive → OneFinal → LiveBeginsLive → LiveBeginsFinal → WholeSymbolsGive → TailIsUnfinished → NothingLive → NoEvents → KindLaws plain
+plain_laws some_live some_final one_live one_final live last whole unfinished nothing_live no_events = record {
   some_live = some_live;
   some_final = some_final;
+  one_live = λ s bytes r q is are. one_of (one_live s bytes r q is are);
+  one_final = λ s bytes r q is are. one_of (one_final s bytes r q is are);
   live = λ s bytes more r q is are. let b = live s bytes more r q is are in record { packets = b.packets; lines = b.lines };
   last = λ s bytes more r q is are. let b = last s bytes more r q is are in record { packets = b.packets; lines = b.lines };
   whole = whole;

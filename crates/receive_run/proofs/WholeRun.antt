@@ -41,7 +41,7 @@ module _ {k : Kind} (laws : KindLaws k) (Own : Option TheSettings → List ℕ �
   nothing u whole = no_lines laws (settings_of (start.file name)) (start.file cells) (u ins.Cells) 0 (omega arith) (whole ins.Cells (λ is. cc))
 
   early : (r : Refusal) → RefusedEarly c limit start mid r → is_among (status_of (Some r)) c.statuses ≡ true → Ended c limit start mid (Some r)
-  early = early_ended c limit name start mid refl (inr (refl, refl)) nothing (own (settings_of (start.file name)) (start.file cells)) fresh asks
+  early = early_ended c limit name start mid refl (inr (refl, refl)) nothing (λ file. own (settings_of (file name)) (file cells)) fresh asks
 
   refused_at : (r : Refusal) → Accepts name lp start mid (Err r) → Ended c limit start mid (Some r)
   refused_at Usage a = absurd a

@@ -1,4 +1,5 @@
 pub mod Received
+pub mod OneOutput
 pub mod OwnLaws
 pub mod ReceiveCommand
 pub mod Writing

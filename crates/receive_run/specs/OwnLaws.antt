@@ -1,4 +1,4 @@
--- Laws of what `receive` comes to: the bits given begin the least path, own cells give their packets back, and the number of workers changes nothing.
+-- Laws of what `receive` comes to: it is one output, the bits given begin the least path, own cells give their packets back, and the number of workers changes nothing.
 use Rattle.std.specs.Prelude.{◌≡◌, ℕ, List, Option, Some}
 use Rattle.station_core.specs.declared.ports.OutPort.{OutPort}
 use Rattle.mode_set.specs.declared.modes.Start.TheVariants.{Zero}
@@ -10,6 +10,7 @@ use Rattle.own_cell_laws.specs.Laws.{PacketsThenNulls}
 use Rattle.own_cell_laws.specs.Returned.{HavePackets, IsReturned, IsWithin}
 use Rattle.reception.specs.Streams.{Reception, Final}
 use Rattle.worker_laws.specs.Alike.{DifferInWorkers}
+use Rattle.receive_run.specs.OneOutput.{IsOneOutput}
 use Rattle.receive_run.specs.Received.{cells_in, IsAll, LinesCome, LinesSoFar, OutputComes, OutputSoFar}
 
 -- Where the cells are those of a transmission that starts at zero, or within the tolerance of them, what all of
@@ -30,6 +31,8 @@ pub record AreAlike (s t : Settings) (file : List ℕ) : Type 0 where
 
 -- the laws, by the settings that are stated, if any are, and the file of cells
 pub record ReceiveLaws (stated : Option Settings) (file : List ℕ) : Type 0 where
+  -- Each output, and the report, come to one list of bytes.
+  pub one : (s : Settings) → stated ≡ Some s → IsOneOutput (OutputComes s (cells_in file)) (LinesCome s (cells_in file)) (OutputSoFar s file) (LinesSoFar (Some s) file)
   -- The bits that all least paths share begin the least path over everything received, and over anything that may follow.
   pub begins_least : SharedBeginsLeast
   -- Own cells, and cells near them, give their packets back.

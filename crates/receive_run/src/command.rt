@@ -146,6 +146,7 @@ pub fn receive<'a, R: Threads + Sync, G: Gate, S: Station<'a>>(
     reception::laws::symbols();
     reception::laws::events();
     reception::laws::nothing();
+    reception::laws::receptions();
     reception_laws::laws::existence();
     reception_laws::laws::beginnings();
     own_cell_laws::laws::own_cells();

@@ -3,11 +3,12 @@ ghost use Rattle.std.specs.Prelude.{◌≡◌, ◌<◌, ◌^◌, false};
 
 use crate::cut::Cut;
 use load_gen::Load;
-use mode_set::{Mode, Mode2k, Settings, Stream};
+use mode_set::{Carriers, Settings, Stream};
 use receiver::{Receiver, RxOut};
 use rx_report::{Counts, Event};
 use std::alloc::{AllocError, Global};
 use std::thread::Threads;
+use word_workers::Gate;
 
 /// What a call gave: packets of HP and of LP, and reports.
 #[derive(Drop, PartialEq)]
@@ -33,19 +34,19 @@ pub struct Received {
     pub counts: Counts,
 }
 
-/// A receiver in the 2K mode, and what its last call gave.
+/// A receiver of a mode, and what its last call gave.
 #[derive(Drop)]
-pub struct Reception {
-    receiver: Receiver<Mode2k>,
+pub struct Reception<M: Carriers> {
+    receiver: Receiver<M>,
     out: RxOut,
 }
 
-impl Reception {
+impl<M: Carriers> Reception<M> {
     /// A receiver that has had no byte.
-    pub fn begin(alloc: Global, settings: &Settings) -> Result<Reception, AllocError>
-        requires { settings.now.mode ≡ Mode.M2k }
+    pub fn begin(alloc: Global, settings: &Settings) -> Result<Reception<M>, AllocError>
+        requires { settings.now.mode ≡ M.MODE }
     {
-        let receiver = Receiver::<Mode2k>::new(alloc, settings)?;
+        let receiver = Receiver::<M>::new(alloc, settings)?;
         let out = RxOut::new(alloc)?;
         Ok(Reception { receiver, out })
     }
@@ -56,6 +57,19 @@ impl Reception {
             return 0;
         }
         take_piece(rt, &mut self.receiver, piece, &mut self.out)
+    }
+
+    /// The same through a gate.
+    pub fn feed_gated<R: Threads + Sync, G: Gate>(
+        &mut self,
+        rt: &R,
+        gate: &G,
+        piece: &[u8],
+    ) -> usize {
+        if self.receiver.ended() || self.receiver.symbols() >= 4294967296 {
+            return 0;
+        }
+        take_gated(rt, gate, &mut self.receiver, piece, &mut self.out)
     }
 
     /// Ends the reception, if it has not ended.
@@ -95,9 +109,9 @@ impl Reception {
 }
 
 // Feeds a piece, and tells nothing of what is received.
-fn take_piece<R: Threads + Sync>(
+fn take_piece<M: Carriers, R: Threads + Sync>(
     rt: &R,
-    receiver: &mut Receiver<Mode2k>,
+    receiver: &mut Receiver<M>,
     piece: &[u8],
     out: &mut RxOut,
 ) -> usize
@@ -107,18 +121,32 @@ fn take_piece<R: Threads + Sync>(
     receiver.feed(rt, piece, out)
 }
 
+// The same through a gate.
+fn take_gated<M: Carriers, R: Threads + Sync, G: Gate>(
+    rt: &R,
+    gate: &G,
+    receiver: &mut Receiver<M>,
+    piece: &[u8],
+    out: &mut RxOut,
+) -> usize
+    requires going { receiver.old.ended ≡ false }
+    requires few { receiver.old.taken < 2 ^ 32 }
+{
+    receiver.feed_gated(rt, gate, piece, out)
+}
+
 // Ends the reception, and tells nothing of it.
-fn take_end<R: Threads + Sync>(rt: &R, receiver: &mut Receiver<Mode2k>, out: &mut RxOut)
+fn take_end<M: Carriers, R: Threads + Sync>(rt: &R, receiver: &mut Receiver<M>, out: &mut RxOut)
     requires { receiver.old.ended ≡ false }
 {
     receiver.finish(rt, out);
 }
 
 // Notes what the last call gave, if a symbol came to its end, and else whether nothing was given.
-fn note(
+fn note<M: Carriers>(
     alloc: Global,
     before: u64,
-    reception: &Reception,
+    reception: &Reception<M>,
     given: &mut Vec<Given>,
     quiet: &mut bool,
 ) -> Result<(), AllocError> {
@@ -132,17 +160,17 @@ fn note(
 }
 
 impl Received {
-    /// The reception of these bytes by these settings.
-    pub fn of<R: Threads + Sync>(
+    /// The reception of these bytes by these settings, whose mode is `M`.
+    pub fn of<M: Carriers, R: Threads + Sync>(
         rt: &R,
         alloc: Global,
         settings: &Settings,
         bytes: &[u8],
         cut: Cut,
     ) -> Result<Received, AllocError>
-        requires { settings.now.mode ≡ Mode.M2k }
+        requires { settings.now.mode ≡ M.MODE }
     {
-        let mut reception = Reception::begin(alloc, settings)?;
+        let mut reception = Reception::<M>::begin(alloc, settings)?;
         let mut given = Vec::new(alloc);
         let mut quiet = true;
         let taken = feed_all(
@@ -167,10 +195,10 @@ impl Received {
 }
 
 // Feeds the bytes piece by piece, notes what was given, and answers how many bytes were taken.
-fn feed_all<R: Threads + Sync>(
+fn feed_all<M: Carriers, R: Threads + Sync>(
     rt: &R,
     alloc: Global,
-    reception: &mut Reception,
+    reception: &mut Reception<M>,
     bytes: &[u8],
     cut: Cut,
     given: &mut Vec<Given>,

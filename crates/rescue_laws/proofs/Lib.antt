@@ -3,3 +3,4 @@ mod Received
 mod SomeMargins
 mod SomeWords
 mod Whole
+mod Workers

@@ -4,7 +4,8 @@ use Rattle.mode_set.specs.declared.modes.Stream.{Stream}
 use Rattle.mode_set.specs.declared.settings.Settings.{Settings}
 use Rattle.reception.specs.Laws.{IsWithin}
 use Rattle.rescue_reception.specs.Streams.{Rescue, RescuesSoFar, RescuesAtEnd, nothing}
-use Rattle.rescue_reception.specs.Lines.{event_lines}
+use Rattle.rescue_reception.specs.Lines.{closing_lines, event_lines}
+use Rattle.worker_laws.specs.Alike.{DifferInWorkers}
 
 -- ---- one output
 
@@ -57,3 +58,17 @@ SoFarBeginsAtEnd = (s : Settings) (bytes more : List ℕ) (r q : Rescue) → Res
 -- bytes that do not end a symbol give nothing
 abbrev pub WholeSymbolsGive : Type 0
 WholeSymbolsGive = (s : Settings) (bytes more : List ℕ) (r : Rescue) → IsWithin s bytes more → RescuesSoFar s (bytes ++ more) r → RescuesSoFar s bytes r
+
+-- ---- workers
+
+-- by settings that differ in the number of workers alone bytes have the same output so far and at the end ..
+abbrev pub SameSoFar : Type 0
+SameSoFar = (s t : Settings) (bytes : List ℕ) (r : Rescue) → DifferInWorkers s t → RescuesSoFar s bytes r → RescuesSoFar t bytes r
+
+abbrev pub SameAtEnd : Type 0
+SameAtEnd = (s t : Settings) (bytes : List ℕ) (r : Rescue) → DifferInWorkers s t → RescuesAtEnd s bytes r → RescuesAtEnd t bytes r
+
+-- .. and the report has the same lines
+abbrev pub SameLines : Type 0
+SameLines = (s t : Settings) (bytes : List ℕ) (r : Rescue) → DifferInWorkers s t
+    → (event_lines t bytes r ≡ event_lines s bytes r) × (closing_lines t bytes r ≡ closing_lines s bytes r)

@@ -1,5 +1,5 @@
 // The laws, as contracts of functions that do nothing.
-ghost use Rattle.rescue_laws.specs.Laws.{OneSoFar, OneAtEnd, AtEndEndsSoFar, NothingSoFar, SomeSoFar, SomeAtEnd, SoFarBeginsSoFar, SoFarBeginsAtEnd, WholeSymbolsGive};
+ghost use Rattle.rescue_laws.specs.Laws.{OneSoFar, OneAtEnd, AtEndEndsSoFar, NothingSoFar, SomeSoFar, SomeAtEnd, SoFarBeginsSoFar, SoFarBeginsAtEnd, WholeSymbolsGive, SameSoFar, SameAtEnd, SameLines};
 
 use code_paths::{
     ended_once, given_begins_ended, given_grows, given_once, reports_grow, reports_once,
@@ -57,4 +57,14 @@ pub fn beginnings()
     symbol_spans::laws::steps();
     reception::laws::costs();
     reception::laws::events();
+}
+
+/// By settings that differ in the number of workers alone the same is rescued, and the lines of the report are the
+/// same.
+pub fn workers()
+    ensures so_far { SameSoFar }
+    ensures at_end { SameAtEnd }
+    ensures lines { SameLines }
+{
+    worker_laws::laws::costs();
 }

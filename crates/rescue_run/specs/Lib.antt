@@ -1,4 +1,5 @@
 pub mod Rescued
+pub mod OwnLaws
 pub mod RescueCommand
 pub mod Working
 pub mod Closing

@@ -1,5 +1,5 @@
 -- The command `rescue`: the files that it reads and writes, and what it comes to, from its settings and the file of cells alone.
-use Rattle.std.specs.Prelude.{⊤, ◌≡◌, ℕ, ◌+◌, List, [], ◌∷◌, Option, None, Some, option_and_then, false}
+use Rattle.std.specs.Prelude.{◌≡◌, ℕ, ◌+◌, List, [], ◌∷◌, Option, None, Some, option_and_then, false}
 use Rattle.station_core.specs.declared.ports.InPort.TheVariants as ins
 use Rattle.mode_set.specs.declared.settings.Settings.{Settings}
 use Rattle.run_clauses.specs.Command.{Command}
@@ -9,6 +9,7 @@ use Rattle.run_clauses.specs.StatedSettings.{settings_of}
 use Rattle.run_clauses.specs.StreamForm.{fitting_refusal}
 use Rattle.receive_run.specs.ReceiveCommand.{header_by, most_cells}
 use Rattle.receive_run.specs.Received.{cells_in, reception_refusal}
+use Rattle.rescue_run.specs.OwnLaws.{RescueLaws}
 use Rattle.rescue_run.specs.Rescued.{LinesCome, LinesSoFar, OutputComes, OutputSoFar}
 
 -- rescue SETTINGS CELLS HP, or rescue SETTINGS CELLS HP LP
@@ -18,7 +19,7 @@ rescue_command settings cells hp lp = record {
   writes = stream_names hp lp;
   statuses = 0 ∷ 3 ∷ 5 ∷ 6 ∷ 7 ∷ 8 ∷ 9 ∷ [];
   memory_at_work = false;
-  LacksAtWork = λ limit file. ⊥;
+  LacksAtWork = λ limit file unread. ⊥;
   early_refusal = λ file. fitting_refusal (file settings) lp;
   header = λ file. header_by (settings_of (file settings));
   work_refusal = λ limit file. option_and_then (λ s. reception_refusal s (cells_in (file cells))) (settings_of (file settings));
@@ -28,5 +29,5 @@ rescue_command settings cells hp lp = record {
   ComesSoFar = λ limit file unread port output.
       (s : Settings) × (settings_of (file settings) ≡ Some s) × OutputSoFar s (file cells) (unread ins.Cells) port output;
   PrintsSoFar = λ limit file unread lines. LinesSoFar (settings_of (file settings)) (file cells) (unread ins.Cells) lines;
-  Own = λ limit file. ⊤;
+  Own = λ limit file. RescueLaws (settings_of (file settings)) (file cells);
 }

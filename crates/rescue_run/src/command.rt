@@ -114,8 +114,10 @@ pub fn rescue<'a, R: Threads + Sync, S: Station<'a>>(
     reception::laws::symbols();
     reception::laws::events();
     rescue_laws::laws::nothing();
+    rescue_laws::laws::receptions();
     rescue_laws::laws::existence();
     rescue_laws::laws::beginnings();
+    rescue_laws::laws::workers();
     match read_fitting(alloc, settings, lp, station) {
         Ok(accepted) => {
             let files = ReceptionFiles { cells, hp, lp };

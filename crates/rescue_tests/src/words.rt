@@ -52,6 +52,76 @@ fn rescued(
     Ok((packets, rx.counts()))
 }
 
+// Whether a byte of the interleaved stream is inverted: 144 bytes in a row are.
+fn is_inverted(place: usize) -> bool {
+    4000 <= place && place < 4144
+}
+
+// How many bytes of a word are inverted. The interleaver sends byte q of the words as byte q + 204 b of the stream, where b is its
+// branch, q mod 12 (EN 300 744, 4.3.2).
+fn inverted_in(word: usize) -> usize {
+    let mut count = 0usize;
+    for byte in 0..204usize {
+        let from = 204 * word.min(100) + byte;
+        if is_inverted(from + 204 * (from % 12)) && count < 204 {
+            count += 1;
+        }
+    }
+    count
+}
+
+// What a word with so many inverted bytes counts as: up to eight are corrected; up to twelve are if the least margins are theirs,
+// for eight are erased and four more may differ.
+fn kind_of(inverted: usize) -> [u64; 4] {
+    match inverted {
+        0 => [1, 0, 0, 0],
+        1..=8 => [0, 1, 0, 0],
+        9..=12 => [0, 0, 1, 0],
+        _ => [0, 0, 0, 1],
+    }
+}
+
+// By how much the counts of the clean, the corrected, the rescued and the bad words grew.
+fn grown(old: RescueCounts, new: RescueCounts) -> [u64; 4] {
+    [
+        new.clean.wrapping_sub(old.clean),
+        new.corrected.wrapping_sub(old.corrected),
+        new.rescued.wrapping_sub(old.rescued),
+        new.bad.wrapping_sub(old.bad),
+    ]
+}
+
+// Each word of the same stream in turn: what it counts as, and that its packet is the one that was sent.
+#[test]
+fn inverted_run_word_by_word(rt: HostRuntime) -> Result<(), Fail> {
+    let alloc = rt.alloc();
+    let (packets, bytes) = sent(alloc, 19, 40)?;
+    let mut rx = RescueWords::new(alloc)?;
+    let mut word = 0usize;
+    for (place, byte) in bytes.iter().enumerate() {
+        let before = rx.counts();
+        let mut packet = Vec::new(alloc);
+        let is_wrong = is_inverted(place);
+        let (sent_byte, margin) = if is_wrong { (!*byte, 0) } else { (*byte, 1) };
+        take(alloc, &mut rx, sent_byte, margin, &mut packet)?;
+        if rx.counts().words != before.words {
+            let at = 188 * word.min(100);
+            assert!(rt;
+                grown(before, rx.counts()) == kind_of(inverted_in(word)),
+                "word {word}"
+            );
+            assert!(rt;
+                packets[at.min(packets.len())..].starts_with(&packet),
+                "word {word}"
+            );
+            assert!(rt; packet.len() == 188, "word {word}");
+            word = word.saturating_add(1);
+        }
+    }
+    assert_eq!(rt; word, 29);
+    Ok(())
+}
+
 // Of forty packets 144 interleaved bytes in a row are inverted, and have margin 0 where all others have 1: twelve bytes in each
 // branch, so eleven words are wrong in twelve places and one in six or seven at either end. All packets come back.
 #[test]
@@ -60,11 +130,10 @@ fn inverted_run_of_144(rt: HostRuntime) -> Result<(), Fail> {
     let (packets, mut bytes) = sent(alloc, 19, 40)?;
     let mut margins = Vec::new(alloc);
     for (place, byte) in bytes.iter_mut().enumerate() {
-        let inverted = 4000 <= place && place < 4144;
-        if inverted {
+        if is_inverted(place) {
             *byte ^= 0xFF;
         }
-        margins.push(if inverted { 0 } else { 1 })?;
+        margins.push(if is_inverted(place) { 0 } else { 1 })?;
     }
     let (found, counts) = rescued(alloc, &bytes, &margins)?;
     let expected = RescueCounts {

@@ -24,8 +24,8 @@ pub record Command : Type 1 where
   pub statuses : List ℕ
   -- it takes memory within its work too, and not only before another file than the settings is asked for
   pub memory_at_work : Bool
-  -- what is so of the files where it lacks memory there; the number is that of `work_refusal`
-  pub LacksAtWork : ℕ → Files → Type 0
+  -- what is so of the files and of what is left unread where it lacks memory there; the number is that of `work_refusal`
+  pub LacksAtWork : ℕ → Files → Unread → Type 0
   -- why its words or its settings are refused, if they are
   pub early_refusal : Files → Option Refusal
   -- the header with which the cells that it reads must begin, if they must begin with one
@@ -41,7 +41,7 @@ pub record Command : Type 1 where
   -- the same where the reading has stopped at a fault, with this left unread
   pub ComesSoFar : ℕ → Files → Unread → OutPort → List ℕ → Type 0
   pub PrintsSoFar : ℕ → Files → Unread → List ℕ → Type 0
-  -- what is so of all that it comes to, as a law over these files: of its own, where other commands have none
+  -- laws of its own, of all that it comes to over these files; other commands have none
   pub Own : ℕ → Files → Type 0
 
 -- the command writes at the port, or reads there

@@ -9,7 +9,7 @@ use Rattle.station_core.specs.Causes.{Rose}
 use Rattle.station_core.specs.declared.ports.InPort.{InPort}
 use Rattle.station_core.specs.declared.ports.InPort.TheVariants.{Settings, Hp, Lp, Cells}
 use Rattle.station_core.specs.declared.ports.OutPort.{OutPort}
-use Rattle.run_clauses.specs.Command.{Command, IsInput, IsOutput, is_among, refusal_of, input_file, unread}
+use Rattle.run_clauses.specs.Command.{Command, Files, IsInput, IsOutput, is_among, refusal_of, input_file, unread}
 use Rattle.run_clauses.specs.Header.{header_size, IsHeaderTaken}
 use Rattle.run_clauses.specs.Text.{status_of, text_at}
 
@@ -103,11 +103,11 @@ pub record Run (c : Command) (limit : ℕ) (old new : Meaning) (status : ℕ) : 
   pub done : old.tells ≡ true → status ≡ 0 → (out : OutPort) → IsOutput c out → c.Comes limit old.file out (sink_at out new).written
   pub done_report : old.tells ≡ true → status ≡ 0 → c.Prints limit old.file new.report.written
   -- AT 2, 3 AND 7: words of no form, refused settings, want of memory
-  -- No file but the settings was asked for. (At 7 every output may stand made and empty, if the work takes memory and, where contents are told, the files
-  -- are such that it may lack it.) Report holds the text.
+  -- No file but the settings was asked for. (At 7 every output may stand made and empty, if the work takes memory and, where contents are told, what was
+  -- taken of the files is such that it may lack it.) Report holds the text.
   pub early : is_among status (2 ∷ 3 ∷ []) ≡ true → AsksSettingsAlone new
   pub lacking : status ≡ 7 → AsksSettingsAlone new ⊎ ((c.memory_at_work ≡ true) × AreMadeEmpty c new)
-  pub lacking_at_work : old.tells ≡ true → status ≡ 7 → AsksSettingsAlone new ⊎ c.LacksAtWork limit old.file
+  pub lacking_at_work : old.tells ≡ true → status ≡ 7 → AsksSettingsAlone new ⊎ c.LacksAtWork limit old.file (unread c new)
   pub early_report : old.tells ≡ true → is_among status (2 ∷ 3 ∷ 7 ∷ []) ≡ true → Reports old new [] (text_at c limit old.file status)
   -- AT 9: cells without their header
   -- No output was asked for or made. Of the cells no more was taken than the header. Report holds the text.
@@ -133,5 +133,6 @@ pub record Run (c : Command) (limit : ℕ) (old new : Meaning) (status : ℕ) : 
   pub front_report : old.tells ≡ true → status ≡ 6
       → (lines : List ℕ) × c.Prints limit old.file lines × ((k : ℕ) × Reports old new (take k lines) (text_at c limit old.file status))
   -- OF ITS OWN
-  -- What the command comes to obeys the laws that its definition names.
-  pub own : c.Own limit old.file
+  -- What the command comes to obeys the laws that its definition names, over all files: a station that tells none is
+  -- no exception.
+  pub own : (file : Files) → c.Own limit file

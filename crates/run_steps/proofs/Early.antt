@@ -49,7 +49,7 @@ refused_early c limit name old mid (Cells reason) same later reads = reads
 
 module _ (c : Command) (limit : ℕ) (name : List ℕ) (old mid : Meaning) (no_report : c.writes outs.Report ≡ None)
     (reads : (mid.settings ≡ old.settings) ⊎ ((c.reads ins.Settings ≡ Some name) × (c.most_taken limit old.file ins.Settings ≡ most_settings + 1)))
-    (nothing : (u : Unread) → ((port : InPort) → port ≢ ins.Settings → u port ≡ input_file old.file c port) → c.PrintsSoFar limit old.file u []) (own : c.Own limit old.file)
+    (nothing : (u : Unread) → ((port : InPort) → port ≢ ins.Settings → u port ≡ input_file old.file c port) → c.PrintsSoFar limit old.file u []) (own : (file : Files) → c.Own limit file)
     (fresh : IsFresh old) (asks : AsksSettings name old mid) where
   -- the ports but Settings are as before
   hp_same : mid.hp ≡ old.hp
@@ -233,7 +233,7 @@ module _ (c : Command) (limit : ℕ) (name : List ℕ) (old mid : Meaning) (no_r
 -- the same of a run that has asked for nothing
 pub unstarted_ended : (c : Command) (limit : ℕ) (old : Meaning) → c.writes outs.Report ≡ None
     → ((u : Unread) → ((port : InPort) → port ≢ ins.Settings → u port ≡ input_file old.file c port) → c.PrintsSoFar limit old.file u [])
-    → c.Own limit old.file → IsFresh old → (r : Refusal) → RefusedEarly c limit old old r → is_among (status_of (Some r)) c.statuses ≡ true → Ended c limit old old (Some r)
+    → ((file : Files) → c.Own limit file) → IsFresh old → (r : Refusal) → RefusedEarly c limit old old r → is_among (status_of (Some r)) c.statuses ≡ true → Ended c limit old old (Some r)
 unstarted_ended c limit old no_report nothing own fresh r h known =
     early_ended c limit [] old old no_report (inl refl) nothing own fresh
     (record { others = refl; later = omega arith; asked = inl refl; read = λ t is. absurd (true≢false (sym is ∙ fresh.settings.attached)) }) r h known

@@ -207,7 +207,7 @@ module _ (c : Command) (limit : ℕ) (old mid new : Meaning) (text : List ℕ) (
       done_report = λ t is. absurd (undone is);
       early = λ is. alone_same (nothing is).asks;
       lacking = λ is. lacking (lacks is);
-      lacking_at_work = λ t is. elim (lacks is) [ inl none ↦ inl (alone_same none.asks) | inr empty ↦ inr (empty.lacks t) ];
+      lacking_at_work = λ t is. elim (lacks is) [ inl none ↦ inl (alone_same none.asks) | inr empty ↦ inr (subst (λ (u : Unread). c.LacksAtWork limit old.file u) (sym unread_same) (empty.lacks t)) ];
       early_report = λ t is. told_after t e.same_telling e.later_report [] (none_printed t is (cases_early status is)) (text_at c limit old.file status) (named t);
       unheaded = λ is out output. subst IsUntouched (sym (sink_same e.no_report out output)) ((unheaded is).outputs out output);
       unheaded_taken = λ t is port other reads. untaken_same port ((unheaded is).taken t port other reads);

@@ -11,7 +11,7 @@ use Rattle.run_clauses.specs.declared.work.Refusal.{Refusal}
 use Rattle.run_clauses.specs.declared.work.Refusal.TheVariants.{Usage, Settings, ReadFault, WriteFault, NotSync, Memory, Limit, Cells}
 use Rattle.run_clauses.specs.declared.work.CellsRefusal.TheVariants.{Header, NoPlace, AnnouncedForm}
 use Rattle.run_clauses.specs.Header.{IsHeaderTaken}
-use Rattle.run_clauses.specs.Command.{Command, IsInput, IsOutput, is_among, refusal_of, input_file, unread}
+use Rattle.run_clauses.specs.Command.{Command, Files, IsInput, IsOutput, is_among, refusal_of, input_file, unread}
 use Rattle.run_clauses.specs.Run.{AreMadeEmpty, AsksSettingsAlone, IsUntaken}
 use Rattle.run_clauses.specs.Text.{status_of}
 use Rattle.run_steps.specs.Causes.{AreReadsKept, IsSettled}
@@ -85,10 +85,10 @@ pub record HoldUnheaded (c : Command) (old mid : Meaning) : Type 0 where
   pub taken : old.tells ≡ true → (port : InPort) → port ≢ ins.Settings → IsInput c port → IsUntaken c mid port
   pub report : old.tells ≡ true → mid.report.written ≡ []
 
--- or, of a command that takes memory within its work, and files with which it may lack it: every output was made and none holds a byte, nor does Report
+-- or, of a command that takes memory within its work, and has taken of the files what may make it lack it: every output was made and none holds a byte, nor does Report
 pub record HoldEmpty (c : Command) (limit : ℕ) (old mid : Meaning) : Type 0 where
   pub at_work : c.memory_at_work ≡ true
-  pub lacks : old.tells ≡ true → c.LacksAtWork limit old.file
+  pub lacks : old.tells ≡ true → c.LacksAtWork limit old.file (unread c mid)
   pub outputs : AreMadeEmpty c mid
   pub report : old.tells ≡ true → mid.report.written ≡ []
 
@@ -136,4 +136,4 @@ pub record Ended (c : Command) (limit : ℕ) (old mid : Meaning) (r : Option Ref
   pub report_open : mid.report.closed ≡ old.report.closed
   -- what stands
   pub leaves : Leaves c limit old mid r
-  pub own : c.Own limit old.file
+  pub own : (file : Files) → c.Own limit file

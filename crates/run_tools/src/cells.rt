@@ -8,22 +8,31 @@ use test_tools::next_number;
 /// The bytes of a symbol of the 2K mode.
 pub const SYMBOL: usize = 8_525;
 
+/// The bytes of a symbol of the 8K mode.
+pub const WIDE_SYMBOL: usize = 34_085;
+
 /// The bytes of a cell file of a super-frame of the 2K mode.
 pub const SUPER_FRAME: u32 = 2_318_808;
 
-/// What is to be found: the status, the report, how many bytes of HP and of LP stand, and their sums.
-pub type Found<'a> = (u8, &'a str, (usize, u32), (usize, u32));
+/// The bytes of a cell file of a super-frame of the 8K mode.
+pub const WIDE_SUPER_FRAME: u32 = 9_271_128;
 
-/// No byte, and its sum.
-pub const NONE: (usize, u32) = (0, 0);
+/// What an output holds: how many bytes, and their sum. None if it was not made.
+pub type Held = Option<(usize, u32)>;
 
-/// The cells of the super-frame of null packets by these settings, behind their header; in the 2K mode. The only error is want of
-/// memory.
-pub fn null_cells<R: Threads + Sync>(
+/// What is to be found: the status, the report, and what HP and LP hold.
+pub type Found<'a> = (u8, &'a str, Held, Held);
+
+/// An output that was made and holds no byte.
+pub const EMPTY: Held = Some((0, 0));
+
+// The cells of the super-frame of null packets by these settings, after their header, if these bytes are enough for it.
+fn null_cells_in<R: Threads + Sync>(
     rt: &R,
     alloc: Global,
     settings: &str,
     two: bool,
+    room: u32,
 ) -> Result<Vec<u8>, AllocError> {
     let words = if two {
         "modulate s a b cells"
@@ -32,14 +41,43 @@ pub fn null_cells<R: Threads + Sync>(
     };
     let inputs = (Vec::new(alloc), Vec::new(alloc));
     let settings = text_bytes(alloc, settings, "")?;
-    Ok(run_files(rt, alloc, words, settings, inputs, 1, ample(SUPER_FRAME))?.cells)
+    Ok(run_files(rt, alloc, words, settings, inputs, 1, ample(room))?.cells)
 }
 
-/// Whether this stands.
+/// The cells of the super-frame of null packets by these settings, after their header; in the 2K mode. The only error is want of
+/// memory.
+pub fn null_cells<R: Threads + Sync>(
+    rt: &R,
+    alloc: Global,
+    settings: &str,
+    two: bool,
+) -> Result<Vec<u8>, AllocError> {
+    null_cells_in(rt, alloc, settings, two, SUPER_FRAME)
+}
+
+/// The same of one stream in the 8K mode.
+pub fn wide_null_cells<R: Threads + Sync>(
+    rt: &R,
+    alloc: Global,
+    settings: &str,
+) -> Result<Vec<u8>, AllocError> {
+    null_cells_in(rt, alloc, settings, false, WIDE_SUPER_FRAME)
+}
+
+// What an output holds.
+fn held(is_made: bool, bytes: &[u8]) -> Held {
+    if is_made {
+        Some((bytes.len(), checksum(bytes)))
+    } else {
+        None
+    }
+}
+
+/// Whether this stands, and no other output was made.
 pub fn stands(ran: &Ran, found: Found<'_>) -> bool {
-    let told = ran.status == found.0 && ran.report.as_slice() == found.1.as_bytes();
-    let hp = (ran.hp.len(), checksum(&ran.hp)) == found.2;
-    told && hp && (ran.lp.len(), checksum(&ran.lp)) == found.3
+    let is_told = ran.status == found.0 && ran.report.as_slice() == found.1.as_bytes();
+    let is_held = held(ran.made.hp, &ran.hp) == found.2 && held(ran.made.lp, &ran.lp) == found.3;
+    is_told && is_held && !ran.made.cells && !ran.made.bytes
 }
 
 // A part of a cell moved by a drawn number of at most this size, and kept within 16 bits.

@@ -9,7 +9,10 @@ mod files;
 mod meeting;
 mod runs;
 
-pub use cells::{Found, NONE, SUPER_FRAME, SYMBOL, noisy, null_cells, stands};
+pub use cells::{
+    EMPTY, Found, Held, SUPER_FRAME, SYMBOL, WIDE_SUPER_FRAME, WIDE_SYMBOL, noisy, null_cells,
+    stands, wide_null_cells,
+};
 pub use files::{BASE, File, LAYERED, WHOLE_NULLS, checksum, text_bytes};
 pub use meeting::{Flags, Meeting};
-pub use runs::{Conditions, Ran, ample, run_files, run_gated_files, words_of};
+pub use runs::{Conditions, Made, Ran, UNMADE, ample, run_files, run_gated_files, words_of};

@@ -9,11 +9,34 @@ use std::alloc::{AllocError, Global};
 use std::thread::Threads;
 use word_workers::Gate;
 
-/// What a run left: its status, and the bytes that were written to each output.
+/// The outputs that a run made. One that was made may be empty.
+#[derive(Clone, Copy, Debug, PartialEq, Eq)]
+pub struct Made {
+    /// The output of `disperse`, `outer` and `inner`.
+    pub bytes: bool,
+    /// The cells of a modulation, or of a conversion.
+    pub cells: bool,
+    /// That of HP.
+    pub hp: bool,
+    /// That of LP.
+    pub lp: bool,
+}
+
+/// No output was made.
+pub const UNMADE: Made = Made {
+    bytes: false,
+    cells: false,
+    hp: false,
+    lp: false,
+};
+
+/// What a run left: its status, the outputs that it made, and the bytes that were written to each.
 #[derive(Drop)]
 pub struct Ran {
     /// The status.
     pub status: u8,
+    /// The outputs that were made.
+    pub made: Made,
     /// The lines and the text of the report.
     pub report: Vec<u8>,
     /// The output of `disperse`, `outer` and `inner`.
@@ -31,6 +54,12 @@ impl Ran {
     pub fn new(alloc: Global, status: u8, station: &MemoryStation<'_>) -> Result<Ran, AllocError> {
         Ok(Ran {
             status,
+            made: Made {
+                bytes: station.is_created(OutPort::Bytes),
+                cells: station.is_created(OutPort::Cells),
+                hp: station.is_created(OutPort::Hp),
+                lp: station.is_created(OutPort::Lp),
+            },
             report: Vec::from_slice(alloc, station.written(OutPort::Report))?,
             bytes: Vec::from_slice(alloc, station.written(OutPort::Bytes))?,
             cells: Vec::from_slice(alloc, station.written(OutPort::Cells))?,

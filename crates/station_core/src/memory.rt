@@ -121,6 +121,19 @@ impl<'a> MemoryStation<'a> {
             OutPort::Report => &self.report.bytes,
         }
     }
+
+    /// Whether the output at a port was made. One that was made may be empty.
+    pub fn is_created(&self, port: OutPort) -> bool
+        ensures { result ≡ (sink_at port (memory_meaning self.now)).created }
+    {
+        match port {
+            OutPort::Cells => self.cells_out.created,
+            OutPort::Hp => self.hp_out.created,
+            OutPort::Lp => self.lp_out.created,
+            OutPort::Bytes => self.bytes_out.created,
+            OutPort::Report => self.report.created,
+        }
+    }
 }
 
 // Whether a call is named.

@@ -15,7 +15,7 @@ use Rattle.station_core.specs.declared.ports.OutPort.{OutPort}
 use Rattle.station_core.specs.declared.ports.OutPort.TheVariants as outs
 use Rattle.run_clauses.specs.declared.work.Refusal.{Refusal}
 use Rattle.run_clauses.specs.declared.work.Refusal.TheVariants as refusals
-use Rattle.run_clauses.specs.Command.{Command, Files, IsInput, IsOutput, is_among, named, refusal_of, input_file, unread}
+use Rattle.run_clauses.specs.Command.{Command, Files, Unread, IsInput, IsOutput, is_among, named, refusal_of, input_file, unread}
 use Rattle.run_clauses.specs.declared.work.CellsRefusal.TheVariants.{Header, NoPlace, AnnouncedForm}
 use Rattle.run_clauses.specs.Header.{IsHeaderTaken, behind_header, header_refusal, header_size}
 use Rattle.run_clauses.specs.Run.{IsUntaken, Run}
@@ -397,21 +397,21 @@ module _ (c : Command) (limit : ℕ) (name cells : List ℕ) (header : Option (L
     )
 
     -- so does what was given before the cells are refused
-    refused_continues : start.tells ≡ true → (given : Written) (r : Refusal) → ComesRefused c limit start.file given r → Continues c limit start.file given
-    refused_continues t given refusals.Memory came =
+    refused_continues : start.tells ≡ true → (left : Unread) (given : Written) (r : Refusal) → ComesRefused c limit start.file left given r → Continues c limit start.file given
+    refused_continues t left given refusals.Memory came =
         let all = (first_of t).1 in
         record { all = all.all; come = all.come; begins = λ port. (all.all port, ap (λ (l : List ℕ). l ++ all.all port) (sym (came.1 port))) }
-    refused_continues t given (refusals.Cells reason) came = record { all = given; come = came.0; begins = λ port. ([], sym (append-nil (given port))) }
-    refused_continues t given refusals.Usage came = absurd came
-    refused_continues t given (refusals.Settings reason) came = absurd came
-    refused_continues t given refusals.ReadFault came = absurd came
-    refused_continues t given refusals.WriteFault came = absurd came
-    refused_continues t given (refusals.NotSync stream n) came = absurd came
-    refused_continues t given (refusals.Limit n) came = absurd came
+    refused_continues t left given (refusals.Cells reason) came = record { all = given; come = came.0; begins = λ port. ([], sym (append-nil (given port))) }
+    refused_continues t left given refusals.Usage came = absurd came
+    refused_continues t left given (refusals.Settings reason) came = absurd came
+    refused_continues t left given refusals.ReadFault came = absurd came
+    refused_continues t left given refusals.WriteFault came = absurd came
+    refused_continues t left given (refusals.NotSync stream n) came = absurd came
+    refused_continues t left given (refusals.Limit n) came = absurd came
 
     continues : start.tells ≡ true → (given : Written) → GivenUpTo w most file given ⊎ GivenBefore w most file given → Continues c limit start.file given
     continues t given (inl up) = (command.comes t).begun given up
-    continues t given (inr b) = refused_continues t given b.refusal ((command.comes t).refused b.taken b.rest given b.refusal b.are b.within b.its b.refuses)
+    continues t given (inr b) = refused_continues t (λ port. b.rest) given b.refusal ((command.comes t).refused (λ port. b.rest) b.taken given b.refusal b.are b.within b.its b.refuses)
 
     -- ---- what is left by each outcome
     module _ (result : Result (Unit {0}) Stop) (done : IsWorked w most names (opened cells header old) mid result) where
@@ -487,7 +487,7 @@ module _ (c : Command) (limit : ℕ) (name cells : List ℕ) (header : Option (L
     settled_by (refusals.NotSync stream n) may s = absurd may
     settled_by (refusals.Limit n) may s = absurd may
 
-    exact_by : (r : Refusal) → MayRefuse c r → (start.tells ≡ true → (given : Written) × ComesRefused c limit start.file given r) → IsExact c limit start (Some r)
+    exact_by : (r : Refusal) → MayRefuse c r → (start.tells ≡ true → (given : Written) × ComesRefused c limit start.file (unread c mid) given r) → IsExact c limit start (Some r)
     exact_by refusals.Memory may came = tt
     exact_by (refusals.Cells reason) may came = λ t. refusal_by (Some (refusals.Cells reason)) None (fits t) (came t).1.1 t
     exact_by refusals.Usage may came = absurd may
@@ -498,7 +498,7 @@ module _ (c : Command) (limit : ℕ) (name cells : List ℕ) (header : Option (L
     exact_by (refusals.Limit n) may came = absurd may
 
     left_by : (r : Refusal) (done : IsWorked w most names (opened cells header old) mid (Err (stops.Work r))) → MayRefuse c r
-        → (start.tells ≡ true → (given : Written) × ComesRefused c limit start.file given r × Holds done.start mid given) → Leaves c limit start mid (Some r)
+        → (start.tells ≡ true → (given : Written) × ComesRefused c limit start.file (unread c mid) given r × Holds done.start mid given) → Leaves c limit start mid (Some r)
     left_by refusals.Memory done may came = inr (record {
       at_work = may;
       lacks = λ t. (came t).1.0;
@@ -556,8 +556,13 @@ module _ (c : Command) (limit : ℕ) (name cells : List ℕ) (header : Option (L
     ended_of (Err (stops.Work r)) cause reason ran =
         let done = worked_if (Err (stops.Work r)) (λ e. omega (arith, e)) ran in
         let its = command.its r reason in
-        let came : start.tells ≡ true → (given : Written) × ComesRefused c limit start.file given r × Holds done.start mid given =
-        λ t. let d = done.works (told t) in (d.given, (command.comes t).refused d.taken mid.cells.left d.given r d.are d.within reason d.refuses, d.holds) in
+        let came : start.tells ≡ true → (given : Written) × ComesRefused c limit start.file (unread c mid) given r × Holds done.start mid given =
+        λ t. let d = done.works (told t) in (
+          d.given,
+          (command.comes t).refused (unread c mid) d.taken d.given r (d.are ∙ ap (λ (l : List ℕ). d.taken ++ l) (sym (unread_open done.attached))) d.within reason
+              (subst (λ (l : List ℕ). w.Refuses d.taken l d.given r) (sym (unread_open done.attached)) d.refuses),
+          d.holds,
+        ) in
         ended_by (Some r) its.1 (caused_by r its.0 cause.0) (settled_by r its.0 (settled_is cause.1)) (omega (arith, cause.0)) (later_writes cause.1) (exact_by r its.0 (λ t. let p = came t in (p.0, p.1))) (order (Err (stops.Work r)) ran)
         (λ is. absurd (no_refusal _ is)) (λ is t. absurd (no_refusal _ is)) (left_by r done its.0 came)
 

@@ -65,16 +65,16 @@ MayRefuse c (refusals.Cells NoPlace) = ⊤
 MayRefuse c (refusals.Cells AnnouncedForm) = ⊤
 
 -- What was given before the cells are refused for this reason is what the command comes to, and this is its
--- refusal. At want of memory nothing was given, and the files are such that it may be wanting.
-abbrev pub ComesRefused : Command → ℕ → Files → Written → Refusal → Type 0
-ComesRefused c limit file given refusals.Memory = c.LacksAtWork limit file × ((port : OutPort) → given port ≡ [])
-ComesRefused c limit file given refusals.Usage = ⊥
-ComesRefused c limit file given (refusals.Settings reason) = ⊥
-ComesRefused c limit file given refusals.ReadFault = ⊥
-ComesRefused c limit file given refusals.WriteFault = ⊥
-ComesRefused c limit file given (refusals.NotSync stream n) = ⊥
-ComesRefused c limit file given (refusals.Limit n) = ⊥
-ComesRefused c limit file given (refusals.Cells reason) = Come c limit file given × (c.work_refusal limit file ≡ Some (refusals.Cells reason))
+-- refusal. At want of memory nothing was given, and the files with what is unread are such that it may be wanting.
+abbrev pub ComesRefused : Command → ℕ → Files → Unread → Written → Refusal → Type 0
+ComesRefused c limit file unread given refusals.Memory = c.LacksAtWork limit file unread × ((port : OutPort) → given port ≡ [])
+ComesRefused c limit file unread given refusals.Usage = ⊥
+ComesRefused c limit file unread given (refusals.Settings reason) = ⊥
+ComesRefused c limit file unread given refusals.ReadFault = ⊥
+ComesRefused c limit file unread given refusals.WriteFault = ⊥
+ComesRefused c limit file unread given (refusals.NotSync stream n) = ⊥
+ComesRefused c limit file unread given (refusals.Limit n) = ⊥
+ComesRefused c limit file unread given (refusals.Cells reason) = Come c limit file given × (c.work_refusal limit file ≡ Some (refusals.Cells reason))
 
 -- What the files come to by the command is what the cells, `bytes` behind their header, give by the work.
 pub record ComesTo (c : Command) (limit : ℕ) (file : Files) (w : Work) (most : ℕ) (bytes : List ℕ) : Type 0 where
@@ -83,7 +83,8 @@ pub record ComesTo (c : Command) (limit : ℕ) (file : Files) (w : Work) (most :
   -- the cells within the limit, where they hold more
   pub past : (given : Written) → most < symbols w.size bytes → w.Gives (within_limit most w.size bytes) given → Come c limit file given × (c.work_refusal limit file ≡ Some (Limit most))
   -- the cells that the work refuses
-  pub refused : (taken left : List ℕ) (given : Written) (r : Refusal) → bytes ≡ taken ++ left → symbols w.size taken ≤ most → w.Reasons r → w.Refuses taken left given r → ComesRefused c limit file given r
+  pub refused : (unread : Unread) (taken : List ℕ) (given : Written) (r : Refusal) → bytes ≡ taken ++ unread ins.Cells → symbols w.size taken ≤ most → w.Reasons r → w.Refuses taken (unread ins.Cells) given r
+      → ComesRefused c limit file unread given r
   -- the cells so far as a failed read
   pub so_far : (unread : Unread) (taken : List ℕ) (given : Written) → bytes ≡ taken ++ unread ins.Cells → symbols w.size taken ≤ most → w.Gives taken given → ComeSoFar c limit file unread given
   -- first cells give what begins that
@@ -107,4 +108,4 @@ pub record CellCommand (c : Command) (limit : ℕ) (settings cells : List ℕ) (
   -- where the reading stops within the header no line is printed
   pub unread : start.tells ≡ true → (unread : Unread) → TakesHeader header (start.file cells) (unread ins.Cells) → c.PrintsSoFar limit start.file unread []
   pub its : (r : Refusal) → w.Reasons r → MayRefuse c r × (is_among (refusal_status r) c.statuses ≡ true)
-  pub own : c.Own limit start.file
+  pub own : (file : Files) → c.Own limit file

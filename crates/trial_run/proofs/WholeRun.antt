@@ -43,7 +43,7 @@ module _ (limit : ℕ) (name : List ℕ) (number : ℕ) (start mid : Meaning) (l
 
   -- ---- refused before the work
   early : (r : Refusal) → RefusedEarly c limit start mid r → is_among (status_of (Some r)) c.statuses ≡ true → Ended c limit start mid (Some r)
-  early = early_ended c limit name start mid refl (inr (refl, refl)) (λ u whole. refl) (own_laws laws (settings_of (start.file name)) number) fresh asks
+  early = early_ended c limit name start mid refl (inr (refl, refl)) (λ u whole. refl) (λ file. own_laws laws (settings_of (file name)) number) fresh asks
 
   known_early : (r : Refusal) → ReadsSettings name start mid (Err r) → is_among (status_of (Some r)) c.statuses ≡ true
   known_early Usage reads = absurd reads
@@ -170,7 +170,7 @@ module _ (limit : ℕ) (name : List ℕ) (number : ℕ) (start mid : Meaning) (l
         same_files = ap (λ (x : Meaning). x.file) others ∙ ap (λ (x : Meaning). x.file) asks.others;
         report_open = ap (λ (x : Meaning). x.report.closed) others ∙ ap (λ (x : Meaning). x.report.closed) asks.others;
         leaves = leaves;
-        own = own_laws laws (settings_of (start.file name)) number;
+        own = λ file. own_laws laws (settings_of (file name)) number;
       }
 
     -- ---- what stands by the outcome

@@ -13,7 +13,7 @@ use Rattle.run_clauses.specs.declared.work.Refusal.{Refusal}
 use Rattle.run_clauses.specs.declared.work.Refusal.TheVariants.{Limit, Cells, Memory}
 use Rattle.run_clauses.specs.declared.work.Refusal.TheVariants as refusals
 use Rattle.run_clauses.specs.declared.work.CellsRefusal.TheVariants.{Header, NoPlace, AnnouncedForm}
-use Rattle.run_clauses.specs.Command.{Command, Files, is_among}
+use Rattle.run_clauses.specs.Command.{Command, Files, Unread, is_among}
 use Rattle.run_clauses.specs.StatedSettings.{settings_of}
 use Rattle.run_clauses.specs.Text.{refusal_status}
 use Rattle.symbol_runs.specs.Work.{Written}
@@ -25,9 +25,10 @@ use Rattle.receive_run.specs.Received.{cells_in, within_limit}
 use Rattle.receive_run.specs.ReceiveCommand.{header_by, most_cells}
 use Rattle.receive_run.proofs.Commands.{behind, symbols_none}
 use Rattle.receive_run.proofs.Parts.{some_bytes}
-use Rattle.tune_in.specs.OfBytes.{HasNoPlace}
+use Rattle.tune_in.specs.OfBytes.{HasNoPlace, IsFoundIn}
+use Rattle.tune_in.specs.declared.frame.Found.{Found}
 use Rattle.tune_run.specs.Tuned.{ComesTo, GivesFinal, GivesLive, fits, tune_refusal}
-use Rattle.tune_run.specs.TuneCommand.{IsSoFar, LinesSoFar, tune_command}
+use Rattle.tune_run.specs.TuneCommand.{IsSoFar, LinesSoFar, TakesPlace, tune_command}
 use Rattle.tune_run.specs.Working.{RefusesTuning, TuningReasons, tuning_work}
 use Rattle.tune_run.proofs.Bytes.{symbols_limited}
 use Rattle.tune_run.proofs.Coming.{Laws, final_begins, final_comes, held_none, held_place, live_begins, passed, refusal_found, refusal_none, unrefused}
@@ -119,23 +120,36 @@ module _ (laws : Laws) (limit : ℕ) (name cells hp : List ℕ) (lp : Option (Li
       many : symbols s taken ≡ s.max_symbols
       many = symbols_limited s bytes more
 
-  refused : (taken left : List ℕ) (given : Written) (r : Refusal) → bytes ≡ taken ++ left → symbols s taken ≤ s.max_symbols → TuningReasons r → RefusesTuning s two taken left given r → ComesRefused c limit file given r
-  refused taken left given Memory are few reason is = ((s, stated, (is.0, held_place laws s two bytes taken left is.0 are few is.1, is.2)), is.3)
-  refused taken left given (Cells NoPlace) are few reason is =
+  -- the place that was found in the cells behind the header is found in what was taken of the file
+  takes : (unread : Unread) (taken : List ℕ) (found : Found) → bytes ≡ taken ++ unread ins.Cells → symbols s taken ≤ s.max_symbols → IsFoundIn s taken found → fits two found ≡ true → TakesPlace s lp (file cells) (unread ins.Cells)
+  takes unread taken found are few is fit =
+      let same : cells_in (take 8 (file cells) ++ taken) ≡ taken = behind 8 (file cells) taken (unread ins.Cells) are in record {
+        taken = take 8 (file cells) ++ taken;
+        are = sym (take-append-drop 8 (file cells)) ∙ ap (λ (l : List ℕ). take 8 (file cells) ++ l) are ∙ sym (append_assoc (take 8 (file cells)) taken (unread ins.Cells));
+        within = subst (λ (l : List ℕ). symbols s l ≤ s.max_symbols) (sym same) few;
+        found = found;
+        is_found = subst (λ (l : List ℕ). IsFoundIn s l found) (sym same) is;
+        fits_form = fit;
+      }
+
+  refused : (unread : Unread) (taken : List ℕ) (given : Written) (r : Refusal) → bytes ≡ taken ++ unread ins.Cells → symbols s taken ≤ s.max_symbols → TuningReasons r → RefusesTuning s two taken (unread ins.Cells) given r
+      → ComesRefused c limit file unread given r
+  refused unread taken given Memory are few reason is = ((s, stated, takes unread taken is.0 are few is.1 is.2), is.3)
+  refused unread taken given (Cells NoPlace) are few reason is =
       let same : bytes ≡ taken = are ∙ ap (λ (l : List ℕ). taken ++ l) is.0 ∙ append-nil taken in
       let all : symbols s bytes ≡ symbols s taken = ap (symbols s) same in
-      let none = held_none laws s two bytes taken left are (omega (arith, all)) is.1 in
+      let none = held_none laws s two bytes taken (unread ins.Cells) are (omega (arith, all)) is.1 in
       (come given (inl (none, is.2)), refusal_is (Some (Cells NoPlace)) (refusal_none laws s two bytes none ∙ ap (λ (o : Option Refusal). option_or o (Some (Cells NoPlace))) (unrefused laws s two bytes (omega (arith, all, few)))))
-  refused taken left given (Cells AnnouncedForm) are few reason is =
-      let holds = held_place laws s two bytes taken left is.0 are few is.1 in
+  refused unread taken given (Cells AnnouncedForm) are few reason is =
+      let holds = held_place laws s two bytes taken (unread ins.Cells) is.0 are few is.1 in
       (come given (inr (is.0, holds, inl (is.2, is.3))), refusal_is (Some (Cells AnnouncedForm)) (refusal_found laws s two bytes is.0 holds ∙ fitting false (coming.limit laws s two bytes) (fits two is.0) is.2))
-  refused taken left given (Cells Header) are few reason is = absurd is
-  refused taken left given refusals.Usage are few reason is = absurd is
-  refused taken left given (refusals.Settings x) are few reason is = absurd is
-  refused taken left given refusals.ReadFault are few reason is = absurd is
-  refused taken left given refusals.WriteFault are few reason is = absurd is
-  refused taken left given (refusals.NotSync stream n) are few reason is = absurd is
-  refused taken left given (Limit n) are few reason is = absurd is
+  refused unread taken given (Cells Header) are few reason is = absurd is
+  refused unread taken given refusals.Usage are few reason is = absurd is
+  refused unread taken given (refusals.Settings x) are few reason is = absurd is
+  refused unread taken given refusals.ReadFault are few reason is = absurd is
+  refused unread taken given refusals.WriteFault are few reason is = absurd is
+  refused unread taken given (refusals.NotSync stream n) are few reason is = absurd is
+  refused unread taken given (Limit n) are few reason is = absurd is
 
   begun : (given : Written) → GivenUpTo (tuning_work s two) s.max_symbols bytes given → commands.Continues c limit file given
   begun given up = elim up.gives [
@@ -183,5 +197,5 @@ command_of laws limit name cells hp lp s start stated = record {
   comes = λ t. comes laws limit name cells hp lp start.file s (stated t);
   unread = λ t unread taken. no_lines (settings_of (start.file name)) lp (start.file cells) (unread ins.Cells) taken.0 taken.1 taken.2;
   its = its_reasons hp name cells lp;
-  own = own_laws laws (settings_of (start.file name)) lp (start.file cells);
+  own = λ file. own_laws laws (settings_of (file name)) lp (file cells);
 }

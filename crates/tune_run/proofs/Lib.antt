@@ -6,6 +6,7 @@ pub mod Calls
 pub mod Places
 pub mod Tunings
 pub mod Coming
+pub mod OneOutput
 pub mod OwnLaws
 pub mod Commands
 pub mod WholeRun

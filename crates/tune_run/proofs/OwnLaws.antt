@@ -1,4 +1,4 @@
--- The laws of what `tune` comes to: its place is the least, and the number of workers changes nothing.
+-- The laws of what `tune` comes to: it is one output, its place is the least, and the number of workers changes nothing.
 use Rattle.std.proofs.Common.{◌≡◌, inl, inr, ℕ, Bool, List, ◌++◌, Option, refl, ◌∙◌, sym, ap, ap₂, subst}
 use Rattle.std.specs.Prelude.{is_some}
 use Rattle.station_core.specs.declared.ports.OutPort.{OutPort}
@@ -21,6 +21,7 @@ use Rattle.tune_run.specs.Tuned.{ComesTo, GivesLive, Tuned}
 use Rattle.tune_run.specs.TuneCommand.{PortComes, PortSoFar, TuneLaws}
 use Rattle.tune_run.proofs.Coming.{Laws}
 use Rattle.tune_run.proofs.LeastPlaces.{searches}
+use Rattle.tune_run.proofs.OneOutput.{one_output}
 
 module _ (laws : Laws) (s : Settings) (w : ℕ) (k : IsKept s.shape s.hierarchy s.rate_lp w s.max_symbols) where
   -- settings with this number of workers
@@ -110,6 +111,7 @@ module _ (laws : Laws) (s : Settings) (w : ℕ) (k : IsKept s.shape s.hierarchy 
 
 pub own_laws : Laws → (stated : Option Settings) (lp : Option (List ℕ)) (file : List ℕ) → TuneLaws stated lp file
 own_laws laws stated lp file = record {
+  one = λ s is. one_output laws s lp file;
   searches = λ s is. searches laws.one s (cells_in file);
   alike = λ s t is d. record {
     comes = over (λ z. (port : OutPort) (output : List ℕ) → PortComes s lp (cells_in file) port output → PortComes z lp (cells_in file) port output) s t d

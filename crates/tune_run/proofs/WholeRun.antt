@@ -36,7 +36,7 @@ module _ (limit : ℕ) (name cells hp : List ℕ) (lp : Option (List ℕ)) (star
 
   -- ---- refused before another port is asked
   early : (r : Refusal) → RefusedEarly c limit start mid r → is_among (status_of (Some r)) c.statuses ≡ true → Ended c limit start mid (Some r)
-  early = early_ended c limit name start mid refl (inr (refl, refl)) nothing (own_laws laws (settings_of (start.file name)) lp (start.file cells)) fresh asks
+  early = early_ended c limit name start mid refl (inr (refl, refl)) nothing (λ file. own_laws laws (settings_of (file name)) lp (file cells)) fresh asks
     where
       nothing : (u : Unread) → ((port : InPort) → port ≢ ins.Settings → u port ≡ input_file start.file c port) → c.PrintsSoFar limit start.file u []
       nothing u whole = no_lines (settings_of (start.file name)) lp (start.file cells) (u ins.Cells) 0 (omega arith) (whole ins.Cells (λ is. cc))

@@ -11,10 +11,13 @@ use Rattle.run_clauses.specs.SettingsFile.{most_settings, settings_refusal}
 use Rattle.run_clauses.specs.StatedSettings.{settings_of}
 use Rattle.symbol_runs.specs.Work.{Written}
 use Rattle.worker_laws.specs.Alike.{DifferInWorkers}
+use Rattle.receive_run.specs.OneOutput.{IsOneOutput}
 use Rattle.receive_run.specs.Received.{cells_in}
 use Rattle.receive_run.specs.ReceiveCommand.{header_by, most_cells}
 use Rattle.tune_in.specs.LeastPlace.{Searches}
-use Rattle.tune_run.specs.Tuned.{ComesTo, GivesLive, HoldsFitting, tune_refusal}
+use Rattle.tune_in.specs.OfBytes.{IsFoundIn}
+use Rattle.tune_in.specs.declared.frame.Found.{Found}
+use Rattle.tune_run.specs.Tuned.{ComesTo, GivesLive, fits, tune_refusal}
 
 -- at a port a run comes to this
 abbrev pub PortComes : Settings → Option (List ℕ) → List ℕ → OutPort → List ℕ → Type 0
@@ -35,6 +38,15 @@ abbrev pub LinesSoFar : Option Settings → Option (List ℕ) → List ℕ → L
 LinesSoFar None lp file left lines = lines ≡ []
 LinesSoFar (Some s) lp file left lines = PortSoFar s lp file left outs.Report lines
 
+-- The bytes taken of the file hold behind the header a place of this form. They are at most as many whole symbols as the limit.
+pub record TakesPlace (s : Settings) (lp : Option (List ℕ)) (file left : List ℕ) : Type 0 where
+  pub taken : List ℕ
+  pub are : file ≡ taken ++ left
+  pub within : symbols s (cells_in taken) ≤ s.max_symbols
+  pub found : Found
+  pub is_found : IsFoundIn s (cells_in taken) found
+  pub fits_form : fits (is_some lp) found ≡ true
+
 -- What the file of cells comes to by settings s it comes to by settings t: at each port, the lines of Report among them, and likewise so far as a failed read.
 pub record AreAlike (s t : Settings) (lp : Option (List ℕ)) (file : List ℕ) : Type 0 where
   pub comes : (port : OutPort) (output : List ℕ) → PortComes s lp (cells_in file) port output → PortComes t lp (cells_in file) port output
@@ -42,6 +54,8 @@ pub record AreAlike (s t : Settings) (lp : Option (List ℕ)) (file : List ℕ) 
 
 -- its laws, by the settings that are stated, if any are, the file of LP, if one is written, and the file of cells
 pub record TuneLaws (stated : Option Settings) (lp : Option (List ℕ)) (file : List ℕ) : Type 0 where
+  -- At each port, the lines of Report among them, it comes to one list of bytes.
+  pub one : (s : Settings) → stated ≡ Some s → IsOneOutput (PortComes s lp (cells_in file)) (PortComes s lp (cells_in file) outs.Report) (PortSoFar s lp file) (LinesSoFar (Some s) lp file)
   -- What decides the refusal is the least place of the definition.
   pub searches : (s : Settings) → stated ≡ Some s → Searches s (cells_in file)
   -- By settings that differ from the stated ones in the number of workers alone, all is the same.
@@ -54,7 +68,7 @@ tune_command settings cells hp lp = record {
   writes = stream_names hp lp;
   statuses = 0 ∷ 3 ∷ 5 ∷ 6 ∷ 7 ∷ 8 ∷ 9 ∷ 10 ∷ 11 ∷ [];
   memory_at_work = true;
-  LacksAtWork = λ limit file. (s : Settings) × (settings_of (file settings) ≡ Some s) × HoldsFitting s (is_some lp) (cells_in (file cells));
+  LacksAtWork = λ limit file unread. (s : Settings) × (settings_of (file settings) ≡ Some s) × TakesPlace s lp (file cells) (unread ins.Cells);
   early_refusal = λ file. settings_refusal (file settings);
   header = λ file. header_by (settings_of (file settings));
   work_refusal = λ limit file. option_and_then (λ s. tune_refusal s (is_some lp) (cells_in (file cells))) (settings_of (file settings));

@@ -26,10 +26,6 @@ place_line found = codes "tune at " ++ decimal found.place ++ codes " frame " ++
 abbrev pub fits : Bool → Found → Bool
 fits two found = beq two (not (is_flat found.word.hierarchy))
 
--- the symbols within the limit hold a place, and it is of this form
-abbrev pub HoldsFitting : Settings → Bool → List ℕ → Type 0
-HoldsFitting s two bytes = (found : Found) × HoldsPlace s bytes found × (fits two found ≡ true)
-
 -- what is written at the place: its line
 abbrev pub at_place : Found → Written
 at_place found outs.Report = place_line found

@@ -144,6 +144,7 @@ pub fn tune<'a, R: Threads + Sync, G: Gate, S: Station<'a>>(
     reception::laws::symbols();
     reception::laws::events();
     reception::laws::nothing();
+    reception::laws::receptions();
     reception_laws::laws::existence();
     reception_laws::laws::beginnings();
     tune_in::one_found();

@@ -1,7 +1,8 @@
 // `tune` among super-frames whose parameters change. The expected reports, lengths and sums are those of an independent
 // program.
 use run_tools::{
-    BASE, File, Found, LAYERED, NONE, SUPER_FRAME, SYMBOL, ample, run_files, stands, text_bytes,
+    BASE, EMPTY, File, Found, Held, LAYERED, SUPER_FRAME, SYMBOL, ample, run_files, stands,
+    text_bytes,
 };
 use std::alloc::{AllocError, Global};
 use std::test::Fail;
@@ -29,7 +30,7 @@ const ALONE: &str =
 const CHANGED_BEHIND: &str =
     "tune at 41 frame 4\nsymbols 296 tail 0\ntps read 4 bad 0\nhp words 263 clean 241 corrected 0 bad 22 unphased 4 unmerged 0\n";
 
-const HP: (usize, u32) = (1_316, 50_597_823);
+const HP: Held = Some((1_316, 50_597_823));
 
 // The header of the transmission's cells, and behind it its symbols from number 163 on, as far as this one.
 fn heard<R: Threads + Sync>(
@@ -83,9 +84,10 @@ fn is_found<R: Threads + Sync>(
 #[test]
 fn parameters_change_while_tuning(rt: HostRuntime) -> Result<(), Fail> {
     let alloc = rt.alloc();
-    let form = (11, "tune form\n", NONE, NONE);
-    let both = (0, BOTH, HP, (4_136, 1_511_112_651));
-    let changed = (0, CHANGED_BEHIND, (48_692, 125_840_467), NONE);
+    let form = (11, "tune form\n", EMPTY, None);
+    let form_of_two = (11, "tune form\n", EMPTY, EMPTY);
+    let both = (0, BOTH, HP, Some((4_136, 1_511_112_651)));
+    let changed = (0, CHANGED_BEHIND, Some((48_692, 125_840_467)), None);
     let cases = [
         (
             (BASE, LP_COMES, (300, Some(100))),
@@ -98,13 +100,13 @@ fn parameters_change_while_tuning(rt: HostRuntime) -> Result<(), Fail> {
             (LAYERED, LP_GOES, (300, Some(100))),
             296,
             "tune s a hp",
-            (0, ALONE, HP, NONE),
+            (0, ALONE, HP, None),
         ),
         (
             (LAYERED, LP_GOES, (300, Some(100))),
             296,
             "tune s a hp lp",
-            form,
+            form_of_two,
         ),
         ((BASE, DENSER, (600, None)), 568, "tune s a hp", changed),
     ];

@@ -2,8 +2,8 @@
 ghost use Rattle.std.specs.Prelude.{◌≤◌};
 
 use run_tools::{
-    BASE, Conditions, File, Found, LAYERED, NONE, Ran, SUPER_FRAME, SYMBOL, ample, noisy,
-    null_cells, run_files, stands, text_bytes,
+    BASE, Conditions, EMPTY, File, Found, Held, LAYERED, Ran, SUPER_FRAME, SYMBOL, WIDE_SYMBOL,
+    ample, noisy, null_cells, run_files, stands, text_bytes, wide_null_cells,
 };
 use station_core::{Failing, InPort, OutPort};
 use std::alloc::{AllocError, Global};
@@ -21,13 +21,13 @@ const RECEIVED: &str =
 // A transmission that is announced: its shape and rates, the first symbol of it that is heard, and what is found.
 type Announced<'a> = (&'a str, usize, Found<'a>);
 
-const PACKETS: (usize, u32) = (2_068, 3_923_578_435);
+const PACKETS: Held = Some((2_068, 3_923_578_435));
 
 /// What those give but for the last symbol.
-const ALL_BUT_ONE: (usize, u32) = (1_880, 3_596_870_170);
+const ALL_BUT_ONE: Held = Some((1_880, 3_596_870_170));
 
 /// Half of the first packet.
-const HALF: (usize, u32) = (94, 2_357_816_009);
+const HALF: Held = Some((94, 2_357_816_009));
 
 /// The closing lines, behind which a close failed.
 const CLOSED: &str =
@@ -56,9 +56,21 @@ fn heard(
     first: usize,
     following: usize,
 ) -> Result<Vec<u8>, AllocError> {
+    heard_in(alloc, cells, SYMBOL, first, following)
+}
+
+// The same of symbols of so many bytes.
+fn heard_in(
+    alloc: Global,
+    cells: &[u8],
+    symbol: usize,
+    first: usize,
+    following: usize,
+) -> Result<Vec<u8>, AllocError> {
     let mut bytes = Vec::new(alloc);
-    let begin = (8 + first.min(300) * SYMBOL).min(cells.len());
-    let end = (8 + following.min(300) * SYMBOL).min(cells.len());
+    let symbol = symbol.min(WIDE_SYMBOL);
+    let begin = (8 + first.min(300) * symbol).min(cells.len());
+    let end = (8 + following.min(300) * symbol).min(cells.len());
     bytes.extend_from_slice(&cells[..8.min(cells.len())])?;
     bytes.extend_from_slice(&cells[begin..])?;
     bytes.extend_from_slice(&cells[8.min(end)..end])?;
@@ -95,7 +107,7 @@ fn is_found<R: Threads + Sync>(
     alloc: Global,
     case: Announced<'_>,
 ) -> Result<bool, AllocError> {
-    let two = case.2.3 != NONE;
+    let two = case.2.3.is_some();
     let cells = null_cells(rt, alloc, case.0, two)?;
     let file = heard(alloc, &cells, case.1, FOLLOWING)?;
     let ran = tuned(rt, alloc, (BASE, ""), file, two, ample(SUPER_FRAME))?;
@@ -111,7 +123,7 @@ static CONSTELLATIONS: [Announced<'static>; 3] = [
             0,
             "tune at 41 frame 4\nsymbols 24 tail 0\ntps read 0 bad 0\nhp words 11 clean 11 corrected 0 bad 0 unphased 0 unmerged 0\n",
             PACKETS,
-            NONE,
+            None,
         ),
     ),
     (
@@ -120,8 +132,8 @@ static CONSTELLATIONS: [Announced<'static>; 3] = [
         (
             0,
             "tune at 49 frame 4\nsymbols 24 tail 0\ntps read 0 bad 0\nhp words 48 clean 48 corrected 0 bad 0 unphased 0 unmerged 0\n",
-            (9_024, 2_591_075_248),
-            NONE,
+            Some((9_024, 2_591_075_248)),
+            None,
         ),
     ),
     (
@@ -130,8 +142,8 @@ static CONSTELLATIONS: [Announced<'static>; 3] = [
         (
             0,
             "tune at 7 frame 4\nsymbols 24 tail 0\ntps read 0 bad 0\nhp words 105 clean 105 corrected 0 bad 0 unphased 0 unmerged 0\n",
-            (19_740, 1_859_297_745),
-            NONE,
+            Some((19_740, 1_859_297_745)),
+            None,
         ),
     ),
 ];
@@ -158,7 +170,7 @@ static HIERARCHIES: [Announced<'static>; 6] = [
             0,
             "tune at 22 frame 4\nsymbols 24 tail 0\ntps read 0 bad 0\nhp words 11 clean 11 corrected 0 bad 0 unphased 0 unmerged 0\nlp words 26 clean 26 corrected 0 bad 0 unphased 0 unmerged 0\n",
             PACKETS,
-            (4_888, 4_088_119_466),
+            Some((4_888, 4_088_119_466)),
         ),
     ),
     (
@@ -167,8 +179,8 @@ static HIERARCHIES: [Announced<'static>; 6] = [
         (
             0,
             "tune at 39 frame 4\nsymbols 24 tail 0\ntps read 0 bad 0\nhp words 22 clean 22 corrected 0 bad 0 unphased 0 unmerged 0\nlp words 27 clean 27 corrected 0 bad 0 unphased 0 unmerged 0\n",
-            (4_136, 3_451_673_862),
-            (5_076, 1_359_295_699),
+            Some((4_136, 3_451_673_862)),
+            Some((5_076, 1_359_295_699)),
         ),
     ),
     (
@@ -177,8 +189,8 @@ static HIERARCHIES: [Announced<'static>; 6] = [
         (
             0,
             "tune at 1 frame 4\nsymbols 24 tail 0\ntps read 0 bad 0\nhp words 27 clean 27 corrected 0 bad 0 unphased 0 unmerged 0\nlp words 48 clean 48 corrected 0 bad 0 unphased 0 unmerged 0\n",
-            (5_076, 1_359_295_699),
-            (9_024, 2_591_075_248),
+            Some((5_076, 1_359_295_699)),
+            Some((9_024, 2_591_075_248)),
         ),
     ),
     (
@@ -187,7 +199,7 @@ static HIERARCHIES: [Announced<'static>; 6] = [
         (
             0,
             "tune at 33 frame 4\nsymbols 24 tail 0\ntps read 0 bad 0\nhp words 18 clean 18 corrected 0 bad 0 unphased 0 unmerged 0\nlp words 11 clean 11 corrected 0 bad 0 unphased 0 unmerged 0\n",
-            (3_384, 4_260_053_346),
+            Some((3_384, 4_260_053_346)),
             PACKETS,
         ),
     ),
@@ -197,8 +209,8 @@ static HIERARCHIES: [Announced<'static>; 6] = [
         (
             0,
             "tune at 14 frame 4\nsymbols 24 tail 0\ntps read 0 bad 0\nhp words 26 clean 26 corrected 0 bad 0 unphased 0 unmerged 0\nlp words 55 clean 55 corrected 0 bad 0 unphased 0 unmerged 0\n",
-            (4_888, 4_088_119_466),
-            (10_340, 613_633_103),
+            Some((4_888, 4_088_119_466)),
+            Some((10_340, 613_633_103)),
         ),
     ),
     (
@@ -208,7 +220,7 @@ static HIERARCHIES: [Announced<'static>; 6] = [
             0,
             "tune at 54 frame 4\nsymbols 24 tail 0\ntps read 0 bad 0\nhp words 11 clean 11 corrected 0 bad 0 unphased 0 unmerged 0\nlp words 66 clean 66 corrected 0 bad 0 unphased 0 unmerged 0\n",
             PACKETS,
-            (12_408, 3_813_088_530),
+            Some((12_408, 3_813_088_530)),
         ),
     ),
 ];
@@ -243,9 +255,9 @@ fn noise_on_all_cells(rt: HostRuntime) -> Result<(), Fail> {
     let cells = null_cells(&rt, alloc, SIXTEEN, false)?;
     let file = heard(alloc, &cells, 155, FOLLOWING)?;
     let cases = [
-        (7_000, (0, CORRECTED, (9_024, 2_591_075_248), NONE)),
-        (7_500, (0, MOSTLY_BAD, (9_024, 2_945_153_715), NONE)),
-        (28_000, (10, "tune none\n", NONE, NONE)),
+        (7_000, (0, CORRECTED, Some((9_024, 2_591_075_248)), None)),
+        (7_500, (0, MOSTLY_BAD, Some((9_024, 2_945_153_715)), None)),
+        (28_000, (10, "tune none\n", EMPTY, None)),
     ];
     for (most, found) in cases {
         let heard = noisy(alloc, &file, most)?;
@@ -282,8 +294,8 @@ fn turned(alloc: Global, file: &[u8], spans: (Span, Span)) -> Result<Vec<u8>, Al
 fn wrong_votes(rt: HostRuntime) -> Result<(), Fail> {
     let alloc = rt.alloc();
     let nulls = late_nulls(&rt, alloc)?;
-    let none = (10, "tune none\n", NONE, NONE);
-    let plain = (0, RECEIVED, PACKETS, NONE);
+    let none = (10, "tune none\n", EMPTY, None);
+    let plain = (0, RECEIVED, PACKETS, None);
     let cases = [
         (((0, 0), (0, 0)), plain),
         (((0, 20), (0, 0)), plain),
@@ -301,21 +313,21 @@ fn wrong_votes(rt: HostRuntime) -> Result<(), Fail> {
 
 /// A line of the settings, and what stands.
 static LIMITS: [(&str, Found<'static>); 6] = [
-    ("max_symbols = 60\n", (8, "limit 60\n", NONE, NONE)),
-    ("max_symbols = 71\n", (8, "limit 71\n", NONE, NONE)),
+    ("max_symbols = 60\n", (8, "limit 60\n", EMPTY, None)),
+    ("max_symbols = 71\n", (8, "limit 71\n", EMPTY, None)),
     (
         "max_symbols = 72\n",
-        (8, "tune at 4 frame 4\nlimit 72\n", NONE, NONE),
+        (8, "tune at 4 frame 4\nlimit 72\n", EMPTY, None),
     ),
     (
         "max_symbols = 73\n",
-        (8, "tune at 4 frame 4\nlimit 73\n", NONE, NONE),
+        (8, "tune at 4 frame 4\nlimit 73\n", EMPTY, None),
     ),
     (
         "max_symbols = 95\n",
-        (8, "tune at 4 frame 4\nlimit 95\n", ALL_BUT_ONE, NONE),
+        (8, "tune at 4 frame 4\nlimit 95\n", ALL_BUT_ONE, None),
     ),
-    ("max_symbols = 96\n", (0, RECEIVED, PACKETS, NONE)),
+    ("max_symbols = 96\n", (0, RECEIVED, PACKETS, None)),
 ];
 
 // The limit counts all symbols of the file: within the frame of the place, behind it, and in the reception.
@@ -338,41 +350,41 @@ type Fault<'a> = (Failing, Found<'a>);
 static FAULTS: [Fault<'static>; 10] = [
     (
         Failing::Read(InPort::Settings, 1),
-        (5, "read fault\n", NONE, NONE),
+        (5, "read fault\n", None, None),
     ),
     (
         Failing::Attach(InPort::Cells, 1),
-        (5, "read fault\n", NONE, NONE),
+        (5, "read fault\n", None, None),
     ),
     (
         Failing::Read(InPort::Cells, 1),
-        (5, "read fault\n", NONE, NONE),
+        (5, "read fault\n", None, None),
     ),
     (
         Failing::Read(InPort::Cells, 73),
-        (5, "read fault\n", NONE, NONE),
+        (5, "read fault\n", EMPTY, None),
     ),
     (
         Failing::Read(InPort::Cells, 74),
-        (5, "tune at 4 frame 4\nread fault\n", NONE, NONE),
+        (5, "tune at 4 frame 4\nread fault\n", EMPTY, None),
     ),
     (
         Failing::Read(InPort::Cells, 97),
-        (5, "tune at 4 frame 4\nread fault\n", ALL_BUT_ONE, NONE),
+        (5, "tune at 4 frame 4\nread fault\n", ALL_BUT_ONE, None),
     ),
     (
         Failing::Create(OutPort::Hp, 1),
-        (6, "write fault\n", NONE, NONE),
+        (6, "write fault\n", None, None),
     ),
     (
         Failing::Write(OutPort::Hp, 1),
-        (6, "tune at 4 frame 4\nwrite fault\n", HALF, NONE),
+        (6, "tune at 4 frame 4\nwrite fault\n", HALF, None),
     ),
     (
         Failing::Write(OutPort::Report, 1),
-        (6, "tune at 4write fault\n", NONE, NONE),
+        (6, "tune at 4write fault\n", EMPTY, None),
     ),
-    (Failing::Close(OutPort::Hp, 1), (6, CLOSED, PACKETS, NONE)),
+    (Failing::Close(OutPort::Hp, 1), (6, CLOSED, PACKETS, None)),
 ];
 
 /// Those of a transmission of two streams at LP, whose first packet comes with the ninth symbol. With the 13th come the first
@@ -380,24 +392,24 @@ static FAULTS: [Fault<'static>; 10] = [
 static FAULTS_OF_LP: [Fault<'static>; 4] = [
     (
         Failing::Create(OutPort::Lp, 1),
-        (6, "write fault\n", NONE, NONE),
+        (6, "write fault\n", EMPTY, None),
     ),
     (
         Failing::Write(OutPort::Lp, 1),
-        (6, "tune at 4 frame 4\nwrite fault\n", NONE, HALF),
+        (6, "tune at 4 frame 4\nwrite fault\n", EMPTY, HALF),
     ),
     (
         Failing::Write(OutPort::Lp, 5),
         (
             6,
             "tune at 4 frame 4\nwrite fault\n",
-            (188, 2_061_598_505),
-            (1_128, 2_307_759_734),
+            Some((188, 2_061_598_505)),
+            Some((1_128, 2_307_759_734)),
         ),
     ),
     (
         Failing::Close(OutPort::Lp, 1),
-        (6, CLOSED_OF_TWO, PACKETS, (4_136, 3_451_673_862)),
+        (6, CLOSED_OF_TWO, PACKETS, Some((4_136, 3_451_673_862))),
     ),
 ];
 
@@ -440,20 +452,20 @@ fn faults_of_the_station(rt: HostRuntime) -> Result<(), Fail> {
 
 /// Words of no form, files that are not there, and refused settings, before the cells are looked for: nothing is written.
 static REFUSED: [(&str, &str, Found<'static>); 7] = [
-    ("tune s a", "", (2, "usage\n", NONE, NONE)),
-    ("tune s a hp lp more", "", (2, "usage\n", NONE, NONE)),
-    ("Tune s a hp", "", (2, "usage\n", NONE, NONE)),
-    ("tune gone a hp", "", (5, "read fault\n", NONE, NONE)),
-    ("tune s gone hp", "", (5, "read fault\n", NONE, NONE)),
+    ("tune s a", "", (2, "usage\n", None, None)),
+    ("tune s a hp lp more", "", (2, "usage\n", None, None)),
+    ("Tune s a hp", "", (2, "usage\n", None, None)),
+    ("tune gone a hp", "", (5, "read fault\n", None, None)),
+    ("tune s gone hp", "", (5, "read fault\n", None, None)),
     (
         "tune s gone hp",
         "colour = \"red\"\n",
-        (3, "settings unknown 0\n", NONE, NONE),
+        (3, "settings unknown 0\n", None, None),
     ),
     (
         "tune s gone hp",
         "workers = 0\n",
-        (3, "settings value workers\n", NONE, NONE),
+        (3, "settings value workers\n", None, None),
     ),
 ];
 
@@ -473,14 +485,15 @@ fn refused_words_and_settings(rt: HostRuntime) -> Result<(), Fail> {
 #[test]
 fn first_symbols(rt: HostRuntime) -> Result<(), Fail> {
     let alloc = rt.alloc();
-    let none = (10, "tune none\n", NONE, NONE);
-    let form = (11, "tune form\n", NONE, NONE);
-    let header = (9, "cells header\n", NONE, NONE);
-    let limit = (8, "limit 67\n", NONE, NONE);
+    let none = (10, "tune none\n", EMPTY, None);
+    let form = (11, "tune form\n", EMPTY, None);
+    let form_of_two = (11, "tune form\n", EMPTY, EMPTY);
+    let header = (9, "cells header\n", None, None);
+    let limit = (8, "limit 67\n", EMPTY, None);
     let cases = [
         (BASE, 67, (BASE, ""), false, none),
-        (BASE, 68, (BASE, ""), false, (0, AT_ZERO, NONE, NONE)),
-        (BASE, 68, (BASE, ""), true, form),
+        (BASE, 68, (BASE, ""), false, (0, AT_ZERO, EMPTY, None)),
+        (BASE, 68, (BASE, ""), true, form_of_two),
         (LAYERED, 68, (BASE, ""), false, form),
         (LAYERED, 69, (BASE, "max_symbols = 68\n"), false, form),
         (LAYERED, 69, (BASE, "max_symbols = 67\n"), false, limit),
@@ -495,6 +508,40 @@ fn first_symbols(rt: HostRuntime) -> Result<(), Fail> {
     Ok(())
 }
 
+/// The lines of a transmission of the 8K mode.
+const WIDE_RECEIVED: &str =
+    "tune at 4 frame 4\nsymbols 9 tail 0\ntps read 0 bad 0\nhp words 22 clean 22 corrected 0 bad 0 unphased 0 unmerged 0\n";
+
+// Symbols 200 to 271 of the null super-frame of the 8K mode, and its symbols 0 to 8 behind them.
+#[test]
+fn symbols_of_the_8k_mode(rt: HostRuntime) -> Result<(), Fail> {
+    let alloc = rt.alloc();
+    let cells = wide_null_cells(&rt, alloc, EIGHT)?;
+    let file = heard_in(alloc, &cells, WIDE_SYMBOL, 200, 9)?;
+    let ran = tuned(&rt, alloc, (EIGHT, ""), file, false, ample(SUPER_FRAME))?;
+    let packets = Some((4_136, 3_451_673_862));
+    assert!(rt; stands(&ran, (0, WIDE_RECEIVED, packets, None)));
+    Ok(())
+}
+
+// The cells of a hundred packets of HP and two hundred of LP, of which HP alone is to be written.
+#[test]
+fn packets_of_two_streams_for_one_file(rt: HostRuntime) -> Result<(), Fail> {
+    let alloc = rt.alloc();
+    let inputs = (
+        File::Counted(100, 0).bytes(alloc)?,
+        File::Counted(200, 0).bytes(alloc)?,
+    );
+    let settings = text_bytes(alloc, LAYERED, "")?;
+    let room = ample(SUPER_FRAME);
+    let words = "modulate s a b cells";
+    let sent = run_files(&rt, alloc, words, settings, inputs, 1000, room)?;
+    assert!(rt; sent.status == 0 && sent.cells.len() == SUPER_FRAME as usize);
+    let ran = tuned(&rt, alloc, (BASE, ""), sent.cells, false, room)?;
+    assert!(rt; stands(&ran, (11, "tune form\n", EMPTY, None)));
+    Ok(())
+}
+
 // Cells of the 2K mode under the header of the 8K mode hold no frame.
 #[test]
 fn cells_of_the_other_mode(rt: HostRuntime) -> Result<(), Fail> {
@@ -503,7 +550,7 @@ fn cells_of_the_other_mode(rt: HostRuntime) -> Result<(), Fail> {
     assert!(rt; file.len() == 8 + 96 * SYMBOL);
     file[5] = 1;
     let ran = tuned(&rt, alloc, (EIGHT, ""), file, false, ample(SUPER_FRAME))?;
-    assert!(rt; stands(&ran, (10, "tune none\n", NONE, NONE)));
+    assert!(rt; stands(&ran, (10, "tune none\n", EMPTY, None)));
     Ok(())
 }
 

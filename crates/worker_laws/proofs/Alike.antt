@@ -31,7 +31,7 @@ use Rattle.rx_report.specs.Text.{event_line}
 use Rattle.rx_report.specs.declared.counts.Event.{Event}
 use Rattle.reception.specs.Lines.{event_at, events, event_lines, closing_lines}
 use Rattle.reception.specs.Streams.{memory, start_of, Moment, so_far, at_end, IsDecoded, Reception, Receives}
-use Rattle.worker_laws.specs.Alike.{DifferInWorkers, SameLive, SameFinal, SameLines}
+use Rattle.worker_laws.specs.Alike.{DifferInWorkers, SameCosts, SameEvents, SameFinal, SameLines, SameLive, SameStreams}
 
 -- the same settings with another number of workers
 abbrev pub with_workers : (s : Settings) (w : ℕ) → IsKept s.shape s.hierarchy s.rate_lp w s.max_symbols → Settings
@@ -120,6 +120,10 @@ module _ (s : Settings) (w : ℕ) (k : IsKept s.shape s.hierarchy s.rate_lp w s.
     frames = subst (λ (cells : ℕ → List Cell). CountsWords (frame_bits cells) (symbols s bytes / 68) r.read r.bad) (λ i m. cells_alike bytes m i) h.frames;
   }
 
+  streams_alike : (σ : Stream) → exists_in (with_workers s w k) σ ≡ exists_in s σ
+  unfolding exists_in
+  streams_alike σ = refl
+
   events_alike : (n : ℕ) (reports : Stream → List ℕ) → events (with_workers s w k) n reports ≡ events s n reports
   unfolding events
   events_alike n reports = sym (λ i. flat_map (λ m.
@@ -138,3 +142,12 @@ same_final s t bytes r d h = over (λ z. Receives at_end z bytes r) s t d (λ k.
 
 pub same_lines : SameLines
 same_lines s t bytes r d = over (λ z. (event_lines z bytes r ≡ event_lines s bytes r) × (closing_lines z bytes r ≡ closing_lines s bytes r)) s t d (λ k. lines s t.workers k bytes r)
+
+pub same_streams : SameStreams
+same_streams s t σ d = over (λ z. exists_in z σ ≡ exists_in s σ) s t d (λ k. streams_alike s t.workers k σ)
+
+pub same_costs : SameCosts
+same_costs s t bytes σ d = over (λ z. costs z bytes σ ≡ costs s bytes σ) s t d (λ k. sym (costs_alike s t.workers k bytes σ))
+
+pub same_events : SameEvents
+same_events s t n reports d = over (λ z. events z n reports ≡ events s n reports) s t d (λ k. events_alike s t.workers k n reports)

@@ -1,8 +1,11 @@
 -- Settings that differ in the number of workers alone, and what is received by them.
 use Rattle.std.specs.Prelude.{◌≡◌, ℕ, List}
+use Rattle.mode_set.specs.declared.modes.Stream.{Stream}
 use Rattle.mode_set.specs.declared.settings.Settings.{Settings}
+use Rattle.symbol_spans.specs.Spans.{exists_in}
+use Rattle.reception.specs.Costs.{costs}
 use Rattle.reception.specs.Streams.{Reception, Live, Final}
-use Rattle.reception.specs.Lines.{event_lines, closing_lines}
+use Rattle.reception.specs.Lines.{events, event_lines, closing_lines}
 
 -- all fields but `workers` agree
 pub record DifferInWorkers (s t : Settings) : Type 0 where
@@ -29,3 +32,14 @@ SameFinal = (s t : Settings) (bytes : List ℕ) (r : Reception) → DifferInWork
 abbrev pub SameLines : Type 0
 SameLines = (s t : Settings) (bytes : List ℕ) (r : Reception) → DifferInWorkers s t
     → (event_lines t bytes r ≡ event_lines s bytes r) × (closing_lines t bytes r ≡ closing_lines s bytes r)
+
+-- the streams are the same, and so are the costs of each ..
+abbrev pub SameStreams : Type 0
+SameStreams = (s t : Settings) (σ : Stream) → DifferInWorkers s t → exists_in t σ ≡ exists_in s σ
+
+abbrev pub SameCosts : Type 0
+SameCosts = (s t : Settings) (bytes : List ℕ) (σ : Stream) → DifferInWorkers s t → costs t bytes σ ≡ costs s bytes σ
+
+-- .. and the events of reports
+abbrev pub SameEvents : Type 0
+SameEvents = (s t : Settings) (n : ℕ) (reports : Stream → List ℕ) → DifferInWorkers s t → events t n reports ≡ events s n reports

@@ -86,6 +86,6 @@ returns-in-None g c =
     let old : Meaning = g.S.Station.meaning c.args.station.now in
     let new : Meaning = g.S.Station.meaning c.refuse.new.station in
     let limit : ℕ = c.args.limits.packets in
-    let ended = unstarted_ended no_command limit old refl (λ u whole. refl) tt c.requires.fresh Usage (refl, λ t. refl) refl in
+    let ended = unstarted_ended no_command limit old refl (λ u whole. refl) (λ file. tt) c.requires.fresh Usage (refl, λ t. refl) refl in
     subst (λ (x : Option Order). Run (command_for x) limit old new c.refuse.result) c.in-None.ensures
     (subst (λ (n : ℕ). Run no_command limit old new n) (sym c.refuse.ensures.status) (run_refused no_command limit old old new Usage ended c.refuse.ensures.text))

@@ -28,7 +28,7 @@ returns-in-Err g c =
     let command : Command = outer_command c.args.input.now c.args.output.now in
     let limit : ℕ = c.args.limits.now.packets in
     subst (λ (n : ℕ). Run command limit old new n) (sym c.refuse.ensures.status)
-    (run_refused command limit old old new Memory (unstarted_ended command limit old refl (λ u same. refl) tt c.requires.fresh Memory refl refl) c.refuse.ensures.text)
+    (run_refused command limit old old new Memory (unstarted_ended command limit old refl (λ u same. refl) (λ file. tt) c.requires.fresh Memory refl refl) c.refuse.ensures.text)
 
 pub run_coding-requires : goal.run_coding-requires
 unfolding outer_bytes values

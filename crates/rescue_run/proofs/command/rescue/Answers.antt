@@ -1,17 +1,11 @@
 use Rattle.std.proofs.Common.{List, ℕ, Option, refl}
-use Rattle.std.specs.Prelude.{⊤}
 use Rattle.std.specs.Option.{option_copied}
 use Rattle.station_core.specs.Meaning.{Meaning}
-use Rattle.mode_set.specs.declared.settings.Settings.{Settings as TheSettings}
-use Rattle.receive_run.proofs.OfKinds.{KindLaws}
 use Rattle.receive_run.proofs.WholeRun.{ready, refused, run}
-use Rattle.rescue_run.specs.Working.{rescuing}
+use Rattle.rescue_run.specs.OwnLaws.{RescueLaws}
+use Rattle.rescue_run.proofs.Laws.{Laws, own_laws}
 use Rattle.rescue_run.proofs.Rescuing.{rescue_laws}
 use Rattle.rescue_run.proofs.command.rescue.Goals as goal
-
--- it has no law of its own
-abbrev NoLaw : Option TheSettings → List ℕ → Type 0
-NoLaw stated file = ⊤
 
 pub returns-in-Ok : goal.returns-in-Ok
 returns-in-Ok g c =
@@ -19,8 +13,13 @@ returns-in-Ok g c =
     let mid : Meaning = g.S.Station.meaning c.read_fitting.new.station in
     let new : Meaning = g.S.Station.meaning c.rescue_accepted.new.station in
     let lp : Option (List ℕ) = option_copied c.args.lp in
-    let laws : KindLaws rescuing = rescue_laws c.existence.ensures.so_far c.existence.ensures.at_end c.beginnings.ensures.so_far c.beginnings.ensures.at_end c.beginnings.ensures.whole c.symbols.ensures.tail c.nothing.ensures.so_far c.events.ensures.none in
-    run laws NoLaw (λ stated file. tt) c.args.limits.now.packets c.args.settings.now c.args.cells.now c.args.hp.now lp old mid new c.requires.fresh c.in-Ok.ensures.asks
+    let laws : Laws = record {
+      rescues = rescue_laws c.existence.ensures.so_far c.existence.ensures.at_end c.receptions.ensures.so_far c.receptions.ensures.at_end c.beginnings.ensures.so_far c.beginnings.ensures.at_end c.beginnings.ensures.whole c.symbols.ensures.tail c.nothing.ensures.so_far c.events.ensures.none;
+      so_far = c.workers.ensures.so_far;
+      at_end = c.workers.ensures.at_end;
+      lines = c.workers.ensures.lines;
+    } in
+    run laws.rescues RescueLaws (own_laws laws) c.args.limits.now.packets c.args.settings.now c.args.cells.now c.args.hp.now lp old mid new c.requires.fresh c.in-Ok.ensures.asks
     c.in-Ok.accepted c.in-Ok.ensures.accepts c.rescue_accepted.result c.rescue_accepted.ensures
 
 pub returns-in-Err : goal.returns-in-Err
@@ -29,8 +28,13 @@ returns-in-Err g c =
     let mid : Meaning = g.S.Station.meaning c.read_fitting.new.station in
     let new : Meaning = g.S.Station.meaning c.refuse.new.station in
     let lp : Option (List ℕ) = option_copied c.args.lp in
-    let laws : KindLaws rescuing = rescue_laws c.existence.ensures.so_far c.existence.ensures.at_end c.beginnings.ensures.so_far c.beginnings.ensures.at_end c.beginnings.ensures.whole c.symbols.ensures.tail c.nothing.ensures.so_far c.events.ensures.none in
-    refused laws NoLaw (λ stated file. tt) c.args.limits.now.packets c.args.settings.now c.args.cells.now c.args.hp.now lp old mid new c.requires.fresh c.in-Err.ensures.asks
+    let laws : Laws = record {
+      rescues = rescue_laws c.existence.ensures.so_far c.existence.ensures.at_end c.receptions.ensures.so_far c.receptions.ensures.at_end c.beginnings.ensures.so_far c.beginnings.ensures.at_end c.beginnings.ensures.whole c.symbols.ensures.tail c.nothing.ensures.so_far c.events.ensures.none;
+      so_far = c.workers.ensures.so_far;
+      at_end = c.workers.ensures.at_end;
+      lines = c.workers.ensures.lines;
+    } in
+    refused laws.rescues RescueLaws (own_laws laws) c.args.limits.now.packets c.args.settings.now c.args.cells.now c.args.hp.now lp old mid new c.requires.fresh c.in-Err.ensures.asks
     c.in-Err.refusal c.in-Err.ensures.accepts c.refuse.result c.refuse.ensures.status c.refuse.ensures.text
 
 pub rescue_accepted-requires : goal.rescue_accepted-requires
@@ -38,11 +42,16 @@ rescue_accepted-requires g c =
     let old : Meaning = g.S.Station.meaning c.args.station.now in
     let mid : Meaning = g.S.Station.meaning c.read_fitting.new.station in
     let lp : Option (List ℕ) = option_copied c.args.lp in
-    let laws : KindLaws rescuing = rescue_laws c.existence.ensures.so_far c.existence.ensures.at_end c.beginnings.ensures.so_far c.beginnings.ensures.at_end c.beginnings.ensures.whole c.symbols.ensures.tail c.nothing.ensures.so_far c.events.ensures.none in
+    let laws : Laws = record {
+      rescues = rescue_laws c.existence.ensures.so_far c.existence.ensures.at_end c.receptions.ensures.so_far c.receptions.ensures.at_end c.beginnings.ensures.so_far c.beginnings.ensures.at_end c.beginnings.ensures.whole c.symbols.ensures.tail c.nothing.ensures.so_far c.events.ensures.none;
+      so_far = c.workers.ensures.so_far;
+      at_end = c.workers.ensures.at_end;
+      lines = c.workers.ensures.lines;
+    } in
     λ k. (
       record { shared = c.type_bounds.sync-R.shared },
       (
         (refl, tt),
-        ready laws NoLaw (λ stated file. tt) c.args.limits.now.packets c.args.settings.now c.args.cells.now c.args.hp.now lp old mid mid c.requires.fresh c.in-Ok.ensures.asks c.in-Ok.accepted c.in-Ok.ensures.accepts,
+        ready laws.rescues RescueLaws (own_laws laws) c.args.limits.now.packets c.args.settings.now c.args.cells.now c.args.hp.now lp old mid mid c.requires.fresh c.in-Ok.ensures.asks c.in-Ok.accepted c.in-Ok.ensures.accepts,
       ),
     )
