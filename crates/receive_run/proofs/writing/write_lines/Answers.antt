@@ -10,18 +10,18 @@ use Rattle.receive_run.proofs.Fronts.{line_more, line_front}
 use Rattle.receive_run.proofs.Keeping.{Printed, line_printed, report_appends}
 use Rattle.receive_run.proofs.writing.write_lines.Goals as goal
 
-pub returns-in_err-write_some-clause-written : goal.returns-in_err-write_some-clause-written
-returns-in_err-write_some-clause-written g c = λ t.
+pub returns-in_err-write_some-in-Some-clause-written : goal.returns-in_err-write_some-in-Some-clause-written
+returns-in_err-write_some-in-Some-clause-written g c = λ t.
     let m : Meaning = g.S.Station.meaning c.args.station.now in
     let m' : Meaning = g.S.Station.meaning c.loop-number.station in
     let m'' : Meaning = g.S.Station.meaning c.write_some.new.station in
     let inv = c.loop-number.invariant in
     let lines = g.C.ClosingLines.lines c.args.counts.now in
     let text : c.as_bytes.result.now ≡ c.in-Some.line.bytes = c.as_bytes.ensures.value ∙ c.as_str.ensures.value in
-    let a = report_appends c.as_bytes.result.now m' m'' (Err c.in_err-write_some.field-0.0) (ap (λ (x : Meaning). x.tells) inv.others ∙ t) c.in_err-write_some.ensures.writes in
+    let a = report_appends c.as_bytes.result.now m' m'' (Err c.in_err-write_some-in-Some.field-0.0) (ap (λ (x : Meaning). x.tells) inv.others ∙ t) c.in_err-write_some-in-Some.ensures.writes in
     let f = line_front lines c.loop-number.number c.in-Some.line.bytes m.report.written m''.report.written a.1 c.in-Some.ensures.line
     (a.2 ∙ (λ i. inv.written t i ++ take a.1 (text i))) in
-    handed_on c.from_residual.result c.in_err-write_some.field-0.0 (Appends (concat lines) m.report.written m''.report.written) c.from_residual.ensures.1 (a.0, f.0, f.1)
+    handed_on c.from_residual.result c.in_err-write_some-in-Some.field-0.0 (Appends (concat lines) m.report.written m''.report.written) c.from_residual.ensures.1 (a.0, f.0, f.1)
 
 pub returns-in-None-clause-written : goal.returns-in-None-clause-written
 returns-in-None-clause-written g c = λ t.
@@ -41,7 +41,7 @@ loop-number-preserved g c =
     let n : ℕ = c.loop-number.number in
     let line = c.in-Some.line.bytes in
     let text : c.as_bytes.result.now ≡ line = c.as_bytes.ensures.value ∙ c.as_str.ensures.value in
-    let w : WritesAt outs.Report line m' m'' (Ok tt) = subst (λ (b : List ℕ). WritesAt outs.Report b m' m'' (Ok tt)) text c.in_ok-write_some.ensures.writes in
+    let w : WritesAt outs.Report line m' m'' (Ok tt) = subst (λ (b : List ℕ). WritesAt outs.Report b m' m'' (Ok tt)) text c.in_ok-write_some-in-Some.ensures.writes in
     let one : n + 1 ≡ suc n = omega arith in
     let more : concat (take (n + 1) lines) ≡ concat (take n lines) ++ line = ap (λ (k : ℕ). concat (take k lines)) one ∙ line_more lines n line c.in-Some.ensures.line in
     let p : Printed m m'' (concat (take (n + 1) lines)) = subst (Printed m m'') (sym more)
