@@ -1,4 +1,6 @@
 // Puncturing beside values from outside: the standard's table, and coded bytes of an independent program.
+ghost use Rattle.std.specs.Prelude.{◌≤◌};
+
 use bit_pack::BitBuf;
 use conv_code::Encoder;
 use mode_set::Rate;
@@ -185,7 +187,9 @@ fn costs_at_three_quarters(rt: HostRuntime) {
 }
 
 // The costs of a sent bit, by its number: those of no two numbers are the same.
-fn costs_of(number: u16) -> (u16, u16) {
+fn costs_of(number: u16) -> (u16, u16)
+    ensures { (result.0 ≤ 4095) × (result.1 ≤ 4095) }
+{
     (1 + number % 2000, 4095 - number % 2000)
 }
 

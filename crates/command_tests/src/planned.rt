@@ -90,7 +90,7 @@ const ANNOUNCED: [bool; 11] = [
 fn are_announced(cells: &[u8]) -> bool {
     for frame in 0..4usize {
         for (place, bit) in ANNOUNCED.iter().enumerate() {
-            if is_turned(cells, 68 * frame + 25 + place, 34) != *bit {
+            if is_turned(cells, 68 * frame + 25 + place.min(10), 34) != *bit {
                 return false;
             }
         }

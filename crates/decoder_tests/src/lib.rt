@@ -10,6 +10,8 @@ mod decoding;
 #[cfg(test)]
 mod encoding;
 #[cfg(test)]
+mod forced;
+#[cfg(test)]
 mod lying_pairs;
 #[cfg(test)]
 mod margins;

@@ -1,7 +1,7 @@
 // Cells that no modulator sends, fed in three ways. The expected reports and counts are those of an independent
 // program.
 use load_gen::Load;
-use mode_set::{Mode, Settings};
+use mode_set::{Mode, Mode2k, Settings};
 use receiver_tools::{Cut, Received};
 use rx_report::StreamCounts;
 use std::alloc::{AllocError, Global};
@@ -145,7 +145,7 @@ fn received<R: Abort + Threads + Sync>(
     cut: Cut,
 ) -> Result<Received, AllocError> {
     assert!(rt; settings.mode == Mode::M2k);
-    Received::of(rt, alloc, settings, bytes, cut)
+    Received::of::<Mode2k, R>(rt, alloc, settings, bytes, cut)
 }
 
 // Receives the bytes whole, by single bytes and in drawn pieces, which give the same after each symbol.

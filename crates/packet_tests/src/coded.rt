@@ -1,5 +1,7 @@
 // A run over one transport file, and the command `outer`. The expected bytes are those of an independent program.
-use run_tools::{BASE, Conditions, File, Ran, ample, checksum, run_files, text_bytes};
+use run_tools::{
+    BASE, Conditions, File, Made, Ran, UNMADE, ample, checksum, run_files, text_bytes,
+};
 use station_core::Failing;
 use std::alloc::{AllocError, Global};
 use std::process::Abort;
@@ -44,7 +46,7 @@ pub(crate) fn run_on<R: Abort + Threads + Sync>(
     run_files(rt, alloc, text, settings, files, limit, conditions)
 }
 
-// Runs a case, and tells whether what is to be found stands.
+// Runs a case, and tells whether what is to be found stands. In none of the tables an output was made and is empty.
 fn is_found<R: Abort + Threads + Sync>(
     rt: &R,
     alloc: Global,
@@ -54,7 +56,12 @@ fn is_found<R: Abort + Threads + Sync>(
     let settings = text_bytes(alloc, settings.0, settings.1)?;
     let ran = run_on(rt, alloc, text, settings, file, terms)?;
     let is_told = ran.status == found.0 && ran.report.as_slice() == found.1.as_bytes();
-    Ok(is_told && ran.bytes.len() == found.2 && checksum(&ran.bytes) == found.3)
+    let made = Made {
+        bytes: found.2 > 0,
+        ..UNMADE
+    };
+    let is_held = ran.bytes.len() == found.2 && checksum(&ran.bytes) == found.3;
+    Ok(is_told && is_held && ran.made == made)
 }
 
 /// The number, from 0, of the first run that leaves something else.

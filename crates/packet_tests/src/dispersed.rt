@@ -1,5 +1,6 @@
 // The command `disperse`. The expected bytes are those of an independent program.
 use crate::coded::{Case, Part, first_wrong, parts_of};
+use dvbt_top::Limits;
 use run_tools::{BASE, File};
 use station_core::{Failing, InPort, OutPort};
 use std::test::Fail;
@@ -108,4 +109,10 @@ static CASES: [Case; 11] = [
 fn refusals_and_limits(rt: HostRuntime) -> Result<(), Fail> {
     assert_eq!(rt; first_wrong(&rt, rt.alloc(), &CASES)?, None);
     Ok(())
+}
+
+// The program takes a hundred million packets of a transport file.
+#[test]
+fn shipped_limits(rt: HostRuntime) {
+    assert_eq!(rt; Limits::shipped().packets, 100_000_000);
 }

@@ -1,6 +1,6 @@
 // The command `inner`. The expected bytes are those of an independent program.
 use crate::coded::{Case, FREE, Part, first_wrong, parts_of, run_on};
-use run_tools::{BASE, File};
+use run_tools::{BASE, File, UNMADE};
 use station_core::{Failing, InPort};
 use std::alloc::{AllocError, Global};
 use std::process::Abort;
@@ -167,7 +167,7 @@ fn is_refused<R: Abort + Threads + Sync>(
 ) -> Result<bool, AllocError> {
     let settings = vec![in alloc; b' '; count]?;
     let ran = run_on(rt, alloc, GONE, settings, NONE, FREE)?;
-    Ok(ran.status == 3 && ran.report.as_slice() == text.as_bytes() && ran.bytes.is_empty())
+    Ok(ran.status == 3 && ran.report.as_slice() == text.as_bytes() && ran.made == UNMADE)
 }
 
 #[test]

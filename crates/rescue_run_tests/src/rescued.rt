@@ -1,9 +1,11 @@
 // The command `rescue`. The expected reports, lengths and sums are those of an independent program.
-ghost use Rattle.std.specs.Prelude.{◌≤◌};
+ghost use Rattle.std.specs.Prelude.{◌≡◌, ◌<◌, ◌≤◌, ◌^◌, false};
 
+use mode_set::{Mode, Mode2k, Settings};
+use rescue::{Rescue, RescueOut};
 use run_tools::{
-    BASE, Conditions, Found, LAYERED, NONE, SUPER_FRAME, SYMBOL, ample, noisy, null_cells,
-    run_files, stands, text_bytes,
+    BASE, Conditions, EMPTY, Found, Held, LAYERED, SUPER_FRAME, SYMBOL, WIDE_SYMBOL, ample,
+    checksum, noisy, null_cells, run_files, stands, text_bytes, wide_null_cells,
 };
 use station_core::{Failing, InPort, OutPort};
 use std::alloc::{AllocError, Global};
@@ -29,13 +31,13 @@ const SIXTEEN: &str =
 const FOUR_OF_18: &str =
     "symbols 20 tail 0\nhp words 38 clean 0 corrected 20 rescued 4 bad 14 unphased 0 unmerged 0\n";
 
-const ALL: (usize, u32) = (7_144, 3_112_967_656);
+const ALL: Held = Some((7_144, 3_112_967_656));
 
 /// What those give but for the last symbol.
-const ALL_BUT_ONE: (usize, u32) = (6_580, 2_132_560_500);
+const ALL_BUT_ONE: Held = Some((6_580, 2_132_560_500));
 
 /// Half of what is written first.
-const HALF: (usize, u32) = (282, 1_288_369_202);
+const HALF: Held = Some((282, 1_288_369_202));
 
 /// The lines of them all, behind which a close failed.
 const CLOSED: &str =
@@ -105,22 +107,22 @@ static CASES: [(Noisy<'static>, &str, Found<'static>); 4] = [
     (
         (QPSK, 20, 12_460),
         ANY,
-        (0, ALL_THREE, (3_948, 1_716_182_877), NONE),
+        (0, ALL_THREE, Some((3_948, 1_716_182_877)), None),
     ),
     (
         (SIXTY_FOUR, 14, 2_875),
         ANY,
-        (0, THREE_OF_FIVE, (10_716, 3_641_308_779), NONE),
+        (0, THREE_OF_FIVE, Some((10_716, 3_641_308_779)), None),
     ),
-    ((SIXTEEN, 20, 7_380), "", (0, FOUR_OF_18, ALL, NONE)),
+    ((SIXTEEN, 20, 7_380), "", (0, FOUR_OF_18, ALL, None)),
     (
         (LAYERED, 30, 2_680),
         "",
         (
             0,
             TWO_OF_NINE,
-            (3_008, 2_915_110_544),
-            (5_640, 3_964_788_347),
+            Some((3_008, 2_915_110_544)),
+            Some((5_640, 3_964_788_347)),
         ),
     ),
 ];
@@ -134,7 +136,7 @@ fn words_come_back(rt: HostRuntime) -> Result<(), Fail> {
         ..ample(SUPER_FRAME)
     };
     for (sent, start, found) in &CASES {
-        let two = found.3 != NONE;
+        let two = found.3.is_some();
         let words = if two {
             "rescue s a hp lp"
         } else {
@@ -163,8 +165,8 @@ fn limits_of_symbols(rt: HostRuntime) -> Result<(), Fail> {
     let alloc = rt.alloc();
     let file = disturbed(&rt, alloc, (SIXTEEN, 20, 7_380), false)?;
     let cases = [
-        ("max_symbols = 20\n", (0, FOUR_OF_18, ALL, NONE)),
-        ("max_symbols = 19\n", (8, "limit 19\n", ALL_BUT_ONE, NONE)),
+        ("max_symbols = 20\n", (0, FOUR_OF_18, ALL, None)),
+        ("max_symbols = 19\n", (8, "limit 19\n", ALL_BUT_ONE, None)),
     ];
     for (limit, found) in cases {
         let wide = ample(SUPER_FRAME);
@@ -185,52 +187,52 @@ type Fault<'a> = (Failing, Found<'a>);
 static FAULTS: [Fault<'static>; 8] = [
     (
         Failing::Read(InPort::Settings, 1),
-        (5, "read fault\n", NONE, NONE),
+        (5, "read fault\n", None, None),
     ),
     (
         Failing::Attach(InPort::Cells, 1),
-        (5, "read fault\n", NONE, NONE),
+        (5, "read fault\n", None, None),
     ),
     (
         Failing::Read(InPort::Cells, 1),
-        (5, "read fault\n", NONE, NONE),
+        (5, "read fault\n", None, None),
     ),
     (
         Failing::Read(InPort::Cells, 21),
-        (5, "read fault\n", ALL_BUT_ONE, NONE),
+        (5, "read fault\n", ALL_BUT_ONE, None),
     ),
     (
         Failing::Create(OutPort::Hp, 1),
-        (6, "write fault\n", NONE, NONE),
+        (6, "write fault\n", None, None),
     ),
     (
         Failing::Write(OutPort::Hp, 1),
-        (6, "write fault\n", HALF, NONE),
+        (6, "write fault\n", HALF, None),
     ),
     (
         Failing::Write(OutPort::Report, 1),
-        (6, "symbols 2write fault\n", ALL, NONE),
+        (6, "symbols 2write fault\n", ALL, None),
     ),
-    (Failing::Close(OutPort::Hp, 1), (6, CLOSED, ALL, NONE)),
+    (Failing::Close(OutPort::Hp, 1), (6, CLOSED, ALL, None)),
 ];
 
 /// Those of two streams at LP, whose first two packets come with the tenth symbol.
 static FAULTS_OF_LP: [Fault<'static>; 3] = [
     (
         Failing::Create(OutPort::Lp, 1),
-        (6, "write fault\n", NONE, NONE),
+        (6, "write fault\n", EMPTY, None),
     ),
     (
         Failing::Write(OutPort::Lp, 1),
-        (6, "write fault\n", NONE, (188, 2_061_598_505)),
+        (6, "write fault\n", EMPTY, Some((188, 2_061_598_505))),
     ),
     (
         Failing::Close(OutPort::Lp, 1),
         (
             6,
             CLOSED_OF_TWO,
-            (3_008, 2_915_110_544),
-            (5_640, 3_964_788_347),
+            Some((3_008, 2_915_110_544)),
+            Some((5_640, 3_964_788_347)),
         ),
     ),
 ];
@@ -274,7 +276,7 @@ fn faults_of_the_station(rt: HostRuntime) -> Result<(), Fail> {
         failing: Some(Failing::Read(InPort::Cells, 2)),
         ..ample(SUPER_FRAME)
     };
-    let found = (5, "read fault\n", NONE, NONE);
+    let found = (5, "read fault\n", None, None);
     assert!(rt;
         leaves(
             &rt,
@@ -297,24 +299,131 @@ fn null_super_frame(rt: HostRuntime) -> Result<(), Fail> {
     assert!(rt; cells.len() == 8 + 272 * SYMBOL);
     let one = "rescue s a hp";
     let two = "rescue s a hp lp";
-    let form = (3, "settings form\n", NONE, NONE);
-    let unknown = (3, "settings unknown 0\n", NONE, NONE);
-    let header = (9, "cells header\n", NONE, NONE);
-    let packets = (45_308, 481_694_105);
+    let form = (3, "settings form\n", None, None);
+    let unknown = (3, "settings unknown 0\n", None, None);
+    let header = (9, "cells header\n", None, None);
+    let packets = Some((45_308, 481_694_105));
     let cases = [
-        (one, BASE, cells.len(), (0, WHOLE_NULLS, packets, NONE)),
-        (one, BASE, 8, (0, NO_WORDS, NONE, NONE)),
+        (one, BASE, cells.len(), (0, WHOLE_NULLS, packets, None)),
+        (one, BASE, 8, (0, NO_WORDS, EMPTY, None)),
         (one, BASE, 7, header),
         (two, BASE, 8, form),
         (one, LAYERED, 8, form),
         (one, "colour = \"red\"\n", 8, unknown),
-        ("rescue s a", BASE, 8, (2, "usage\n", NONE, NONE)),
+        ("rescue s a", BASE, 8, (2, "usage\n", None, None)),
     ];
     for (words, settings, length, found) in cases {
         let file = &cells[..length.min(cells.len())];
         let wide = ample(SUPER_FRAME);
         let is_so = leaves(&rt, alloc, words, (settings, ""), file, wide, found)?;
         assert!(rt; is_so, "{} of {} bytes beside {}", words, length, found.1);
+    }
+    Ok(())
+}
+
+/// 16-QAM at 2/3 in the 8K mode, and what seven symbols of it give where noise moves each part by at most 7,200: 2 words of 4 come
+/// back.
+const WIDE_SIXTEEN: &str =
+    "mode = \"8k\"\nconstellation = \"16qam\"\nrate_hp = \"2/3\"\nguard = \"1/32\"\n";
+
+const TWO_OF_FOUR: &str =
+    "symbols 7 tail 0\nhp words 58 clean 2 corrected 52 rescued 2 bad 2 unphased 0 unmerged 0\n";
+
+#[test]
+fn words_come_back_in_the_8k_mode(rt: HostRuntime) -> Result<(), Fail> {
+    let alloc = rt.alloc();
+    let cells = wide_null_cells(&rt, alloc, WIDE_SIXTEEN)?;
+    let file = noisy(
+        alloc,
+        &cells[..(8 + 7 * WIDE_SYMBOL).min(cells.len())],
+        7_200,
+    )?;
+    let settings = (WIDE_SIXTEEN, "");
+    let found = (0, TWO_OF_FOUR, Some((10_904, 857_551_973)), None);
+    let wide = ample(SUPER_FRAME);
+    assert!(rt; leaves(&rt, alloc, "rescue s a hp", settings, &file, wide, found)?);
+    Ok(())
+}
+
+// Feeds a piece, and tells nothing of what is rescued.
+fn feed<R: Threads + Sync>(
+    rt: &R,
+    receiver: &mut Rescue<Mode2k>,
+    piece: &[u8],
+    out: &mut RescueOut,
+) -> usize
+    requires going { receiver.old.ended ≡ false }
+    requires few { receiver.old.taken < 2 ^ 32 }
+{
+    receiver.feed(rt, piece, out)
+}
+
+// Ends the reception, and tells nothing of it.
+fn finish(receiver: &mut Rescue<Mode2k>, out: &mut RescueOut)
+    requires { receiver.old.ended ≡ false }
+{
+    receiver.finish(out);
+}
+
+// Feeds these bytes in pieces of this size, appends the packets of HP and answers how many bytes were taken.
+fn feed_all<R: Threads + Sync>(
+    rt: &R,
+    receiver: &mut Rescue<Mode2k>,
+    out: &mut RescueOut,
+    bytes: &[u8],
+    size: usize,
+    packets: &mut Vec<u8>,
+) -> Result<usize, AllocError> {
+    let mut taken = 0usize;
+    for _ in 0..bytes.len() {
+        let rest = &bytes[taken.min(bytes.len())..];
+        if !rest.is_empty() && !receiver.ended() && receiver.symbols() < 4_294_967_296 {
+            let count = feed(rt, receiver, &rest[..size.min(rest.len())], out);
+            taken = taken.saturating_add(count);
+            packets.extend_from_slice(out.hp())?;
+        }
+    }
+    if !receiver.ended() {
+        finish(receiver, out);
+        packets.extend_from_slice(out.hp())?;
+    }
+    Ok(taken)
+}
+
+// The packets of HP that a receiver gives of these bytes, fed in pieces of this size; and how many bytes it took.
+fn fed<R: Threads + Sync>(
+    rt: &R,
+    alloc: Global,
+    settings: &Settings,
+    bytes: &[u8],
+    size: usize,
+) -> Result<(Vec<u8>, usize), AllocError>
+    requires { settings.now.mode ≡ Mode.M2k }
+{
+    let mut out = RescueOut::new(alloc)?;
+    let mut packets = Vec::new(alloc);
+    let mut receiver = Rescue::<Mode2k>::new(alloc, settings)?;
+    let taken = feed_all(rt, &mut receiver, &mut out, bytes, size, &mut packets)?;
+    Ok((packets, taken))
+}
+
+// Fed in pieces that end within symbols, and in ones that go beyond them, a receiver gives the same as the command.
+#[test]
+fn pieces_of_any_size(rt: HostRuntime) -> Result<(), Fail> {
+    let alloc = rt.alloc();
+    let file = disturbed(&rt, alloc, (SIXTEEN, 20, 7_380), false)?;
+    let read = Settings::read(alloc, SIXTEEN.as_bytes());
+    assert!(rt; read.is_ok() && file.len() == 8 + 20 * SYMBOL);
+    if let Ok(settings) = read {
+        assert!(rt; settings.mode == Mode::M2k);
+        for size in [1usize, 997, 8_524, 8_526, 20_000] {
+            let (packets, taken) = fed(&rt, alloc, &settings, &file[8..], size)?;
+            let held = Some((packets.len(), checksum(&packets)));
+            assert!(rt;
+                held == ALL && taken == 20 * SYMBOL,
+                "pieces of {size} bytes"
+            );
+        }
     }
     Ok(())
 }

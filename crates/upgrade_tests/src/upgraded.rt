@@ -1,5 +1,7 @@
 // The command `upgrade`. The expected reports, lengths and sums are those of an independent program.
-use run_tools::{BASE, Conditions, LAYERED, Ran, ample, checksum, run_files, text_bytes};
+use run_tools::{
+    BASE, Conditions, LAYERED, Made, Ran, UNMADE, ample, checksum, run_files, text_bytes,
+};
 use station_core::{Failing, InPort, OutPort};
 use std::alloc::{AllocError, Global};
 use std::process::Abort;
@@ -54,12 +56,20 @@ fn upgraded<R: Abort + Threads + Sync>(
     run_files(rt, alloc, UPGRADE, settings, inputs, 1, conditions)
 }
 
-// Compares what stands.
+// Compares what stands. In none of the tables a new file was made and is empty.
 fn stands(rt: &impl Abort, ran: &Ran, found: Found<'_>) {
     let is_told = ran.status == found.0 && ran.report.as_slice() == found.1.as_bytes();
     assert!(rt; is_told, "status or report beside {}", found.1);
     let is_held = ran.cells.len() == found.2 && checksum(&ran.cells) == found.3;
-    assert!(rt; is_held, "the new file beside {}", found.1);
+    let made = Made {
+        cells: found.2 > 0,
+        ..UNMADE
+    };
+    assert!(rt;
+        is_held && ran.made == made,
+        "the new file beside {}",
+        found.1
+    );
 }
 
 // The cells that `modulate` has written, as a file of version 1: without header and weights.
