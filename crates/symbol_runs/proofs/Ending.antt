@@ -15,7 +15,7 @@ use Rattle.station_core.specs.declared.ports.OutPort.{OutPort}
 use Rattle.station_core.specs.declared.ports.OutPort.TheVariants as outs
 use Rattle.run_clauses.specs.declared.work.Refusal.{Refusal}
 use Rattle.run_clauses.specs.declared.work.Refusal.TheVariants as refusals
-use Rattle.run_clauses.specs.Command.{Command, Files, IsInput, IsOutput, is_among, named, refusal_of, input_file, unread}
+use Rattle.run_clauses.specs.Command.{Command, Files, Unread, IsInput, IsOutput, is_among, named, refusal_of, input_file, unread}
 use Rattle.run_clauses.specs.declared.work.CellsRefusal.TheVariants.{Header, NoPlace, AnnouncedForm}
 use Rattle.run_clauses.specs.Header.{IsHeaderTaken, behind_header, header_refusal, header_size}
 use Rattle.run_clauses.specs.Run.{IsUntaken, Run}
@@ -397,21 +397,21 @@ module _ (c : Command) (limit : ℕ) (name cells : List ℕ) (header : Option (L
     )
 
     -- so does what was given before the cells are refused
-    refused_continues : start.tells ≡ true → (given : Written) (r : Refusal) → ComesRefused c limit start.file given r → Continues c limit start.file given
-    refused_continues t given refusals.Memory came =
+    refused_continues : start.tells ≡ true → (left : Unread) (given : Written) (r : Refusal) → ComesRefused c limit start.file left given r → Continues c limit start.file given
+    refused_continues t left given refusals.Memory came =
         let all = (first_of t).1 in
         record { all = all.all; come = all.come; begins = λ port. (all.all port, ap (λ (l : List ℕ). l ++ all.all port) (sym (came.1 port))) }
-    refused_continues t given (refusals.Cells reason) came = record { all = given; come = came.0; begins = λ port. ([], sym (append-nil (given port))) }
-    refused_continues t given refusals.Usage came = absurd came
-    refused_continues t given (refusals.Settings reason) came = absurd came
-    refused_continues t given refusals.ReadFault came = absurd came
-    refused_continues t given refusals.WriteFault came = absurd came
-    refused_continues t given (refusals.NotSync stream n) came = absurd came
-    refused_continues t given (refusals.Limit n) came = absurd came
+    refused_continues t left given (refusals.Cells reason) came = record { all = given; come = came.0; begins = λ port. ([], sym (append-nil (given port))) }
+    refused_continues t left given refusals.Usage came = absurd came
+    refused_continues t left given (refusals.Settings reason) came = absurd came
+    refused_continues t left given refusals.ReadFault came = absurd came
+    refused_continues t left given refusals.WriteFault came = absurd came
+    refused_continues t left given (refusals.NotSync stream n) came = absurd came
+    refused_continues t left given (refusals.Limit n) came = absurd came
 
     continues : start.tells ≡ true → (given : Written) → GivenUpTo w most file given ⊎ GivenBefore w most file given → Continues c limit start.file given
     continues t given (inl up) = (command.comes t).begun given up
-    continues t given (inr b) = refused_continues t given b.refusal ((command.comes t).refused b.taken b.rest given b.refusal b.are b.within b.its b.refuses)
+    continues t given (inr b) = refused_continues t (λ port. b.rest) given b.refusal ((command.comes t).refused (λ port. b.rest) b.taken given b.refusal b.are b.within b.its b.refuses)
 
     -- ---- what is left by each outcome
     module _ (result : Result (Unit {0}) Stop) (done : IsWorked w most names (opened cells header old) mid result) where
