@@ -18,10 +18,14 @@ If the python3 on the PATH lacks numpy, /usr/bin/python3 is tried.
 It is a reader's tool beside the program and shares no code with it. Other programs can use it as a module:
 read_settings(path), CellFile(path, settings).array() and Carriers(mode).kinds(l).
 """
-import argparse
-import os
-import signal
-import sys
+import _signal  # the built-in part alone: it comes before all that takes time
+
+if __name__ == "__main__":
+    _signal.signal(_signal.SIGINT, _signal.SIG_DFL)  # Ctrl-C shows no traceback
+
+import argparse  # noqa: E402
+import os  # noqa: E402
+import sys  # noqa: E402
 
 sys.path.insert(0, os.path.dirname(os.path.realpath(__file__)))
 try:
@@ -60,6 +64,23 @@ def kind_list(text):
     return names
 
 
+def reach(text):
+    """A whole number from 0 to 65535: how far two parts of a cell can be apart."""
+    if text.isascii() and text.isdecimal() and int(text) <= 65535:
+        return int(text)
+    raise argparse.ArgumentTypeError(f"{text!r} is no whole number from 0 to 65535")
+
+
+def ratio(text):
+    """A ratio in dB. Beyond 100 dB either way the noise or the signal is gone."""
+    try:
+        if -100 <= float(text) <= 100:
+            return float(text)
+    except ValueError:
+        pass
+    raise argparse.ArgumentTypeError(f"{text!r} is no number from -100 to 100")
+
+
 def arguments(words):
     """The command line."""
     verb = words.pop(0) if words[:1] and words[0] in ("look", "compare", "measure", "disturb") else "look"
@@ -78,7 +99,7 @@ def arguments(words):
     if verb == "compare":
         add("cells", metavar="A", help="the cell file that is judged")
         add("other", metavar="B", help="the cell file that it is judged by, as dvbt modulate writes it")
-        add("--within", type=int, default=0, metavar="N", help="parts that differ by N at most count as the same (default: 0)")
+        add("--within", type=reach, default=0, metavar="N", help="parts that differ by N at most count as the same (default: 0)")
     else:
         add("cells", metavar="CELLS", help="the cell file (docs/FILES.md), - for standard input")
     if verb == "measure":
@@ -89,8 +110,9 @@ def arguments(words):
     if verb == "disturb":
         add("out", metavar="OUT", help="the cell file to write")
         noise = parser.add_mutually_exclusive_group(required=True)
-        noise.add_argument("--within", type=int, metavar="N", help="move each data cell evenly by at most N on each axis, pilots and TPS not at all")
-        noise.add_argument("--mer", type=float, metavar="DB", help="Gaussian noise on all cells, for this MER of the data cells")
+        noise.add_argument("--within", type=reach, metavar="N",
+                           help="move each data cell evenly by at most N on each axis, pilots and TPS not at all")
+        noise.add_argument("--mer", type=ratio, metavar="DB", help="Gaussian noise on all cells, for this MER of the data cells")
         add("--seed", type=int, default=1, help="the seed of the noise (default: 1)")
     if verb == "look":
         add("--frames", type=span, default=slice(None), metavar="A:B", help="the frames whose TPS is looked at, from 0 (default: all)")
@@ -111,9 +133,19 @@ def opened(path, settings):
     return file
 
 
+def keep(words):
+    """Rejects an output that is a file of the call, by whatever name, before anything is opened."""
+    out = getattr(words, "out", None)
+    for path in (words.settings, words.cells, getattr(words, "sent", None)) if out and os.path.isfile(out) else ():
+        path = "/dev/stdin" if path == "-" else path
+        if path and os.path.exists(path) and os.path.samefile(path, out):
+            raise Unfit(f"{out} is read and would be overwritten")
+
+
 def main(words):
     """Runs the command; answers whether all checks hold."""
     verb, words = arguments(words)
+    keep(words)
     settings = read_settings(words.settings)
     if verb == "compare":
         from cell_tools.compare import compare
@@ -134,10 +166,13 @@ def main(words):
 
 
 if __name__ == "__main__":
-    signal.signal(signal.SIGINT, signal.SIG_DFL)  # Ctrl-C shows no traceback
     try:
-        sys.exit(0 if main(sys.argv[1:]) else 1)
+        holds = main(sys.argv[1:])
+        if sys.stdout:  # it is None if it was closed
+            sys.stdout.flush()
+        sys.exit(0 if holds else 1)
     except Unfit as error:
         sys.exit(f"{NAME}: {error}")
-    except BrokenPipeError:
-        sys.exit(1)
+    except OSError as error:
+        os.dup2(os.open(os.devnull, os.O_WRONLY), 1)  # else Python tries once more at its end
+        sys.exit(1 if isinstance(error, BrokenPipeError) else f"{NAME}: standard output could not be written: {error.strerror}")

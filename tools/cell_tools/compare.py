@@ -29,6 +29,9 @@ def compare(one, other, within):
             both += min(ours.symbols, theirs.symbols)
     print(f"A {one.name}: {one.symbols} symbols, bytes left over {one.left_over}")
     print(f"B {other.name}: {other.symbols} symbols, bytes left over {other.left_over}")
+    if not both:
+        print("no whole symbol, so nothing is compared")
+        return False
     found.show(both)
     if found.weighed:
         print(f"weights that differ: {found.weighed} of {both * one.carriers.count}")

@@ -1,5 +1,4 @@
 """Random noise on cells, generated from a seed."""
-import os
 import sys
 
 import numpy as np
@@ -13,8 +12,6 @@ def disturb(file, words):
     numpy, and the same for a frame as for its symbols one by one."""
     if file.left_over:
         raise Unfit(f"{file.name}: only whole symbols are disturbed")
-    if os.path.exists(words.out) and os.path.exists(file.path) and os.path.samefile(words.out, file.path):
-        raise Unfit(f"{words.out} is read and would be overwritten")
     is_standard = words.out in ("-", "/dev/stdout")
     generator = np.random.RandomState(words.seed)
     try:

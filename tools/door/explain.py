@@ -9,6 +9,7 @@ from commands.lines import values_of
 PACKET, SYNC = 188, 0x47
 USEFUL = {"2k": 224e-6, "8k": 896e-6}  # seconds of a symbol without guard in a channel of 8 MHz
 OTHERS = {204: "the last 16 bytes of each, its parity", 192: "the first 4 bytes of each, its time stamp"}  # packets not read
+EIGHT = 8 * 204  # bytes in which eight packets of any of these lengths begin
 STANDS = {4: "output for the packets before it", 5: "output for what was read", 6: "a prefix of the full output", 8: "output within the limit"}
 
 
@@ -39,10 +40,12 @@ def of_usage(words):
     if command in forms.FORMS:
         say(option_in(words) or f"{command} takes these arguments:")
         say(f"  {line}" for line in forms.lines_of_forms(command))
+        say("NUMBER has one to ten digits and is at most 4294967295" if command == "trial" else [])
     elif command.startswith("-"):
         say(f"there is no option {command}; the options are {', '.join(forms.OPTIONS)}, before the command")
     elif command in ("help", "version"):
-        say(f"{command} is --{command}: bin/dvbt --{command}")
+        of = f"{words[1]} " if command == "help" and words[1:] and words[1] in forms.FORMS else ""
+        say(f"{command} is --{command}: bin/dvbt {of}--{command}")
     else:
         near = get_close_matches(command.lower(), forms.FORMS, 1)
         what = f"there is no command {command!r}" if words else "no command was given"
@@ -52,7 +55,7 @@ def of_usage(words):
 
 def option_in(words):
     """What is wrong with an option among the arguments of a command, or None."""
-    found = next((word for word in words[1:] if word.startswith("-") and word != "-"), None)
+    found = next((word for word in words[1:] if word.startswith("-") and word != "-" and not word[1:].isdecimal()), None)
     return found and f"{found}: there are no options after the command; a file of that name is ./{found}"
 
 
@@ -77,8 +80,10 @@ def of_settings(form, text):
     if refusal == "form":
         no_lp = "has no hierarchy, so there is no LP: leave its file out, or set hierarchy and rate_lp"
         return f"{path} {no_lp if len(form.files) > 3 else 'has a hierarchy, at the top or in its plan: name a file of LP too'}"
-    name = f"{path}, read as SETTINGS," if refusal in ("too long", "not toml") else path
-    return f"{name} {settings.why_rejected(piece(path, 0, 65536), refusal)} (docs/SETTINGS.md)"
+    is_document = refusal not in ("too long", "not toml")
+    name, kind = (path, None) if is_document else (f"{path}, read as SETTINGS,", kind_in(piece(path, 0, EIGHT)))
+    why = f"{name} {settings.why_rejected(piece(path, 0, 65536), refusal)} (docs/SETTINGS.md)"
+    return [why, f"{path} looks like {kind}: SETTINGS comes first"] if kind else why
 
 
 def of_packet(form, text):
@@ -88,7 +93,7 @@ def of_packet(form, text):
     if not path:
         return "a packet does not begin with the sync byte 47"
     number, at = found["packet"], PACKET * found["packet"]
-    head = piece(path, at, 8 * 204)
+    head = piece(path, at, EIGHT)
     there = f" is {head[0]:02X}, not" if head else " is not"
     lines = [f"{path}: byte {at:,}, the first of packet {number:,} (counted from 0),{there} the sync byte 47"]
     spacing, offset = sync_in(head)
@@ -98,7 +103,14 @@ def of_packet(form, text):
         lines.append(f"{path} begins within a packet: sync at offset {offset} (tail -c +{offset + 1} cuts it there)")
     elif spacing:
         lines.append(f"{path}: sync again at byte {at + offset:,}; bytes were lost or added before it")
+    elif number == 0 and kind_in(head):
+        lines.append(f"{path} looks like {kind_in(head)}, and {form.command} reads packets")
     return lines
+
+
+def kind_in(head):
+    """What a file looks like by its beginning, if that can be seen, else None."""
+    return "a cell file" if head[:4] == b"DVTC" else "a transport file" if sync_in(head[:EIGHT])[0] else None
 
 
 def sync_in(head):
@@ -116,23 +128,39 @@ def of_reading(form, text):
     named = [path for kind, _, path in form.files if not kind.startswith("out")]
     for path in named:
         if not os.path.exists(path):
-            return f"{path} can't be read: there is no such file"
+            return f"{path or 'a file without a name'} can't be read: {unfit(path) or 'there is no such file'}"
         if os.path.isdir(path) or not os.access(path, os.R_OK):
             return f"{path} can't be read: {'it is a folder' if os.path.isdir(path) else 'this user may not read it'}"
     return f"{' or '.join(named)} could not be read"
 
 
 def of_writing(form, text):
-    """A file can't be made, written or closed."""
+    """A file can't be made, written or closed. If the line is missing, it is standard output that failed."""
+    if text != "write fault":
+        return "standard output could not be written"
     for path in form.outputs:
         folder = os.path.dirname(path) or "."
         if not os.path.isdir(folder) or os.path.isdir(path):
             return f"{path} can't be written: {'it is a folder' if os.path.isdir(path) else f'there is no folder {folder}'}"
+        if unfit(path):
+            return f"{path or 'a file without a name'} can't be written: {unfit(path)}"
         if not os.access(path if os.path.exists(path) else folder, os.W_OK):
             return f"{path} can't be written: this user may not write it"
-        if os.statvfs(folder).f_bavail == 0:
+        if (os.path.isfile(path) or not os.path.exists(path)) and os.statvfs(folder).f_bavail == 0:
             return f"{path} can't be written: the disk is full"
-    return f"{' or '.join([path for path in form.outputs if path != '/dev/stdout'] + ['standard output'])} could not be written"
+    names = " or ".join("standard output" if path == "/dev/stdout" else path for path in form.outputs)
+    is_pipe = all(os.path.exists(path) and stat.S_ISFIFO(os.stat(path).st_mode) for path in form.outputs)
+    return f"{names or 'standard output'} could not be written{': nobody reads it any more' if names and is_pipe else ''}"
+
+
+def unfit(path):
+    """Why no file can have this name, or None."""
+    try:
+        os.stat(path)
+    except OSError as error:
+        is_absent = isinstance(error, FileNotFoundError)
+        return error.strerror if not is_absent else None if path else "the name is empty"
+    return None
 
 
 def of_limit(form, text):
@@ -169,6 +197,8 @@ def of_header(form, text):
         return f"{path} has cells of the {['2k', '8k'][begin[5]]} mode; {form.settings} has the other mode"
     if begin and beginning.is_version_1(begin, os.path.getsize(path)):
         return f"{path} looks like version 1: bin/dvbt upgrade {form.settings} {path} NEW makes a file of version 2"
+    if sync_in(begin[:EIGHT])[0]:
+        return f"{path} looks like a transport file, and {form.command} reads cells: modulate makes them of packets"
     begins = f" ({begin[:8].hex(' ').upper()})" if begin else ""
     return f"{path} does not begin with the header of a cell file of version 2{begins}: docs/FILES.md"
 

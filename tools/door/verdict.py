@@ -1,5 +1,5 @@
 """What a run of status 0 is worth: one line on standard error if there is something to say."""
-from door.explain import document_of, piece
+from door.explain import EIGHT, document_of, piece, sync_in
 
 
 def of(form, facts):
@@ -63,9 +63,11 @@ def signal(form, facts):
 
 
 def written(form, facts):
-    """Zeros in what was written, or cells that were made of a header."""
+    """Zeros in what was written, or cells that were made of a header or of packets."""
     from cell_tools import beginning
 
+    if form.command == "upgrade" and sync_in(piece(form.of("cells")[0], 0, EIGHT))[0]:
+        yield f"{form.of('cells')[0]} looks like a transport file, so {form.outputs[0]} holds no cells of use"
     begin = piece(form.outputs[0], 0, beginning.BYTES["2k"])
     said = ["its cells are wrong: OLD was of version 2 already"] if begin[8:12] == b"DVTC" else beginning.silent(begin)
     yield from (f"{form.outputs[0]}: {text}" for text in said)
