@@ -138,11 +138,11 @@ fn show_runs<R: Threads + Files + Print + AllocGlobal + Sync>(
 
 // Gives the cells of a file weights from 0 to 18, of which those above 15 count as 15.
 fn weigh(file: &mut [u8]) {
-    let mut weight = 0;
+    let mut weight = 0u8;
     for (place, byte) in file.iter_mut().enumerate() {
         if place >= 8 && (place - 8) % 5 == 4 {
             *byte = weight;
-            weight = (weight + 7) % 19;
+            weight = weight.wrapping_add(7) % 19;
         }
     }
 }
