@@ -1,11 +1,9 @@
 // The command `rescue`. The expected reports, lengths and sums are those of an independent program.
-ghost use Rattle.std.specs.Prelude.{◌≡◌, ◌<◌, ◌≤◌, ◌^◌, false};
+ghost use Rattle.std.specs.Prelude.{◌≤◌};
 
-use mode_set::{Mode, Mode2k, Settings};
-use rescue::{Rescue, RescueOut};
 use run_tools::{
-    BASE, Conditions, EMPTY, Found, Held, LAYERED, SUPER_FRAME, SYMBOL, WIDE_SYMBOL, ample,
-    checksum, noisy, null_cells, run_files, stands, text_bytes, wide_null_cells,
+    BASE, Conditions, EMPTY, Found, Held, LAYERED, SUPER_FRAME, SYMBOL, WIDE_SYMBOL, ample, noisy,
+    null_cells, run_files, stands, text_bytes, wide_null_cells,
 };
 use station_core::{Failing, InPort, OutPort};
 use std::alloc::{AllocError, Global};
@@ -342,88 +340,5 @@ fn words_come_back_in_the_8k_mode(rt: HostRuntime) -> Result<(), Fail> {
     let found = (0, TWO_OF_FOUR, Some((10_904, 857_551_973)), None);
     let wide = ample(SUPER_FRAME);
     assert!(rt; leaves(&rt, alloc, "rescue s a hp", settings, &file, wide, found)?);
-    Ok(())
-}
-
-// Feeds a piece, and tells nothing of what is rescued.
-fn feed<R: Threads + Sync>(
-    rt: &R,
-    receiver: &mut Rescue<Mode2k>,
-    piece: &[u8],
-    out: &mut RescueOut,
-) -> usize
-    requires going { receiver.old.ended ≡ false }
-    requires few { receiver.old.taken < 2 ^ 32 }
-{
-    receiver.feed(rt, piece, out)
-}
-
-// Ends the reception, and tells nothing of it.
-fn finish(receiver: &mut Rescue<Mode2k>, out: &mut RescueOut)
-    requires { receiver.old.ended ≡ false }
-{
-    receiver.finish(out);
-}
-
-// Feeds these bytes in pieces of this size, appends the packets of HP and answers how many bytes were taken.
-fn feed_all<R: Threads + Sync>(
-    rt: &R,
-    receiver: &mut Rescue<Mode2k>,
-    out: &mut RescueOut,
-    bytes: &[u8],
-    size: usize,
-    packets: &mut Vec<u8>,
-) -> Result<usize, AllocError> {
-    let mut taken = 0usize;
-    for _ in 0..bytes.len() {
-        let rest = &bytes[taken.min(bytes.len())..];
-        if !rest.is_empty() && !receiver.ended() && receiver.symbols() < 4_294_967_296 {
-            let count = feed(rt, receiver, &rest[..size.min(rest.len())], out);
-            taken = taken.saturating_add(count);
-            packets.extend_from_slice(out.hp())?;
-        }
-    }
-    if !receiver.ended() {
-        finish(receiver, out);
-        packets.extend_from_slice(out.hp())?;
-    }
-    Ok(taken)
-}
-
-// The packets of HP that a receiver gives of these bytes, fed in pieces of this size; and how many bytes it took.
-fn fed<R: Threads + Sync>(
-    rt: &R,
-    alloc: Global,
-    settings: &Settings,
-    bytes: &[u8],
-    size: usize,
-) -> Result<(Vec<u8>, usize), AllocError>
-    requires { settings.now.mode ≡ Mode.M2k }
-{
-    let mut out = RescueOut::new(alloc)?;
-    let mut packets = Vec::new(alloc);
-    let mut receiver = Rescue::<Mode2k>::new(alloc, settings)?;
-    let taken = feed_all(rt, &mut receiver, &mut out, bytes, size, &mut packets)?;
-    Ok((packets, taken))
-}
-
-// Fed in pieces that end within symbols, and in ones that go beyond them, a receiver gives the same as the command.
-#[test]
-fn pieces_of_any_size(rt: HostRuntime) -> Result<(), Fail> {
-    let alloc = rt.alloc();
-    let file = disturbed(&rt, alloc, (SIXTEEN, 20, 7_380), false)?;
-    let read = Settings::read(alloc, SIXTEEN.as_bytes());
-    assert!(rt; read.is_ok() && file.len() == 8 + 20 * SYMBOL);
-    if let Ok(settings) = read {
-        assert!(rt; settings.mode == Mode::M2k);
-        for size in [1usize, 997, 8_524, 8_526, 20_000] {
-            let (packets, taken) = fed(&rt, alloc, &settings, &file[8..], size)?;
-            let held = Some((packets.len(), checksum(&packets)));
-            assert!(rt;
-                held == ALL && taken == 20 * SYMBOL,
-                "pieces of {size} bytes"
-            );
-        }
-    }
     Ok(())
 }
