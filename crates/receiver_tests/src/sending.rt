@@ -1,9 +1,7 @@
 // The symbols of null packets.
 ghost use Rattle.std.specs.Prelude.{◌≡◌};
 
-use mode_set::{
-    Carriers, Guard, Hierarchy, Mode, Mode2k, Mode8k, Plan, Rate, Settings, Shape, Start,
-};
+use mode_set::{Carriers, Guard, Hierarchy, Mode, Mode2k, Plan, Rate, Settings, Shape, Start};
 use modulator::{Modulator, Want};
 use std::alloc::{AllocError, Global};
 use std::process::Abort;
@@ -41,13 +39,6 @@ fn put_null<M: Carriers>(tx: &mut Modulator<M>) {
     }
 }
 
-// Puts as many as it wants, up to twelve.
-fn put_nulls<M: Carriers>(tx: &mut Modulator<M>) {
-    for _ in 0..12u8 {
-        put_null(tx);
-    }
-}
-
 // The bytes of the next symbol, whose packets were put.
 fn symbol_of<M: Carriers>(
     rt: &impl Abort,
@@ -61,42 +52,19 @@ fn symbol_of<M: Carriers>(
     Ok(to)
 }
 
-// The bytes of the first symbols that carry null packets. A symbol wants twelve packets at most.
-fn null_symbols_by<M: Carriers>(
-    rt: &impl Abort,
-    alloc: Global,
-    settings: &Settings,
-    count: u16,
-) -> Result<Vec<u8>, AllocError>
-    requires { settings.now.mode ≡ M.MODE }
-{
-    let mut tx = Modulator::<M>::new(alloc, settings)?;
-    let mut bytes = Vec::new(alloc);
-    for _ in 0..count {
-        put_nulls(&mut tx);
-        let symbol = symbol_of(rt, alloc, &mut tx)?;
-        bytes.extend_from_slice(&symbol)?;
-    }
-    Ok(bytes)
-}
-
-/// The bytes of the first symbols that carry null packets in QPSK at 1/2.
+/// The bytes of the first symbols that carry null packets. A symbol wants two packets at most.
 pub(crate) fn null_symbols(
     rt: &impl Abort,
     alloc: Global,
     count: u16,
 ) -> Result<Vec<u8>, AllocError> {
-    null_symbols_by::<Mode2k>(rt, alloc, &settings(Start::Zero), count)
-}
-
-/// The same in the 8K mode, by settings of it.
-pub(crate) fn wide_null_symbols(
-    rt: &impl Abort,
-    alloc: Global,
-    settings: &Settings,
-    count: u16,
-) -> Result<Vec<u8>, AllocError>
-    requires { settings.now.mode ≡ Mode.M8k }
-{
-    null_symbols_by::<Mode8k>(rt, alloc, settings, count)
+    let mut tx = Modulator::<Mode2k>::new(alloc, &settings(Start::Zero))?;
+    let mut bytes = Vec::new(alloc);
+    for _ in 0..count {
+        put_null(&mut tx);
+        put_null(&mut tx);
+        let symbol = symbol_of(rt, alloc, &mut tx)?;
+        bytes.extend_from_slice(&symbol)?;
+    }
+    Ok(bytes)
 }

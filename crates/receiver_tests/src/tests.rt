@@ -1,22 +1,14 @@
 // Receptions with known outcomes.
-ghost use Rattle.std.specs.Prelude.{◌≡◌, true};
-
-use crate::sending::{SYMBOL, null_symbols, settings, wide_null_symbols};
-use mode_set::{Mode, Mode2k, Mode8k, Rate, Settings, Shape, Start, Stream};
+use crate::sending::{SYMBOL, null_symbols, settings};
+use mode_set::{Mode2k, Start, Stream};
 use receiver_tools::{Cut, Given, Received, Reception};
 use rx_report::{Counts, Event, StreamCounts};
 use std::alloc::{AllocError, Global};
 use std::process::Abort;
 use std::rt::HostRuntime;
-use std::sync::atomic::{AtomicU64, Ordering};
 use std::test::Fail;
 use std::thread::Threads;
-use test_tools::flat;
 use ts_packet::Packet;
-use word_workers::{Gate, Job};
-
-/// The bytes of a symbol of the 8K mode.
-const WIDE_SYMBOL: usize = 34_085;
 
 // What is asked of a reception: how often something was given, the bytes of HP, those given at the end, whether all
 // packets are null packets with no packet of LP and no report beside them, and whether nothing was given between
@@ -76,86 +68,6 @@ fn pieces_of_any_size(rt: HostRuntime) -> Result<(), Fail> {
         let other = received(&rt, alloc, &bytes, size)?;
         assert!(rt; other == whole, "pieces of {size} bytes");
     }
-    Ok(())
-}
-
-// The reception of bytes of the 8K mode.
-fn received_wide<R: Threads + Sync>(
-    rt: &R,
-    alloc: Global,
-    settings: &Settings,
-    bytes: &[u8],
-    size: usize,
-) -> Result<Received, AllocError>
-    requires { settings.now.mode ≡ Mode.M8k }
-{
-    Received::of::<Mode8k, R>(rt, alloc, settings, bytes, Cut::Size(size))
-}
-
-// The same in the 8K mode: three symbols of 16-QAM at 2/3 have 29 whole words, so 18 packets come back, and of three bytes more
-// nothing.
-#[test]
-fn pieces_of_the_8k_mode(rt: HostRuntime) -> Result<(), Fail> {
-    let alloc = rt.alloc();
-    let settings = flat(Mode::M8k, Shape::Qam16, Rate::R2of3);
-    let mut bytes = wide_null_symbols(&rt, alloc, &settings, 3)?;
-    bytes.extend_from_slice(&[1, 2, 3])?;
-    let whole = received_wide(&rt, alloc, &settings, &bytes, WIDE_SYMBOL)?;
-    let (given, sum, _, nulls, quiet) = summary(&whole);
-    assert_eq!(rt; (given, sum, nulls, quiet), (4, 18 * 188, true, true));
-    for size in [1usize, 997, 34_084, 34_086, 70_000] {
-        let other = received_wide(&rt, alloc, &settings, &bytes, size)?;
-        assert!(rt; other == whole, "pieces of {size} bytes");
-    }
-    Ok(())
-}
-
-/// A gate that counts the pieces of work that enter it.
-#[derive(Drop)]
-struct CountingGate {
-    entered: AtomicU64,
-}
-
-impl Gate for CountingGate {
-    ghost has_entered = { λ _ _ _. true };
-
-    fn enter(&self, _job: Job, _piece: u32) {
-        self.entered.fetch_add(1, Ordering::SeqCst);
-    }
-}
-
-// Feeds the bytes symbol by symbol to both receivers, to one of them through the gate. Is each symbol taken whole, and do they give
-// the same of it?
-fn are_fed_alike<R: Threads + Sync>(
-    rt: &R,
-    alloc: Global,
-    plain: &mut Reception<Mode2k>,
-    gated: &mut Reception<Mode2k>,
-    gate: &CountingGate,
-    bytes: &[u8],
-) -> Result<bool, AllocError> {
-    let mut alike = true;
-    for symbol in bytes.chunks(SYMBOL) {
-        let taken = (plain.feed(rt, symbol), gated.feed_gated(rt, gate, symbol));
-        let given = gated.given(alloc)? == plain.given(alloc)?;
-        alike = alike && given && taken == (SYMBOL, SYMBOL);
-    }
-    Ok(alike && gated.counts() == plain.counts())
-}
-
-// Fed through a gate, a receiver gives what it gives without one; the pieces of its work enter the gate.
-#[test]
-fn fed_through_a_gate(rt: HostRuntime) -> Result<(), Fail> {
-    let alloc = rt.alloc();
-    let bytes = null_symbols(&rt, alloc, 16)?;
-    let gate = CountingGate {
-        entered: AtomicU64::new(0),
-    };
-    let mut plain = Reception::<Mode2k>::begin(alloc, &settings(Start::Zero))?;
-    let mut gated = Reception::<Mode2k>::begin(alloc, &settings(Start::Zero))?;
-    let alike = are_fed_alike(&rt, alloc, &mut plain, &mut gated, &gate, &bytes)?;
-    assert!(rt; alike && bytes.len() == 16 * SYMBOL);
-    assert!(rt; gate.entered.load(Ordering::SeqCst) > 0);
     Ok(())
 }
 
