@@ -11,6 +11,9 @@ use std::marker::Send;
 use std::thread::{Threads, join_mut};
 use survivor_ring::Survivors;
 
+/// The pairs of two streams from which a thread pays. A thread costs 22 microseconds, as many as some 3,000 steps.
+const PAYS: usize = 10_000;
+
 /// Enters the gate with the number of a decoder, and runs a symbol of it.
 fn run_one<G: Gate, A: Acs, V: Survivors<2048>>(gate: &G, piece: u32, branch: &mut Branch<A, V>)
     requires may { MayRun branch.old }
@@ -94,11 +97,12 @@ pub fn both<R: Threads + Sync, G: Gate, A: Acs + Send, V: Survivors<2048> + Send
     on_both(rt, &work, &work, hp, lp);
 }
 
-/// Steps two decoders side by side through the pairs of a symbol of their streams, where these lie, and each is
-/// afterwards what [`Branch::run_over`] makes of it with its pairs, for every gate.
+/// Steps two decoders through the pairs of a symbol of their streams, in place, and each is afterwards what
+/// [`Branch::run_over`] makes of it with its pairs, for every gate.
 ///
-/// Both meet the conditions of `run_over`. One of them runs in a thread of its own; where none can be
-/// made they run one after another. HP enters the gate with [`Job::Inner`] and 0, LP with 1.
+/// Both meet the conditions of `run_over`. If the two have 10,000 pairs or more, as every symbol of the 8K mode has, one of
+/// them runs in a thread of its own. With fewer pairs, or if no thread can be started, they run one after another. HP enters
+/// the gate with [`Job::Inner`] and 0, LP with 1.
 pub fn both_over<R: Threads + Sync, G: Gate, A: Acs + Send, V: Survivors<2048> + Send>(
     rt: &R,
     gate: &G,
@@ -114,6 +118,11 @@ pub fn both_over<R: Threads + Sync, G: Gate, A: Acs + Send, V: Survivors<2048> +
     ensures hp_entered { IsTrue (G.has_entered gate.now Job.Inner 0) }
     ensures lp_entered { IsTrue (G.has_entered gate.now Job.Inner 1) }
 {
+    if hp_pairs.len() + lp_pairs.len() < PAYS {
+        run_one_over(gate, 0, hp_pairs, hp);
+        run_one_over(gate, 1, lp_pairs, lp);
+        return;
+    }
     let over_hp = |piece: u32, branch: &mut Branch<A, V>|
         requires { MayRunOver hp_pairs.now branch.now }
         ensures has { HasRunOver hp_pairs.entry.now branch.entry.now branch.exit.now }
