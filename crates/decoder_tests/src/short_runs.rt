@@ -47,7 +47,9 @@ fn branch_of_one_symbol(rt: HostRuntime) -> Result<(), Fail> {
     branch.run_symbol();
     let run = (branch.loaded(), branch.events().len(), branch.ended());
     branch.finish();
-    let bits = (branch.waiting(), branch.take_byte());
-    assert!(rt; (loaded, run, bits) == (2, (0, 0, false), (2, None)));
+    let bytes = (branch.waiting(), branch.take_byte());
+    assert!(rt; (loaded, run, bytes) == (2, (0, 0, false), (2, None)));
+    let bits = [branch.take_bit(), branch.take_bit(), branch.take_bit()];
+    assert!(rt; (bits, branch.waiting()) == ([Some(false), Some(false), None], 0));
     Ok(())
 }

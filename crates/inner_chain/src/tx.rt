@@ -1,10 +1,12 @@
 // From the waiting bits of the streams to the labels of a symbol.
-ghost use Rattle.std.specs.Prelude.{◌≡◌, ◌+◌, ◌≤◌, IfOk, take, drop, length, vec_capacity, vec_len};
+ghost use Rattle.std.specs.Prelude.{◌≡◌, ◌≢◌, ◌+◌, ◌≤◌, ℕ, Bool, IfOk, take, drop, length, vec_capacity, vec_len};
 ghost use Rattle.mode_set.specs.Entries.{with_entry};
 ghost use Rattle.mode_set.specs.StreamTable.{need, payload};
+ghost use Rattle.mode_set.specs.declared.modes.Stream.{Stream as AnyStream};
 ghost use Rattle.mode_set.specs.declared.modes.Stream.TheVariants.{Hp, Lp};
+ghost use Rattle.puncture.specs.SentBits.{bits_from};
 ghost use Rattle.conv_code.specs.Coded.{zeros};
-ghost use Rattle.inner_chain.specs.Labels.{AppendsLabels, IsBefore, Paths, behind, coded_bits, input_bits};
+ghost use Rattle.inner_chain.specs.Labels.{AppendsLabels, IsBefore, Paths, behind, coded_bits, from_step, input_bits, register_of};
 
 use crate::entries::label_table;
 use crate::label_tables::{table_of, turn_label_tables};
@@ -141,5 +143,18 @@ impl<M: Carriers> InnerTx<M> {
         );
         let entries = table_of(&settings, odd, &self.even, &self.odd);
         push_symbol(&settings, odd, entries, &self.parities, to);
+    }
+
+    /// Moves the encoder of a stream on by its next bit, of which no label is made.
+    pub fn skip_bit(&mut self, stream: Stream, bit: bool)
+        ensures settings { self.new.settings ≡ self.old.settings }
+        // Before a path that has this bit, it is afterwards before what follows of the path.
+        ensures next { (path : ℕ → Bool) → register_of self.old stream ≡ bits_from path 0 6 → path 6 ≡ bit → register_of self.new stream ≡ bits_from (from_step path 1) 0 6 }
+        ensures other { (σ : AnyStream) → σ ≢ stream → register_of self.new σ ≡ register_of self.old σ }
+    {
+        match stream {
+            Stream::Hp => self.hp.step(bit),
+            Stream::Lp => self.lp.step(bit),
+        };
     }
 }

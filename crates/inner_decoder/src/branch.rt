@@ -235,6 +235,17 @@ impl<A: Acs, V: Survivors<2048>> Branch<A, V> {
         self.wait.take_byte()
     }
 
+    /// Takes the first of the bits that wait: None exactly where none waits, and then nothing changes.
+    pub fn take_bit(&mut self) -> Option<bool>
+        ensures none { IsNone result ↔ (length self.old.wait < 1) }
+        ensures unchanged { IsNone result → self.new ≡ self.old }
+        ensures taken { IfSome result (λ b. self.old.wait ≡ b ∷ self.new.wait) }
+        ensures amount { IfSome result (λ b. length self.old.wait ≡ length self.new.wait + 1) }
+        ensures rest { self.new ≡ record self.old { wait = self.new.wait } }
+    {
+        self.wait.take_bit()
+    }
+
     /// Gives the bits of the least path that are left: all bits given are then exactly the bits at the end of the
     /// definition, and the branch has ended.
     ///
