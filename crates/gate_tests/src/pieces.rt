@@ -39,12 +39,12 @@ fn two_workers_at_once(rt: HostRuntime) -> Result<(), Fail> {
     Ok(())
 }
 
-/// 400 pairs: those of a path of zeros, or some that fit no path.
+/// 5,000 pairs: those of a path of zeros, or some that fit no path.
 fn some_pairs(alloc: Global, clean: bool) -> Result<Vec<CostPair>, AllocError>
-    ensures { IfOk result (λ v. length v.items ≡ 400) }
+    ensures { IfOk result (λ v. length v.items ≡ 5000) }
 {
-    let mut pairs = Vec::with_capacity(alloc, 400)?;
-    for k in 0..400u32 {
+    let mut pairs = Vec::with_capacity(alloc, 5000)?;
+    for k in 0..5000u32 {
         let x1 = if clean { 900 } else { k * 37 % 1000 };
         pairs.push(CostPair {
             x0: 500,
@@ -58,17 +58,17 @@ fn some_pairs(alloc: Global, clean: bool) -> Result<Vec<CostPair>, AllocError>
 
 /// A decoder with these pairs loaded.
 fn loaded(alloc: Global, pairs: &[CostPair]) -> Result<Plain, AllocError>
-    requires { length pairs.now ≤ 400 }
+    requires { length pairs.now ≤ 5000 }
     ensures { IfOk result (λ b. MayRun b) }
 {
-    let mut branch = Plain::new(alloc, StartState::Zero, 400)?;
+    let mut branch = Plain::new(alloc, StartState::Zero, 5000)?;
     branch.load_all(pairs);
     Ok(branch)
 }
 
 /// What one decoder makes of these pairs, loaded and run alone.
 fn run_alone(alloc: Global, pairs: &[CostPair]) -> Result<Plain, AllocError>
-    requires { length pairs.now ≤ 400 }
+    requires { length pairs.now ≤ 5000 }
 {
     let mut branch = loaded(alloc, pairs)?;
     branch.run_symbol();
@@ -111,8 +111,8 @@ fn same_over<R: Threads + Sync, G: Gate>(
     hp_pairs: &[CostPair],
     lp_pairs: &[CostPair],
 ) -> Result<bool, AllocError>
-    requires hp { length hp_pairs.now ≤ 400 }
-    requires lp { length lp_pairs.now ≤ 400 }
+    requires hp { length hp_pairs.now ≤ 5000 }
+    requires lp { length lp_pairs.now ≤ 5000 }
 {
     let mut hp = Plain::new(alloc, StartState::Zero, 0)?;
     let mut lp = Plain::new(alloc, StartState::Zero, 0)?;
