@@ -25,10 +25,10 @@ use Rattle.reception.specs.Feeds.{Output, packets_of, Feeds, Finishes}
 use Rattle.reception.specs.Laws.{IsWithin, unfinished, SameSymbols, OneSymbolMore, TpsCellsStay, BitsOfCells, SameCosts, NextEvents, NoCosts, NothingLive, nothing}
 use Rattle.stream_decoders.specs.Seen.{CostsState}
 use Rattle.stream_decoders.specs.Fed.{HasHad, Ends, Fed}
-use Rattle.receiver.specs.Framing.{FrameStands}
+use Rattle.stream_decoders.specs.Framing.{FrameStands}
 use Rattle.receiver.specs.Seen.{StreamState, ReceiverState, stream_of}
 use Rattle.receiver.specs.Standing.{is_end, StreamStands, StreamGave, StandsFor}
-use Rattle.receiver.specs.declared.frames.FrameReader.{FrameReader}
+use Rattle.stream_decoders.specs.declared.frames.FrameReader.{FrameReader}
 use Rattle.receiver.proofs.Stepping.{received}
 
 -- a receiver by its parts

@@ -1,4 +1,3 @@
-mod Voting
 mod Pending
 mod Stepping
 mod Feeding

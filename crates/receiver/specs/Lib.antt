@@ -1,4 +1,3 @@
-pub mod Framing
 pub mod Words
 pub mod Seen
 pub mod Standing

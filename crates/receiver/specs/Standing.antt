@@ -13,7 +13,7 @@ use Rattle.reception.specs.Frames.{tps_cells}
 use Rattle.reception.specs.Streams.{start_of, Moment, so_far, at_end, IsDecoded, Reception, Receives}
 use Rattle.reception.specs.Lines.{stream_counts}
 use Rattle.reception.specs.Laws.{unfinished}
-use Rattle.receiver.specs.Framing.{FrameStands}
+use Rattle.stream_decoders.specs.Framing.{FrameStands}
 use Rattle.receiver.specs.Seen.{StreamState, ReceiverState, stream_of}
 
 abbrev pub is_end : Moment → Bool

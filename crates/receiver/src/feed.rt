@@ -12,7 +12,6 @@ ghost use Rattle.receiver.specs.Seen.{stream_of};
 ghost use Rattle.receiver.specs.Standing.{StandsFor, HasBits};
 
 use crate::RxOut;
-use crate::frames::FrameReader;
 use crate::stream::StreamRx;
 use acs_lanes::LaneAcs;
 use inner_decoder::Branch;
@@ -21,7 +20,7 @@ use rx_report::Counts;
 use std::alloc::{AllocError, Global};
 use std::marker::Model;
 use std::thread::Threads;
-use stream_decoders::{SymbolCosts, take_symbol};
+use stream_decoders::{FrameReader, SymbolCosts, take_symbol};
 use survivor_ring::RingSurvivors;
 use word_workers::{Gate, OpenGate};
 

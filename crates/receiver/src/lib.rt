@@ -8,7 +8,6 @@
 #![tactic(auto)]
 
 mod feed;
-mod frames;
 mod stream;
 mod words;
 

@@ -48,6 +48,15 @@ within_is law s bytes rest piece new n k h e is l = subst (λ (z : ℕ). tail s 
 pub ends_is : TailIsUnfinished → (s : Settings) (bytes rest piece new : List ℕ) (n k : ℕ) → rest ≡ unfinished s bytes → k ≡ carriers s.mode → new ≡ rest ++ take n piece → length new ≡ 5 * k → EndsSymbol s bytes (take n piece)
 ends_is law s bytes rest piece new n k h e is l = more_tail law s bytes rest piece new n h is ∙ l ∙ ap (λ (z : ℕ). 5 * z) e
 
+-- the cells of the symbol that is ended, and their weights
+pub ended_cells : EndedSymbol → (s : Settings) (bytes p new : List ℕ) (k : ℕ) → EndsSymbol s bytes p → new ≡ unfinished s bytes ++ p → k ≡ carriers s.mode → cells_from new k ≡ symbol_cells s (bytes ++ p) (symbols s bytes)
+unfolding symbol_cells
+ended_cells ended s bytes p new k ends r e = ap₂ cells_from (r ∙ sym (ended s bytes p ends).0) e
+
+pub ended_weights : EndedSymbol → (s : Settings) (bytes p new : List ℕ) (k : ℕ) → EndsSymbol s bytes p → new ≡ unfinished s bytes ++ p → k ≡ carriers s.mode → weights_from new k ≡ symbol_weights s (bytes ++ p) (symbols s bytes)
+unfolding symbol_weights
+ended_weights ended s bytes p new k ends r e = ap₂ weights_from (r ∙ sym (ended s bytes p ends).0) e
+
 -- the costs of the symbol that is ended, from its cells
 pub ended_costs : EndedSymbol → (s : Settings) (bytes p : List ℕ) (cells : List Cell) (weights new : List ℕ) (count k : ℕ) (σ : Stream) → EndsSymbol s bytes p → new ≡ unfinished s bytes ++ p → cells ≡ cells_from new k → weights ≡ weights_from new k → k ≡ carriers s.mode → count ≡ symbols s bytes
     → map (pair_of (settings_at s count) cells weights (count % 68) σ) (numbers (need (settings_at s count) σ)) ≡ symbol_costs s (bytes ++ p) σ (symbols s bytes)

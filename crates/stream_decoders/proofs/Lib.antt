@@ -1,3 +1,4 @@
 mod Rooms
 mod Feeding
 mod Branching
+mod Voting

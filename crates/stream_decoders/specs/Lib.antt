@@ -3,3 +3,4 @@ pub mod Seen
 pub mod Kept
 pub mod Fed
 pub mod Branches
+pub mod Framing

@@ -7,13 +7,14 @@ use Rattle.mode_set.specs.declared.settings.Settings.{Settings}
 use Rattle.qam_map.specs.declared.cell.Cell.{Cell}
 
 -- the settings, the bytes of the unfinished symbol, the number of whole symbols, whether the last bytes ended one, and then its
--- cells and the cost pairs of each stream in it
+-- cells, their weights and the cost pairs of each stream in it
 pub record CostsState : Type 0 where
   pub settings : Settings
   pub rest : List ℕ
   pub taken : ℕ
   pub whole : Bool
   pub cells : List Cell
+  pub weights : List ℕ
   pub hp : List CostPair
   pub lp : List CostPair
 

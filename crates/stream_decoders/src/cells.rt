@@ -3,6 +3,7 @@ ghost use Rattle.std.specs.Prelude.{◌≡◌, ◌+◌, ◌-◌, ◌*◌, ◌<�
 ghost use Rattle.mode_set.specs.StreamTable.{carriers};
 ghost use Rattle.mode_set.specs.declared.modes.Stream.TheVariants.{Lp};
 ghost use Rattle.symbol_spans.specs.Spans.{exists_in};
+ghost use Rattle.inner_chain.specs.CostTables.{AreWeights};
 ghost use Rattle.stream_decoders.specs.Rooms.{most_pairs};
 ghost use Rattle.stream_decoders.specs.Seen.{pairs_of};
 ghost use Rattle.stream_decoders.specs.Fed.{HasHad, Fed};
@@ -36,7 +37,7 @@ pub struct SymbolCosts<M: Carriers> {
 
 impl<M: Carriers> Model for SymbolCosts<M> {
     ghost use Rattle.std.specs.Prelude.{cond, [], take};
-    ghost use Rattle.frame_build.specs.Symbol.{cells_from};
+    ghost use Rattle.frame_build.specs.Symbol.{cells_from, weights_from};
     ghost use Rattle.stream_decoders.specs.Seen.{CostsState};
     ghost use Rattle.stream_decoders.specs.Kept.{AreKept};
 
@@ -48,6 +49,7 @@ impl<M: Carriers> Model for SymbolCosts<M> {
       taken = x.taken;
       whole = x.whole;
       cells = cells_from x.input M.K;
+      weights = weights_from x.input M.K;
       hp = take x.hp_used x.hp.items;
       lp = take x.lp_used x.lp.items;
     } };
@@ -90,7 +92,7 @@ impl<M: Carriers> SymbolCosts<M> {
     }
 
     /// Takes bytes from the front of the piece, as many as it has or the current symbol wants, and answers how many. Where they
-    /// end the symbol, its cells and cost pairs are known until the next call.
+    /// end the symbol, its cells, their weights and cost pairs are known until the next call.
     ///
     /// Fewer than 2^32 symbols were taken so far.
     pub fn feed(&mut self, piece: &[u8]) -> usize
@@ -140,6 +142,15 @@ impl<M: Carriers> SymbolCosts<M> {
         ensures count { length result.now ≡ carriers self.now.settings.mode }
     {
         self.input.cells()
+    }
+
+    /// The weights of these cells, each at most 15.
+    pub fn weights(&self) -> &[u8]
+        requires whole { self.now.whole ≡ true }
+        ensures weights { result.now ≡ self.now.weights }
+        ensures are { AreWeights self.now.settings.mode result.now }
+    {
+        self.input.weights()
     }
 
     /// The cost pairs of a stream in the symbol that was ended, one for each step: none where the symbol does not have it.

@@ -1,15 +1,17 @@
 //! From bytes of cells, cut anywhere, to the bits of each stream, symbol by symbol.
 //!
-//! [`SymbolCosts`] takes the bytes and gives, of each whole symbol, its cells and the cost pairs of each stream. Those are
+//! [`SymbolCosts`] takes the bytes and gives, of each whole symbol, its cells, their weights and the cost pairs of each stream. Those are
 //! handed to the decoders of the streams ([`take_symbol`]), which give all bits on which their survivors agree, and at the end
-//! the rest ([`end`]). [`ReceiverOut`] has what the last call of a receiver gave. What becomes of the bits is the matter of the receivers above.
+//! the rest ([`end`]). [`FrameReader`] reads the TPS words of the frames. [`ReceiverOut`] has what the last call of a receiver gave. What becomes of the bits is the matter of the receivers above.
 #![tactic(auto)]
 
 mod branches;
 mod cells;
+mod frames;
 mod out;
 mod pairs;
 
 pub use branches::{StreamBranch, begin, end, start_state, take_symbol};
 pub use cells::SymbolCosts;
+pub use frames::FrameReader;
 pub use out::ReceiverOut;

@@ -4,11 +4,11 @@ use Rattle.std.proofs.lemmas.Bool.{true≢false}
 use Rattle.mode_set.specs.StreamTable.{carriers}
 use Rattle.mode_set.specs.declared.modes.Stream.TheVariants.{Hp, Lp}
 use Rattle.mode_set.specs.declared.settings.Settings.{Settings}
-use Rattle.frame_build.specs.Symbol.{cells_from}
+use Rattle.frame_build.specs.Symbol.{cells_from, weights_from}
 use Rattle.reception.specs.Costs.{costs}
 use Rattle.stream_decoders.specs.Seen.{CostsState}
 use Rattle.stream_decoders.specs.Fed.{HasHad, Fed}
-use Rattle.stream_decoders.proofs.Feeding.{rest_is_short, some_carriers, still_unfinished, within_is, ends_is, taken_is, ended_costs, ended_tps}
+use Rattle.stream_decoders.proofs.Feeding.{rest_is_short, some_carriers, still_unfinished, within_is, ends_is, taken_is, ended_cells, ended_weights, ended_costs, ended_tps}
 use Rattle.stream_decoders.proofs.cells.SymbolCosts.feed.Goals as goal
 
 pub put_pairs-hp_used-requires-clause-weights : goal.put_pairs-hp_used-requires-clause-weights
@@ -29,7 +29,7 @@ returns-then-not-whole-clause-fed g c = λ b.
     let is : new ≡ rest ++ take n piece = c.take-count.ensures.taken ∙ ap (λ z. z ++ take n piece) c.pass_on.ensures.input in
     let short : length rest < 5 * k = rest_is_short x.whole x.input k (some_carriers _ _ _ _ _ g.M.Carriers.row) c.self.invariant.unfinished in
     let count : n ≡ min (length piece) (5 * k - length rest) = c.take-count.ensures.count ∙ ap (λ (z : List ℕ). min (length piece) (5 * k - length z)) c.pass_on.ensures.input in
-    subst (λ (z : CostsState). HasHad z b → Fed (record { settings = s; rest = cond c.pass_on.new.whole [] new; taken = x.taken; whole = c.pass_on.new.whole; cells = cells_from new k; hp = take x.hp_used x.hp.items; lp = take x.lp_used x.lp.items }) b piece n) c.self.view_is (λ h.
+    subst (λ (z : CostsState). HasHad z b → Fed (record { settings = s; rest = cond c.pass_on.new.whole [] new; taken = x.taken; whole = c.pass_on.new.whole; cells = cells_from new k; weights = weights_from new k; hp = take x.hp_used x.hp.items; lp = take x.lp_used x.lp.items }) b piece n) c.self.view_is (λ h.
     let l = still_unfinished rest piece new n k short count is (λ e. true≢false (sym (c.if-not-whole.ensures.1 e))) in
     let w = within_is c.symbols.ensures.tail s b rest piece new n k h.rest e is l in
     record {
@@ -55,7 +55,7 @@ returns-clause-fed g c = λ b.
     let is : new ≡ rest ++ take n piece = c.take-count.ensures.taken ∙ ap (λ z. z ++ take n piece) c.pass_on.ensures.input in
     let count : n ≡ min (length piece) (5 * k - length rest) = c.take-count.ensures.count ∙ ap (λ (z : List ℕ). min (length piece) (5 * k - length z)) c.pass_on.ensures.input in
     let l : length new ≡ 5 * k = c.if-not-whole.ensures.0 refl in
-    let y : CostsState = record { settings = s; rest = []; taken = x.taken + 1; whole = true; cells = cells_from new k; hp = take c.put_pairs-hp_used.result.0 c.put_pairs-hp_used.new.hp.items; lp = take c.put_pairs-hp_used.result.1 c.put_pairs-hp_used.new.lp.items } in
+    let y : CostsState = record { settings = s; rest = []; taken = x.taken + 1; whole = true; cells = cells_from new k; weights = weights_from new k; hp = take c.put_pairs-hp_used.result.0 c.put_pairs-hp_used.new.hp.items; lp = take c.put_pairs-hp_used.result.1 c.put_pairs-hp_used.new.lp.items } in
     subst (λ (z : CostsState). HasHad z b → Fed y b piece n) c.self.view_is (λ h.
     let ends = ends_is c.symbols.ensures.tail s b rest piece new n k h.rest e is l in
     let all : new ≡ _ = is ∙ ap (λ z. z ++ take n piece) h.rest in
@@ -68,6 +68,8 @@ returns-clause-fed g c = λ b.
       within = λ f. absurd (true≢false f);
       ends = λ _. record {
         ends = ends;
+        cells_are = ended_cells c.symbols.ensures.ended s b (take n piece) new k ends all e;
+        weights_are = ended_weights c.symbols.ensures.ended s b (take n piece) new k ends all e;
         costs_are = elim [
           | Hp ↦ c.costs.ensures.next s b (take n piece) Hp ends ∙ ap (λ z. costs s b Hp ++ z) (sym (c.put_pairs-hp_used.ensures.hp ∙ ended_costs c.symbols.ensures.ended s b (take n piece) _ _ new x.taken k Hp ends all c.cells-cells.ensures.cells c.weights-weights.ensures.weights e h.taken))
           | Lp ↦ c.costs.ensures.next s b (take n piece) Lp ends ∙ ap (λ z. costs s b Lp ++ z) (sym (c.put_pairs-hp_used.ensures.lp ∙ ended_costs c.symbols.ensures.ended s b (take n piece) _ _ new x.taken k Lp ends all c.cells-cells.ensures.cells c.weights-weights.ensures.weights e h.taken))

@@ -1,7 +1,7 @@
 use Rattle.std.proofs.Common.{ℕ, ◌≡◌, take, refl, sym, ◌∙◌, ap, subst}
 use Rattle.tps_word.specs.Vote.{vote, tps_cells_of}
-use Rattle.receiver.proofs.Voting.{noted}
-use Rattle.receiver.proofs.frames.FrameReader.note.Goals as goal
+use Rattle.stream_decoders.proofs.Voting.{noted}
+use Rattle.stream_decoders.proofs.frames.FrameReader.note.Goals as goal
 
 pub returns-clause-voted : goal.returns-clause-voted
 returns-clause-voted c = λ shown n e h.

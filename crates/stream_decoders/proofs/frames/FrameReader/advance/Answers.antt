@@ -1,6 +1,6 @@
 use Rattle.std.proofs.Common.{true, false, refl, arith}
-use Rattle.receiver.proofs.Voting.{ends_frame}
-use Rattle.receiver.proofs.frames.FrameReader.advance.Goals as goal
+use Rattle.stream_decoders.proofs.Voting.{ends_frame}
+use Rattle.stream_decoders.proofs.frames.FrameReader.advance.Goals as goal
 
 pub returns-then-is_readable-clause-stands : goal.returns-then-is_readable-clause-stands
 returns-then-is_readable-clause-stands c = λ mode shown n h.

@@ -4,7 +4,7 @@ use Rattle.mode_set.specs.declared.modes.Mode.{Mode}
 use Rattle.pilots.specs.Carriers.{tps_carriers}
 use Rattle.qam_map.specs.declared.cell.Cell.{Cell}
 use Rattle.reception.specs.Frames.{frame_bit, frame_bits, CountsWords}
-use Rattle.receiver.specs.declared.frames.FrameReader.{FrameReader}
+use Rattle.stream_decoders.specs.declared.frames.FrameReader.{FrameReader}
 
 -- The reader has had the symbols before n, whose TPS cells these are: it has those of the last one within its frame, the bits
 -- of the frame so far, and the counts of the frames before.

@@ -6,7 +6,7 @@ ghost use Rattle.mode_set.specs.declared.modes.Mode.{Mode as AnyMode};
 ghost use Rattle.qam_map.specs.declared.cell.Cell.{Cell as AnyCell};
 ghost use Rattle.qam_map.specs.Cells.{cell_of};
 ghost use Rattle.reception.specs.Frames.{IsReadable};
-ghost use Rattle.receiver.specs.Framing.{FrameStands, IsVoted};
+ghost use Rattle.stream_decoders.specs.Framing.{FrameStands, IsVoted};
 
 use mode_set::Mode;
 use qam_map::Cell;
@@ -24,15 +24,17 @@ fn is_readable(bits: &[bool; 67]) -> bool
 
 /// Reads the TPS word of each frame of 68 symbols, and counts those that are read and those that are not.
 #[derive(Drop)]
-pub(crate) struct FrameReader {
-    // The TPS cells of the symbol before.
-    pub(crate) before: [Cell; 68],
-    // The bits of the frame so far, bit l behind symbol l.
-    pub(crate) bits: [bool; 68],
-    // The number of the next symbol in its frame.
-    pub(crate) symbol: u8,
-    pub(crate) read: u64,
-    pub(crate) bad: u64,
+pub struct FrameReader {
+    /// The TPS cells of the last symbol.
+    pub before: [Cell; 68],
+    /// The bits of the frame so far: bit l of them is that of symbol l.
+    pub bits: [bool; 68],
+    /// The number of the next symbol in its frame.
+    pub symbol: u8,
+    /// The words that were read.
+    pub read: u64,
+    /// The words of the other whole frames.
+    pub bad: u64,
 }
 
 // Bit l of a frame's bits.
@@ -55,7 +57,8 @@ fn word_of(bits: &[bool; 68]) -> [bool; 67]
 }
 
 impl FrameReader {
-    pub(crate) fn new() -> FrameReader
+    /// A reader before the first symbol.
+    pub fn new() -> FrameReader
         ensures none { (mode : AnyMode) (cells : ℕ → List AnyCell) → FrameStands mode result cells 0 }
         ensures symbol { result.symbol ≡ 0 }
         ensures read { result.read ≡ 0 }
@@ -108,7 +111,7 @@ impl FrameReader {
     }
 
     /// Takes the next symbol by the cells of all its carriers.
-    pub(crate) fn take(&mut self, mode: Mode, cells: &[Cell])
+    pub fn take(&mut self, mode: Mode, cells: &[Cell])
         requires cells { length cells.now ≡ carriers mode }
         requires symbol { self.old.symbol < 68 }
         requires few { self.old.read + self.old.bad < 2 ^ 62 }

@@ -12,8 +12,8 @@ use Rattle.pilots.specs.Carriers.{tps_carriers}
 use Rattle.qam_map.specs.declared.cell.Cell.{Cell}
 use Rattle.tps_word.specs.Vote.{vote, bits_from}
 use Rattle.reception.specs.Frames.{frame_bit, frame_bits, IsReadable, CountsWords}
-use Rattle.receiver.specs.Framing.{FrameStands, IsVoted}
-use Rattle.receiver.specs.declared.frames.FrameReader.{FrameReader}
+use Rattle.stream_decoders.specs.Framing.{FrameStands, IsVoted}
+use Rattle.stream_decoders.specs.declared.frames.FrameReader.{FrameReader}
 
 -- ---- counts
 
