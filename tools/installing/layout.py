@@ -11,6 +11,7 @@ LIBRARY = "lib/dvbt"
 # Of the repository to PREFIX/lib/dvbt, under the same names.
 COPIED = [
     "VERSION", "bin/dvbt", "tools/builder/level.py", "tools/cell_tools/*.py", "tools/monitor/page.html",
+    "python/*.*", "python/dvbt/*.py", "grc/*.yml",
     "dist/dvbt-x86-64-v?", "dist/SHA256SUMS", "examples/*.py", "examples/sample.ts", "examples/settings/*.toml", "bench/gnuradio_receiver.py",
 ]
 DOCUMENTS = ["README.md", "CHANGELOG.md", "CITATION.cff", "docs/*"]  # to PREFIX/share/doc/dvbt
