@@ -6,7 +6,7 @@ from typing import Deque, Iterator, Optional
 from dvbt.program import Run
 from dvbt.settings import AnySettings
 
-ROOM = 1 << 20  # bytes that wait for the program, and that wait to be taken
+ROOM = 1 << 17  # bytes that wait for the program, and that wait to be taken
 
 
 class Flow:

@@ -7,7 +7,7 @@ first vector is the first symbol of a super-frame. Each block runs the program b
 - receiver: a packet comes eleven outer words, and at most 2048 steps of the inner code, after the symbols that carry it. Within a
   symbol nothing is decided.
 
-On their way data wait in pipes and in queues of up to 1 MB, which fill only if the next block is slower than the one before.
+On their way data wait in pipes and in queues of up to 128 KB, which fill only if the next block is slower than the one before.
 """
 from typing import Any
 
@@ -113,10 +113,14 @@ class measure(gr.sync_block):
         while self.flow.room() == 0:
             self.flow.wait(PATIENCE)
         self.flow.put(content_of(input_items[0][:given], None, self.mode))
+        self.hand_on()
+        return given
+
+    def hand_on(self) -> None:
+        """Publishes the super-frames that were measured."""
         line = self.flow.line()
         while line is not None:
             found = self.gathered.take(line)
             if found:
                 self.message_port_pub(pmt.intern("figures"), pmt.to_pmt(found))
             line = self.flow.line()
-        return given

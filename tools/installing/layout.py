@@ -12,7 +12,7 @@ LIBRARY = "lib/dvbt"
 COPIED = [
     "VERSION", "bin/dvbt", "tools/builder/level.py", "tools/cell_tools/*.py", "tools/monitor/page.html",
     "python/*.*", "python/dvbt/*.py", "grc/*.yml",
-    "dist/dvbt-x86-64-v?", "dist/SHA256SUMS", "examples/*.py", "examples/sample.ts", "examples/settings/*.toml", "bench/gnuradio_receiver.py",
+    "dist/dvbt-x86-64-v?", "dist/SHA256SUMS", "examples/*.py", "examples/*.grc", "examples/sample.ts", "examples/settings/*.toml", "bench/gnuradio_receiver.py",
 ]
 DOCUMENTS = ["README.md", "CHANGELOG.md", "CITATION.cff", "docs/*"]  # to PREFIX/share/doc/dvbt
 LINKS = {
