@@ -67,7 +67,7 @@ class Tree(unittest.TestCase):
         self.top = pathlib.Path(folder.name) / "tree"
         (self.top / "bin").mkdir(parents=True)
         shutil.copy(TOP / "bin/dvbt", self.top / "bin/dvbt")
-        for part in ("door", "commands", "builder", "cell_tools"):
+        for part in ("door", "commands", "builder", "cell_tools", "monitor"):
             shutil.copytree(TOP / "tools" / part, self.top / "tools" / part, ignore=shutil.ignore_patterns("__pycache__"))
         for path in ("crates/low/src/lib.rt", "crates/low/specs/Low.antt", "crates/dvbt/src/main.rt"):
             self.put(path, "text\n")

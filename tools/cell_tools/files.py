@@ -8,75 +8,11 @@ import numpy as np
 from cell_tools.settings import Unfit, settings_in
 from cell_tools.standard import FRAME, SUPER_FRAME, UNIT, Carriers, Points
 
+sys.path.insert(0, os.path.join(os.path.dirname(os.path.realpath(__file__)), "../../python"))
+from dvbt.files import VERSIONS, Version1, Version2  # noqa: E402
+
 LOOKED_AT = 4  # symbols at the beginning by which a file is checked
 LARGEST = 5 * 6817  # bytes of a symbol: 8K, version 2
-
-
-class Version1:
-    """A cell file of version 1: no header, and four bytes a cell (docs/FILES.md)."""
-
-    NUMBER, HEADER, WIDTH = 1, 0, 4
-
-    @staticmethod
-    def is_of(head):
-        """Whether a file that begins so is of this version."""
-        return True
-
-    @classmethod
-    def header(cls, mode):
-        """The bytes before the first cell."""
-        return b""
-
-    @classmethod
-    def cells(cls, content, symbols, carriers):
-        """Symbols by carriers by real and imaginary part, a view of the bytes from the first cell on."""
-        return view_of(content, symbols, carriers, cls, 0, ">i2", (2,))
-
-    @classmethod
-    def words(cls, content, symbols, carriers):
-        """Symbols by carriers: the four bytes of both parts as one number, in the byte order of the machine."""
-        return view_of(content, symbols, carriers, cls, 0, "u4", ())
-
-    @classmethod
-    def weights(cls, content, symbols, carriers):
-        """Symbols by carriers: each cell has the full weight."""
-        return np.broadcast_to(np.uint8(15), (symbols, carriers))
-
-    weights_as_written = weights
-
-
-class Version2(Version1):
-    """A cell file of version 2: a header of eight bytes, and five bytes a cell, the last of them its weight."""
-
-    NUMBER, HEADER, WIDTH = 2, 8, 5
-
-    @staticmethod
-    def is_of(head):
-        return head[:5] == b"DVTC\x02"
-
-    @classmethod
-    def header(cls, mode):
-        return b"DVTC\x02" + bytes([["2k", "8k"].index(mode), 0, 0])
-
-    @classmethod
-    def weights(cls, content, symbols, carriers):
-        """Symbols by carriers: a byte above 15 counts as 15."""
-        return np.minimum(cls.weights_as_written(content, symbols, carriers), 15)
-
-    @classmethod
-    def weights_as_written(cls, content, symbols, carriers):
-        return view_of(content, symbols, carriers, cls, 4, "u1", ())
-
-
-def view_of(content, symbols, carriers, version, offset, kind, shape):
-    """Symbols by carriers by `shape` numbers, which begin at byte `offset` of each cell: a view of the bytes."""
-    strides = (version.WIDTH * carriers, version.WIDTH) + (np.dtype(kind).itemsize,) * len(shape)
-    if not symbols:
-        return np.zeros((0, carriers) + shape, kind)
-    return np.ndarray((symbols, carriers) + shape, kind, content, offset, strides)
-
-
-VERSIONS = [Version2, Version1]  # the first that fits
 
 
 class Frame:

@@ -1,19 +1,13 @@
 """What the standard (EN 300 744) says of a symbol's cells: carriers, levels, labels and the words of TPS."""
 import numpy as np
 
+from cell_tools.tables import CONTINUAL, LEVELS, continual_carriers, reference_signs  # noqa: F401
 from cell_tools.tps import SYNC, VALUES, bch_rest, differences, field, fields_of, read_word, tps_carriers  # noqa: F401
 
 UNIT = 16384  # the fixed-point value of 1 in the standard's normalised constellation
 BOOSTED = 21845  # 4/3 of it (EN 300 744, 4.5.5)
 FRAME = 68  # symbols of a frame (4.4)
 SUPER_FRAME = 4 * FRAME
-
-# Carriers of the 2K mode; the 8K mode has them four times, 1704 apart (4.5.4).
-CONTINUAL = [
-    0, 48, 54, 87, 141, 156, 192, 201, 255, 279, 282, 333, 432, 450, 483, 525, 531, 618, 636, 714, 759, 765, 780,
-    804, 873, 888, 918, 939, 942, 969, 984, 1050, 1101, 1107, 1110, 1137, 1140, 1146, 1206, 1269, 1323, 1377, 1491,
-    1683, 1704,
-]
 
 DATA, CONTINUAL_PILOT, SCATTERED_PILOT, TPS_CARRIER = range(4)
 NAMES = ["data", "continual", "scattered", "tps"]
@@ -42,18 +36,6 @@ ROWS = [
     (54, 67, "parity"),
 ]
 
-# Magnitudes on an axis from the innermost to the outermost, before the division by the root (4.3.5).
-LEVELS = {
-    ("qpsk", "none"): ([1], 2),
-    ("16qam", "none"): ([1, 3], 10),
-    ("16qam", "1"): ([1, 3], 10),
-    ("16qam", "2"): ([2, 4], 20),
-    ("16qam", "4"): ([4, 6], 52),
-    ("64qam", "none"): ([1, 3, 5, 7], 42),
-    ("64qam", "1"): ([1, 3, 5, 7], 42),
-    ("64qam", "2"): ([2, 4, 6, 8], 60),
-    ("64qam", "4"): ([4, 6, 8, 10], 108),
-}
 # Bits of an axis behind the sign, for the same magnitudes.
 AXIS_BITS = {"qpsk": [""], "16qam": ["1", "0"], "64qam": ["10", "11", "01", "00"]}
 
@@ -62,14 +44,10 @@ class Carriers:
 
     def __init__(self, mode):
         self.mode = mode
-        shifts = range(1) if mode == "2k" else range(4)
-        self.count = 1 + 1704 * len(shifts)
+        self.count = 1705 if mode == "2k" else 6817
         self.tps = np.array(tps_carriers(mode))
-        self.continual = np.unique([k + 1704 * j for j in shifts for k in CONTINUAL])
-        bits = [1] * 11  # the reference sequence (4.5.2)
-        while len(bits) < self.count:
-            bits.append(bits[-9] ^ bits[-11])
-        self.signs = 1 - 2 * np.array(bits)
+        self.continual = np.array(continual_carriers(mode))
+        self.signs = np.array(reference_signs(mode))
 
     def kinds(self, l):
         """The kind of each carrier in symbol l of a frame; both kinds of pilot at once count as continual."""

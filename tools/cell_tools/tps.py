@@ -112,3 +112,12 @@ def read_word(bits):
     """The word of the code within two bits of s1 to s67 and how many were wrong, or None; its fields are ones that can be sent."""
     found = corrected(bits)
     return found if found and not why_unfit(found[0]) else None
+
+
+def cell_id_of(votes):
+    """The cell identifier that two frames in a row announce (4.6.2), or None. `votes` are the TPS bits of 136 symbols, the first of a frame."""
+    words = [read_word(votes[at + 1 : at + 68]) for at in (0, 68)]
+    if not all(words) or any(field(it[0], 17, 22) != 31 for it in words):
+        return None
+    bytes_of = {field(it[0], 23, 24) % 2: field(it[0], 40, 47) for it in words}
+    return 256 * bytes_of[0] + bytes_of[1] if len(bytes_of) == 2 else None

@@ -2,12 +2,15 @@
 import os
 import sys
 
+import monitor
 from commands import forms
 from door import names, watch
 
 
 def main(top, words, options, closed):
     """Runs the arguments; answers the exit status. `closed` are the descriptors that the program is to find closed."""
+    if words[:1] == ["monitor"]:
+        return monitor.start(words[1:], lambda: program_of(top, True, options), closed, "json" in options)
     said = told(top, words, options)
     if said is not None:
         return watch.printed(said)

@@ -10,8 +10,9 @@ from installing import completion, pages
 LIBRARY = "lib/dvbt"
 # Of the repository to PREFIX/lib/dvbt, under the same names.
 COPIED = [
-    "VERSION", "bin/dvbt", "tools/builder/level.py", "tools/cell_tools/*.py",
-    "dist/dvbt-x86-64-v?", "dist/SHA256SUMS", "examples/*.py", "examples/sample.ts", "examples/settings/*.toml", "bench/gnuradio_receiver.py",
+    "VERSION", "bin/dvbt", "tools/builder/level.py", "tools/cell_tools/*.py", "tools/monitor/page.html",
+    "python/*.*", "python/dvbt/*.py", "grc/*.yml",
+    "dist/dvbt-x86-64-v?", "dist/SHA256SUMS", "examples/*.py", "examples/*.grc", "examples/sample.ts", "examples/settings/*.toml", "bench/gnuradio_receiver.py",
 ]
 DOCUMENTS = ["README.md", "CHANGELOG.md", "CITATION.cff", "docs/*"]  # to PREFIX/share/doc/dvbt
 LINKS = {
@@ -81,8 +82,8 @@ def lay(top, folder, prefix):
         tree.put(f"{LIBRARY}/tools/builder/{os.path.basename(path)}", text_of(path))
     for path in sorted(glob.glob(f"{top}/tools/door/*.py")):
         tree.put(f"{LIBRARY}/tools/door/{os.path.basename(path)}", re.sub(r"(?<![\w/])bin/dvbt(?= )", "dvbt", text_of(path)))
-    for path in sorted(glob.glob(f"{top}/tools/commands/*.py")):
-        tree.put(f"{LIBRARY}/tools/commands/{os.path.basename(path)}", pages.placed(text_of(path), prefix))
+    for path in sorted(glob.glob(f"{top}/tools/commands/*.py") + glob.glob(f"{top}/tools/monitor/*.py")):
+        tree.put(f"{LIBRARY}/{os.path.relpath(path, top)}", pages.placed(text_of(path), prefix))
     tree.put(f"{LIBRARY}/tools/cells.py", pages.placed(text_of(f"{top}/tools/cells.py"), prefix), 0o755)
     tree.put(f"{LIBRARY}/SOURCES", f"{sources}\n")
     tree.put(f"{LIBRARY}/TOOLCHAIN", f"{toolchain}\n")
