@@ -3,7 +3,7 @@ import os
 import sys
 
 from commands import forms
-from door import names, watch
+from door import explain, names, watch
 
 
 def main(top, words, options, closed):
@@ -17,8 +17,6 @@ def main(top, words, options, closed):
     if file is None:
         # what the program answers to an invalid command line; nothing has to be built for it
         if "quiet" not in options:
-            from door import explain
-
             explain.of_usage(words)
         return object_of(words, 2, "usage") if "json" in options else watch.printed("usage", 2)
     if options == {"quiet"} and not is_data:
@@ -65,14 +63,15 @@ def program_named(top):
 
 
 def closed_descriptors():
-    """Which of the descriptors 0 to 2 are closed. They are held open by /dev/null, so that no file of ours takes their place."""
+    """Which of the descriptors 0 to 2 are closed. They are held open by /dev/null, so that no file of ours takes their place;
+    what is printed to 1 fails as if it were closed."""
     closed = []
     for number in range(3):
         try:
             os.fstat(number)
         except OSError:
             closed.append(number)
-            os.set_inheritable(os.open(os.devnull, os.O_RDWR), True)  # it is the lowest that is free
+            os.set_inheritable(os.open(os.devnull, os.O_RDONLY if number == 1 else os.O_RDWR), True)  # it is the lowest that is free
     return closed
 
 
@@ -100,10 +99,8 @@ def object_of(words, status, text, path=None):
     """Prints the object of a call that is not run; answers the status."""
     from door.report import Report
 
-    form = forms.form_of(words)
-    report = Report(form, 2 if form and "/dev/stdout" in form.outputs else 1)
-    report.refusal = {"text": text, **({"file": path} if path else {})}
-    return report.close(status)
+    form, refusal = forms.form_of(words), {"text": text, **({"file": path} if path else {})}
+    return Report(form, 2 if form and "/dev/stdout" in form.outputs else 1, refusal).close(status)
 
 
 def start(top, words):
@@ -116,10 +113,10 @@ def start(top, words):
         return main(top, words, options, closed)
     except names.Rejected as why:
         status, path, sys.stderr.to = why.status, why.path, why.to
-        print(f"dvbt: {why}", file=sys.stderr, flush=True)
+        explain.say(str(why))
     except OSError as error:
         status, path = 126, error.filename
-        print(f"dvbt: {path or 'bin/dvbt'}: {error.strerror}", file=sys.stderr, flush=True)
+        explain.say(f"{path or 'bin/dvbt'}: {error.strerror}")
     except SystemExit as end:
         status, path = end.code, None
     return object_of(words, status, sys.stderr.last.replace("dvbt: ", "", 1), path) if "json" in options else status

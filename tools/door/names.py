@@ -6,6 +6,8 @@ begin its file anew. And the program's own files take the lowest free descriptor
 import os
 import stat
 
+from door.explain import piece
+
 FILE, PIPE, DISK = stat.S_IFREG, stat.S_IFIFO, stat.S_IFBLK
 STANDARD = {1: "standard output", 2: "standard error"}
 
@@ -58,10 +60,8 @@ def reject_misplaced(form):
     for _, name, path in form.files:
         if path.startswith("-"):
             raise Rejected(f"{path}: there are no options after the command; a file of that name is ./{path}", path)
-        if name == "OLD" and os.path.isfile(path) and os.access(path, os.R_OK):
-            with open(path, "rb") as file:
-                if file.read(5) == b"DVTC\x02":
-                    raise Rejected(f"{path} is of version 2 already", path)
+        if name == "OLD" and piece(path, 0, 5) == b"DVTC\x02":
+            raise Rejected(f"{path} is of version 2 already", path)
 
 
 def descriptor_of(path):

@@ -8,8 +8,6 @@ from commands.lines import parsed
 from door import explain
 
 FIRST, EACH = 1.0, 0.5  # seconds until the progress is shown, and between two times
-HEADER, SYMBOL = 8, {"2k": 8525, "8k": 34085}  # bytes of a cell file
-PACKET = {"outer": 204, "inner": 0}  # bytes of an output for each packet, if not 188; `inner` has no whole number
 LOADER = 832  # bytes that the loader reads of the C library, before the program reads its files
 BY_DEFAULT = 1_000_000  # max_symbols
 
@@ -60,7 +58,7 @@ class Progress:
         symbol, air = self.settings()
         if not symbol or not self.form.cells:
             return []
-        number = max(0, self.position(self.form.cells) - HEADER) // symbol
+        number = max(0, self.position(self.form.cells) - explain.HEADER) // symbol
         counted = f"{'' if os.path.isfile(self.form.cells) else 'about '}{number:,} symbols"
         return [counted, f"{number * air:.3g} s of air", f"{number * air / gone:.2g} times real time"] if air else [counted]
 
@@ -69,7 +67,7 @@ class Progress:
         if self.kept is None:
             document = (self.form.settings and explain.document_of(self.form.settings)) or {}
             air = explain.seconds_of_symbol(document) if self.form.command not in ("tune", "align") else None
-            self.kept = SYMBOL.get(str(document.get("mode"))), air
+            self.kept = explain.SYMBOL.get(str(document.get("mode"))), air
         return self.kept
 
     def position(self, path):
@@ -86,16 +84,6 @@ class Progress:
         except (OSError, StopIteration):
             pass  # it is closed, or the program is gone
         return self.last.get(path, 0)
-
-    def stands(self, before):
-        """What the outputs hold that were written, a line each, if they are regular files."""
-        for kind, _, path in self.form.files:
-            if kind.startswith("out") and os.path.isfile(path) and explain.seen(path) != before.get(path):
-                size = os.path.getsize(path)
-                each = self.settings()[0] if kind == "out-cells" else PACKET.get(self.form.command, 188)
-                number = max(0, size - (HEADER if kind == "out-cells" else 0)) // each if each else 0
-                what = f", {number:,} {'symbols' if kind == 'out-cells' else 'packets'}" if each else ""
-                yield f"{path} holds {size:,} bytes{what}"
 
 
 def number_in(path, name):
