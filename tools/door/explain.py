@@ -3,13 +3,13 @@ import os
 import stat
 import sys
 
+from cell_tools.kinds import EIGHT, kind_in, sync_in
 from commands import forms
 from commands.lines import values_of
 
-PACKET, SYNC = 188, 0x47
+PACKET = 188
 USEFUL = {"2k": 224e-6, "8k": 896e-6}  # seconds of a symbol without guard in a channel of 8 MHz
 OTHERS = {204: "the last 16 bytes of each, its parity", 192: "the first 4 bytes of each, its time stamp"}  # packets not read
-EIGHT = 8 * 204  # bytes in which eight packets of any of these lengths begin
 HEADER, SYMBOL = 8, {"2k": 8525, "8k": 34085}  # bytes of a cell file
 WRITTEN = {"outer": 204, "inner": 0}  # bytes of an output for each packet, if not 188; `inner` has no whole number
 STANDS = {4: "output for the packets before it", 5: "output for what was read", 6: "the full output, or a prefix of it", 8: "output within the limit"}
@@ -108,21 +108,6 @@ def of_packet(form, text):
     elif number == 0 and kind_in(head):
         lines.append(f"{path} looks like {kind_in(head)}, and {form.command} reads packets")
     return lines
-
-
-def kind_in(head):
-    """What a file looks like by its beginning, if that can be seen, else None."""
-    return "a cell file" if head[:4] == b"DVTC" else "a transport file" if sync_in(head[:EIGHT])[0] else None
-
-
-def sync_in(head):
-    """How far apart four sync bytes or more stand, and where the first one is. (None, None) if they do not."""
-    for spacing in (PACKET, *OTHERS):
-        for offset in range(spacing):
-            run = head[offset::spacing]
-            if len(run) > 3 and set(run) == {SYNC}:
-                return spacing, offset
-    return None, None
 
 
 def of_reading(form, text):
