@@ -91,10 +91,13 @@ OF_THE_DOOR = [
 ]
 
 
+USAGE = ["bin/dvbt [-q] [--strict] [--json] COMMAND ARGUMENTS", "bin/dvbt [COMMAND] --help", "bin/dvbt --version", "bin/dvbt --program"]
+
+
 def help_of_all():
     """What `bin/dvbt --help` prints."""
     out = ["dvbt: a DVB-T modulator and streaming soft receiver (EN 300 744, between transport packets and OFDM cells)", ""]
-    out += ["usage: bin/dvbt [-q] [--strict] [--json] COMMAND ARGUMENTS", ""]
+    out += [f"usage: {USAGE[0]}", *(f"       {it}" for it in USAGE[1:]), ""]
     for command in forms.FORMS:
         out += [f"  {line}" for line in forms.lines_of_forms(command)]
         out += [f"        {SHORT[command]}"]

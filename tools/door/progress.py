@@ -25,8 +25,10 @@ class Progress:
         now = time.monotonic()
         if self.is_shown and now >= self.next:
             self.next, self.is_there = now + EACH, True
-            line = f"\rdvbt: {self.line(now - self.began)}"[: os.get_terminal_size(2).columns or None]
-            print(f"{line}\033[K", end="", file=sys.stderr, flush=True)
+            line, width = f"dvbt: {self.line(now - self.began)}", (os.get_terminal_size(2).columns or 999) - 3  # room for ^C
+            while len(line) > width and ", " in line:
+                line = line.rpartition(", ")[0]
+            print(f"\r{line[:width]}\033[K", end="", file=sys.stderr, flush=True)
 
     def tell(self, *_):
         """Answers SIGUSR1 by a line of its own."""
@@ -47,11 +49,12 @@ class Progress:
     def line(self, gone):
         """What can be known after so many seconds: counts, and the shares of the regular files that are read."""
         shares = {path: self.position(path) / max(os.path.getsize(path), 1) for _, path in self.form.inputs if os.path.isfile(path)}
-        parts = [*self.symbols(gone), *(f"{number:,} {name}" for name, number in self.counts.items())]
-        parts += [f"{100 * share:.0f} % of {os.path.basename(path)}" for path, share in shares.items()]
+        parts = [" and ".join(f"{100 * share:.0f} % of {os.path.basename(path)}" for path, share in shares.items())]
+        parts[0] += f"{' after' if shares else 'for'} {explain.clock(gone)}"
         least = min(shares.values(), default=0)
-        left = f", about {explain.clock(gone * (1 - least) / least)} more" if 0.02 < least < 1 else ""
-        return f"{self.form.command} {', '.join(parts)}{' after' if parts else ''} {explain.clock(gone)}{left}"
+        parts += [f"about {explain.clock(gone * (1 - least) / least)} more"] if 0.02 < least < 1 else []
+        parts += [*self.symbols(gone), *(f"{number:,} {name}" for name, number in self.counts.items())]
+        return f"{self.form.command} {', '.join(parts)}"
 
     def symbols(self, gone):
         """Symbols that were read or written so far, their time on air, and that time beside the clock's."""

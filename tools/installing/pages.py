@@ -46,12 +46,18 @@ def command(name):
     out = f".SS {name}\n{roff.inline(texts.SHORT[name][:1].upper() + texts.SHORT[name][1:])}.\n"
     out += "".join(f".PP\n\\fB{roff.escaped(line, True)}\\fR\n" for line in words.lines_of_forms(name))
     out += f".PP\n{roff.inline(' '.join(texts.MORE[name].split()))}\n"
-    return out + roff.literal(texts.EXAMPLES[name])
+    return out + roff.literal([part for line in texts.EXAMPLES[name] for part in broken(line)])
+
+
+def broken(line):
+    """An example in lines, as the shell takes it: the paths in it are long once it is installed."""
+    return re.sub(r"(examples/\S+) ", r"\1 \\\n    ", line).split("\n")
 
 
 def of_program(top):
     """The body of dvbt(1)."""
-    synopsis = "".join(f"\\fB{roff.escaped(line, True)}\\fR\n.br\n" for it in words.FORMS for line in words.lines_of_forms(it))
+    usage = [*texts.USAGE, *(line for it in words.FORMS for line in words.lines_of_forms(it))]
+    synopsis = "".join(f"\\fB{roff.escaped(line, True)}\\fR\n.br\n" for line in usage)
     readme, files = read(top, "README.md"), read(top, "docs/FILES.md")
     about = roff.opening(readme).split("```")[0].strip()
     out = f".SH SYNOPSIS\n{synopsis}.SH DESCRIPTION\n{roff.body(about)}"
