@@ -45,9 +45,10 @@ except ImportError as error:
     sys.exit(126)
 
 from cell_tools.files import CellFile, check  # noqa: E402
-from cell_tools.result import StandardError, show, show_object, standard  # noqa: E402
+from cell_tools.result import show, show_object, standard  # noqa: E402
 from cell_tools.settings import Unfit, read_settings  # noqa: E402
 from cell_tools.standard import KINDS, Carriers  # noqa: E402, F401
+from cell_tools.standard_error import StandardError  # noqa: E402
 
 ABOUT = {
     "look": "Looks into a cell file: symbols, TPS, mean powers, and a picture of the constellation. "
@@ -59,7 +60,8 @@ ABOUT = {
     "disturb": "Writes the cells with noise. The same seed gives the same noise everywhere.",
 }
 STATUSES = """Statuses, those of dvbt: 0 all checks hold; 1 one fails; 2 invalid command line; 3 the settings are rejected; 5 a file can't be
-read; 6 a file or standard output can't be written; 9 the cells are empty or do not fit the settings; 64 OUT is a file that is read;
+read; 6 a file or standard output can't be written; 9 the cells are empty or do not fit the settings; 64 OUT is a file that is read, or a
+terminal;
 126 numpy or matplotlib is missing."""
 
 
@@ -125,6 +127,8 @@ class Parser(argparse.ArgumentParser):
 
     def error(self, message):
         self.print_usage(sys.stderr)
+        if self.prog == NAME:
+            print(f"       {NAME} compare|measure|disturb .., {NAME} COMMAND --help", file=sys.stderr)
         raise Unfit(message, 2)
 
 
@@ -195,14 +199,21 @@ def slip_in(verb, words, parser):
     return None
 
 
+def split(words):
+    """The command, if one is named, and the other words. Options may stand before it."""
+    at = next((at for at, word in enumerate(words) if not word.startswith("-")), len(words))
+    is_command = words[at : at + 1] != [] and words[at] in ABOUT
+    return (words[at], words[:at] + words[at + 1 :]) if is_command else (None, words)
+
+
 def arguments(words):
     """The command line."""
-    verb = words[0] if words[:1] and words[0] in ABOUT else None
+    verb, words = split(words)
     parser = parser_of(verb or "look")
-    slip = slip_in(verb, words[1:] if verb else words, parser)
+    slip = slip_in(verb, words, parser)
     if slip:
         parser.error(slip)
-    return verb or "look", parser.parse_args(words[1:] if verb else words)
+    return verb or "look", parser.parse_args(words)
 
 
 def opened(path, settings):
@@ -215,6 +226,8 @@ def opened(path, settings):
 def keep(words):
     """Rejects an output that is a file of the call, by whatever name, before anything is opened."""
     out = getattr(words, "out", None)
+    if out in ("-", "/dev/stdout") and sys.stdout.isatty():
+        raise Unfit("standard output is a terminal: name a file, or pipe it on", 64)
     for path in (words.settings, words.cells, getattr(words, "sent", None)) if out and os.path.isfile(out) else ():
         path = "/dev/stdin" if path == "-" else path
         if path and os.path.exists(path) and os.path.samefile(path, out):
@@ -245,7 +258,7 @@ def run(verb, words):
 
 def main(words):
     """Runs the command line and prints what it finds; answers the status."""
-    verb, is_json, to = words[0] if words[:1] and words[0] in ABOUT else "look", "--json" in words, sys.stdout
+    verb, is_json, to = split(words)[0] or "look", "--json" in words, sys.stdout
     try:
         verb, words = arguments(words)
         is_json, to = words.json, standard(getattr(words, "out", None))
@@ -259,7 +272,7 @@ def main(words):
 
 def ended(words):
     """Runs the command line; answers the status, 6 if standard output can't be written."""
-    sys.stderr = StandardError(sys.stderr)
+    sys.stderr = StandardError(2 if sys.stderr else None)
     if sys.stdout is None:
         print(f"{NAME}: standard output is closed", file=sys.stderr)
         return 6

@@ -125,7 +125,7 @@ class CellFile:
             seen = os.fstat(self.input.fileno())
             self.begin = self.read(bytearray(Version2.HEADER + LOOKED_AT * LARGEST))
         except OSError as error:
-            raise Unfit(f"{self.name or 'the cell file'} can't be read: {error.strerror}", 5, path) from None
+            raise Unfit(f"{self.name or 'CELLS'} can't be read: {error.strerror if path else 'its name is empty'}", 5, path) from None
         if not self.begin:
             raise Unfit(f"{self.name} is empty", 9, path)
         if kind_in(self.begin) == "a transport file":

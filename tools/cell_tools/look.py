@@ -65,6 +65,8 @@ def look(file, words):
     if words.out and len({file.points(m) for m in seen.chosen}) > 1:
         raise Unfit("the symbols of --symbols have different constellations; draw those of one", 2)
     tps = Words(file, seen.votes, words.frames)
+    if tps.words and not tps.numbers:
+        raise Unfit(f"no frame of the {len(tps.words)} in the file is in --frames", 2)
     lines = [f"symbols {file.symbols} of {file.size} bytes, bytes left over {file.left_over}"]
     lines += [*tps.lines(words.verbose), *lines_of_powers(seen)]
     if words.out:

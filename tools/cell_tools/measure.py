@@ -10,6 +10,7 @@ from cell_tools.result import Result, number
 from cell_tools.settings import Unfit, settings_in
 from cell_tools.standard import BOOSTED, SUPER_FRAME, read_word
 from cell_tools.sums import Summing, added, in_turn, side_by_side
+from cell_tools.tps import differences, fields_of
 
 
 def decibels(power, error):
@@ -86,11 +87,14 @@ def measure(file, sent, words):
     frames = found.votes.words()
     errors = [word and word[1] for word in map(read_word, frames)]
     tps = {"frames": len(frames), "read": sum(it is not None for it in errors), "corrected": sum(it or 0 for it in errors)}
+    tps["differs"] = contradicted(file, frames)
     lines = [f"symbols {file.symbols}, data cells {found.data}, {f'against {sent.name}' if sent else 'against the nearest points'}"]
     lines += lines_of_ratio(found, by_symbol, at, by_carrier)
     lines += [f"{name} pilots: {of_pilots(pilots)}" for name, pilots in found.by_kind().items()]
     lines += lines_of_theorem(found)
     lines.append(f"TPS words read {tps['read']} of {len(frames)}, bits corrected {tps['corrected']}")
+    if tps["differs"]:
+        lines.append(f"  TPS DIFFERS from the settings in {', '.join(tps['differs'])}, so the figures above are of other points")
     report = {"symbols": file.symbols, "left_over": file.left_over, "version": file.version.NUMBER, "data_cells": found.data}
     report.update(sent=sent and sent.name, mer=ratio_by_name(found), by_symbol=spread_by_name(by_symbol, range(file.symbols)))
     report.update(by_carrier=spread_by_name(by_carrier, at), pilots=found.by_kind(), **theorem_by_name(found), tps=tps)
@@ -103,7 +107,18 @@ def measure(file, sent, words):
         draw(found, words.out)
         lines.append(f"picture {words.out}")
     failing = failing_parts(found) + ([f"TPS words that can't be read: {len(frames) - tps['read']}"] if tps["read"] < len(frames) else [])
+    failing += [f"TPS differs from the settings in {', '.join(tps['differs'])}"] if tps["differs"] else []
     return Result(lines, report, "; ".join(failing), [words.out] if words.out else [])
+
+
+def contradicted(file, frames):
+    """The keys of constellation, hierarchy and rates in which TPS words that can be read contradict the settings."""
+    found = set()
+    for number, bits in enumerate(frames):
+        word = read_word(bits)
+        settings = settings_in(file.settings, number // 4 + 1)  # of the next super-frame (4.6.2)
+        found.update(differences(word[0], fields_of(word[0]), settings) if word else ())
+    return [key for key in ("constellation", "hierarchy", "rate_hp", "rate_lp") if key in found]
 
 
 def ratio_by_name(found):

@@ -7,24 +7,6 @@ import sys
 from cell_tools import files
 
 
-class StandardError:
-    """Standard error as far as it takes what is written: what it does not take changes no status."""
-
-    def __init__(self, file):
-        self.file = file  # None if it is closed
-
-    def write(self, text):
-        try:
-            if self.file:
-                self.file.write(text)
-                self.file.flush()
-        except OSError:
-            pass
-
-    def flush(self):
-        pass
-
-
 class Result:
     """The lines, the values by name, what fails of the checks (None if all hold), and the files that were written."""
 

@@ -28,28 +28,33 @@ def read_settings(path):
         with open(path, "rb") as file:
             content = file.read(LONGEST + 1)
     except OSError as error:
-        raise Unfit(f"{path} can't be read as SETTINGS: {error.strerror}", 5, path) from None
+        raise Unfit(f"{path or 'SETTINGS'} can't be read as SETTINGS: {error.strerror if path else 'its name is empty'}", 5, path) from None
     if kind_in(content):
         raise Unfit(f"{path} looks like {kind_in(content)}: SETTINGS comes first", 3, path)
+    refusal = refusal_of(content)
+    if refusal:
+        raise Unfit(f"{path}: settings {refusal}: it {why_rejected(content, refusal)}", 3, path)
+    return ABSENT | document(content)
+
+
+def refusal_of(content):
+    """What `dvbt` prints after `settings` as it rejects a document, or None if it takes it."""
     if len(content) > LONGEST:
-        raise Unfit(f"{path}: settings too long", 3, path)
+        return "too long"
     try:
         found = document(content)
-    except (ValueError, RecursionError) as error:
-        raise Unfit(f"{path}: settings not toml, by Python's reader: {error}", 3, path) from None
+    except (ValueError, RecursionError):
+        return "not toml"
     for place, key in enumerate(sorted(found, key=str.encode)):
         if key not in KEYS:
-            raise Unfit(f"{path}: settings unknown {place}: {key}", 3, path)
+            return f"unknown {place}"
     for key in KEYS:
         if key not in found and key in NEEDED:
-            raise Unfit(f"{path}: settings missing {key}", 3, path)
+            return f"missing {key}"
         if key in found and not is_value(key, found[key]):
-            raise Unfit(f"{path}: settings value {key}: {found[key]!r}", 3, path)
-    settings = ABSENT | found
-    reason = clash(settings)
-    if reason:
-        raise Unfit(f"{path}: settings clash {reason}", 3, path)
-    return settings
+            return f"value {key}"
+    reason = clash(ABSENT | found)
+    return reason and f"clash {reason.partition(':')[0]}"
 
 
 def document(content):

@@ -18,6 +18,7 @@ STANDS = {4: "output for the packets before it", 5: "output for what was read", 
 def say(text):
     """Prints each line on standard error, after the program's name."""
     for line in [text] if isinstance(text, str) else text:
+        line = line.replace("/dev/stdin", "standard input").replace("/dev/stdout", "standard output")
         print(f"dvbt: {line}", file=sys.stderr, flush=True)
 
 
@@ -44,7 +45,8 @@ def of_usage(words):
         say(f"  {line}" for line in forms.lines_of_forms(command))
         say("NUMBER has one to ten digits and is at most 4294967295" if command == "trial" else [])
     elif command.startswith("-"):
-        say(f"there is no option {command}; the options are {', '.join(forms.OPTIONS)}, before the command")
+        options = f"{', '.join(forms.OPTIONS)}, before the command, and --help, --version and --program alone"
+        say(f"{command} stands alone" if command in ("--version", "--program") else f"there is no option {command}; the options are {options}")
     elif command in ("help", "version"):
         of = f"{words[1]} " if command == "help" and words[1:] and words[1] in forms.FORMS else ""
         say(f"{command} is --{command}: bin/dvbt {of}--{command}")
@@ -82,10 +84,11 @@ def of_settings(form, text):
     if refusal == "form":
         no_lp = "has no hierarchy, so there is no LP: leave its file out, or set hierarchy and rate_lp"
         return f"{path} {no_lp if len(form.files) > 3 else 'has a hierarchy, at the top or in its plan: name a file of LP too'}"
-    is_document = refusal not in ("too long", "not toml")
-    name, kind = (path, None) if is_document else (f"{path}, read as SETTINGS,", kind_in(piece(path, 0, EIGHT)))
-    why = f"{name} {settings.why_rejected(piece(path, 0, 65536), refusal)} (docs/SETTINGS.md)"
-    return [why, f"{path} looks like {kind}: SETTINGS comes first"] if kind else why
+    kind = kind_in(piece(path, 0, EIGHT))
+    if kind:
+        return f"{path} looks like {kind}: SETTINGS comes first"
+    name = f"{path}, read as SETTINGS," if refusal in ("too long", "not toml") else path
+    return f"{name} {settings.why_rejected(piece(path, 0, 65536), refusal)} (docs/SETTINGS.md)"
 
 
 def of_packet(form, text):
@@ -119,7 +122,7 @@ def of_reading(form, text):
 def of_writing(form, text):
     """A file can't be made, written or closed. If the line is missing, it is standard output that failed."""
     paths = form.outputs if text == "write fault" else []
-    names = " or ".join("standard output" if path == "/dev/stdout" else path for path in paths) or "standard output"
+    names = " or ".join(paths) or "standard output"
     is_pipe = paths and all(os.path.exists(path) and stat.S_ISFIFO(os.stat(path).st_mode) for path in paths)
     failed = f"{names} could not be written{': nobody reads it any more' if is_pipe else ''}"
     return paths and cause_in(form, "written")[1] or failed
@@ -149,7 +152,7 @@ def why_unwritten(path):
     if unfit(path) or not os.access(path if os.path.exists(path) else folder, os.W_OK):
         return unfit(path) or "this user may not write it"
     is_on_disk = os.path.isfile(path) or not os.path.exists(path)
-    return "the disk is full" if is_on_disk and os.statvfs(folder).f_bavail == 0 else None
+    return "the disk is full" if is_on_disk and os.statvfs(path if os.path.exists(path) else folder).f_bavail == 0 else None
 
 
 def unfit(path):

@@ -2,6 +2,7 @@
 import os
 import sys
 
+from cell_tools.standard_error import StandardError
 from commands import forms
 from door import explain, names, watch
 
@@ -26,10 +27,12 @@ def main(top, words, options, closed):
 
 def told(top, words, options):
     """The text that these arguments ask for, or None if they are for the program."""
-    if words and words[-1] in ("--help", "-h") and (len(words) == 1 or words[0] in forms.FORMS):
+    if {"--help", "-h"}.intersection(words[:1] + words[-1:]):
         from commands import texts
 
-        return texts.help_of(words[0]) if len(words) > 1 else texts.help_of_all()
+        others = [it for it in words if it not in ("--help", "-h")]
+        if not others or others[0] in forms.FORMS:
+            return texts.help_of(others[0]) if others else texts.help_of_all()
     if words == ["--version"]:
         from builder import program
 
@@ -73,26 +76,6 @@ def closed_descriptors():
             closed.append(number)
             os.set_inheritable(os.open(os.devnull, os.O_RDONLY if number == 1 else os.O_RDWR), True)  # it is the lowest that is free
     return closed
-
-
-class StandardError:
-    """Standard error as far as it takes what is written: what it does not take changes no status."""
-
-    def __init__(self):
-        self.text, self.last, self.to = "", "", 2
-
-    def write(self, text):
-        self.text += text
-
-    def flush(self):
-        data, self.text, self.last = self.text.encode("utf-8", "backslashreplace"), "", self.text.strip()
-        try:
-            watch.put(data, self.to)
-        except OSError:
-            pass
-
-    def isatty(self):
-        return os.isatty(self.to)
 
 
 def object_of(words, status, text, path=None):

@@ -97,7 +97,7 @@ def number_in(path, name):
 
 def of_limit(form):
     """What to say at the start of a run that reads a pipe and ends at max_symbols, if that is near its default; else nothing."""
-    if not form.settings or all(os.path.isfile(path) or os.path.isdir(path) or path == os.devnull or not os.path.exists(path)
+    if not form.settings or all(os.path.isfile(path) or os.path.isdir(path) or os.path.realpath(path) == os.devnull or not os.path.exists(path)
                                 for _, path in form.inputs):
         return []
     most = (explain.document_of(form.settings) or {}).get("max_symbols", BY_DEFAULT)

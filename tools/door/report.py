@@ -2,9 +2,10 @@
 import json
 import os
 
+from cell_tools.standard_error import put
 from commands import lines
 from door.explain import cause_in, document_of
-from door.watch import name_of, printed, put
+from door.watch import name_of, printed
 
 
 class Report:

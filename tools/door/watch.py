@@ -5,6 +5,7 @@ import _signal as signal  # the built-in part alone: the rest takes as long to i
 import sys
 from errno import EBADF
 
+from cell_tools.standard_error import put
 from door import explain
 from door.names import STANDARD
 from door.progress import EACH, Progress, of_limit
@@ -79,9 +80,7 @@ class Child:
 def wakes():
     """A descriptor that can be read after each signal that has a handler, and after the end of a child. Else a signal that comes just
     before a wait would be handled only after it."""
-    read, write = os.pipe()
-    for number in (read, write):
-        os.set_blocking(number, False)
+    read, write = os.pipe2(os.O_NONBLOCK | os.O_CLOEXEC)
     signal.set_wakeup_fd(write, warn_on_full_buffer=False)
     signal.signal(signal.SIGCHLD, lambda *_: None)
     return read
@@ -176,11 +175,6 @@ def become(program, words, closed):
         os.close(number)
     os.environ.pop("DVBT_PROGRAM", None)  # a script of that name may call bin/dvbt
     os.execv(program, ["dvbt", *words])
-
-
-def put(data, to):
-    while data:
-        data = data[os.write(to, data) :]
 
 
 def printed(text, status=0, to=1):
