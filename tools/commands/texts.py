@@ -85,7 +85,7 @@ STATUSES = [
 ]
 OF_THE_DOOR = [
     (1, "with --strict: 0, and bin/dvbt has a verdict on the run, such as: no reception"),
-    (64, "nothing was started: a file would be destroyed, a descriptor is not open, an option follows the command, or OLD is of version 2"),
+    (64, "nothing was started: a file would be destroyed, a descriptor is not open, an option follows the command, OLD is of version 2, or an output is a terminal"),
     (126, "the program could not be built, or its proof failed, or the one that $DVBT_PROGRAM names can't be run"),
     (127, "the program is not built, and the toolchain's command rt is not on the PATH"),
 ]
