@@ -2,6 +2,7 @@
 they were: size, times and inode of each, and of each folder. Else `program` compares checksums and writes the stamp anew.
 
 As git does, the stamp has no state of a file that may have changed in the same tick of the clock as the stamp was made."""
+import gc
 import operator
 import os
 import stat
@@ -54,7 +55,11 @@ def stamped(top):
 
 def number_of(states):
     """One number for many states: whole numbers have the same hash in each run."""
-    return hash(tuple(states))
+    gc.disable()  # thousands of tuples, and no garbage among them
+    try:
+        return hash(tuple(states))
+    finally:
+        gc.enable()
 
 
 def known(top):
