@@ -44,11 +44,16 @@ except ImportError as error:
     print(f"{NAME}: {error}; it needs numpy (Debian: python3-numpy)", file=sys.stderr)
     sys.exit(126)
 
-from cell_tools.files import CellFile, check  # noqa: E402
-from cell_tools.result import show, show_object, standard  # noqa: E402
-from cell_tools.settings import Unfit, read_settings  # noqa: E402
-from cell_tools.standard import KINDS, Carriers  # noqa: E402, F401
-from cell_tools.standard_error import StandardError  # noqa: E402
+try:
+    from cell_tools.files import CellFile, check
+    from cell_tools.result import show, show_object, standard
+    from cell_tools.settings import Unfit, read_settings
+    from cell_tools.standard import KINDS, Carriers  # noqa: F401
+    from cell_tools.standard_error import StandardError
+except ModuleNotFoundError as error:
+    print(f"{NAME}: {HERE} lacks a part of it: {error}", file=sys.stderr)
+    print(f"{NAME}: it does not run alone; tools/install or tools/deb of its repository installs it", file=sys.stderr)
+    sys.exit(126)
 
 ABOUT = {
     "look": "Looks into a cell file: symbols, TPS, mean powers, and a picture of the constellation. "
