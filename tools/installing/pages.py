@@ -46,12 +46,7 @@ def command(name):
     out = f".SS {name}\n{roff.inline(texts.SHORT[name][:1].upper() + texts.SHORT[name][1:])}.\n"
     out += "".join(f".PP\n\\fB{roff.escaped(line, True)}\\fR\n" for line in words.lines_of_forms(name))
     out += f".PP\n{roff.inline(' '.join(texts.MORE[name].split()))}\n"
-    return out + roff.literal([part for line in texts.EXAMPLES[name] for part in broken(line)])
-
-
-def broken(line):
-    """An example in lines, as the shell takes it: the paths in it are long once it is installed."""
-    return re.sub(r"(examples/\S+) ", r"\1 \\\n    ", line).split("\n")
+    return out + roff.literal(texts.EXAMPLES[name])
 
 
 def of_program(top):
@@ -96,5 +91,6 @@ def pages(top, prefix, version):
     found = {}
     for file, (body, summary) in PAGES.items():
         name, section = file.rsplit(".", 1)
-        found[file] = placed(roff.page(name, section, summary, body(top), version), prefix)
+        text = placed(roff.page(name, section, summary, body(top), version), prefix)
+        found[file] = re.sub(r"(?<![\w/-])([A-Z][A-Z-]+\.md)", rf"{prefix}/share/doc/dvbt/\1", text)
     return found
