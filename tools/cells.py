@@ -1,5 +1,11 @@
-#!/usr/bin/env python3
-"""Looks into cell files, compares two, and measures one (docs/FILES.md, docs/CHECK-YOUR-EQUIPMENT.md).
+#!/bin/sh
+''':' # The shell runs the next lines, for Python they are a text: Python is started with SIGINT blocked until it is there.
+case $(env --help 2>/dev/null) in *--block-signal*) exec env --block-signal=INT python3 "$0" "$@" ;; esac
+exec python3 "$0" "$@"
+'''
+import _signal  # the built-in part alone: it comes before all that takes time
+
+__doc__ = """Looks into cell files, compares two, and measures one (docs/FILES.md, docs/CHECK-YOUR-EQUIPMENT.md).
 
     tools/cells.py SETTINGS CELLS               symbols, TPS and powers; with --out a picture of the constellation
     tools/cells.py compare SETTINGS A B         how A differs from B: symbol, carrier, kind, label bit, clause, likeliest cause
@@ -7,8 +13,7 @@
     tools/cells.py disturb SETTINGS CELLS OUT   the same cells with noise, to try a receiver on
 
 A cell file may be a pipe, and `-` is standard input (of `disturb` OUT also standard output). Files are read a frame at a
-time, so their length costs no memory. Ends with 0 if all checks hold, with 1 if one fails or a file can't be read, with 2 if
-the arguments are invalid.
+time, so their length costs no memory. With --json what is found is one object on one line (docs/JSON.md).
 
 Needs Python 3.9 or later, numpy, and for --out matplotlib too. On Debian:
     apt-get install python3-numpy python3-matplotlib
@@ -18,28 +23,51 @@ If the python3 on the PATH lacks numpy, /usr/bin/python3 is tried.
 It is a reader's tool beside the program and shares no code with it. Other programs can use it as a module:
 read_settings(path), CellFile(path, settings).array() and Carriers(mode).kinds(l).
 """
-import _signal  # the built-in part alone: it comes before all that takes time
-
-if __name__ == "__main__":
-    _signal.signal(_signal.SIGINT, _signal.SIG_DFL)  # Ctrl-C shows no traceback
+if __name__ == "__main__":  # Ctrl-C shows no traceback
+    if _signal.getsignal(_signal.SIGINT) is _signal.default_int_handler:
+        _signal.signal(_signal.SIGINT, _signal.SIG_DFL)
+    _signal.pthread_sigmask(_signal.SIG_UNBLOCK, [_signal.SIGINT])
 
 import argparse  # noqa: E402
 import os  # noqa: E402
 import sys  # noqa: E402
 
-sys.path.insert(0, os.path.dirname(os.path.realpath(__file__)))
+NAME = os.path.basename(sys.argv[0])  # cells.py, or dvbt-cells if it is installed
+HERE = os.path.dirname(os.path.realpath(__file__))
+sys.path.insert(0, HERE)
 try:
-    import numpy  # noqa: F401
+    import numpy
 except ImportError as error:
     if __name__ == "__main__" and os.path.exists("/usr/bin/python3") and os.path.realpath(sys.executable) != os.path.realpath("/usr/bin/python3"):
+        _signal.pthread_sigmask(_signal.SIG_BLOCK, [_signal.SIGINT])
         os.execv("/usr/bin/python3", ["/usr/bin/python3", *sys.argv])
-    sys.exit(f"{os.path.basename(sys.argv[0])}: {error}; it needs numpy (Debian: python3-numpy)")
+    print(f"{NAME}: {error}; it needs numpy (Debian: python3-numpy)", file=sys.stderr)
+    sys.exit(126)
 
-from cell_tools.files import CellFile, check  # noqa: E402
-from cell_tools.settings import Unfit, read_settings  # noqa: E402
-from cell_tools.standard import KINDS, Carriers  # noqa: E402, F401
+try:
+    from cell_tools.files import CellFile, check
+    from cell_tools.result import show, show_object, standard
+    from cell_tools.settings import Unfit, read_settings
+    from cell_tools.standard import KINDS, Carriers  # noqa: F401
+    from cell_tools.standard_error import StandardError
+except ModuleNotFoundError as error:
+    print(f"{NAME}: {HERE} lacks a part of it: {error}", file=sys.stderr)
+    print(f"{NAME}: it does not run alone; tools/install or tools/deb of its repository installs it", file=sys.stderr)
+    sys.exit(126)
 
-NAME = os.path.basename(sys.argv[0])  # cells.py, or dvbt-cells if it is installed
+ABOUT = {
+    "look": "Looks into a cell file: symbols, TPS, mean powers, and a picture of the constellation. "
+    f"Three more: {NAME} compare --help, measure --help, disturb --help.",
+    "compare": "Compares the cell file A with B: the first difference with symbol, carrier, kind, label bit and clause of EN 300 744, counts, "
+    "and the likeliest cause.",
+    "measure": "Measures a cell file: MER over the data cells, pilots, TPS words, whether the theorem on noise applies, and if not, what to "
+    "expect of receive. Ends with 1 if a part of the theorem's premise fails or a TPS word can't be read.",
+    "disturb": "Writes the cells with noise. The same seed gives the same noise everywhere.",
+}
+STATUSES = """Statuses, those of dvbt: 0 all checks hold; 1 one fails; 2 invalid command line; 3 the settings are rejected; 5 a file can't be
+read; 6 a file or standard output can't be written; 9 the cells are empty or do not fit the settings; 64 OUT is a file that is read, or a
+terminal;
+126 numpy or matplotlib is missing."""
 
 
 def span(text):
@@ -81,20 +109,38 @@ def ratio(text):
     raise argparse.ArgumentTypeError(f"{text!r} is no number from -100 to 100")
 
 
-def arguments(words):
-    """The command line."""
-    verb = words.pop(0) if words[:1] and words[0] in ("look", "compare", "measure", "disturb") else "look"
-    about = {
-        "look": "Looks into a cell file: symbols, TPS, mean powers, and a picture of the constellation. "
-        f"Three more: {NAME} compare --help, measure --help, disturb --help.",
-        "compare": "Compares the cell file A with B: the first difference with symbol, carrier, kind, label bit and clause of EN 300 744, counts, "
-        "and the likeliest cause.",
-        "measure": "Measures a cell file: MER over the data cells, pilots, TPS words, whether the theorem on noise applies, and if not, what to "
-        "expect of receive. Ends with 1 if a part of the theorem's premise fails or a TPS word can't be read.",
-        "disturb": "Writes the cells with noise. The same seed gives the same noise everywhere.",
-    }[verb]
-    parser = argparse.ArgumentParser(prog=f"{NAME} {verb}" if verb != "look" else NAME, description=about)
-    add = parser.add_argument
+def seed(text):
+    """A whole number from 0 to 4294967295."""
+    if text.isascii() and text.isdecimal() and int(text) < 1 << 32:
+        return int(text)
+    raise argparse.ArgumentTypeError(f"{text!r} is no whole number from 0 to 4294967295")
+
+
+class Parser(argparse.ArgumentParser):
+    """A parser that keeps its options, and says what is wrong by an exception."""
+
+    def __init__(self, verb):
+        super().__init__(prog=f"{NAME} {verb}" if verb != "look" else NAME, description=ABOUT[verb], epilog=STATUSES)
+        self.options = ["--help"]
+
+    def add(self, *names, to=None, **how):
+        self.options += [it for it in names if it.startswith("-")]
+        (to or self).add_argument(*names, **how)
+
+    def _print_message(self, message, file=None):
+        file.write(message)  # argparse's own drops a fault
+
+    def error(self, message):
+        self.print_usage(sys.stderr)
+        if self.prog == NAME:
+            print(f"       {NAME} compare|measure|disturb .., {NAME} COMMAND --help", file=sys.stderr)
+        raise Unfit(message, 2)
+
+
+def parser_of(verb):
+    """The parser of a command."""
+    parser = Parser(verb)
+    add = parser.add
     add("settings", metavar="SETTINGS", help="the settings of the transmission (docs/SETTINGS.md)")
     if verb == "compare":
         add("cells", metavar="A", help="the cell file that is judged")
@@ -110,10 +156,9 @@ def arguments(words):
     if verb == "disturb":
         add("out", metavar="OUT", help="the cell file to write")
         noise = parser.add_mutually_exclusive_group(required=True)
-        noise.add_argument("--within", type=reach, metavar="N",
-                           help="move each data cell evenly by at most N on each axis, pilots and TPS not at all")
-        noise.add_argument("--mer", type=ratio, metavar="DB", help="Gaussian noise on all cells, for this MER of the data cells")
-        add("--seed", type=int, default=1, help="the seed of the noise (default: 1)")
+        add("--within", to=noise, type=reach, metavar="N", help="move each data cell evenly by at most N on each axis, pilots and TPS not at all")
+        add("--mer", to=noise, type=ratio, metavar="DB", help="Gaussian noise on all cells, for this MER of the data cells")
+        add("--seed", type=seed, default=1, help="the seed of the noise (default: 1)")
     if verb == "look":
         add("--frames", type=span, default=slice(None), metavar="A:B", help="the frames whose TPS is looked at, from 0 (default: all)")
         add("--verbose", action="store_true", help="three lines for each frame: where it is, s1 to s67, what they say")
@@ -123,7 +168,57 @@ def arguments(words):
             "with commas between (default: data,pilot,tps)")
         add("--labels", action="store_true", help="write the label y0 y1 .. at each point of the constellation")
         add("--out", metavar="PNG", help="draw the constellation to this file; without it nothing is drawn")
-    return verb, parser.parse_args(words)
+    add("--json", action="store_true", help="print what is found as one object on one line (docs/JSON.md)")
+    add("--version", action="version", version=version(), help="print the versions of this, of Python and of numpy")
+    return parser
+
+
+def version():
+    try:
+        with open(f"{os.path.dirname(HERE)}/VERSION", encoding="ascii") as file:
+            number = file.read().strip()
+    except OSError:
+        number = "of no version"
+    return f"{NAME} of dvbt {number}, Python {sys.version.split()[0]}, numpy {numpy.__version__}"
+
+
+def slip_in(verb, words, parser):
+    """What is wrong with a command or an option that is not there, or None."""
+    from difflib import get_close_matches
+
+    plain = [it for it in words if not it.startswith("-") or it == "-"]
+    if verb is None and plain and not os.path.exists(plain[0]):
+        near = get_close_matches(plain[0].lower(), ABOUT, 1)
+        near = [f"--{plain[0]}"] if plain[0] in ("help", "version") else near
+        if near or len(plain) > 2:
+            what = f"did you mean {near[0]}?" if near else f"the commands are {', '.join(ABOUT)}"
+            return f"there is no command {plain[0]!r}; {what}"
+    for word in words[: words.index("--")] if "--" in words else words:
+        name = word.partition("=")[0]
+        if not word.startswith("--") or any(it.startswith(name) for it in parser.options):
+            continue
+        of = [it for it in ABOUT if name in parser_of(it).options]
+        near = get_close_matches(name, parser.options, 1)
+        what = f"it is of {' and '.join(of)}" if of else f"did you mean {near[0]}?" if near else f"the options are {', '.join(parser.options)}"
+        return f"{verb or 'look'} has no option {name}; {what}"
+    return None
+
+
+def split(words):
+    """The command, if one is named, and the other words. Options may stand before it."""
+    at = next((at for at, word in enumerate(words) if not word.startswith("-")), len(words))
+    is_command = words[at : at + 1] != [] and words[at] in ABOUT
+    return (words[at], words[:at] + words[at + 1 :]) if is_command else (None, words)
+
+
+def arguments(words):
+    """The command line."""
+    verb, words = split(words)
+    parser = parser_of(verb or "look")
+    slip = slip_in(verb, words, parser)
+    if slip:
+        parser.error(slip)
+    return verb or "look", parser.parse_args(words)
 
 
 def opened(path, settings):
@@ -136,15 +231,16 @@ def opened(path, settings):
 def keep(words):
     """Rejects an output that is a file of the call, by whatever name, before anything is opened."""
     out = getattr(words, "out", None)
+    if out in ("-", "/dev/stdout") and sys.stdout.isatty():
+        raise Unfit("standard output is a terminal: name a file, or pipe it on", 64)
     for path in (words.settings, words.cells, getattr(words, "sent", None)) if out and os.path.isfile(out) else ():
         path = "/dev/stdin" if path == "-" else path
         if path and os.path.exists(path) and os.path.samefile(path, out):
-            raise Unfit(f"{out} is read and would be overwritten")
+            raise Unfit(f"{out} is read and would be overwritten", 64, out)
 
 
-def main(words):
-    """Runs the command; answers whether all checks hold."""
-    verb, words = arguments(words)
+def run(verb, words):
+    """Runs the command; answers what it found."""
     keep(words)
     settings = read_settings(words.settings)
     if verb == "compare":
@@ -165,14 +261,39 @@ def main(words):
     return look(file, words)
 
 
-if __name__ == "__main__":
+def main(words):
+    """Runs the command line and prints what it finds; answers the status."""
+    verb, is_json, to = split(words)[0] or "look", "--json" in words, sys.stdout
     try:
-        holds = main(sys.argv[1:])
-        if sys.stdout:  # it is None if it was closed
-            sys.stdout.flush()
-        sys.exit(0 if holds else 1)
+        verb, words = arguments(words)
+        is_json, to = words.json, standard(getattr(words, "out", None))
+        return show(verb, run(verb, words), is_json, to)
     except Unfit as error:
-        sys.exit(f"{NAME}: {error}")
+        print(f"{NAME}: {error}", file=sys.stderr)
+        if is_json:
+            show_object(verb, error.status, {}, {"text": str(error), **({"file": error.path} if error.path else {})}, to)
+        return error.status
+
+
+def ended(words):
+    """Runs the command line; answers the status, 6 if standard output can't be written."""
+    sys.stderr = StandardError(2 if sys.stderr else None)
+    if sys.stdout is None:
+        print(f"{NAME}: standard output is closed", file=sys.stderr)
+        return 6
+    try:
+        try:
+            status = main(words)
+        except SystemExit as end:  # after --help and --version
+            status = end.code
+        sys.stdout.flush()
+        return status
     except OSError as error:
         os.dup2(os.open(os.devnull, os.O_WRONLY), 1)  # else Python tries once more at its end
-        sys.exit(1 if isinstance(error, BrokenPipeError) else f"{NAME}: standard output could not be written: {error.strerror}")
+        if not isinstance(error, BrokenPipeError):
+            print(f"{NAME}: standard output could not be written: {error.strerror}", file=sys.stderr)
+        return 6
+
+
+if __name__ == "__main__":
+    sys.exit(ended(sys.argv[1:]))

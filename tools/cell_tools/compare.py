@@ -1,7 +1,10 @@
 """How two cell files differ: the first place, counts by kind of carrier, by label bit and by TPS bit, and the likeliest cause."""
+import functools
+
 import numpy as np
 
 from cell_tools.causes import likeliest, plural
+from cell_tools.result import Result
 from cell_tools.settings import Unfit
 from cell_tools.standard import CONTINUAL_PILOT, DATA, FRAME, NAMES, ROWS, SCATTERED_PILOT, TPS_CARRIER
 from cell_tools.sums import side_by_side
@@ -17,30 +20,25 @@ SAMPLE = 24  # symbols by which causes are tried
 
 
 def compare(one, other, within):
-    """Prints how the file `one` differs from `other`, the measure; answers whether it does not. Parts that differ by `within` at
-    most count as the same."""
+    """How the file `one` differs from `other`, the measure; it should not. Parts that differ by `within` at most count as the same."""
     if str(one.path) == str(other.path) == "-":
-        raise Unfit("only one of the files can be standard input")
+        raise Unfit("only one of the files can be standard input", 2)
     found = Differences(one, within)
-    both = 0
     for ours, theirs in side_by_side(one, other):
         if ours and theirs:
             found.add(ours, theirs)
-            both += min(ours.symbols, theirs.symbols)
-    print(f"A {one.name}: {one.symbols} symbols, bytes left over {one.left_over}")
-    print(f"B {other.name}: {other.symbols} symbols, bytes left over {other.left_over}")
-    if not both:
-        print("no whole symbol, so nothing is compared")
-        return False
-    found.show(both)
-    if found.weighed:
-        print(f"weights that differ: {found.weighed} of {both * one.carriers.count}")
+    lines = [f"{name} {it.name}: {it.symbols} symbols, bytes left over {it.left_over}" for name, it in (("A", one), ("B", other))]
+    report = {name: {"symbols": it.symbols, "left_over": it.left_over, "version": it.version.NUMBER} for name, it in (("a", one), ("b", other))}
+    if not found.both:
+        nothing = "no whole symbol, so nothing is compared"
+        return Result([*lines, nothing], {**report, **found.report()}, nothing)
+    lines += found.lines()
     is_same_length = (one.symbols, one.left_over) == (other.symbols, other.left_over)
     if not is_same_length:
-        print("the files have different lengths")
+        lines.append("the files have different lengths")
     is_same = is_same_length and found.counts.sum() == 0 and found.weighed == 0
-    print("the same" if is_same and within == 0 else f"the same within {within}" if is_same else "DIFFERENT")
-    return is_same
+    lines.append("the same" if is_same and within == 0 else f"the same within {within}" if is_same else "DIFFERENT")
+    return Result(lines, {**report, **found.report()}, None if is_same else "the files differ")
 
 
 class Differences:
@@ -54,11 +52,13 @@ class Differences:
         self.bits = np.zeros(0, int)
         self.only_size = 0  # data cells that differ and have the same label
         self.first, self.first_symbols, self.sorted_alike, self.symbols, self.weighed = None, {}, 0, 0, 0
+        self.both = 0  # symbols that both files have
         self.samples = []  # symbols of the first frames that differ, at most two: a cause that begins in mid-frame is whole in the next
 
     def add(self, one, other):
         """Counts a frame of both files; of the longer one its symbols that the other has."""
         symbols = min(one.symbols, other.symbols)
+        self.both += symbols
         self.weighed += int(np.count_nonzero(one.weights[:symbols] != other.weights[:symbols]))
         for l in range(min(4, symbols)):
             self.totals += np.bincount(self.kinds[l], minlength=4) * len(range(l, symbols, 4))
@@ -106,23 +106,40 @@ class Differences:
         sorted_labels = [np.sort(points.labels(it[rows][:, is_data]) @ values, axis=1) for it in (ours, theirs)]
         self.sorted_alike += int(np.sum(np.all(sorted_labels[0] == sorted_labels[1], axis=1)))
 
-    def show(self, both):
-        """Prints the first difference, the counts and where to look."""
-        if self.first:
-            print(*self.first_lines(), sep="\n")
-        print(f"of {both} symbols {self.symbols} differ")
+    def lines(self):
+        """The first difference, the counts and where to look."""
+        yield from self.first_lines() if self.first else ()
+        yield f"of {self.both} symbols {self.symbols} differ"
         for kind, name in enumerate(NAMES):
             since = f", first in symbol {self.first_symbols[kind]}" if kind in self.first_symbols else ""
-            print(f"  {name:9} {self.counts[kind]} of {self.totals[kind]} cells differ{since}")
+            yield f"  {name:9} {self.counts[kind]} of {self.totals[kind]} cells differ{since}"
         if self.counts[DATA]:
-            print("  label bits that differ: " + ", ".join(f"y{bit} {count}" for bit, count in enumerate(self.bits)))
-            print(f"  data cells with the same label and another value: {self.only_size}")
-        always = np.flatnonzero(self.by_carrier == both) if both > 1 else []
-        if 0 < len(always) < self.file.carriers.count:
+            yield "  label bits that differ: " + ", ".join(f"y{bit} {count}" for bit, count in enumerate(self.bits))
+            yield f"  data cells with the same label and another value: {self.only_size}"
+        always = self.always()
+        if always:
             more = f" and {len(always) - LISTED} more" if len(always) > LISTED else ""
-            print(f"  carriers that differ in all symbols: {', '.join(map(str, always[:LISTED]))}{more}")
+            yield f"  carriers that differ in all symbols: {', '.join(map(str, always[:LISTED]))}{more}"
         if self.first:
-            print(f"  {self.hint()}")
+            yield f"  {self.hint}"
+        if self.weighed:
+            yield f"weights that differ: {self.weighed} of {self.both * self.file.carriers.count}"
+
+    def always(self):
+        """The carriers that differ in all symbols, if these are some and not all."""
+        found = np.flatnonzero(self.by_carrier == self.both) if self.both > 1 else []
+        return list(map(int, found)) if len(found) < self.file.carriers.count else []
+
+    def report(self):
+        """The same by name."""
+        kinds = {name: {"cells": int(self.totals[kind]), "differ": int(self.counts[kind]), "first_symbol": self.first_symbols.get(kind)}
+                 for kind, name in enumerate(NAMES)}
+        values = {"symbols": self.both, "symbols_that_differ": self.symbols, "cells": kinds, "label_bits": list(map(int, self.bits))}
+        values.update(same_label=self.only_size, carriers_in_all_symbols=self.always(), weights_that_differ=self.weighed, first=None)
+        if self.first:
+            m, k, kind, ours, theirs = self.first
+            values["first"] = {"symbol": m, "carrier": k, "kind": NAMES[kind], "a": list(map(int, ours)), "b": list(map(int, theirs))}
+        return {**values, "hint": self.hint if self.first else None}
 
     def first_lines(self):
         """The first cell that differs, and what the standard has there."""
@@ -145,6 +162,7 @@ class Differences:
             yield f"  it carries s{l}, {row}" if l else f"  it carries {row}"
         yield f"  clause: {CLAUSES[kind]}"
 
+    @functools.cached_property
     def hint(self):
         """Where to look first: the likeliest cause, then pilots, TPS, and the pattern of the data cells that differ."""
         if self.counts.sum() == 1:

@@ -1,8 +1,7 @@
 """Random noise on cells, generated from a seed."""
-import sys
-
 import numpy as np
 
+from cell_tools.result import Result
 from cell_tools.settings import Unfit
 from cell_tools.standard import DATA, UNIT
 
@@ -11,7 +10,7 @@ def disturb(file, words):
     """Writes the cells of a file with noise, and their weights unchanged. RandomState generates the same numbers in all versions of
     numpy, and the same for a frame as for its symbols one by one."""
     if file.left_over:
-        raise Unfit(f"{file.name}: only whole symbols are disturbed")
+        raise Unfit(f"{file.name}: only whole symbols are disturbed", 9, file.path)
     is_standard = words.out in ("-", "/dev/stdout")
     generator = np.random.RandomState(words.seed)
     try:
@@ -23,11 +22,10 @@ def disturb(file, words):
     except BrokenPipeError:
         raise
     except OSError as error:
-        raise Unfit(f"out: {error}") from None
+        raise Unfit(f"{'standard output' if is_standard else words.out or 'OUT'} can't be written: {error.strerror if words.out else 'its name is empty'}", 6, words.out) from None
     if file.left_over:
-        raise Unfit(f"{file.name}: {file.left_over} bytes after the last whole symbol are left out")
-    print(f"symbols {file.symbols} written to {words.out}", file=sys.stderr if is_standard else sys.stdout)
-    return True
+        raise Unfit(f"{file.name}: {file.left_over} bytes after the last whole symbol are left out", 9, file.path)
+    return Result([f"symbols {file.symbols} written to {words.out}"], {"symbols": file.symbols}, None, [words.out])
 
 
 def noise(file, frame, words, generator):

@@ -143,8 +143,8 @@ def true_for(shares, shown):
     return (low + high) / 2
 
 
-def lines(parameters, ratio):
-    """What `receive` makes of cells with this MER, a line for each stream of each of these settings."""
+def rows(parameters, ratio):
+    """What `receive` makes of cells with this MER: the line and the values by name for each stream of each of these settings."""
     for settings in parameters:
         is_flat = settings["hierarchy"] == "none"
         for stream in ("hp",) if is_flat else ("hp", "lp"):
@@ -152,7 +152,9 @@ def lines(parameters, ratio):
             edge = EDGES[settings["constellation"], settings["hierarchy"], stream, rate]
             name = settings["constellation"].upper().replace("QAM", "-QAM")
             name += f" {rate}" if is_flat else f" with hierarchy {settings['hierarchy']}, {stream.upper()} {rate}"
-            yield f"expected of receive in Gaussian noise, {name}: {expected(ratio - edge)} {place(ratio, edge)}"
+            line = f"expected of receive in Gaussian noise, {name}: {expected(ratio - edge)} {place(ratio, edge)}"
+            values = {"stream": stream, "constellation": settings["constellation"], "hierarchy": settings["hierarchy"], "rate": rate}
+            yield line, {**values, "edge_db": edge, "above_db": round(ratio - edge, 1), "text": expected(ratio - edge)}
 
 
 def expected(margin):

@@ -5,6 +5,7 @@ import sys
 
 import numpy as np
 
+from cell_tools.kinds import kind_in
 from cell_tools.settings import Unfit, settings_in
 from cell_tools.standard import FRAME, SUPER_FRAME, UNIT, Carriers, Points
 
@@ -13,6 +14,9 @@ from dvbt.files import VERSIONS, Version1, Version2  # noqa: E402
 
 LOOKED_AT = 4  # symbols at the beginning by which a file is checked
 LARGEST = 5 * 6817  # bytes of a symbol: 8K, version 2
+
+
+WARNINGS = []  # what was said by `warn`
 
 
 class Frame:
@@ -59,7 +63,11 @@ class CellFile:
             seen = os.fstat(self.input.fileno())
             self.begin = self.read(bytearray(Version2.HEADER + LOOKED_AT * LARGEST))
         except OSError as error:
-            raise Unfit(f"cells: {error}") from None
+            raise Unfit(f"{self.name or 'CELLS'} can't be read: {error.strerror if path else 'its name is empty'}", 5, path) from None
+        if not self.begin:
+            raise Unfit(f"{self.name} is empty", 9, path)
+        if kind_in(self.begin) == "a transport file":
+            raise Unfit(f"{self.name} looks like a transport file; dvbt modulate makes cells of it", 9, path)
         self.is_plain = stat.S_ISREG(seen.st_mode) and self.name == str(path)
         if self.is_plain:
             self.input.close()  # each use opens it anew
@@ -94,7 +102,7 @@ class CellFile:
             with self.input:
                 yield from self.frames_of_input()
         except OSError as error:
-            raise Unfit(f"cells: {error}") from None
+            raise Unfit(f"{self.name} can't be read: {error.strerror}", 5, self.path) from None
         if self.left_over:
             warn(f"the file is no whole number of symbols of {self.size} bytes ({self.settings['mode']})")
 
@@ -202,18 +210,19 @@ def check(file):
     """Rejects a file that plainly does not fit its settings. What is only unusual is said on standard error."""
     mode = file.settings["mode"]
     if file.version is Version2 and file.head != Version2.header(mode):
-        raise Unfit(f"{file.name}: cells header: its header is not that of the {mode} mode, which the settings say")
+        raise Unfit(f"{file.name}: cells header: its header is not that of the {mode} mode, which the settings say", 9, file.path)
     if file.version is Version1:
         warn("the file has no header: read as one of version 1, which dvbt upgrade turns into one of version 2")
     cells = first_cells(file, file.carriers)
     if len(cells) == 0 or not file.carriers.fit(cells, 0):
         reason = wrong_guess(file)
         if reason:
-            raise Unfit(f"{file.name}: {reason}")
+            raise Unfit(f"{file.name}: {reason}", 9, file.path)
         if len(cells):
             warn("the pilots are not at their places: no cell file, or badly disturbed")
 
 
 def warn(text):
     """A line on standard error."""
+    WARNINGS.append(text)
     print(f"{os.path.basename(sys.argv[0])}: {text}", file=sys.stderr)

@@ -2,11 +2,16 @@
 import numpy as np
 
 from cell_tools.files import Votes
+from cell_tools.plots import plots, save
+from cell_tools.result import Result, number
 from cell_tools.settings import Unfit, settings_in
 from cell_tools.standard import (
-    CONTINUAL_PILOT, DATA, FRAME, KINDS, SCATTERED_PILOT, SYNC, TPS_CARRIER, UNIT,
+    CONTINUAL_PILOT, DATA, FRAME, KINDS, NAMES, SCATTERED_PILOT, SYNC, TPS_CARRIER, UNIT,
     bch_rest, described, field, ideal_points, spaced,
 )
+from cell_tools.tps import differences, fields_of
+
+SHOWN = ["data", "continual pilots", "scattered pilots", "TPS"]
 
 
 class Look:
@@ -20,7 +25,7 @@ class Look:
         kinds = [file.carriers.kinds(l) for l in range(4)]
         if (symbols.start or 0) < 0 or (symbols.stop or 0) < 0 or (symbols.step or 1) < 0:
             if not file.is_plain:
-                raise Unfit("--symbols counts from the end, which is not known in a pipe")
+                raise Unfit("--symbols counts from the end, which is not known in a pipe", 2)
         self.chosen = range(file.symbols)[symbols] if file.is_plain else range(1 << 62)[symbols]
         for frame in file.frames():
             self.votes.add(frame)
@@ -50,49 +55,80 @@ class Look:
 
 
 def look(file, words):
-    """Prints what is in the file and draws it; answers whether each TPS word is as the settings say."""
+    """Looks into the file and draws it. Each TPS word should be as the settings say."""
     symbols = words.symbols or slice(0, 4)
     seen = Look(file, symbols, words.kinds if words.out else [])
+    if not file.symbols:
+        raise Unfit(f"{file.name} has no whole symbol of {file.size} bytes", 9, file.path)
     if (words.symbols or words.out) and not seen.chosen:
-        raise Unfit(f"no symbol of the {file.symbols} in the file is in --symbols")
+        raise Unfit(f"no symbol of the {file.symbols} in the file is in --symbols", 2)
     if words.out and len({file.points(m) for m in seen.chosen}) > 1:
-        raise Unfit("the symbols of --symbols have different constellations; draw those of one")
-    print(f"symbols {file.symbols} of {file.size} bytes, bytes left over {file.left_over}")
-    is_well = True
-    if file.symbols:
-        is_well = print_tps(file, seen.votes, words.frames, words.verbose)
-        print_powers(seen)
+        raise Unfit("the symbols of --symbols have different constellations; draw those of one", 2)
+    tps = Words(file, seen.votes, words.frames)
+    if tps.words and not tps.numbers:
+        raise Unfit(f"no frame of the {len(tps.words)} in the file is in --frames", 2)
+    lines = [f"symbols {file.symbols} of {file.size} bytes, bytes left over {file.left_over}"]
+    lines += [*tps.lines(words.verbose), *lines_of_powers(seen)]
     if words.out:
         draw(file, seen, words.labels, words.out)
-        print(f"picture {words.out}")
-    return is_well
+        lines.append(f"picture {words.out}")
+    report = {"symbols": file.symbols, "symbol_bytes": file.size, "left_over": file.left_over, "version": file.version.NUMBER}
+    report.update(tps=tps.report(), power=powers_by_name(seen))
+    return Result(lines, report, f"{tps.wrong} of {len(tps.numbers)} TPS words are wrong" if tps.wrong else None, [words.out] if words.out else [])
 
 
-def print_tps(file, votes, frames, is_verbose):
-    """The TPS words of whole frames: a line for words that say the same, or with `is_verbose` three lines for each."""
-    words = votes.words()
-    numbers = range(len(words))[frames]
-    said, wrong = {}, 0
-    for n in numbers:
-        text = described(words[n], settings_in(file.settings, n // 4 + 1))  # of the next super-frame (4.6.2)
+class Words:
+    """The TPS words of whole frames, and whether they are as the settings say."""
+
+    def __init__(self, file, votes, frames):
+        self.file, self.votes, self.words = file, "".join(votes.bits), votes.words()
+        self.numbers = range(len(self.words))[frames]
+        self.said, self.wrong, self.detailed = {}, 0, []  # the frames of each text, those that are wrong, and three lines for each
+        for n in self.numbers:
+            self.add(n, self.words[n])
+
+    def add(self, n, word):
+        """Takes the word of frame n."""
+        text = described(word, settings_in(self.file.settings, n // 4 + 1))  # of the next super-frame (4.6.2)
         sync, _, _, fields = text.split(", ", 3)
-        is_placed = words[n][:16] not in SYNC or field(words[n], 23, 24) == n % 4
-        wrong += "DIFFERS" in text or bch_rest(words[n]) != 0 or sync == "sync wrong" or not is_placed
-        said.setdefault(f"{sync}, {fields}" if sync == "sync wrong" else fields, []).append(n)
-        if is_verbose:
-            print(f"frame {n % 4 + 1} of super-frame {n // 4}, symbols {FRAME * n} to {FRAME * n + 67}")
-            print(f"  s1..s67 {spaced(words[n])}")
-            print(f"  {text}")
-            if not is_placed:
-                print("  (a cell file begins with frame 1 of a super-frame; this one does not)")
-    print(f"frames {len(words)}, symbols after the last whole one {file.symbols % FRAME}")
-    print(f"TPS words looked at {len(numbers)}, wrong {wrong}")
-    if not is_verbose:
-        for text, at in said.items():
-            print(f"  {text} ({len(at)} frame{'s' * (len(at) > 1)}, from 0: {listed(at)})")
-    if words and not any(bits[:16] in SYNC for bits in words):
-        print_shifted("".join(votes.bits))
-    return wrong == 0
+        is_placed = word[:16] not in SYNC or field(word, 23, 24) == n % 4
+        self.wrong += "DIFFERS" in text or bch_rest(word) != 0 or sync == "sync wrong" or not is_placed
+        self.said.setdefault(f"{sync}, {fields}" if sync == "sync wrong" else fields, []).append(n)
+        self.detailed.append(f"frame {n % 4 + 1} of super-frame {n // 4}, symbols {FRAME * n} to {FRAME * n + 67}")
+        self.detailed += [f"  s1..s67 {spaced(word)}", f"  {text}"]
+        if not is_placed:
+            self.detailed.append("  (a cell file begins with frame 1 of a super-frame; this one does not)")
+
+    def lines(self, is_verbose):
+        """A line for words that say the same, or with `is_verbose` three lines for each."""
+        yield from self.detailed if is_verbose else ()
+        yield f"frames {len(self.words)}, symbols after the last whole one {self.file.symbols % FRAME}"
+        yield f"TPS words looked at {len(self.numbers)}, wrong {self.wrong}"
+        for text, at in () if is_verbose else self.said.items():
+            yield f"  {text} ({len(at)} frame{'s' * (len(at) > 1)}, from 0: {listed(at)})"
+        begins = self.begins()
+        if begins is not None:
+            yield f"  no frame begins where it should, but one begins at symbol {begins}: a cell file begins with a frame"
+
+    def fields(self, n):
+        """The fields of the word of frame n by name."""
+        word, settings = self.words[n], settings_in(self.file.settings, n // 4 + 1)
+        found = fields_of(word)
+        checks = {"is_parity_right": bch_rest(word) == 0, "differs": differences(word, found, settings)}
+        return {**found, "length": field(word, 17, 22), **checks}
+
+    def begins(self):
+        """Which symbol begins a frame in a file that does not begin with one, or None."""
+        if not self.words or any(word[:16] in SYNC for word in self.words):
+            return None
+        starts = range(len(self.votes) - FRAME + 1)
+        return next((m for m in starts if self.votes[m + 1 : m + 17] in SYNC and bch_rest(self.votes[m + 1 : m + 68]) == 0), None)
+
+    def report(self):
+        """The same by name."""
+        said = [{"text": text, "frames": at, **self.fields(at[0])} for text, at in self.said.items()]
+        found = {"frames": len(self.words), "symbols_after": self.file.symbols % FRAME, "looked_at": len(self.numbers), "wrong": self.wrong}
+        return {**found, "said": said, "frame_begins_at": self.begins()}
 
 
 def listed(numbers):
@@ -100,34 +136,21 @@ def listed(numbers):
     return ", ".join(map(str, numbers[:4])) + (f" and {len(numbers) - 4} more" if len(numbers) > 4 else "")
 
 
-def print_shifted(votes):
-    """Says which symbol begins a frame in a file that does not begin with one."""
-    for m in range(len(votes) - FRAME + 1):
-        if votes[m + 1 : m + 17] in SYNC and bch_rest(votes[m + 1 : m + 68]) == 0:
-            print(f"  no frame begins where it should, but one begins at symbol {m}: a cell file begins with a frame")
-            return
-
-
-def print_powers(seen):
+def lines_of_powers(seen):
     """Counts and mean powers of the four kinds of carriers, over all symbols."""
-    names = ["data", "continual pilots", "scattered pilots", "TPS"]
-    print(f"mean power (1 is {UNIT}^2)")
-    for name, total, count in zip(names, seen.totals, seen.counts):
-        print(f"  {name:17} {total / count / UNIT**2:.4f}  of {count} cells")
+    yield f"mean power (1 is {UNIT}^2)"
+    for name, total, count in zip(SHOWN, seen.totals, seen.counts):
+        yield f"  {name:17} {total / count / UNIT**2:.4f}  of {count} cells"
+
+
+def powers_by_name(seen):
+    return {name: {"cells": int(count), "mean": number(total / count / UNIT**2)} for name, total, count in zip(NAMES, seen.totals, seen.counts)}
 
 
 def draw(file, seen, labels, out):
     """Draws the constellation to a PNG."""
-    try:
-        import matplotlib
-
-        matplotlib.use("Agg")
-        import matplotlib.pyplot as plt
-    except ImportError as error:
-        raise Unfit(f"{error}; --out needs matplotlib (Debian: python3-matplotlib)") from None
-
     found = seen.points()
-    figure, axes = plt.subplots(figsize=(8, 8.4), dpi=100)
+    figure, axes = plots().subplots(figsize=(8, 8.4), dpi=100)
     frame_axes(axes, found)
     for kind, (points, count) in found.items():
         draw_kind(axes, kind, points, count)
@@ -139,10 +162,7 @@ def draw(file, seen, labels, out):
     for handle in handles:
         handle.set_sizes([40])
         handle.set_alpha(1)
-    try:
-        figure.savefig(out, format="png", bbox_inches="tight")
-    except OSError as error:
-        raise Unfit(f"picture: {error}") from None
+    save(figure, out)
 
 
 def draw_kind(axes, kind, points, count):

@@ -5,9 +5,12 @@ import numpy as np
 
 from cell_tools import expect
 from cell_tools.files import Version1, Votes
+from cell_tools.plots import plots, save
+from cell_tools.result import Result, number
 from cell_tools.settings import Unfit, settings_in
 from cell_tools.standard import BOOSTED, SUPER_FRAME, read_word
 from cell_tools.sums import Summing, added, in_turn, side_by_side
+from cell_tools.tps import differences, fields_of
 
 
 def decibels(power, error):
@@ -35,7 +38,7 @@ class Measure:
         for sums in in_turn(summing.frame, self.pieces()):
             self.add(sums)
         if not file.symbols:
-            raise Unfit("the file has no whole symbol")
+            raise Unfit(f"{file.name} has no whole symbol of {file.size} bytes", 9, file.path)
 
     def pieces(self):
         """The frames of the file, each with that of `sent`."""
@@ -43,7 +46,7 @@ class Measure:
             if frame is None:
                 continue  # what `sent` has more is read to its end, to count its symbols
             if self.sent and (sent is None or sent.symbols < frame.symbols):
-                raise Unfit(f"{self.sent.name} has fewer symbols than {self.file.name}")
+                raise Unfit(f"{self.sent.name} has fewer symbols than {self.file.name}", 9, self.sent.path)
             self.votes.add(frame)
             yield frame, sent
 
@@ -57,6 +60,10 @@ class Measure:
         self.times = max(self.times, sums.furthest / sums.points.tolerance)
         self.shares[sums.points] = self.shares.get(sums.points, 0) + sums.data
         self.pilots = [added(a, b) for a, b in zip(self.pilots, sums.pilots)]
+
+    def by_kind(self):
+        """What the pilots show, by their kind."""
+        return {name: pilots_by_name(*sums) for name, sums in zip(("continual", "scattered"), self.pilots)}
 
     def whole(self):
         return decibels(*self.of_carriers.sum(axis=0))
@@ -72,29 +79,69 @@ class Measure:
 
 
 def measure(file, sent, words):
-    """Prints the measures of a file; answers whether no part of the theorem's premise fails and all TPS words are read."""
+    """Measures a file. No part of the theorem's premise should fail, and all TPS words should be read."""
     if words.out:
         plots()
     found = Measure(file, sent)
-    against = f"against {sent.name}" if sent else "against the nearest points"
-    print(f"symbols {file.symbols}, data cells {found.data}, {against}")
     by_symbol, (at, by_carrier) = found.symbols(), found.carriers()
-    print(*lines_of_ratio(found, by_symbol, at, by_carrier), sep="\n")
-    for name, sums in zip(("continual", "scattered"), found.pilots):
-        print(f"{name} pilots: {of_pilots(*sums)}")
-    print(*lines_of_theorem(found), sep="\n")
     frames = found.votes.words()
     errors = [word and word[1] for word in map(read_word, frames)]
-    read = sum(it is not None for it in errors)
-    print(f"TPS words read {read} of {len(frames)}, bits corrected {sum(it or 0 for it in errors)}")
-    for number, ratio in enumerate(by_symbol) if words.list == "symbols" else ():
-        print(f"symbol {number} {shown(ratio)}")
-    for number, ratio in zip(at, by_carrier) if words.list == "carriers" else ():
-        print(f"carrier {number} {shown(ratio)}")
+    tps = {"frames": len(frames), "read": sum(it is not None for it in errors), "corrected": sum(it or 0 for it in errors)}
+    tps["differs"] = contradicted(file, frames)
+    lines = [f"symbols {file.symbols}, data cells {found.data}, {f'against {sent.name}' if sent else 'against the nearest points'}"]
+    lines += lines_of_ratio(found, by_symbol, at, by_carrier)
+    lines += [f"{name} pilots: {of_pilots(pilots)}" for name, pilots in found.by_kind().items()]
+    lines += lines_of_theorem(found)
+    lines.append(f"TPS words read {tps['read']} of {len(frames)}, bits corrected {tps['corrected']}")
+    if tps["differs"]:
+        lines.append(f"  TPS DIFFERS from the settings in {', '.join(tps['differs'])}, so the figures above are of other points")
+    report = {"symbols": file.symbols, "left_over": file.left_over, "version": file.version.NUMBER, "data_cells": found.data}
+    report.update(sent=sent and sent.name, mer=ratio_by_name(found), by_symbol=spread_by_name(by_symbol, range(file.symbols)))
+    report.update(by_carrier=spread_by_name(by_carrier, at), pilots=found.by_kind(), **theorem_by_name(found), tps=tps)
+    if words.list:
+        listed = zip(range(file.symbols), by_symbol) if words.list == "symbols" else zip(at, by_carrier)
+        ratios = {int(place): ratio for place, ratio in listed}
+        lines += [f"{words.list[:-1]} {place} {shown(ratio)}" for place, ratio in ratios.items()]
+        report["list"] = [{words.list[:-1]: place, "db": number(ratio)} for place, ratio in ratios.items()]
     if words.out:
         draw(found, words.out)
-        print(f"picture {words.out}")
-    return not failing_parts(found) and read == len(frames)
+        lines.append(f"picture {words.out}")
+    failing = failing_parts(found) + ([f"TPS words that can't be read: {len(frames) - tps['read']}"] if tps["read"] < len(frames) else [])
+    failing += [f"TPS differs from the settings in {', '.join(tps['differs'])}"] if tps["differs"] else []
+    return Result(lines, report, "; ".join(failing), [words.out] if words.out else [])
+
+
+def contradicted(file, frames):
+    """The keys of constellation, hierarchy and rates in which TPS words that can be read contradict the settings."""
+    found = set()
+    for number, bits in enumerate(frames):
+        word = read_word(bits)
+        settings = settings_in(file.settings, number // 4 + 1)  # of the next super-frame (4.6.2)
+        found.update(differences(word[0], fields_of(word[0]), settings) if word else ())
+    return [key for key in ("constellation", "hierarchy", "rate_hp", "rate_lp") if key in found]
+
+
+def ratio_by_name(found):
+    """The MER by name. Without --sent it may be too high."""
+    ideal, error = found.of_carriers.sum(axis=0)
+    point = None if found.sent else expect.turning_point(found.shares)
+    values = {"db": number(found.whole()), "ideal_power": ideal, "error_power": error, "is_decision_directed": not found.sent}
+    return {**values, "too_high_below_db": point and number(point), "true_db": number(true_ratio(found))}
+
+
+def spread_by_name(ratios, places):
+    """The spread of ratios by name, and where the least is. Ratios without an error are null."""
+    values = {"least_db": ratios.min(), "middle_db": np.median(ratios), "greatest_db": ratios.max()}
+    return {**{name: number(value) for name, value in values.items()}, "least_at": int(places[int(np.argmin(ratios))])}
+
+
+def theorem_by_name(found):
+    """What `lines_of_theorem` says, by name. Whether the theorem applies is not known without --sent, if no part of it fails."""
+    failing = failing_parts(found)
+    expected = [values for _, values in expectation(found)]
+    values = {"tolerance": tolerances(found), "beyond": found.beyond, "furthest": round(found.furthest), "furthest_times": number(found.times)}
+    values.update(weightless=found.weightless, theorem={"applies": False if failing else True if found.sent else None, "failing": failing})
+    return {**values, "expected": expected}
 
 
 def lines_of_ratio(found, by_symbol, at, by_carrier):
@@ -122,17 +169,26 @@ def true_ratio(found):
 
 def lines_of_theorem(found):
     """How far the data cells were moved, whether the theorem on noise applies, and if not, what to expect."""
-    tolerances = ", ".join(map(str, dict.fromkeys(points.tolerance for points in found.shares)))
     beyond = f"data cells beyond it {found.beyond}"
     if found.beyond:
         beyond += f" of {found.data} ({percent(found.beyond, found.data)}), "
         beyond += f"the furthest moved by {round(found.furthest)}, {found.times:.1f} times the tolerance"
-    yield f"tolerance {tolerances} on each axis: {beyond}"
+    yield f"tolerance {', '.join(map(str, tolerances(found)))} on each axis: {beyond}"
     yield f"data cells of weight 0: {found.weightless}"
-    failing = failing_parts(found)
-    yield f"  {verdict(failing, found.sent)}"
-    if failing and found.whole() != math.inf:
-        yield from (f"  {line}" for line in expect.lines(stretches(found.file), true_ratio(found)))
+    yield f"  {verdict(failing_parts(found), found.sent)}"
+    yield from (f"  {line}" for line, _ in expectation(found))
+
+
+def tolerances(found):
+    """The tolerance of each constellation of the file."""
+    return list(dict.fromkeys(points.tolerance for points in found.shares))
+
+
+def expectation(found):
+    """What to expect of `receive` if the theorem does not apply: a line and its values for each stream."""
+    if not failing_parts(found) or found.whole() == math.inf:
+        return []
+    return expect.rows(stretches(found.file), true_ratio(found))
 
 
 def percent(count, whole):
@@ -185,31 +241,24 @@ def spread(ratios):
     return f"least {shown(ratios.min())}, middle {shown(float(np.median(ratios)))}, greatest {shown(ratios.max())}"
 
 
-def of_pilots(count, re, im, power):
+def pilots_by_name(count, re, im, power):
     """Amplitude and phase of pilots, each over its nominal value, from their count, both sums and the sum of their powers."""
     if not count:
-        return "none"
+        return {"count": 0, "amplitude": None, "phase_degrees": None, "spread": None}
     spread = math.sqrt(max(count * power - re * re - im * im, 0)) / count / BOOSTED
-    amplitude = math.hypot(re, im) / count / BOOSTED
-    return f"{count}, amplitude {amplitude:.4f}, phase {math.degrees(math.atan2(im, re)):.2f} degrees, spread {spread:.4f}"
+    amplitude, phase = math.hypot(re, im) / count / BOOSTED, math.degrees(math.atan2(im, re))
+    return {"count": count, "amplitude": number(amplitude), "phase_degrees": number(phase), "spread": number(spread)}
 
 
-def plots():
-    """matplotlib, drawing to files."""
-    try:
-        import matplotlib
-
-        matplotlib.use("Agg")
-        import matplotlib.pyplot as plt
-    except ImportError as error:
-        raise Unfit(f"{error}; --out needs matplotlib (Debian: python3-matplotlib)") from None
-    return plt
+def of_pilots(values):
+    if not values["count"]:
+        return "none"
+    return "{count}, amplitude {amplitude:.4f}, phase {phase_degrees:.2f} degrees, spread {spread:.4f}".format(**values)
 
 
 def draw(found, out):
     """Draws the ratio over carriers and over symbols to a PNG. Nothing is drawn at carriers and symbols without error."""
-    plt = plots()
-    figure, (above, below) = plt.subplots(2, 1, figsize=(10, 7), dpi=100)
+    figure, (above, below) = plots().subplots(2, 1, figsize=(10, 7), dpi=100)
     at, by_carrier = found.carriers()
     rows = [(above, at, by_carrier, "carrier"), (below, np.arange(found.file.symbols), found.symbols(), "symbol")]
     for axes, places, ratios, name in rows:
@@ -218,8 +267,4 @@ def draw(found, out):
         axes.set(xlabel=name, ylabel="MER in dB")
         axes.grid(color="#e8e8e8")
     figure.suptitle(f"{found.file.name}: MER {shown(found.whole())} over {found.data} data cells")
-    try:
-        figure.savefig(out, format="png", bbox_inches="tight")
-    except OSError as error:
-        raise Unfit(f"picture: {error}") from None
-    plt.close(figure)
+    save(figure, out)

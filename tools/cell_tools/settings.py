@@ -2,6 +2,7 @@
 import re
 
 from cell_tools import plain_toml
+from cell_tools.kinds import kind_in
 from cell_tools.tps import VALUES
 
 NUMBERS = {"cell_id": (0, 65535), "workers": (1, 16), "max_symbols": (1, 4294967295), "after": (1, 4294967295)}
@@ -9,39 +10,51 @@ WORDS = VALUES | {"start": ["zero", "any"]}
 KEYS = ["mode", "constellation", "hierarchy", "rate_hp", "rate_lp", "guard", "cell_id", "start", "workers", "max_symbols", "plan"]
 NEEDED = ["mode", "constellation", "rate_hp", "guard"]
 ABSENT = {"hierarchy": "none", "start": "zero", "workers": 1, "max_symbols": 1000000, "plan": []}
+LONGEST = 65536  # bytes of a document
 OF_ENTRY = ["after", "constellation", "hierarchy", "rate_hp", "rate_lp"]
 
 
 class Unfit(Exception):
-    """What keeps a file from being read, in words for its user."""
+    """What keeps a command from its work, in words for its user; the status, which is dvbt's for the same cause, and the file."""
+
+    def __init__(self, why, status=9, path=None):
+        super().__init__(why)
+        self.status, self.path = status, path
 
 
 def read_settings(path):
     """The settings document as a dictionary. What `dvbt` rejects (docs/SETTINGS.md) is rejected, with the line that it prints."""
     try:
         with open(path, "rb") as file:
-            content = file.read()
+            content = file.read(LONGEST + 1)
     except OSError as error:
-        raise Unfit(f"settings: {error}") from None
-    if len(content) > 65536:
-        raise Unfit(f"{path}: settings too long")
+        raise Unfit(f"{path or 'SETTINGS'} can't be read as SETTINGS: {error.strerror if path else 'its name is empty'}", 5, path) from None
+    if kind_in(content):
+        raise Unfit(f"{path} looks like {kind_in(content)}: SETTINGS comes first", 3, path)
+    refusal = refusal_of(content)
+    if refusal:
+        raise Unfit(f"{path}: settings {refusal}: it {why_rejected(content, refusal)}", 3, path)
+    return ABSENT | document(content)
+
+
+def refusal_of(content):
+    """What `dvbt` prints after `settings` as it rejects a document, or None if it takes it."""
+    if len(content) > LONGEST:
+        return "too long"
     try:
         found = document(content)
-    except (ValueError, RecursionError) as error:
-        raise Unfit(f"{path}: settings not toml, by Python's reader: {error}") from None
+    except (ValueError, RecursionError):
+        return "not toml"
     for place, key in enumerate(sorted(found, key=str.encode)):
         if key not in KEYS:
-            raise Unfit(f"{path}: settings unknown {place}: {key}")
+            return f"unknown {place}"
     for key in KEYS:
         if key not in found and key in NEEDED:
-            raise Unfit(f"{path}: settings missing {key}")
+            return f"missing {key}"
         if key in found and not is_value(key, found[key]):
-            raise Unfit(f"{path}: settings value {key}: {found[key]!r}")
-    settings = ABSENT | found
-    reason = clash(settings)
-    if reason:
-        raise Unfit(f"{path}: settings clash {reason}")
-    return settings
+            return f"value {key}"
+    reason = clash(ABSENT | found)
+    return reason and f"clash {reason.partition(':')[0]}"
 
 
 def document(content):

@@ -85,11 +85,11 @@ class Summing:
         """Adds the data cells of the symbols l, l + 4 .. of a frame."""
         columns = self.columns[l]
         shape = len(words), len(columns)
-        parts = np.take(words, columns, axis=1, out=self.room("parts", shape, "u4"), mode="wrap").view("u2")
+        parts = np.take(words, columns, axis=1, out=self.room("parts", shape, "u4"), mode="clip").view("u2")
         if sent is None:
             ideal, error = self.decided(found.points, parts)
         else:
-            sent = np.take(sent, columns, axis=1, out=self.room("sent parts", shape, "u4"), mode="wrap").view("u2")
+            sent = np.take(sent, columns, axis=1, out=self.room("sent parts", shape, "u4"), mode="clip").view("u2")
             ideal, error = self.known(found, parts, sent)
         for place, powers in enumerate((ideal, error)):
             found.of_symbols[l::4, place] = powers.sum(axis=1)
@@ -104,8 +104,8 @@ class Summing:
         """Powers of the nearest levels and of the distances to them."""
         tables, index = self.tables_of(points), self.room("index", parts.shape, np.intp)
         index[:] = parts
-        ideal = np.take(tables.ideal, index, out=self.room("ideal", parts.shape, "f4"), mode="wrap")
-        return ideal, np.take(tables.error, index, out=self.room("error", parts.shape, "f4"), mode="wrap")
+        ideal = np.take(tables.ideal, index, out=self.room("ideal", parts.shape, "f4"), mode="clip")
+        return ideal, np.take(tables.error, index, out=self.room("error", parts.shape, "f4"), mode="clip")
 
     def known(self, found, parts, sent):
         """Powers of the parts that were sent and of the distances to them."""
@@ -118,7 +118,8 @@ class Summing:
 
     def turned(self, words, columns):
         """Of pilots, each times its sign: their count, the sums of both parts, and the sum of their powers."""
-        parts = np.take(words, columns, axis=1).view(">i2").astype(float)  # sums of whole numbers, exact
+        parts = np.take(words, columns, axis=1).view(">i2")
+        parts = parts.byteswap(True).view(parts.dtype.newbyteorder()).astype(float)  # sums of whole numbers, exact
         re, im = self.file.carriers.signs[columns] @ parts.sum(axis=0).reshape(-1, 2)
         return len(words) * len(columns), int(re), int(im), int(np.vdot(parts, parts))
 

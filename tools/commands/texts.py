@@ -85,16 +85,19 @@ STATUSES = [
 ]
 OF_THE_DOOR = [
     (1, "with --strict: 0, and bin/dvbt has a verdict on the run, such as: no reception"),
-    (64, "nothing was started: a file would be destroyed, a descriptor is not open, an option follows the command, or OLD is of version 2"),
+    (64, "nothing was started: a file would be destroyed, a descriptor is not open, an option follows the command, OLD is of version 2, or an output is a terminal"),
     (126, "the program could not be built, or its proof failed, or the one that $DVBT_PROGRAM names can't be run"),
     (127, "the program is not built, and the toolchain's command rt is not on the PATH"),
 ]
 
 
+USAGE = ["bin/dvbt [-q] [--strict] [--json] COMMAND ARGUMENTS", "bin/dvbt [COMMAND] --help", "bin/dvbt --version", "bin/dvbt --program"]
+
+
 def help_of_all():
     """What `bin/dvbt --help` prints."""
     out = ["dvbt: a DVB-T modulator and streaming soft receiver (EN 300 744, between transport packets and OFDM cells)", ""]
-    out += ["usage: bin/dvbt [-q] [--strict] [--json] COMMAND ARGUMENTS", ""]
+    out += [f"usage: {USAGE[0]}", *(f"       {it}" for it in USAGE[1:]), ""]
     for command in forms.FORMS:
         out += [f"  {line}" for line in forms.lines_of_forms(command)]
         out += [f"        {SHORT[command]}"]

@@ -3,19 +3,22 @@ import os
 import stat
 import sys
 
+from cell_tools.kinds import EIGHT, kind_in, sync_in
 from commands import forms
 from commands.lines import values_of
 
-PACKET, SYNC = 188, 0x47
+PACKET = 188
 USEFUL = {"2k": 224e-6, "8k": 896e-6}  # seconds of a symbol without guard in a channel of 8 MHz
 OTHERS = {204: "the last 16 bytes of each, its parity", 192: "the first 4 bytes of each, its time stamp"}  # packets not read
-EIGHT = 8 * 204  # bytes in which eight packets of any of these lengths begin
-STANDS = {4: "output for the packets before it", 5: "output for what was read", 6: "a prefix of the full output", 8: "output within the limit"}
+HEADER, SYMBOL = 8, {"2k": 8525, "8k": 34085}  # bytes of a cell file
+WRITTEN = {"outer": 204, "inner": 0}  # bytes of an output for each packet, if not 188; `inner` has no whole number
+STANDS = {4: "output for the packets before it", 5: "output for what was read", 6: "the full output, or a prefix of it", 8: "output within the limit"}
 
 
 def say(text):
     """Prints each line on standard error, after the program's name."""
     for line in [text] if isinstance(text, str) else text:
+        line = line.replace("/dev/stdin", "standard input").replace("/dev/stdout", "standard output")
         print(f"dvbt: {line}", file=sys.stderr, flush=True)
 
 
@@ -42,7 +45,8 @@ def of_usage(words):
         say(f"  {line}" for line in forms.lines_of_forms(command))
         say("NUMBER has one to ten digits and is at most 4294967295" if command == "trial" else [])
     elif command.startswith("-"):
-        say(f"there is no option {command}; the options are {', '.join(forms.OPTIONS)}, before the command")
+        options = f"{', '.join(forms.OPTIONS)}, before the command, and --help, --version and --program alone"
+        say(f"{command} stands alone" if command in ("--version", "--program") else f"there is no option {command}; the options are {options}")
     elif command in ("help", "version"):
         of = f"{words[1]} " if command == "help" and words[1:] and words[1] in forms.FORMS else ""
         say(f"{command} is --{command}: bin/dvbt {of}--{command}")
@@ -69,7 +73,7 @@ def of_refusal(form, words, status, text, before):
     else:
         causes = {3: of_settings, 4: of_packet, 5: of_reading, 6: of_writing, 8: of_limit, 9: of_header, 10: of_no_frame, 11: of_form}
         say(causes[status](form, text) if status in causes else "there is not enough memory" if status == 7 else [])
-        say(what_stands(form, status, before) if status > 3 else [])
+        say(what_stands(form, before, status) if status > 3 else [])
 
 
 def of_settings(form, text):
@@ -80,10 +84,11 @@ def of_settings(form, text):
     if refusal == "form":
         no_lp = "has no hierarchy, so there is no LP: leave its file out, or set hierarchy and rate_lp"
         return f"{path} {no_lp if len(form.files) > 3 else 'has a hierarchy, at the top or in its plan: name a file of LP too'}"
-    is_document = refusal not in ("too long", "not toml")
-    name, kind = (path, None) if is_document else (f"{path}, read as SETTINGS,", kind_in(piece(path, 0, EIGHT)))
-    why = f"{name} {settings.why_rejected(piece(path, 0, 65536), refusal)} (docs/SETTINGS.md)"
-    return [why, f"{path} looks like {kind}: SETTINGS comes first"] if kind else why
+    kind = kind_in(piece(path, 0, EIGHT))
+    if kind:
+        return f"{path} looks like {kind}: SETTINGS comes first"
+    name = f"{path}, read as SETTINGS," if refusal in ("too long", "not toml") else path
+    return f"{name} {settings.why_rejected(piece(path, 0, 65536), refusal)} (docs/SETTINGS.md)"
 
 
 def of_packet(form, text):
@@ -108,49 +113,46 @@ def of_packet(form, text):
     return lines
 
 
-def kind_in(head):
-    """What a file looks like by its beginning, if that can be seen, else None."""
-    return "a cell file" if head[:4] == b"DVTC" else "a transport file" if sync_in(head[:EIGHT])[0] else None
-
-
-def sync_in(head):
-    """How far apart four sync bytes or more stand, and where the first one is. (None, None) if they do not."""
-    for spacing in (PACKET, *OTHERS):
-        for offset in range(spacing):
-            run = head[offset::spacing]
-            if len(run) > 3 and set(run) == {SYNC}:
-                return spacing, offset
-    return None, None
-
-
 def of_reading(form, text):
     """A file can't be opened or read."""
-    named = [path for kind, _, path in form.files if not kind.startswith("out")]
-    for path in named:
-        if not os.path.exists(path):
-            return f"{path or 'a file without a name'} can't be read: {unfit(path) or 'there is no such file'}"
-        if os.path.isdir(path) or not os.access(path, os.R_OK):
-            return f"{path} can't be read: {'it is a folder' if os.path.isdir(path) else 'this user may not read it'}"
-    return f"{' or '.join(named)} could not be read"
+    named = [path for _, _, path in form.files if path not in form.outputs]
+    return cause_in(form, "read")[1] or f"{' or '.join(named)} could not be read"
 
 
 def of_writing(form, text):
     """A file can't be made, written or closed. If the line is missing, it is standard output that failed."""
-    if text != "write fault":
-        return "standard output could not be written"
-    for path in form.outputs:
-        folder = os.path.dirname(path) or "."
-        if not os.path.isdir(folder) or os.path.isdir(path):
-            return f"{path} can't be written: {'it is a folder' if os.path.isdir(path) else f'there is no folder {folder}'}"
-        if unfit(path):
-            return f"{path or 'a file without a name'} can't be written: {unfit(path)}"
-        if not os.access(path if os.path.exists(path) else folder, os.W_OK):
-            return f"{path} can't be written: this user may not write it"
-        if (os.path.isfile(path) or not os.path.exists(path)) and os.statvfs(folder).f_bavail == 0:
-            return f"{path} can't be written: the disk is full"
-    names = " or ".join("standard output" if path == "/dev/stdout" else path for path in form.outputs)
-    is_pipe = all(os.path.exists(path) and stat.S_ISFIFO(os.stat(path).st_mode) for path in form.outputs)
-    return f"{names or 'standard output'} could not be written{': nobody reads it any more' if names and is_pipe else ''}"
+    paths = form.outputs if text == "write fault" else []
+    names = " or ".join(paths) or "standard output"
+    is_pipe = paths and all(os.path.exists(path) and stat.S_ISFIFO(os.stat(path).st_mode) for path in paths)
+    failed = f"{names} could not be written{': nobody reads it any more' if is_pipe else ''}"
+    return paths and cause_in(form, "written")[1] or failed
+
+
+def cause_in(form, verb):
+    """The first of the files to be `read` or `written` that can't be, and why. (None, None) if each can, as far as is seen here."""
+    for kind, name, path in form.files:
+        why = kind.startswith("out") == (verb == "written") and (why_unwritten if verb == "written" else why_unread)(path)
+        if why:
+            return path, f"{path or name} can't be {verb}: {why}"
+    return None, None
+
+
+def why_unread(path):
+    """Why a file can't be read, or None."""
+    if not os.path.exists(path):
+        return unfit(path) or "there is no such file"
+    return "it is a folder" if os.path.isdir(path) else None if os.access(path, os.R_OK) else "this user may not read it"
+
+
+def why_unwritten(path):
+    """Why a file can't be made or written, or None."""
+    folder = os.path.dirname(path) or "."
+    if not os.path.isdir(folder) or os.path.isdir(path):
+        return "it is a folder" if os.path.isdir(path) else f"there is no folder {folder}"
+    if unfit(path) or not os.access(path if os.path.exists(path) else folder, os.W_OK):
+        return unfit(path) or "this user may not write it"
+    is_on_disk = os.path.isfile(path) or not os.path.exists(path)
+    return "the disk is full" if is_on_disk and os.statvfs(path if os.path.exists(path) else folder).f_bavail == 0 else None
 
 
 def unfit(path):
@@ -159,7 +161,7 @@ def unfit(path):
         os.stat(path)
     except OSError as error:
         is_absent = isinstance(error, FileNotFoundError)
-        return error.strerror if not is_absent else None if path else "the name is empty"
+        return error.strerror if not is_absent else None if path else "its name is empty"
     return None
 
 
@@ -219,17 +221,25 @@ def of_form(form, text):
     return f"the signal in {form.of('cells')[0]} has {has}"
 
 
-def what_stands(form, status, before):
-    """What the outputs hold after a failed run, and how large they are."""
-    for path in form.outputs:
+def what_stands(form, before, status=None):
+    """What the outputs hold after a run that failed, or that a signal ended."""
+    what = f": {STANDS[status]}" if status in STANDS else ""
+    for kind, _, path in form.files:
         now = seen(path)
-        what = f": {STANDS[status]}" if status in STANDS else ""
-        if now is None:
-            yield f"{path} was not made"
-        elif stat.S_ISREG(now[3]) and now == before.get(path):
-            yield f"{path} is unchanged"
-        elif stat.S_ISREG(now[3]):
-            yield f"{path} holds {now[1]:,} bytes{what}" if now[1] else f"{path} is empty"
+        if not kind.startswith("out") or now and not stat.S_ISREG(now[3]):
+            continue
+        if now and now != before.get(path):
+            yield f"{path} holds {now[1]:,} bytes{counted(form, kind, now[1])}{what}" if now[1] else f"{path} is empty"
+        elif path:
+            yield f"{path} {'is unchanged' if now else 'was not made'}"
+
+
+def counted(form, kind, size):
+    """How many packets, or symbols after the header, so many bytes of an output have."""
+    is_cells = kind == "out-cells"
+    each = SYMBOL.get(str((document_of(form.settings) or {}).get("mode"))) if is_cells else WRITTEN.get(form.command, PACKET)
+    number = max(0, size - HEADER * is_cells) // each if each else None
+    return "" if number is None else f", {number:,} {'symbol' if is_cells else 'packet'}{'s' * (number != 1)}"
 
 
 def seen(path):

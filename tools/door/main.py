@@ -3,8 +3,9 @@ import os
 import sys
 
 import monitor
+from cell_tools.standard_error import StandardError
 from commands import forms
-from door import names, watch
+from door import explain, names, watch
 
 
 def main(top, words, options, closed):
@@ -20,8 +21,6 @@ def main(top, words, options, closed):
     if file is None:
         # what the program answers to an invalid command line; nothing has to be built for it
         if "quiet" not in options:
-            from door import explain
-
             explain.of_usage(words)
         return object_of(words, 2, "usage") if "json" in options else watch.printed("usage", 2)
     if options == {"quiet"} and not is_data:
@@ -31,10 +30,12 @@ def main(top, words, options, closed):
 
 def told(top, words, options):
     """The text that these arguments ask for, or None if they are for the program."""
-    if words and words[-1] in ("--help", "-h") and (len(words) == 1 or words[0] in forms.FORMS):
+    if {"--help", "-h"}.intersection(words[:1] + words[-1:]):
         from commands import texts
 
-        return texts.help_of(words[0]) if len(words) > 1 else texts.help_of_all()
+        others = [it for it in words if it not in ("--help", "-h")]
+        if not others or others[0] in forms.FORMS:
+            return texts.help_of(others[0]) if others else texts.help_of_all()
     if words == ["--version"]:
         from builder import program
 
@@ -68,45 +69,24 @@ def program_named(top):
 
 
 def closed_descriptors():
-    """Which of the descriptors 0 to 2 are closed. They are held open by /dev/null, so that no file of ours takes their place."""
+    """Which of the descriptors 0 to 2 are closed. They are held open by /dev/null, so that no file of ours takes their place;
+    what is printed to 1 fails as if it were closed."""
     closed = []
     for number in range(3):
         try:
             os.fstat(number)
         except OSError:
             closed.append(number)
-            os.set_inheritable(os.open(os.devnull, os.O_RDWR), True)  # it is the lowest that is free
+            os.set_inheritable(os.open(os.devnull, os.O_RDONLY if number == 1 else os.O_RDWR), True)  # it is the lowest that is free
     return closed
-
-
-class StandardError:
-    """Standard error as far as it takes what is written: what it does not take changes no status."""
-
-    def __init__(self):
-        self.text, self.last, self.to = "", "", 2
-
-    def write(self, text):
-        self.text += text
-
-    def flush(self):
-        data, self.text, self.last = self.text.encode("utf-8", "backslashreplace"), "", self.text.strip()
-        try:
-            watch.put(data, self.to)
-        except OSError:
-            pass
-
-    def isatty(self):
-        return os.isatty(self.to)
 
 
 def object_of(words, status, text, path=None):
     """Prints the object of a call that is not run; answers the status."""
     from door.report import Report
 
-    form = forms.form_of(words)
-    report = Report(form, 2 if form and "/dev/stdout" in form.outputs else 1)
-    report.refusal = {"text": text, **({"file": path} if path else {})}
-    return report.close(status)
+    form, refusal = forms.form_of(words), {"text": text, **({"file": path} if path else {})}
+    return Report(form, 2 if form and "/dev/stdout" in form.outputs else 1, refusal).close(status)
 
 
 def start(top, words):
@@ -119,10 +99,10 @@ def start(top, words):
         return main(top, words, options, closed)
     except names.Rejected as why:
         status, path, sys.stderr.to = why.status, why.path, why.to
-        print(f"dvbt: {why}", file=sys.stderr, flush=True)
+        explain.say(str(why))
     except OSError as error:
         status, path = 126, error.filename
-        print(f"dvbt: {path or 'bin/dvbt'}: {error.strerror}", file=sys.stderr, flush=True)
+        explain.say(f"{path or 'bin/dvbt'}: {error.strerror}")
     except SystemExit as end:
         status, path = end.code, None
     return object_of(words, status, sys.stderr.last.replace("dvbt: ", "", 1), path) if "json" in options else status

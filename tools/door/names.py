@@ -6,6 +6,8 @@ begin its file anew. And the program's own files take the lowest free descriptor
 import os
 import stat
 
+from door.explain import piece
+
 FILE, PIPE, DISK = stat.S_IFREG, stat.S_IFIFO, stat.S_IFBLK
 STANDARD = {1: "standard output", 2: "standard error"}
 
@@ -42,6 +44,8 @@ def given(form, closed):
                 to = 1 if is_begun(2) and number == 2 else 2  # not into a file that holds something
                 raise Rejected(f"{STANDARD[number]} goes to {file.path}, which is {file.name}; send it elsewhere", file.path, to)
     data = [it for it in files if it.is_output and (it.number == 1 or it.key and it.key == standard.get(1))]
+    if data and os.isatty(1):
+        raise Rejected(f"standard output is a terminal; name a file as {data[0].name}, or pipe it on", data[0].path)
     for file in files:
         number = 1 if file in data else file.number
         if file.is_output and number is not None and is_begun(number):
@@ -54,14 +58,19 @@ def given(form, closed):
 
 
 def reject_misplaced(form):
-    """An option among the names is rejected, and so are cells of version 2 for `upgrade`, which would read them as noise."""
+    """An option among the names is rejected, and so are cells of version 2 for `upgrade`, which would read them as noise, and an input
+    that is sure to be refused if an output is there already, which would be emptied."""
+    lost = next((it for it in form.outputs if os.path.isfile(it) and os.path.getsize(it)), None)
+    for kind, path in form.inputs if lost else ():
+        is_cells = kind != "cells" and piece(path, 0, 4) == b"DVTC"
+        if is_cells or os.path.isdir(path):
+            what = f"looks like a cell file, and {form.command} reads packets" if is_cells else "is a folder"
+            raise Rejected(f"{path} {what}; what {lost} holds would be lost", path)
     for _, name, path in form.files:
         if path.startswith("-"):
             raise Rejected(f"{path}: there are no options after the command; a file of that name is ./{path}", path)
-        if name == "OLD" and os.path.isfile(path) and os.access(path, os.R_OK):
-            with open(path, "rb") as file:
-                if file.read(5) == b"DVTC\x02":
-                    raise Rejected(f"{path} is of version 2 already", path)
+        if name == "OLD" and piece(path, 0, 5) == b"DVTC\x02":
+            raise Rejected(f"{path} is of version 2 already", path)
 
 
 def descriptor_of(path):

@@ -8,8 +8,6 @@ from commands.lines import parsed
 from door import explain
 
 FIRST, EACH = 1.0, 0.5  # seconds until the progress is shown, and between two times
-HEADER, SYMBOL = 8, {"2k": 8525, "8k": 34085}  # bytes of a cell file
-PACKET = {"outer": 204, "inner": 0}  # bytes of an output for each packet, if not 188; `inner` has no whole number
 LOADER = 832  # bytes that the loader reads of the C library, before the program reads its files
 BY_DEFAULT = 1_000_000  # max_symbols
 
@@ -27,8 +25,10 @@ class Progress:
         now = time.monotonic()
         if self.is_shown and now >= self.next:
             self.next, self.is_there = now + EACH, True
-            line = f"\rdvbt: {self.line(now - self.began)}"[: os.get_terminal_size(2).columns or None]
-            print(f"{line}\033[K", end="", file=sys.stderr, flush=True)
+            line, width = f"dvbt: {self.line(now - self.began)}", (os.get_terminal_size(2).columns or 999) - 3  # room for ^C
+            while len(line) > width and ", " in line:
+                line = line.rpartition(", ")[0]
+            print(f"\r{line[:width]}\033[K", end="", file=sys.stderr, flush=True)
 
     def tell(self, *_):
         """Answers SIGUSR1 by a line of its own."""
@@ -49,18 +49,19 @@ class Progress:
     def line(self, gone):
         """What can be known after so many seconds: counts, and the shares of the regular files that are read."""
         shares = {path: self.position(path) / max(os.path.getsize(path), 1) for _, path in self.form.inputs if os.path.isfile(path)}
-        parts = [*self.symbols(gone), *(f"{number:,} {name}" for name, number in self.counts.items())]
-        parts += [f"{100 * share:.0f} % of {os.path.basename(path)}" for path, share in shares.items()]
+        parts = [" and ".join(f"{100 * share:.0f} % of {os.path.basename(path)}" for path, share in shares.items())]
+        parts[0] += f"{' after' if shares else 'for'} {explain.clock(gone)}"
         least = min(shares.values(), default=0)
-        left = f", about {explain.clock(gone * (1 - least) / least)} more" if 0.02 < least < 1 else ""
-        return f"{self.form.command} {', '.join(parts)}{' after' if parts else ''} {explain.clock(gone)}{left}"
+        parts += [f"about {explain.clock(gone * (1 - least) / least)} more"] if 0.02 < least < 1 else []
+        parts += [*self.symbols(gone), *(f"{number:,} {name}" for name, number in self.counts.items())]
+        return f"{self.form.command} {', '.join(parts)}"
 
     def symbols(self, gone):
         """Symbols that were read or written so far, their time on air, and that time beside the clock's."""
         symbol, air = self.settings()
         if not symbol or not self.form.cells:
             return []
-        number = max(0, self.position(self.form.cells) - HEADER) // symbol
+        number = max(0, self.position(self.form.cells) - explain.HEADER) // symbol
         counted = f"{'' if os.path.isfile(self.form.cells) else 'about '}{number:,} symbols"
         return [counted, f"{number * air:.3g} s of air", f"{number * air / gone:.2g} times real time"] if air else [counted]
 
@@ -69,7 +70,7 @@ class Progress:
         if self.kept is None:
             document = (self.form.settings and explain.document_of(self.form.settings)) or {}
             air = explain.seconds_of_symbol(document) if self.form.command not in ("tune", "align") else None
-            self.kept = SYMBOL.get(str(document.get("mode"))), air
+            self.kept = explain.SYMBOL.get(str(document.get("mode"))), air
         return self.kept
 
     def position(self, path):
@@ -87,16 +88,6 @@ class Progress:
             pass  # it is closed, or the program is gone
         return self.last.get(path, 0)
 
-    def stands(self, before):
-        """What the outputs hold that were written, a line each, if they are regular files."""
-        for kind, _, path in self.form.files:
-            if kind.startswith("out") and os.path.isfile(path) and explain.seen(path) != before.get(path):
-                size = os.path.getsize(path)
-                each = self.settings()[0] if kind == "out-cells" else PACKET.get(self.form.command, 188)
-                number = max(0, size - (HEADER if kind == "out-cells" else 0)) // each if each else 0
-                what = f", {number:,} {'symbols' if kind == 'out-cells' else 'packets'}" if each else ""
-                yield f"{path} holds {size:,} bytes{what}"
-
 
 def number_in(path, name):
     """The number after a name in a file of /proc."""
@@ -106,7 +97,7 @@ def number_in(path, name):
 
 def of_limit(form):
     """What to say at the start of a run that reads a pipe and ends at max_symbols, if that is near its default; else nothing."""
-    if not form.settings or all(os.path.isfile(path) or os.path.isdir(path) or path == os.devnull or not os.path.exists(path)
+    if not form.settings or all(os.path.isfile(path) or os.path.isdir(path) or os.path.realpath(path) == os.devnull or not os.path.exists(path)
                                 for _, path in form.inputs):
         return []
     most = (explain.document_of(form.settings) or {}).get("max_symbols", BY_DEFAULT)

@@ -2,17 +2,18 @@
 import json
 import os
 
+from cell_tools.standard_error import put
 from commands import lines
-from door.explain import document_of
-from door.watch import name_of, printed, put
+from door.explain import cause_in, document_of
+from door.watch import name_of, printed
 
 
 class Report:
     """The report of a run of `form` so far. What is printed goes to the descriptor `to`."""
 
-    def __init__(self, form, to):
+    def __init__(self, form, to, refusal=None):
         self.form, self.to, self.rest, self.at, self.found = form, to, "", None, {}
-        self.refusal, self.verdict = None, None
+        self.refusal, self.verdict = refusal, None
 
     def take(self, piece):
         """Takes what the program prints."""
@@ -51,18 +52,11 @@ def cause_of(form, refusal):
         return {"file": form.cells, **({"offset": 0} if kind == "cells" else {})}
     if kind == "limit" and form.settings and form.command != "inner" and (form.command, refusal["limit"]) != ("modulate", 100_000_000):
         return {"file": form.settings, "key": "max_symbols"}
-    paths = {"read": [it for _, _, it in form.files if it not in form.outputs], "write": form.outputs}.get(kind, [])
-    return next(({"file": it} for it in paths if not may_be(it, kind)), {})
+    failed = cause_in(form, {"read": "read", "write": "written"}.get(kind))[0]
+    return {} if failed is None else {"file": failed}
 
 
 def key_at(form, index):
     """The key of the settings with this number among those in byte order, if Python reads the document."""
     keys = sorted((document_of(form.settings) or {}) if index is not None else [], key=str.encode)
     return {"key": keys[index]} if keys and index < len(keys) else {}
-
-
-def may_be(path, kind):
-    """Whether a file may be read, or written."""
-    if kind == "read" or os.path.exists(path):
-        return os.access(path, os.R_OK if kind == "read" else os.W_OK) and not os.path.isdir(path)
-    return os.access(os.path.dirname(path) or ".", os.W_OK)

@@ -1,5 +1,6 @@
 """What a run of status 0 is worth: one line on standard error if there is something to say."""
-from door.explain import EIGHT, document_of, piece, sync_in
+from cell_tools.kinds import EIGHT, sync_in
+from door.explain import document_of, piece
 
 
 def of(form, facts):

@@ -3,8 +3,11 @@ import os
 import select
 import _signal as signal  # the built-in part alone: the rest takes as long to import as Python to start
 import sys
+from errno import EBADF
 
+from cell_tools.standard_error import put
 from door import explain
+from door.names import STANDARD
 from door.progress import EACH, Progress, of_limit
 
 # Signals that are not passed on. SIGUSR1 asks for the progress. A fault of the door ends the program by its parent-death signal.
@@ -77,9 +80,7 @@ class Child:
 def wakes():
     """A descriptor that can be read after each signal that has a handler, and after the end of a child. Else a signal that comes just
     before a wait would be handled only after it."""
-    read, write = os.pipe()
-    for number in (read, write):
-        os.set_blocking(number, False)
+    read, write = os.pipe2(os.O_NONBLOCK | os.O_CLOEXEC)
     signal.set_wakeup_fd(write, warn_on_full_buffer=False)
     signal.signal(signal.SIGCHLD, lambda *_: None)
     return read
@@ -123,7 +124,7 @@ def run(program, form, words, given, options, is_data, closed):
         status = 6
     elif status < 0:
         why = ": so it ends if it has too little stack or address space (docs/FILES.md)" if status == -signal.SIGSEGV else ""
-        tell([f"the program was ended by {name_of(-status)}{why}", *(progress.stands(before) if form else [])])
+        tell([f"the program was ended by {name_of(-status)}{why}", *(explain.what_stands(form, before) if form else [])])
     elif status and "quiet" not in options:
         explain.of_refusal(form, words, status, lines[-1] if lines else "", before)
     elif form and status == 0 and options != {"quiet"}:
@@ -176,17 +177,13 @@ def become(program, words, closed):
     os.execv(program, ["dvbt", *words])
 
 
-def put(data, to):
-    while data:
-        data = data[os.write(to, data) :]
-
-
 def printed(text, status=0, to=1):
     """Prints a text; answers the status, or 6 in place of 0 if it can't be written."""
     try:
         put(f"{text}\n".encode(), to)
     except OSError as error:
-        explain.say(f"{'standard output' if to == 1 else 'standard error'} could not be written: {error.strerror}")
+        why = "is closed" if error.errno == EBADF else f"could not be written: {error.strerror}"
+        explain.say(f"{STANDARD[to]} {why}")
         return status or 6
     return status
 

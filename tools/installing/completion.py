@@ -2,7 +2,7 @@
 from commands import forms as words
 from commands import texts
 
-OPTIONS = [*words.OPTIONS, "--help", "--version"]
+OPTIONS = [*words.OPTIONS, "--help", "--version", "--program"]
 MOST = max(len(kinds) for forms in words.FORMS.values() for kinds in forms)  # arguments of a command
 
 BASH = """# Completion of dvbt in bash.

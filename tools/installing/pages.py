@@ -51,7 +51,8 @@ def command(name):
 
 def of_program(top):
     """The body of dvbt(1)."""
-    synopsis = "".join(f"\\fB{roff.escaped(line, True)}\\fR\n.br\n" for it in words.FORMS for line in words.lines_of_forms(it))
+    usage = [*texts.USAGE, *(line for it in words.FORMS for line in words.lines_of_forms(it))]
+    synopsis = "".join(f"\\fB{roff.escaped(line, True)}\\fR\n.br\n" for line in usage)
     readme, files = read(top, "README.md"), read(top, "docs/FILES.md")
     about = roff.opening(readme).split("```")[0].strip()
     out = f".SH SYNOPSIS\n{synopsis}.SH DESCRIPTION\n{roff.body(about)}"
@@ -90,5 +91,6 @@ def pages(top, prefix, version):
     found = {}
     for file, (body, summary) in PAGES.items():
         name, section = file.rsplit(".", 1)
-        found[file] = placed(roff.page(name, section, summary, body(top), version), prefix)
+        text = placed(roff.page(name, section, summary, body(top), version), prefix)
+        found[file] = re.sub(r"(?<![\w/-])([A-Z][A-Z-]+\.md)", rf"{prefix}/share/doc/dvbt/\1", text)
     return found

@@ -37,8 +37,10 @@ def part(text):
 
 
 def literal(lines):
-    """Lines as they stand, indented."""
-    shown = "\n".join(escaped(line, True) for line in lines)
+    """Lines as they stand, indented. Commands are broken behind each path of an example, as the shell takes them: these are long once
+    they are installed."""
+    parts = (re.sub(r"(examples/\S+) ", r"\1 \\\n    ", line) if re.match(r"(\$ )?(bin/dvbt|tools/)", line) else line for line in lines)
+    shown = "\n".join(escaped(line, True) for line in parts)
     return f".PP\n.RS 4\n.nf\n{shown}\n.fi\n.RE\n"
 
 
