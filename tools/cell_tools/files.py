@@ -14,8 +14,6 @@ from dvbt.files import VERSIONS, Version1, Version2  # noqa: E402
 
 LOOKED_AT = 4  # symbols at the beginning by which a file is checked
 LARGEST = 5 * 6817  # bytes of a symbol: 8K, version 2
-
-
 WARNINGS = []  # what was said by `warn`
 
 
