@@ -36,7 +36,7 @@ pub record AreCompared (s : Settings) (n j : ℕ) (f : SuperFrame) : Type 0 wher
   pub few : f.symbols ≤ 272
   pub all : (pauses_after s j ≡ true → j + 1 ≡ n) → f.symbols ≡ 272
 
--- so it is from start zero for any bytes of n whole super-frames
+-- this holds from start zero for any bytes of n whole super-frames
 abbrev pub SymbolsAreCompared : Type 0
 SymbolsAreCompared = (s : Settings) (bytes : List ℕ) (n j : ℕ) (f : SuperFrame) → s.start ≡ Zero → symbols s bytes ≡ 272 * n → j < n → AreSums s bytes j f → AreCompared s n j f
 
@@ -74,7 +74,7 @@ pub record IsMeasuredExact (s : Settings) (n j : ℕ) (f : SuperFrame) : Type 0 
 abbrev pub OwnIsMeasured : Type 0
 OwnIsMeasured = (s : Settings) (inputs : Inputs) (n j : ℕ) (f : SuperFrame) → s.start ≡ Zero → HavePackets s inputs → super_frames s (counts_of inputs) ≡ Some n → j < n → AreSums s (tx s inputs) j f → IsMeasuredExact s n j f
 
--- So it is in the lines of a measurement: there are as many super-frames as the transmission has, each measured so.
+-- This holds in the lines of a measurement: they have as many super-frames as the transmission, and each is measured so.
 abbrev pub FramesAreNear : Type 0
 FramesAreNear = (s : Settings) (inputs : Inputs) (bytes out : List ℕ) (n : ℕ) (m : MeasureFinal s bytes out) → s.start ≡ Zero → HavePackets s inputs → super_frames s (counts_of inputs) ≡ Some n → IsWithin s inputs bytes
     → (begun_by (symbols s bytes) ≡ n) × ((j : ℕ) → j < n → IsMeasuredNear s n j (m.frames j))

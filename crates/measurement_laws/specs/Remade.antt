@@ -1,4 +1,4 @@
--- What a measurement compares received cells with: where the decoder decides right, these are the cells that were sent.
+-- A measurement compares received cells with those that the decoded bits stand for. If the decoder is right, these are the cells that were sent.
 use Rattle.std.specs.Prelude.{◌≡◌, ℕ, ◌+◌, ◌*◌, ◌<◌, ◌≤◌, IsTrue, if◌then◌else◌, Bool, List, length, map, sum_by}
 use Rattle.spec_words.specs.Words.{numbers}
 use Rattle.mode_set.specs.StreamTable.{payload}
