@@ -1,0 +1,11 @@
+pub mod Long
+pub mod KnownBits
+pub mod Adding
+pub mod Totals
+pub mod Modes
+pub mod Places
+pub mod Remade
+pub mod Decided
+pub mod Compared
+pub mod Sent
+pub mod Clean
