@@ -27,8 +27,9 @@ def compare(one, other, within):
     for ours, theirs in side_by_side(one, other):
         if ours and theirs:
             found.add(ours, theirs)
-    lines = [f"{name} {it.name}: {it.symbols} symbols, bytes left over {it.left_over}" for name, it in (("A", one), ("B", other))]
-    report = {name: {"symbols": it.symbols, "left_over": it.left_over, "version": it.version.NUMBER} for name, it in (("a", one), ("b", other))}
+    files = ("A", one), ("B", other)
+    lines = [f"{name} {it.name}: {it.symbols} symbols, bytes left over {it.left_over}" for name, it in files]
+    report = {name.lower(): {"symbols": it.symbols, "left_over": it.left_over, "version": it.version.NUMBER} for name, it in files}
     if not found.both:
         nothing = "no whole symbol, so nothing is compared"
         return Result([*lines, nothing], {**report, **found.report()}, nothing)

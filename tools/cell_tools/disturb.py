@@ -22,7 +22,8 @@ def disturb(file, words):
     except BrokenPipeError:
         raise
     except OSError as error:
-        raise Unfit(f"{'standard output' if is_standard else words.out or 'OUT'} can't be written: {error.strerror if words.out else 'its name is empty'}", 6, words.out) from None
+        name, why = "standard output" if is_standard else words.out or "OUT", error.strerror if words.out else "its name is empty"
+        raise Unfit(f"{name} can't be written: {why}", 6, words.out) from None
     if file.left_over:
         raise Unfit(f"{file.name}: {file.left_over} bytes after the last whole symbol are left out", 9, file.path)
     return Result([f"symbols {file.symbols} written to {words.out}"], {"symbols": file.symbols}, None, [words.out])

@@ -74,7 +74,8 @@ def look(file, words):
         lines.append(f"picture {words.out}")
     report = {"symbols": file.symbols, "symbol_bytes": file.size, "left_over": file.left_over, "version": file.version.NUMBER}
     report.update(tps=tps.report(), power=powers_by_name(seen))
-    return Result(lines, report, f"{tps.wrong} of {len(tps.numbers)} TPS words are wrong" if tps.wrong else None, [words.out] if words.out else [])
+    failing = f"{tps.wrong} of {len(tps.numbers)} TPS words are wrong" if tps.wrong else None
+    return Result(lines, report, failing, [words.out] if words.out else [])
 
 
 class Words:
@@ -144,7 +145,8 @@ def lines_of_powers(seen):
 
 
 def powers_by_name(seen):
-    return {name: {"cells": int(count), "mean": number(total / count / UNIT**2)} for name, total, count in zip(NAMES, seen.totals, seen.counts)}
+    rows = zip(NAMES, seen.totals, seen.counts)
+    return {name: {"cells": int(count), "mean": number(total / count / UNIT**2)} for name, total, count in rows}
 
 
 def draw(file, seen, labels, out):

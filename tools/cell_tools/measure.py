@@ -139,7 +139,8 @@ def theorem_by_name(found):
     """What `lines_of_theorem` says, by name. Whether the theorem applies is not known without --sent, if no part of it fails."""
     failing = failing_parts(found)
     expected = [values for _, values in expectation(found)]
-    values = {"tolerance": tolerances(found), "beyond": found.beyond, "furthest": round(found.furthest), "furthest_times": number(found.times)}
+    values = {"tolerance": tolerances(found), "beyond": found.beyond}
+    values.update(furthest=round(found.furthest), furthest_times=number(found.times))
     values.update(weightless=found.weightless, theorem={"applies": False if failing else True if found.sent else None, "failing": failing})
     return {**values, "expected": expected}
 

@@ -28,7 +28,8 @@ def show(verb, result, is_json, to):
 
 def show_object(verb, status, report, refusal, to, outputs=(), verdict=None):
     """Prints the object of a run; answers its status."""
-    found = {"command": verb, "status": status, **({"verdict": verdict} if verdict else {}), **({"warnings": files.WARNINGS} if files.WARNINGS else {})}
+    found = {"command": verb, "status": status, **({"verdict": verdict} if verdict else {})}
+    found.update({"warnings": files.WARNINGS} if files.WARNINGS else {})
     sizes = [{"file": it, "bytes": os.path.getsize(it)} for it in outputs if os.path.isfile(it)]
     print(json.dumps({**found, "report": report, "refusal": refusal, "outputs": sizes}), file=to)
     return status

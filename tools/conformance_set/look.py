@@ -29,7 +29,8 @@ def difference(found, content, expected):
     text = f"{len(cells)} cell{'s' if len(cells) > 1 else ''}, the first in symbol {symbol} at carrier {carrier}, {kind(symbols, symbol, carrier)}"
     if all(content[at : at + 4] == expected[at : at + 4] for at in places):
         return f"{text}; only weights differ"
-    data = [cell for cell in cells if cell[1] in symbols.data_places(cell[0])]
+    of_data_cells = [set(symbols.data_places(phase)) for phase in range(4)]
+    data = [cell for cell in cells if cell[1] in of_data_cells[cell[0] % 4]]
     return text + (f"; {of_data(found, symbols, data, content, expected)}" if data and len(data) == len(cells) else "")
 
 

@@ -12,7 +12,8 @@ USEFUL = {"2k": 224e-6, "8k": 896e-6}  # seconds of a symbol without guard in a 
 OTHERS = {204: "the last 16 bytes of each, its parity", 192: "the first 4 bytes of each, its time stamp"}  # packets not read
 HEADER, SYMBOL = 8, {"2k": 8525, "8k": 34085}  # bytes of a cell file
 WRITTEN = {"outer": 204, "inner": 0}  # bytes of an output for each packet, if not 188; `inner` has no whole number
-STANDS = {4: "output for the packets before it", 5: "output for what was read", 6: "the full output, or a prefix of it", 8: "output within the limit"}
+STANDS = {4: "output for the packets before it", 5: "output for what was read", 6: "the full output, or a prefix of it",
+          8: "output within the limit"}
 
 
 def say(text):
@@ -46,7 +47,8 @@ def of_usage(words):
         say("NUMBER has one to ten digits and is at most 4294967295" if command == "trial" else [])
     elif command.startswith("-"):
         options = f"{', '.join(forms.OPTIONS)}, before the command, and --help, --version and --program alone"
-        say(f"{command} stands alone" if command in ("--version", "--program") else f"there is no option {command}; the options are {options}")
+        is_alone = command in ("--version", "--program")
+        say(f"{command} stands alone" if is_alone else f"there is no option {command}; the options are {options}")
     elif command in ("help", "version"):
         of = f"{words[1]} " if command == "help" and words[1:] and words[1] in forms.FORMS else ""
         say(f"{command} is --{command}: bin/dvbt {of}--{command}")
