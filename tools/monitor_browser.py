@@ -5,6 +5,7 @@ import json
 import os
 import pathlib
 import shlex
+import shutil
 import subprocess
 import tempfile
 import time
@@ -19,8 +20,8 @@ class Browser:
 
     def __init__(self, chromium):
         ends = [fcntl.fcntl(it, fcntl.F_DUPFD_CLOEXEC, 10) for it in (*os.pipe(), *os.pipe())]
-        self.folder = tempfile.TemporaryDirectory(ignore_cleanup_errors=True)
-        line = f"exec {shlex.quote(chromium)} --user-data-dir={self.folder.name} {OPTIONS} 3<&{ends[0]} 4>&{ends[3]}"
+        self.folder = tempfile.mkdtemp()
+        line = f"exec {shlex.quote(chromium)} --user-data-dir={self.folder} {OPTIONS} 3<&{ends[0]} 4>&{ends[3]}"
         how = {"stdin": subprocess.DEVNULL, "stdout": subprocess.DEVNULL, "stderr": subprocess.DEVNULL}
         self.child = subprocess.Popen(["bash", "-c", line], pass_fds=(ends[0], ends[3]), **how)
         os.close(ends[0])
@@ -40,7 +41,7 @@ class Browser:
         self.child.wait()
         self.source.close()
         os.close(self.to)
-        self.folder.cleanup()
+        shutil.rmtree(self.folder, ignore_errors=True)
 
     def ask(self, method, **values):
         """Asks the browser and answers its result."""

@@ -1,7 +1,7 @@
 """What the standard (EN 300 744) says of a symbol's cells: carriers, levels, labels and the words of TPS."""
 import numpy as np
 
-from cell_tools.tables import CONTINUAL, LEVELS, continual_carriers, reference_signs  # noqa: F401
+from cell_tools.tables import LEVELS, continual_carriers, reference_signs
 from cell_tools.tps import SYNC, VALUES, bch_rest, differences, field, fields_of, read_word, tps_carriers  # noqa: F401
 
 UNIT = 16384  # the fixed-point value of 1 in the standard's normalised constellation

@@ -14,6 +14,8 @@ SHORT = {
     "inner": "those bytes, convolutionally coded and punctured",
 }
 
+MONITOR = "these joined: from live cells to packets and figures, on a screen or a page"
+
 FILES = {
     "SETTINGS": "a TOML document of the transmission (docs/SETTINGS.md; examples/settings/)",
     "HP": "a transport file, packets of 188 bytes: the only stream, or the sturdier of two",
@@ -101,7 +103,7 @@ def help_of_all():
     for command in forms.FORMS:
         out += [f"  {line}" for line in forms.lines_of_forms(command)]
         out += [f"        {SHORT[command]}"]
-    out += ["", "  dvbt monitor [OPTIONS] CELLS [HP [LP]]", "        these joined: from live cells to packets and figures, on a screen or a page"]
+    out += ["", "  dvbt monitor [OPTIONS] CELLS [HP [LP]]", f"        {MONITOR}"]
     out += ["", "  bin/dvbt COMMAND --help     forms, files, an example and the statuses of a command"]
     out += ["  bin/dvbt --version          the sources, the toolchain and the program that would run"]
     out += ["  bin/dvbt --program          the path of that program, which is built if it isn't yet"]

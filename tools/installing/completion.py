@@ -1,8 +1,10 @@
 """Completion of the command line in bash, zsh and fish."""
 from commands import forms as words
 from commands import texts
+from monitor import arguments
 
 OPTIONS = [*words.OPTIONS, "--help", "--version", "--program"]
+OF_MONITOR = [f"--{it.rstrip('=')}" for it in arguments.OPTIONS] + ["--help"]
 MOST = max(len(kinds) for forms in words.FORMS.values() for kinds in forms)  # arguments of a command
 
 BASH = """# Completion of dvbt in bash.
@@ -14,6 +16,8 @@ _dvbt() {{
     compopt +o default 2> /dev/null
     if [[ -z $command ]]; then
         COMPREPLY=($(compgen -W "{commands} {options}" -- "$word"))
+    elif [[ $command == monitor && $word == -* ]]; then
+        COMPREPLY=($(compgen -W "{of_monitor}" -- "$word"))
     elif [[ $word == -* ]]; then
         COMPREPLY=($(compgen -W "--help" -- "$word"))
     else
@@ -56,15 +60,18 @@ def bash():
     for name in words.FORMS:
         files = [str(at) for at, it in enumerate(patterns(name)) if it]
         rows.append(f"            {name}) [[ {' || '.join(f'$count == {at}' for at in files)} ]] && {{ {FILES}; }} ;;")
-    return BASH.format(commands=" ".join(words.FORMS), options=" ".join(OPTIONS), cases="\n".join(rows))
+    rows.append(f"            monitor) {FILES} ;;")
+    commands = " ".join([*words.FORMS, "monitor"])
+    return BASH.format(commands=commands, options=" ".join(OPTIONS), of_monitor=" ".join(OF_MONITOR), cases="\n".join(rows))
 
 
 def zsh():
-    commands = "\n".join(f"        '{name}:{texts.SHORT[name]}'" for name in words.FORMS)
+    commands = "\n".join(f"        '{name}:{text}'" for name, text in {**texts.SHORT, "monitor": texts.MONITOR}.items())
     rows = []
     for name in words.FORMS:
         specs = [f"'{at}:{kind}:_files{f' -g {chr(34)}{it}{chr(34)}' if it != '*' else ''}'" for at, (it, kind) in named(name) if it]
         rows.append(f"                {name}) _arguments {' '.join(specs)} ;;")
+    rows.append(f"                monitor) _arguments {' '.join(OF_MONITOR)} '*:file:_files' ;;")
     options = " ".join(f"'{it}'" for it in OPTIONS)
     return ZSH.format(commands=commands, options=options, cases="\n".join(rows))
 
@@ -82,6 +89,9 @@ def fish():
         lines.append(f"complete -c dvbt -n '__fish_seen_subcommand_from {name}' -l help -d 'what it does'")
         if any(patterns(name)):
             lines.append(f"complete -c dvbt -n '__fish_seen_subcommand_from {name}' -F")
+    lines.append(f"complete -c dvbt -n __fish_use_subcommand -a monitor -d '{texts.MONITOR}'")
+    lines.append("complete -c dvbt -n '__fish_seen_subcommand_from monitor' -F")
+    lines += [f"complete -c dvbt -n '__fish_seen_subcommand_from monitor' -l {it[2:]}" for it in OF_MONITOR]
     for it in OPTIONS:
         word = f"-l {it[2:]}" if it.startswith("--") else f"-s {it[1:]}"
         lines.append(f"complete -c dvbt -n __fish_use_subcommand {word}")

@@ -4,6 +4,7 @@ import re
 from commands import forms as words
 from commands import texts
 from installing import roff
+from monitor import arguments
 
 
 def placed(text, prefix):
@@ -58,6 +59,7 @@ def of_program(top):
     out = f".SH SYNOPSIS\n{synopsis}.SH DESCRIPTION\n{roff.body(about)}"
     out += ".SH OPTIONS\n" + tagged(options())
     out += ".SH COMMANDS\n" + "".join(map(command, words.FORMS))
+    out += f".SS monitor\n{roff.literal(arguments.HELP.split(chr(10)))}"
     out += ".SH ARGUMENTS\n" + tagged(texts.FILES.items())
     out += ".SH EXIT STATUS\n" + tagged(statuses())
     out += roff.body(roff.sections(readme, "Limits")) + roff.body(roff.sections(files, "Pipes, devices and faults"))

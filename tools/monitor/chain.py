@@ -38,7 +38,8 @@ class Part:
     def __init__(self, chain, program, command, settings, source, sinks):
         self.chain, self.command = chain, command
         words = [program, command, settings, f"/dev/fd/{source}", *(f"/dev/fd/{it}" for it in sinks)]
-        self.child = subprocess.Popen(words, stdin=subprocess.DEVNULL, stdout=subprocess.PIPE, pass_fds=(source, *sinks))
+        how = {"stdin": subprocess.DEVNULL, "stdout": subprocess.PIPE, "start_new_session": True}  # Ctrl-C is for the monitor alone
+        self.child = subprocess.Popen(words, pass_fds=(source, *sinks), **how)
         for it in (source, *sinks):
             os.close(it)
         self.thread = threading.Thread(target=self.read, daemon=True)

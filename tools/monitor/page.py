@@ -100,7 +100,7 @@ class Page:
         return {
             "name": it.name, "at": it.at, "speed": it.speed, "signal": it.signal, "since": it.since, "found": it.found, "lost": it.lost,
             "frame": self.frames, "bad_a_minute": it.seconds.bad_a_minute, "last_bad": it.seconds.last_bad, "is_over": self.is_over,
-            "alarms": [[name, stream] for name, stream in it.alarms.raised], "alarms_so_far": it.alarms.count,
+            "alarms": [[name, stream] for name, stream in list(it.alarms.raised)], "alarms_so_far": it.alarms.count,
         }
 
     # Those who follow

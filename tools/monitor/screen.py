@@ -175,4 +175,4 @@ def write_line(to, text):
             data = data[os.write(to, data) :]
     except OSError:
         print("dvbt: standard output could not be written", file=sys.stderr, flush=True)
-        os._exit(6)
+        raise SystemExit(6) from None
