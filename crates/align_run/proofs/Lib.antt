@@ -1,0 +1,5 @@
+pub mod Cells
+pub mod Calls
+pub mod Places
+pub mod Commands
+pub mod WholeRun
