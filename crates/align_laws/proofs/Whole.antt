@@ -1,5 +1,5 @@
 -- Whole symbols are received as the bytes that begin with them.
-use Rattle.std.proofs.Common.{◌≡◌, ℕ, ◌+◌, ◌*◌, ◌/◌, ◌%◌, ◌<◌, Bool, List, ◌++◌, length, take, drop, ◌∙◌, sym, ap, subst, arith, length-take-le, take-append-drop}
+use Rattle.std.proofs.Common.{◌≡◌, ℕ, ◌+◌, ◌*◌, ◌/◌, ◌%◌, ◌<◌, Bool, List, ◌++◌, length, drop, ◌∙◌, sym, ap, subst, arith, length-take-le, take-append-drop}
 use Rattle.std.specs.Prelude.{IsTrue, ◌↔◌, flat_map}
 use Rattle.std.proofs.Math.Nat.{div-mul-le_self}
 use Rattle.code_paths.specs.declared.costs.CostPair.{CostPair}
@@ -11,7 +11,6 @@ use Rattle.mode_set.specs.declared.modes.Stream.{Stream}
 use Rattle.mode_set.specs.declared.settings.Settings.{Settings}
 use Rattle.outer_chain.specs.Words.{count}
 use Rattle.rx_report.specs.Text.{event_line}
-use Rattle.rx_report.specs.declared.counts.Counts.{Counts}
 use Rattle.reception.specs.Cells.{symbol_length, symbols, tail}
 use Rattle.reception.specs.Costs.{costs}
 use Rattle.reception.specs.Frames.{tps_cells, frame_bits, IsReadable, CountsFrames}

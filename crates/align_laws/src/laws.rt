@@ -6,7 +6,7 @@ use reception::laws::{costs, symbols};
 /// Cells are received in the end as their whole symbols are: the same packets of each stream, the same event
 /// lines, and the same counts but for the bytes after the symbols.
 pub fn whole_symbols()
-    ensures alike { WholeSymbolsAlike }
+    ensures { WholeSymbolsAlike }
 {
     symbols();
     costs();

@@ -6,7 +6,7 @@ use tune_in::one_found;
 /// The least place within the limit of the settings, as a function of the bytes, is the least place by its
 /// definition; and it is none exactly if there is no place.
 pub fn least_place()
-    ensures finds { FindsLeastPlaces }
+    ensures { FindsLeastPlaces }
 {
     one_found();
 }

@@ -4,8 +4,8 @@
 #![tactic(auto)]
 
 pub mod laws;
-mod place_line;
+mod line;
 mod search;
 
-pub use place_line::place_line;
+pub use line::place_line;
 pub use search::{PlaceSearch, Search};
