@@ -1,7 +1,7 @@
 -- The aligned cells of bytes, and of bytes that go on.
-use Rattle.std.proofs.Common.{◌≡◌, ℕ, ◌+◌, ◌-◌, ◌*◌, ◌/◌, ◌%◌, ◌<◌, ◌≤◌, List, [], ◌++◌, ◌⊎◌, inl, inr, length, take, drop, refl, ◌∙◌, sym, ap, subst, arith, append_assoc, take-append-drop, length-take-le}
+use Rattle.std.proofs.Common.{◌≡◌, ℕ, ◌+◌, ◌-◌, ◌*◌, ◌%◌, ◌<◌, ◌≤◌, List, [], ◌++◌, ◌⊎◌, inl, inr, length, take, drop, ◌∙◌, sym, ap, arith, append_assoc, take-append-drop, length-take-le}
 use Rattle.std.proofs.lemmas.Bool.{cases_lt}
-use Rattle.std.proofs.lemmas.List.{append-nil, length-append, take_all, take-append-le}
+use Rattle.std.proofs.lemmas.List.{length-append, take_all, take-append-le}
 use Rattle.std.proofs.lemmas.Nat.{div-add-mod', mul-le}
 use Rattle.std.proofs.Math.Nat.{div-mul-le_self, mod-lt}
 use Rattle.std.proofs.Math.Seq.{take-append-add}
@@ -18,7 +18,7 @@ use Rattle.tune_in.specs.Places.{begin}
 use Rattle.tune_in.specs.declared.frame.Found.{Found}
 use Rattle.place_search.proofs.Bytes.{more_rest, no_rest, no_rest_yet, rest_tail, rest_whole, symbols_grow}
 use Rattle.place_search.proofs.Held.{some_bytes}
-use Rattle.align_run.specs.Aligned.{aligned_cells, within_limit}
+use Rattle.align_run.specs.Aligned.{within_limit}
 
 -- ---- whole symbols
 

@@ -1,8 +1,8 @@
 -- `align` is a command on cells: what it comes to is what its work gives.
-use Rattle.std.proofs.Common.{◌≡◌, ◌⊎◌, inl, inr, true, false, ℕ, zero, suc, ◌*◌, ◌≤◌, ◌<◌, Bool, List, [], ◌∷◌, ◌++◌, take, drop, Option, Some, None, refl, ◌∙◌, sym, ap, subst, arith, append_assoc, if◌then◌else◌}
+use Rattle.std.proofs.Common.{◌≡◌, ◌⊎◌, inl, inr, true, ℕ, zero, suc, ◌*◌, ◌≤◌, ◌<◌, Bool, List, [], ◌∷◌, ◌++◌, take, drop, Option, Some, None, refl, ◌∙◌, sym, ap, subst, arith, append_assoc, if◌then◌else◌}
 use Rattle.std.proofs.lemmas.Bool.{cases_lt, le-ltb, lt-ltb, true≢false}
 use Rattle.std.proofs.lemmas.List.{append-nil, drop_all, length-take, take-append-drop}
-use Rattle.std.specs.Prelude.{is_some, option_and_then}
+use Rattle.std.specs.Prelude.{option_and_then}
 use Rattle.std.specs.Option.{option_or}
 use Rattle.station_core.specs.Meaning.{Meaning}
 use Rattle.station_core.specs.declared.ports.InPort.TheVariants as ins
@@ -29,12 +29,11 @@ use Rattle.symbol_runs.specs.Work.{Written}
 use Rattle.symbol_runs.specs.Cells.{GivenUpTo}
 use Rattle.symbol_runs.specs.Commands.{CellCommand, Come, ComeSoFar, ComesRefused, ComesTo, Continues, MayRefuse}
 use Rattle.cell_conversions.specs.Working.{written_at}
-use Rattle.tune_in.specs.Announced.{IsAnnounced}
 use Rattle.tune_in.specs.OfBytes.{FoundStaysInBytes, IsFoundIn, rest}
 use Rattle.tune_in.specs.declared.frame.Found.{Found}
 use Rattle.tune_in.specs.LeastPlace.{held, place_of}
 use Rattle.place_search.specs.Searching.{FindsLeastPlaces}
-use Rattle.place_search.proofs.Bytes.{symbols_grow, symbols_limited}
+use Rattle.place_search.proofs.Bytes.{symbols_limited}
 use Rattle.place_search.proofs.Held.{finds_none, held_none, held_place, no_place, some_bytes, symbols_none}
 use Rattle.align_run.specs.Announcement.{AreSettingsWords, found_lines}
 use Rattle.align_run.specs.Aligned.{AlignLaws, AreTaken, FileComes, LinesCome, LinesSoFar, align_refusal, aligned_cells, aligned_file, cells_in, closing_at, limit_refusal, lines_at, refusal_at, within_limit}

@@ -1,12 +1,11 @@
 -- What the work stands for, by whether a place is found; and the place of first bytes.
-use Rattle.std.proofs.Common.{◌≡◌, ℕ, ◌≤◌, ◌<◌, ◌+◌, List, [], ◌++◌, Option, Some, None, ◌⊎◌, inl, inr, refl, ◌∙◌, sym, ap, subst, arith}
+use Rattle.std.proofs.Common.{◌≡◌, ℕ, ◌+◌, List, [], ◌++◌, Option, Some, None, inl, ◌∙◌, sym, ap, subst, arith}
 use Rattle.mode_set.specs.declared.settings.Settings.{Settings}
 use Rattle.reception.specs.Cells.{symbols, tail}
 use Rattle.reception.specs.Laws.{IsWithin, SameSymbols, TpsCellsStay}
 use Rattle.symbol_runs.specs.Work.{Written}
-use Rattle.station_core.specs.declared.ports.OutPort.{OutPort}
 use Rattle.cell_conversions.specs.Working.{written_at}
-use Rattle.tune_in.specs.OfBytes.{FoundStaysInBytes, HasNoPlace, IsFoundIn, rest}
+use Rattle.tune_in.specs.OfBytes.{FoundStaysInBytes, HasNoPlace, rest}
 use Rattle.tune_in.specs.Places.{begin}
 use Rattle.tune_in.specs.declared.frame.Found.{Found}
 use Rattle.place_search.specs.Searching.{IsAtPlace}

@@ -1,5 +1,5 @@
 -- The bytes from the next super-frame on, and how many symbols they are.
-use Rattle.std.proofs.Common.{◌≡◌, ℕ, ◌+◌, ◌-◌, ◌*◌, ◌/◌, ◌%◌, ◌<◌, ◌≤◌, List, [], ◌++◌, length, take, ◌∙◌, sym, ap, subst, arith, length-drop, length-take-le}
+use Rattle.std.proofs.Common.{◌≡◌, ℕ, ◌+◌, ◌-◌, ◌*◌, ◌/◌, ◌%◌, ◌<◌, ◌≤◌, List, [], ◌++◌, length, take, ◌∙◌, ap, arith, length-drop, length-take-le}
 use Rattle.std.proofs.lemmas.List.{drop_all, drop-append-le, length-append}
 use Rattle.mode_set.specs.StreamTable.{carriers}
 use Rattle.mode_set.specs.declared.modes.Mode.{Mode}
