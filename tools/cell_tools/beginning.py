@@ -50,7 +50,7 @@ def misplaced(start, word):
     """Says that the cells do not begin at a super-frame."""
     frame = field(word, 23, 24) + 1
     if start % 68 or start // 68 % 4 != frame - 1:
-        yield f"does not begin at a super-frame: symbol {start} is the first of frame {frame} (tune finds the next super-frame)"
+        yield f"does not begin at a super-frame: symbol {start} is the first of frame {frame} (align writes the cells from the next one on)"
 
 
 def contradicted(word, settings):

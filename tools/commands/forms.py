@@ -13,6 +13,7 @@ FORMS = {
     "receive": [(SETTINGS, CELLS, TO_HP), (SETTINGS, CELLS, TO_HP, TO_LP)],
     "rescue": [(SETTINGS, CELLS, TO_HP), (SETTINGS, CELLS, TO_HP, TO_LP)],
     "tune": [(SETTINGS, CELLS, TO_HP), (SETTINGS, CELLS, TO_HP, TO_LP)],
+    "align": [(SETTINGS, IN, CORRECTED)],
     "upgrade": [(SETTINGS, OLD, NEW)],
     "equalise": [(SETTINGS, IN, CORRECTED)],
     "trial": [(SETTINGS, NUMBER)],

@@ -6,6 +6,7 @@ SHORT = {
     "receive": "cells, noisy ones too, back to transport packets",
     "rescue": "cells back to transport packets, more of them out of noise, at some cost in time",
     "tune": "cells from any symbol on, their settings read from the signal",
+    "align": "cells from any symbol on as cells from a super-frame on, and the parameters that the signal announces",
     "upgrade": "a cell file of version 1 as one of version 2",
     "equalise": "cells corrected by the pilots of their own symbols",
     "trial": "random packets of a number, there and back over disturbed cells",
@@ -24,7 +25,7 @@ FILES = {
     "CELLS": "a cell file: a header, then five bytes a carrier, symbol after symbol (docs/FILES.md)",
     "OLD": "a cell file of version 1: four bytes a carrier, without a header (docs/FILES.md)",
     "NEW": "the cell file of version 2 to write: a header, then five bytes a carrier",
-    "IN": "a cell file of version 2, from the first symbol of a super-frame on (docs/FILES.md)",
+    "IN": "a cell file of version 2, from the first symbol of a super-frame on; of align, from any symbol on (docs/FILES.md)",
     "OUT": "the file to write",
     "NUMBER": "one to ten digits, at most 4294967295; the same number gives the same lines everywhere",
 }
@@ -43,6 +44,11 @@ is counted as rescued. Packets come later than those of `receive`, and no line `
 it, and receives from the next super-frame on. Of the settings only mode, workers and max_symbols have an effect. Name
 LP if and only if the signal has a hierarchy. `tune at I frame F` reports the first symbol of the frame, counted from 0.
 Symbols before that super-frame are not received.""",
+    "align": """Finds the first 68 symbols whose TPS word can be read, and writes the header and then each whole symbol from the next
+super-frame on, byte for byte and as soon as it is whole. So a file that begins at a super-frame loses its first one.
+`tune at I frame F` reports the first symbol of the frame, counted from 0, and `announced ..` its parameters, in the
+words of the settings file; `symbols N tail T` counts what was written and the bytes after it. Of the settings only
+mode and max_symbols have an effect.""",
     "upgrade": """Writes the header of the settings' mode, and each cell of OLD's whole symbols with the weight 15, at
 which it counts whole. Of the settings only mode and max_symbols have an effect.""",
     "equalise": """Divides each cell by the gain on the line between the two pilots around it, and writes it with a weight of
@@ -60,6 +66,7 @@ EXAMPLES = {
     "receive": ["bin/dvbt receive examples/settings/64qam.toml out.cells back.ts"],
     "rescue": ["bin/dvbt rescue examples/settings/64qam.toml noisy.cells back.ts"],
     "tune": ["bin/dvbt tune examples/settings/64qam.toml recorded.cells back.ts"],
+    "align": ["bin/dvbt align examples/settings/64qam.toml recorded.cells aligned.cells"],
     "upgrade": ["bin/dvbt upgrade examples/settings/64qam.toml old.cells new.cells"],
     "equalise": ["bin/dvbt equalise examples/settings/64qam.toml received.cells corrected.cells"],
     "trial": ["bin/dvbt trial examples/settings/qpsk.toml 7"],
@@ -72,17 +79,17 @@ EXAMPLES = {
 STATUSES = [
     (0, "the work was done whole; the lines say what was counted", forms.FORMS),
     (2, "invalid command line: `usage`", forms.FORMS),
-    (3, "the settings are rejected: `settings ..` says why", ("modulate", "receive", "rescue", "tune", "upgrade", "equalise", "trial", "inner")),
+    (3, "the settings are rejected: `settings ..` says why", ("modulate", "receive", "rescue", "tune", "align", "upgrade", "equalise", "trial", "inner")),
     (4, "a packet does not begin with the sync byte 47: `hp packet N`, `lp packet N`, counted from 0",
      ("modulate", "disperse", "outer", "inner")),
     (5, "a file can't be opened or read: `read fault`", forms.FORMS),
     (6, "a file can't be made, written or closed: `write fault`", forms.FORMS),
     (7, "memory runs out: `memory`; no line if an argument is not UTF-8 or the files' buffers can't be taken",
-     ("modulate", "receive", "rescue", "tune", "upgrade", "equalise", "trial", "outer", "inner")),
+     ("modulate", "receive", "rescue", "tune", "align", "upgrade", "equalise", "trial", "outer", "inner")),
     (7, "an argument is not UTF-8, or the files' buffers can't be taken: no line", ("disperse",)),
     (8, "more packets or symbols than the limit: `limit N`", forms.FORMS),
-    (9, "the cells do not begin with the header of the settings' mode: `cells header`", ("receive", "rescue", "tune", "equalise")),
-    (10, "no frame is found in the cells: `tune none`", ("tune",)),
+    (9, "the cells do not begin with the header of the settings' mode: `cells header`", ("receive", "rescue", "tune", "align", "equalise")),
+    (10, "no frame is found in the cells: `tune none`", ("tune", "align")),
     (11, "the signal has a hierarchy and LP is not given, or the reverse: `tune form`", ("tune",)),
 ]
 OF_THE_DOOR = [

@@ -208,7 +208,7 @@ def of_header(form, text):
 
 
 def of_no_frame(form, text):
-    """`tune` finds no frame."""
+    """`tune` or `align` finds no frame."""
     from cell_tools import beginning
 
     path = form.of("cells")[0]

@@ -23,7 +23,8 @@ def packets(form, facts):
 def symbols(form, facts):
     """Cells that end within a symbol or have none, and nearly as many symbols as the limit."""
     if facts.get("symbols") == 0 and "hp" not in facts:
-        yield f"{form.of('cells')[0]} has no whole symbol"
+        which = " from the next super-frame on" if "tune" in facts else ""
+        yield f"{form.of('cells')[0]} has no whole symbol{which}"
     elif facts.get("tail"):
         yield f"{form.of('cells')[0]} ends within a symbol: its last {facts['tail']} bytes were left out (a truncated file?)"
     number, settings = facts.get("symbols", 272 * facts.get("superframes", 0)), settings_of(form)
@@ -90,6 +91,7 @@ CHECKS = {
     "receive": [reception, signal, symbols],
     "rescue": [reception, signal, symbols],
     "tune": [reception, symbols],
+    "align": [written, symbols],
     "upgrade": [written, symbols],
     "equalise": [signal, written, symbols],
 }

@@ -25,6 +25,8 @@ pub data Order : Type 0 where
   Rescue : List ℕ → List ℕ → List ℕ → Option (List ℕ) → Order
   -- tune SETTINGS CELLS HP, tune SETTINGS CELLS HP LP
   Tune : List ℕ → List ℕ → List ℕ → Option (List ℕ) → Order
+  -- align SETTINGS IN OUT
+  Align : List ℕ → List ℕ → List ℕ → Order
   -- upgrade SETTINGS OLD NEW
   Upgrade : List ℕ → List ℕ → List ℕ → Order
   -- equalise SETTINGS IN OUT
@@ -45,6 +47,7 @@ order_of (name ∷ settings ∷ input ∷ output ∷ []) = if bytes_eq name (cod
     else if bytes_eq name (codes "receive") then Some (Receive settings input output None)
     else if bytes_eq name (codes "rescue") then Some (Rescue settings input output None)
     else if bytes_eq name (codes "tune") then Some (Tune settings input output None)
+    else if bytes_eq name (codes "align") then Some (Align settings input output)
     else if bytes_eq name (codes "upgrade") then Some (Upgrade settings input output)
     else if bytes_eq name (codes "equalise") then Some (Equalise settings input output) else None
 order_of (name ∷ settings ∷ first ∷ second ∷ third ∷ []) = if bytes_eq name (codes "modulate") then Some (Modulate settings first (Some second) third)

@@ -49,6 +49,7 @@ fn of_three<'a>(name: &str, settings: &'a str, a: &'a str, b: &'a str) -> Option
         "receive" => Some(Form::Receive(settings, a, b, None)),
         "rescue" => Some(Form::Rescue(settings, a, b, None)),
         "tune" => Some(Form::Tune(settings, a, b, None)),
+        "align" => Some(Form::Align(settings, a, b)),
         "upgrade" => Some(Form::Upgrade(settings, a, b)),
         "equalise" => Some(Form::Equalise(settings, a, b)),
         _ => None,

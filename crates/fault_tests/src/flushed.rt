@@ -134,6 +134,7 @@ fn cells(rt: HostRuntime) -> Result<(), Fail> {
         "receive s a hp",
         "rescue s a hp",
         "tune s a hp",
+        "align s a cells",
         "upgrade s a cells",
         "equalise s a cells",
     ];
@@ -144,6 +145,8 @@ fn cells(rt: HostRuntime) -> Result<(), Fail> {
     }
     let none = ("tune s a hp", "", 100, None, 10, "tune none\n");
     let part = &cells[..cells.len().min(symbols(60))];
+    compare(&rt, alloc, none, BASE, (part, &[]))?;
+    let none = ("align s a cells", "", 100, None, 10, "tune none\n");
     compare(&rt, alloc, none, BASE, (part, &[]))?;
     let form = ("tune s a hp lp", "", 100, None, 11, "tune form\n");
     compare(&rt, alloc, form, BASE, (few, &[]))?;

@@ -60,6 +60,13 @@ returns-in-Some-Tune g c =
     subst (λ (x : Option Order). Run (command_for x) c.args.limits.packets old new c.tune.result)
     (ap (λ (f : Form). Some (order f)) (sym c.in-Some-Tune.field-0-is) ∙ c.in-Some-Tune.ensures) c.tune.ensures
 
+pub returns-in-Some-Align : goal.returns-in-Some-Align
+returns-in-Some-Align g c =
+    let old : Meaning = g.S.Station.meaning c.args.station.now in
+    let new : Meaning = g.S.Station.meaning c.align.new.station in
+    subst (λ (x : Option Order). Run (command_for x) c.args.limits.packets old new c.align.result)
+    (ap (λ (f : Form). Some (order f)) (sym c.in-Some-Align.field-0-is) ∙ c.in-Some-Align.ensures) c.align.ensures
+
 pub returns-in-Some-Upgrade : goal.returns-in-Some-Upgrade
 returns-in-Some-Upgrade g c =
     let old : Meaning = g.S.Station.meaning c.args.station.now in

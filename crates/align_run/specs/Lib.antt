@@ -1,0 +1,4 @@
+pub mod Announcement
+pub mod Aligned
+pub mod AlignCommand
+pub mod Working

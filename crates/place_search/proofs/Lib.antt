@@ -1,0 +1,4 @@
+pub mod LeastPlaces
+pub mod Bytes
+pub mod Searched
+pub mod Held

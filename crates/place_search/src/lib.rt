@@ -1,0 +1,11 @@
+//! The search for a place in the symbols of a file of cells: the first frame whose TPS word can be read.
+//!
+//! EN 300 744, 4.6. The tuner finds the place among symbols; here it is found in the bytes of a file, symbol after symbol.
+#![tactic(auto)]
+
+pub mod laws;
+mod line;
+mod search;
+
+pub use line::place_line;
+pub use search::{PlaceSearch, Search};
