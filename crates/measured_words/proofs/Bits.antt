@@ -1,5 +1,5 @@
 -- The bits in which bytes and words differ.
-use Rattle.std.proofs.Common.{◌≡◌, ℕ, zero, suc, ◌+◌, ◌*◌, ◌%◌, ◌^◌, ◌<◌, ◌≤◌, Bool, true, false, not, cond, eqb, List, ◌++◌, ◌∷◌, [], length, refl, sym, ap, ap₂, ◌∙◌, arith, subst}
+use Rattle.std.proofs.Common.{◌≡◌, ℕ, zero, suc, ◌+◌, ◌*◌, ◌%◌, ◌^◌, ◌<◌, ◌≤◌, Bool, true, false, not, cond, eqb, List, ◌++◌, ◌∷◌, [], refl, sym, ap, ap₂, ◌∙◌, arith, subst}
 use Rattle.std.specs.Prelude.{bit_xor, count_ones, count_by, sum_by, slice_index}
 use Rattle.std.specs.Bool.{beq}
 use Rattle.std.specs.Int.{bit_at}
@@ -13,7 +13,7 @@ use Rattle.spec_words.specs.Words.{numbers}
 use Rattle.pilots.proofs.Popcount.{ones_low}
 use Rattle.measurement.specs.SuperFrames.{bits_apart}
 use Rattle.measured_words.specs.Sums.{byte_apart}
-use Rattle.measurement.proofs.Lists.{range_counts, range_same}
+use Rattle.measurement.proofs.Lists.{range_counts}
 
 odd_sum : (a b : ℕ) → a < 2 → b < 2 → eqb ((a + b) % 2) 1 ≡ not (beq (eqb a 1) (eqb b 1))
 odd_sum zero zero la lb = refl

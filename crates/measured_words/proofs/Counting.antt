@@ -1,5 +1,5 @@
 -- Words are counted.
-use Rattle.std.proofs.Common.{◌≡◌, ℕ, zero, suc, ◌+◌, ◌-◌, ◌*◌, ◌/◌, ◌%◌, ◌<◌, ◌≤◌, ◌⊎◌, inl, inr, Bool, true, false, not, cond, eqb, ◌&&◌, List, [], ◌∷◌, ◌++◌, length, get_or, refl, sym, ap, ap₂, ◌∙◌, arith, subst, length-append}
+use Rattle.std.proofs.Common.{◌≡◌, ℕ, zero, suc, ◌+◌, ◌-◌, ◌%◌, ◌<◌, ◌≤◌, ◌⊎◌, inl, inr, Bool, not, eqb, ◌&&◌, List, [], ◌∷◌, ◌++◌, length, get_or, refl, sym, ap, ap₂, ◌∙◌, arith, subst, length-append}
 use Rattle.std.specs.Prelude.{Option, Some, None, min, is_some, map}
 use Rattle.std.specs.List.{range_with_len}
 use Rattle.std.proofs.lemmas.Bool.{ne_eqb, eq-eqb, cases_lt}
@@ -23,7 +23,7 @@ use Rattle.outer_chain.proofs.Finishing.{with_near, others, this, near_all}
 use Rattle.measurement.specs.SuperFrames.{bits_apart, repaired_in}
 use Rattle.measured_words.specs.declared.counts.WordSums.{WordSums}
 use Rattle.measured_words.specs.Sums.{sums_over, counted, no_sums, AreFew}
-use Rattle.measured_words.specs.Counted.{HasCounted, Measures, AreWords, AreDecoded, AreReceived}
+use Rattle.measured_words.specs.Counted.{HasCounted, Measures, AreDecoded, AreReceived}
 use Rattle.measured_words.specs.Seen.{WordsState}
 use Rattle.measured_words.proofs.Bits.{none_apart, range_push}
 use Rattle.measured_words.proofs.Sums.{sums_same, sums_push}

@@ -1,16 +1,10 @@
 -- Counts over words.
-use Rattle.std.proofs.Common.{◌≡◌, ℕ, zero, suc, ◌+◌, ◌-◌, ◌*◌, ◌<◌, ◌≤◌, Bool, not, cond, ◌&&◌, List, [], ◌∷◌, ◌++◌, length, refl, sym, ap, ap₂, ◌∙◌, arith, subst}
-use Rattle.std.specs.Prelude.{Option, Some, None, count_by, sum_by}
+use Rattle.std.proofs.Common.{◌≡◌, ℕ, suc, ◌+◌, ◌<◌, ◌≤◌, Bool, not, cond, ◌&&◌, List, [], ◌∷◌, ◌++◌, refl, sym, ap, ap₂, ◌∙◌, arith}
+use Rattle.std.specs.Prelude.{Option, count_by, sum_by}
 use Rattle.std.specs.List.{range_with_len}
-use Rattle.std.proofs.lemmas.List.FromFn.{length-range_with_len}
 use Rattle.std.proofs.lemmas.List.Sums.{sum_by_push}
 use Rattle.std.proofs.lemmas.List.{length_push}
-use Rattle.spec_words.specs.Words.{numbers}
-use Rattle.rs204.specs.Codes.{distance}
-use Rattle.rs204.specs.Decoded.{Decoded}
 use Rattle.rs204.specs.declared.outcome.Outcome.{Outcome}
-use Rattle.rs204.specs.declared.outcome.Outcome.TheVariants.{Clean, Corrected, Bad}
-use Rattle.outer_chain.specs.Nears.{near_of}
 use Rattle.outer_chain.specs.Running.{is_clean_outcome, is_corrected_outcome, is_bad_outcome}
 use Rattle.outer_chain.specs.Words.{phase_before, has, is_clean}
 use Rattle.measurement.specs.SuperFrames.{repaired_in}

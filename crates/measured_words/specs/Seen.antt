@@ -1,5 +1,5 @@
 -- What is seen of the words of a measured stream.
-use Rattle.std.specs.Prelude.{ℕ, List}
+use Rattle.std.specs.Prelude.{List}
 use Rattle.outer_chain.specs.Receiving.{Receiver}
 use Rattle.outer_chain.specs.declared.slot.WordSlot.{WordSlot}
 use Rattle.measured_words.specs.declared.counts.WordSums.{WordSums}

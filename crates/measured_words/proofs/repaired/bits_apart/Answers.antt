@@ -1,4 +1,3 @@
-use Rattle.std.proofs.Common.{◌≡◌, ap, ◌∙◌, arith}
 use Rattle.measured_words.proofs.Bits.{apart_none, apart_more}
 use Rattle.measured_words.proofs.repaired.bits_apart.Goals as goal
 

@@ -1,6 +1,6 @@
-use Rattle.std.proofs.Common.{ℕ, ◌+◌, ◌^◌, ◌<◌, length, arith}
+use Rattle.std.proofs.Common.{◌+◌, ◌^◌, ◌<◌, length, arith}
 use Rattle.std.proofs.lemmas.List.{get_or_default}
-use Rattle.measured_words.proofs.Counting.{counts_none, counts_more, few_up}
+use Rattle.measured_words.proofs.Counting.{counts_more, few_up}
 use Rattle.measured_words.proofs.words.count_words.Goals as goal
 
 pub count_word-requires-clause-all : goal.count_word-requires-clause-all

@@ -1,4 +1,4 @@
-use Rattle.std.proofs.Common.{ℕ, List, min, sym, subst, ◌≤◌}
+use Rattle.std.proofs.Common.{min, sym, subst, ◌≤◌}
 use Rattle.measured_words.specs.declared.counts.WordSums.{WordSums}
 use Rattle.measured_words.specs.Seen.{WordsState}
 use Rattle.measured_words.specs.Counted.{HasCounted, Measures}

@@ -1,8 +1,7 @@
-use Rattle.std.proofs.Common.{ℕ, ◌+◌, ◌≤◌, List, [], length, sym, ap, ◌∙◌, subst, arith}
+use Rattle.std.proofs.Common.{ℕ, ◌+◌, ◌≤◌, List, length, sym, ap, ◌∙◌, subst, arith}
 use Rattle.std.specs.Prelude.{map}
 use Rattle.outer_chain.specs.Words.{word_count}
 use Rattle.outer_chain.specs.declared.slot.WordSlot.{WordSlot}
-use Rattle.measured_words.specs.declared.counts.WordSums.{WordSums}
 use Rattle.measured_words.specs.Seen.{WordsState}
 use Rattle.measured_words.specs.Sums.{AreFew}
 use Rattle.measured_words.specs.Counted.{HasCounted, Measures, AreDecoded, AreReceived}

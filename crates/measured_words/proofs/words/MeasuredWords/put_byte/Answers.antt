@@ -1,4 +1,4 @@
-use Rattle.std.proofs.Common.{ℕ, List, [], ◌∷◌, ◌++◌, refl, subst}
+use Rattle.std.proofs.Common.{[], ◌∷◌, ◌++◌, refl, subst}
 use Rattle.measured_words.specs.Seen.{WordsState}
 use Rattle.measured_words.specs.Counted.{Measures}
 use Rattle.measured_words.proofs.Counting.{measures_byte}
