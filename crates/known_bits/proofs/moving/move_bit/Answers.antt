@@ -1,4 +1,4 @@
-use Rattle.std.proofs.Common.{◌≡◌, ℕ, Bool, ◌∷◌, ◌++◌, take, drop, sym, ap, ◌∙◌, subst}
+use Rattle.std.proofs.Common.{◌≡◌, Bool, ◌∷◌, ◌++◌, take, drop, sym, ap, ◌∙◌, subst}
 use Rattle.std.specs.Prelude.{Option, IfSome}
 use Rattle.known_bits.proofs.moving.move_bit.Goals as goal
 

@@ -1,4 +1,4 @@
-use Rattle.std.proofs.Common.{◌≡◌, ◌+◌, ◌*◌, ◌≤◌, ◌++◌, refl, sym, ap, ◌∙◌, length, take, drop, arith, append-nil}
+use Rattle.std.proofs.Common.{◌+◌, ◌≤◌, ◌++◌, refl, sym, ap, ◌∙◌, length, take, arith, append-nil}
 use Rattle.known_bits.proofs.Taking.{left_more, moved_more, left_long, moved_long}
 use Rattle.known_bits.proofs.moving.move_single_bits.Goals as goal
 

@@ -1,4 +1,4 @@
-use Rattle.std.proofs.Common.{◌≡◌, ◌*◌, ◌++◌, take, drop}
+use Rattle.std.proofs.Common.{◌≡◌, ◌++◌, take, drop}
 use Rattle.known_bits.proofs.moving.move_single_bits.Given as goal
 
 abbrev pub invariant-loop-k : goal.invariant-loop-k

@@ -1,4 +1,4 @@
-use Rattle.std.proofs.Common.{◌≡◌, ◌+◌, ◌≤◌, length, arith, ap, ◌∙◌}
+use Rattle.std.proofs.Common.{arith}
 use Rattle.known_bits.proofs.Taking.{skips_none, skips_more}
 use Rattle.known_bits.proofs.moving.skip_bits.Goals as goal
 

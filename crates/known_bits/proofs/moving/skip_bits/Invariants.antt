@@ -1,4 +1,3 @@
-use Rattle.std.proofs.Common.{◌≡◌}
 use Rattle.known_bits.proofs.Taking.{SkipsTo}
 use Rattle.known_bits.proofs.moving.skip_bits.Given as goal
 

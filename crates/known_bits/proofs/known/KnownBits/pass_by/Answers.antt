@@ -1,4 +1,4 @@
-use Rattle.std.proofs.Common.{rules, ◌≡◌, ℕ, ◌-◌, Bool, List, length, subst}
+use Rattle.std.proofs.Common.{rules, ◌≡◌, ◌-◌, Bool, List, length, subst}
 use Rattle.std.specs.Prelude.{min}
 use Rattle.inner_chain.specs.Labels.{register_of}
 use Rattle.known_bits.specs.Seen.{KnownState}
