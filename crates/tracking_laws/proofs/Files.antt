@@ -1,6 +1,6 @@
 -- The corrected cells of a file are read from its bytes, and so they are those of its corrected symbols.
-use Rattle.std.proofs.Common.{◌≡◌, ℕ, zero, suc, ◌*◌, ◌/◌, ◌<◌, ◌≤◌, List, [], ◌∷◌, length, get_or, refl, sym, ap, ap₂, ◌∙◌, subst, arith}
-use Rattle.std.specs.Prelude.{ℤ, pos, nat_abs, ◌-ℤ◌, slice_index}
+use Rattle.std.proofs.Common.{◌≡◌, ℕ, zero, suc, ◌+◌, ◌*◌, ◌/◌, ◌<◌, ◌≤◌, List, [], ◌∷◌, length, get_or, refl, sym, ap, ap₂, ◌∙◌, subst, arith}
+use Rattle.std.specs.Prelude.{ℤ, pos, nat_abs, ◌-ℤ◌, slice_index, Option, Some, option_map, unwrap_or}
 use Rattle.std.specs.Int.{w16}
 use Rattle.std.specs.Int.RustNames.{FitsSigned}
 use Rattle.std.proofs.lemmas.Int.{ints}
@@ -24,6 +24,8 @@ use Rattle.cell_equal.specs.declared.equalised.Equalised.{Equalised}
 use Rattle.symbol_spans.specs.Laws.{ModeStays}
 use Rattle.symbol_spans.specs.Spans.{settings_at}
 use Rattle.transmission.specs.Transmission.{Inputs, tx_cell}
+use Rattle.transmission.specs.Laws.{TheNumberIsFound}
+use Rattle.transmission.specs.SuperFrames.{IsLength, AreSuperFrames, super_frames, counts_of, symbols_of}
 use Rattle.reception.specs.Cells.{symbol_length, symbols, bytes_of_symbol, symbol_cells, symbol_weights}
 use Rattle.own_cell_laws.specs.Laws.{NoiseLaw, NoiseIsClean}
 use Rattle.gain_laws.specs.Flat.{IsRestored}
@@ -174,8 +176,19 @@ within wide law s inputs a b bytes flat some come =
       weight = λ m k l few free. (back.each m k l few).weight;
     }
 
-pub returned : NoiseLaw → TrackedAreWithin → TrackedAreReturned
-returned noise law s inputs a b bytes r from_start have flat some come final = noise s inputs (tracked_file s bytes) r from_start have (law s inputs a b bytes flat some come) final
+-- a transmission of some number of super-frames has more symbols than four
+frames : (s : Settings) (inputs : Inputs) (n : ℕ) → TheNumberIsFound → super_frames s (counts_of inputs) ≡ Some n → 4 ≤ symbols_of s inputs
+unfolding symbols_of
+frames s inputs n found e =
+    let are : AreSuperFrames s (counts_of inputs) n = subst (IsLength s (counts_of inputs)) e (found s (counts_of inputs)) in
+    let many : 4 ≤ 272 * n = omega (arith, are.some) in
+    subst (λ (o : Option ℕ). 4 ≤ unwrap_or (option_map (λ n. 272 * n) o) (s.max_symbols + 1)) (sym e) many
 
-pub clean : NoiseIsClean → TrackedAreWithin → TrackedAreClean
-clean noise law s inputs a b bytes r from_start have flat some come final = noise s inputs (tracked_file s bytes) r from_start have (law s inputs a b bytes flat some come) final
+enough : (s : Settings) (inputs : Inputs) (a b : ℤ) (bytes : List ℕ) (n : ℕ) → TheNumberIsFound → HaveCome s inputs a b bytes → super_frames s (counts_of inputs) ≡ Some n → 4 ≤ symbols s bytes
+enough s inputs a b bytes n found come e = let many = frames s inputs n found e in omega (arith, many, come.all)
+
+pub returned : TheNumberIsFound → NoiseLaw → TrackedAreWithin → TrackedAreReturned
+returned found noise law s inputs a b bytes r from_start have flat come final n σ e = noise s inputs (tracked_file s bytes) r from_start have (law s inputs a b bytes flat (enough s inputs a b bytes n found come e) come) final n σ e
+
+pub clean : TheNumberIsFound → NoiseIsClean → TrackedAreWithin → TrackedAreClean
+clean found noise law s inputs a b bytes r from_start have flat come final n σ e = noise s inputs (tracked_file s bytes) r from_start have (law s inputs a b bytes flat (enough s inputs a b bytes n found come e) come) final n σ e

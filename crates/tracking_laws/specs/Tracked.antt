@@ -57,10 +57,10 @@ TrackedAreWithin = (s : Settings) (inputs : Inputs) (a b : ℤ) (bytes : List �
 
 -- .. so what a receiver gives of it are the packets that were sent, and then null packets ..
 abbrev pub TrackedAreReturned : Type 0
-TrackedAreReturned = (s : Settings) (inputs : Inputs) (a b : ℤ) (bytes : List ℕ) (r : Reception) → s.start ≡ Zero → HavePackets s inputs → IsFlat a b → 4 ≤ symbols s bytes → HaveCome s inputs a b bytes
+TrackedAreReturned = (s : Settings) (inputs : Inputs) (a b : ℤ) (bytes : List ℕ) (r : Reception) → s.start ≡ Zero → HavePackets s inputs → IsFlat a b → HaveCome s inputs a b bytes
     → Final s (tracked_file s bytes) r → IsReturned s inputs r.packets
 
 -- .. and all its words are clean
 abbrev pub TrackedAreClean : Type 0
-TrackedAreClean = (s : Settings) (inputs : Inputs) (a b : ℤ) (bytes : List ℕ) (r : Reception) → s.start ≡ Zero → HavePackets s inputs → IsFlat a b → 4 ≤ symbols s bytes → HaveCome s inputs a b bytes
+TrackedAreClean = (s : Settings) (inputs : Inputs) (a b : ℤ) (bytes : List ℕ) (r : Reception) → s.start ≡ Zero → HavePackets s inputs → IsFlat a b → HaveCome s inputs a b bytes
     → Final s (tracked_file s bytes) r → AreClean s inputs r.tally

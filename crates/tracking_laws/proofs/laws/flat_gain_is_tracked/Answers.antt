@@ -16,7 +16,7 @@ pub returns-clause-within : goal.returns-clause-within
 returns-clause-within c = within tolerated (returns-clause-files c)
 
 pub returns-clause-returned : goal.returns-clause-returned
-returns-clause-returned c = returned c.noise.ensures.packets (returns-clause-within c)
+returns-clause-returned c = returned c.super_frames.ensures.found c.noise.ensures.packets (returns-clause-within c)
 
 pub returns-clause-clean : goal.returns-clause-clean
-returns-clause-clean c = clean c.noise.ensures.clean (returns-clause-within c)
+returns-clause-clean c = clean c.super_frames.ensures.found c.noise.ensures.clean (returns-clause-within c)
