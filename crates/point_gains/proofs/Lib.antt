@@ -1,0 +1,5 @@
+pub mod Counting
+pub mod Taps
+pub mod Sizes
+pub mod Pilots
+pub mod Steady
