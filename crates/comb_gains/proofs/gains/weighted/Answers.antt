@@ -10,8 +10,8 @@ use Rattle.channel_tracking.specs.InTime.{place, symbol_at}
 use Rattle.track_arithmetic.specs.Numbers.{plus, scaled, sum_of}
 use Rattle.track_arithmetic.specs.declared.complex.Complex.{Complex}
 use Rattle.track_cells.proofs.Sums.{sum_none, sum_more, sum_within}
-use Rattle.point_gains.proofs.Shares.{size_below}
-use Rattle.point_gains.proofs.gains.weighted.Goals as goal
+use Rattle.comb_gains.proofs.Shares.{size_below}
+use Rattle.comb_gains.proofs.gains.weighted.Goals as goal
 
 pub loop-i-init : goal.loop-i-init
 loop-i-init g c = record { is = λ symbols h a. sym (sum_none _); within = record { re = omega arith; im = omega arith } }

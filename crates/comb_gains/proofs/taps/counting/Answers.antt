@@ -2,9 +2,9 @@
 use Rattle.std.proofs.Common.{◌≡◌, ℕ, ◌+◌, ◌-◌, ◌*◌, ◌<◌, ◌≤◌, Bool, false, true, get_or, refl, ap, sym, ◌∙◌, arith}
 use Rattle.channel_tracking.specs.InTime.{place, counting}
 use Rattle.pilot_motion.specs.Places.{in_file}
-use Rattle.point_gains.specs.Kept.{has, number_of, places_of}
-use Rattle.point_gains.proofs.PlacesOfBits.{counts_good, counts_there, bit_is}
-use Rattle.point_gains.proofs.taps.counting.Goals as goal
+use Rattle.comb_gains.specs.Kept.{has, number_of, places_of}
+use Rattle.comb_gains.proofs.PlacesOfBits.{counts_good, counts_there, bit_is}
+use Rattle.comb_gains.proofs.taps.counting.Goals as goal
 
 pub returns-then-good-eq0-clause-is : goal.returns-then-good-eq0-clause-is
 returns-then-good-eq0-clause-is c = λ comb m a.

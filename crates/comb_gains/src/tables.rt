@@ -1,6 +1,6 @@
 // The taps of the interpolation in time, once those of the symbols that do not count are added to the nearest that
-// does. A row has the taps of four symbols; row 16 d + n is that for distance d where the symbols that count are the
-// bits of n.
+// does. Each entry has the taps of four symbols: that for distance d where the symbols that count are the bits of n
+// stands at 16 d + n.
 
 // For a channel that changes slowly.
 #[rattlefmt::skip]

@@ -5,7 +5,7 @@ ghost use Rattle.channel_tracking.specs.Comb.{Comb};
 ghost use Rattle.channel_tracking.specs.InTime.{counting, place};
 ghost use Rattle.pilot_motion.specs.Around.{IsAround, IsLook};
 ghost use Rattle.pilot_motion.specs.Places.{in_file};
-ghost use Rattle.point_gains.specs.Kept.{has, kept_tap, kept_taps, number_of, places_of};
+ghost use Rattle.comb_gains.specs.Kept.{has, kept_tap, kept_taps, number_of, places_of};
 ghost use Rattle.track_cells.specs.Sizes.{size_to};
 
 use crate::tables::{FAST, SLOW};

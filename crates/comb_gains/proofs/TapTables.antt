@@ -13,8 +13,8 @@ use Rattle.channel_tracking.specs.declared.motion.Motion.{Motion}
 use Rattle.channel_tracking.specs.declared.motion.Motion.TheVariants.{Slow, Fast}
 use Rattle.track_cells.specs.Sizes.{size_to}
 use Rattle.track_cells.proofs.Tables.{entry}
-use Rattle.point_gains.specs.Kept.{kept_tap, kept_taps}
-use Rattle.point_gains.specs.declared.tables.TheConstants.{SLOW, FAST}
+use Rattle.comb_gains.specs.Kept.{kept_tap, kept_taps}
+use Rattle.comb_gains.specs.declared.tables.TheConstants.{SLOW, FAST}
 
 pub slow_is : SLOW ≡ map (kept_taps Slow) (numbers 64)
 unfolding kept_tap tap_at tap time_taps numbers

@@ -2,8 +2,8 @@
 use Rattle.std.proofs.Common.{◌≡◌, ℕ, ◌+◌, ◌*◌, ◌≤◌, List, [], get_or, ap, sym, ◌∙◌, subst}
 use Rattle.std.specs.Prelude.{ℤ}
 use Rattle.track_cells.specs.Sizes.{size_to}
-use Rattle.point_gains.proofs.TapTables.{row_is, row_is_small}
-use Rattle.point_gains.proofs.taps.taps.Goals as goal
+use Rattle.comb_gains.proofs.TapTables.{row_is, row_is_small}
+use Rattle.comb_gains.proofs.taps.taps.Goals as goal
 
 pub returns-clause-is : goal.returns-clause-is
 returns-clause-is c = ap (λ (z : List (List ℤ)). get_or z (16 * c.args.d + c.args.n) []) c.table.ensures ∙ row_is c.args.motion c.args.d c.args.n c.requires.d c.requires.n

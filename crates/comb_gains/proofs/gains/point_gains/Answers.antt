@@ -7,7 +7,7 @@ use Rattle.pilot_motion.proofs.Steps.{set_below}
 use Rattle.track_arithmetic.specs.Laws.{IsWithin}
 use Rattle.track_arithmetic.specs.Numbers.{nothing}
 use Rattle.track_arithmetic.specs.declared.complex.Complex.{Complex}
-use Rattle.point_gains.proofs.gains.point_gains.Goals as goal
+use Rattle.comb_gains.proofs.gains.point_gains.Goals as goal
 
 pub loop-j-preserved : goal.loop-j-preserved
 loop-j-preserved g c =

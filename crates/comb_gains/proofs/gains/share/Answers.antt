@@ -6,8 +6,8 @@ use Rattle.std.proofs.lemmas.Int.{ints}
 use Rattle.channel_tracking.specs.Comb.{comb_of, turned_value}
 use Rattle.channel_tracking.specs.InTime.{symbol_at}
 use Rattle.track_arithmetic.specs.Numbers.{scaled}
-use Rattle.point_gains.proofs.Shares.{scaled_none}
-use Rattle.point_gains.proofs.gains.share.Goals as goal
+use Rattle.comb_gains.proofs.Shares.{scaled_none}
+use Rattle.comb_gains.proofs.gains.share.Goals as goal
 
 pub returns-then-tap-eq0-clause-is : goal.returns-then-tap-eq0-clause-is
 returns-then-tap-eq0-clause-is g c = λ symbols h a.

@@ -8,7 +8,7 @@ ghost use Rattle.channel_tracking.specs.Moving.{motion as motion_at};
 ghost use Rattle.pilot_motion.specs.Around.{IsAround, IsLook};
 ghost use Rattle.pilot_motion.specs.Places.{in_file};
 ghost use Rattle.pilot_window.specs.Window.{StandsFor};
-ghost use Rattle.point_gains.specs.Kept.{has, kept_tap, places_of};
+ghost use Rattle.comb_gains.specs.Kept.{has, kept_tap, places_of};
 ghost use Rattle.qam_map.specs.declared.cell.Cell.{Cell};
 ghost use Rattle.track_arithmetic.specs.Laws.{IsWithin};
 ghost use Rattle.track_arithmetic.specs.Numbers.{nothing, scaled, sum_of};

@@ -3,9 +3,9 @@ use Rattle.std.proofs.Common.{◌≡◌, ℕ, ◌+◌, ◌*◌, ◌^◌, ◌<◌
 use Rattle.std.specs.Prelude.{ℤ, pos}
 use Rattle.channel_tracking.specs.Comb.{comb_of}
 use Rattle.track_cells.proofs.Tables.{entry}
-use Rattle.point_gains.specs.Kept.{kept_tap}
-use Rattle.point_gains.proofs.Shares.{gain_is, tap_counts}
-use Rattle.point_gains.proofs.gains.point_gain.Goals as goal
+use Rattle.comb_gains.specs.Kept.{kept_tap}
+use Rattle.comb_gains.proofs.Shares.{gain_is, tap_counts}
+use Rattle.comb_gains.proofs.gains.point_gain.Goals as goal
 
 pub weighted-sum-requires-clause-in_file : goal.weighted-sum-requires-clause-in_file
 weighted-sum-requires-clause-in_file g c = λ i lt some.

@@ -10,7 +10,7 @@ use Rattle.qam_map.specs.declared.cell.Cell.{Cell}
 use Rattle.track_arithmetic.specs.Laws.{IsWithin}
 use Rattle.track_arithmetic.specs.Numbers.{scaled, sum_of}
 use Rattle.track_cells.specs.Sizes.{size_to}
-use Rattle.point_gains.proofs.gains.weighted.Given as goal
+use Rattle.comb_gains.proofs.gains.weighted.Given as goal
 
 abbrev pub invariant-loop-i : goal.invariant-loop-i
 invariant-loop-i g l = record {

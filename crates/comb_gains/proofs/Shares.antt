@@ -15,7 +15,7 @@ use Rattle.track_arithmetic.specs.declared.complex.Complex.{Complex}
 use Rattle.track_cells.specs.Sizes.{size_to}
 use Rattle.track_cells.proofs.Sums.{size_grows}
 use Rattle.track_cells.proofs.Tables.{entry}
-use Rattle.point_gains.specs.Kept.{has, kept_tap, places_of}
+use Rattle.comb_gains.specs.Kept.{has, kept_tap, places_of}
 
 abbrev made : ℤ → ℤ → Complex
 made re im = record { re = re; im = im }

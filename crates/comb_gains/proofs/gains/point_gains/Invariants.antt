@@ -9,7 +9,7 @@ use Rattle.pilot_motion.specs.Around.{IsAround}
 use Rattle.qam_map.specs.declared.cell.Cell.{Cell}
 use Rattle.track_arithmetic.specs.Laws.{IsWithin}
 use Rattle.track_cells.specs.Gains.{gain_of}
-use Rattle.point_gains.proofs.gains.point_gains.Given as goal
+use Rattle.comb_gains.proofs.gains.point_gains.Given as goal
 
 abbrev pub invariant-loop-j : goal.invariant-loop-j
 invariant-loop-j g l = record {

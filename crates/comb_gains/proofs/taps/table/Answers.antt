@@ -2,9 +2,9 @@
 use Rattle.std.proofs.Common.{map, ap, sym, ◌∙◌}
 use Rattle.spec_words.specs.Words.{numbers}
 use Rattle.channel_tracking.specs.declared.motion.Motion.{Motion}
-use Rattle.point_gains.specs.Kept.{kept_taps}
-use Rattle.point_gains.proofs.TapTables.{slow_is, fast_is}
-use Rattle.point_gains.proofs.taps.table.Goals as goal
+use Rattle.comb_gains.specs.Kept.{kept_taps}
+use Rattle.comb_gains.proofs.TapTables.{slow_is, fast_is}
+use Rattle.comb_gains.proofs.taps.table.Goals as goal
 
 pub returns-in-Slow : goal.returns-in-Slow
 returns-in-Slow c = slow_is ∙ ap (λ (f : Motion). map (kept_taps f) (numbers 64)) (sym c.in-Slow.is)

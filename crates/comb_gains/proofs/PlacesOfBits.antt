@@ -4,7 +4,7 @@ use Rattle.std.specs.Prelude.{filter}
 use Rattle.spec_words.specs.Words.{numbers}
 use Rattle.channel_tracking.specs.Comb.{Comb}
 use Rattle.channel_tracking.specs.InTime.{place, is_good, is_there, counting, counting_of}
-use Rattle.point_gains.specs.Kept.{has, number_of, places_of}
+use Rattle.comb_gains.specs.Kept.{has, number_of, places_of}
 
 abbrev listed : ℕ → Bool → Bool → Bool → Bool → List ℕ
 listed d a b c e = cond a (place d 0 ∷ cond b (place d 1 ∷ cond c (place d 2 ∷ cond e (place d 3 ∷ []) []) (cond e (place d 3 ∷ []) [])) (cond c (place d 2 ∷ cond e (place d 3 ∷ []) []) (cond e (place d 3 ∷ []) []))) (cond b (place d 1 ∷ cond c (place d 2 ∷ cond e (place d 3 ∷ []) []) (cond e (place d 3 ∷ []) [])) (cond c (place d 2 ∷ cond e (place d 3 ∷ []) []) (cond e (place d 3 ∷ []) [])))
