@@ -1,0 +1,3 @@
+pub mod TapTables
+pub mod PlacesOfBits
+pub mod Shares

@@ -1,0 +1,7 @@
+pub mod Steps
+pub mod Tests
+pub mod Lesser
+pub mod Middles
+pub mod Seen
+pub mod Means
+pub mod Looks
