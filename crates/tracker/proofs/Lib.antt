@@ -3,3 +3,4 @@ pub mod Powers
 pub mod Bytes
 pub mod Symbols
 pub mod Stays
+pub mod Steps
