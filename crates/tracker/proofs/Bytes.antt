@@ -1,5 +1,5 @@
 -- The bytes of a corrected symbol.
-use Rattle.std.proofs.Common.{◌≡◌, ℕ, ◌+◌, ◌<◌, ◌≤◌, List, [], length, get_or, refl, ap, sym, ◌∙◌, arith}
+use Rattle.std.proofs.Common.{◌≡◌, ℕ, ◌<◌, List, get_or, ap, ◌∙◌, arith}
 use Rattle.std.specs.Prelude.{slice_index, flat_map}
 use Rattle.spec_words.specs.Words.{numbers}
 use Rattle.spec_words.proofs.Counting.{length-numbers, get_or-numbers}
@@ -9,7 +9,6 @@ use Rattle.qam_map.specs.Cells.{cell_of}
 use Rattle.qam_map.specs.declared.cell.Cell.{Cell}
 use Rattle.channel_tracking.specs.Correction.{corrected}
 use Rattle.channel_tracking.specs.Tracking.{Symbol, comb, gain, reference_power, tracked, bytes_of, tracked_bytes}
-use Rattle.channel_tracking.specs.declared.tracked.Tracked.{Tracked}
 use Rattle.channel_tracking.proofs.Same.{bytes_same}
 use Rattle.symbol_ring.specs.Ring.{symbol_of}
 use Rattle.track_arithmetic.specs.declared.complex.Complex.{Complex}

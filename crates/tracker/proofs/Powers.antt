@@ -1,6 +1,6 @@
 -- The power with which a cell counts whole.
-use Rattle.std.proofs.Common.{◌≡◌, ℕ, ◌+◌, ◌-◌, ◌*◌, ◌/◌, ◌<◌, ◌≤◌, List, length, get_or, map, Bool, refl, ap, sym, ◌∙◌, subst, arith, min}
-use Rattle.std.specs.Prelude.{◌==◌, if◌then◌else◌, max, Option}
+use Rattle.std.proofs.Common.{◌≡◌, ℕ, ◌+◌, ◌-◌, ◌/◌, ◌<◌, ◌≤◌, List, length, get_or, Bool, refl, ap, sym, ◌∙◌, subst, arith}
+use Rattle.std.specs.Prelude.{if◌then◌else◌, max, Option}
 use Rattle.std.proofs.lemmas.Bool.{ne_eqb, eq-eqb}
 use Rattle.std.proofs.lemmas.List.{length-map}
 use Rattle.std.proofs.lemmas.List.FromFn.{length-range_with_len}
@@ -11,7 +11,6 @@ use Rattle.mode_set.specs.StreamTable.{carriers}
 use Rattle.mode_set.specs.declared.modes.Mode.{Mode}
 use Rattle.mode_set.specs.declared.modes.Shape.{Shape}
 use Rattle.mode_set.specs.declared.settings.Settings.{Settings}
-use Rattle.qam_map.specs.declared.cell.Cell.{Cell}
 use Rattle.channel_tracking.specs.BadSymbols.{middle}
 use Rattle.channel_tracking.specs.Comb.{Comb, comb_of, continual_points, window, window_end}
 use Rattle.channel_tracking.specs.Correction.{full_power, mean_power}

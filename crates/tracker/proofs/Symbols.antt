@@ -1,5 +1,5 @@
 -- What the calls for a symbol give, in the words of the definitions.
-use Rattle.std.proofs.Common.{◌≡◌, ℕ, ◌<◌, List, length, map, refl, ap, sym, ◌∙◌}
+use Rattle.std.proofs.Common.{◌≡◌, ℕ, List, length, map, ap, sym, ◌∙◌}
 use Rattle.std.specs.Prelude.{Option}
 use Rattle.std.proofs.lemmas.List.{length-map}
 use Rattle.mode_set.specs.declared.modes.Guard.{Guard}
@@ -12,8 +12,7 @@ use Rattle.channel_tracking.specs.InFrequency.{carrier_gain}
 use Rattle.channel_tracking.specs.InTime.{point_gain}
 use Rattle.channel_tracking.specs.Moving.{mean_residue, motion, motion_of}
 use Rattle.channel_tracking.specs.Tracking.{Symbol, comb, gain}
-use Rattle.channel_tracking.specs.declared.motion.Motion.{Motion}
-use Rattle.channel_tracking.specs.declared.motion.Motion.TheVariants.{Slow, Fast}
+use Rattle.channel_tracking.specs.declared.motion.Motion.TheVariants.{Slow}
 use Rattle.pilot_motion.specs.Means.{AreMeans, slow_of, fast_of}
 use Rattle.pilot_motion.specs.declared.residues.Residues.{Residues}
 use Rattle.track_arithmetic.specs.declared.complex.Complex.{Complex}

@@ -11,10 +11,10 @@ ghost use Rattle.qam_map.specs.declared.cell.Cell.{Cell};
 ghost use Rattle.track_cells.specs.Gains.{gain_of, AreWithin};
 
 use channel_tracking::Motion;
+use comb_gains::point_gains;
 use mode_set::{Carriers, Guard};
 use pilot_motion::Surroundings;
 use pilot_window::PilotWindow;
-use comb_gains::point_gains;
 use std::alloc::{AllocError, Global};
 use std::marker::{Model, PhantomData};
 use track_arithmetic::Complex;

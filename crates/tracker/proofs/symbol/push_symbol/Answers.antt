@@ -1,9 +1,9 @@
 -- The parts of a symbol's correction are those of the definitions.
-use Rattle.std.proofs.Common.{◌≡◌, ℕ, ◌+◌, ◌-◌, ◌*◌, ◌++◌, ◌<◌, ◌≤◌, List, length, map, ap, sym, ◌∙◌, subst, arith}
+use Rattle.std.proofs.Common.{ℕ, ◌-◌, ◌++◌, ◌<◌, List, length, map, ap, sym, ◌∙◌, subst, arith}
 use Rattle.mode_set.specs.StreamTable.{carriers}
 use Rattle.mode_set.specs.declared.modes.Mode.{Mode}
 use Rattle.channel_tracking.specs.Comb.{comb_of}
-use Rattle.channel_tracking.specs.Tracking.{Symbol, comb}
+use Rattle.channel_tracking.specs.Tracking.{Symbol}
 use Rattle.pilot_motion.specs.Means.{AreMeans}
 use Rattle.tracker.proofs.Bytes.{all_bytes}
 use Rattle.tracker.proofs.Symbols.{motion_is, gain_is, length_of, middle_in}

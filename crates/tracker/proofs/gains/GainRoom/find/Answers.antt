@@ -1,5 +1,5 @@
 -- The gains stand in the room for all carriers.
-use Rattle.std.proofs.Common.{◌≡◌, ℕ, ◌^◌, List, length, ap, sym, ◌∙◌, subst}
+use Rattle.std.proofs.Common.{◌^◌, List, length, ap, sym, ◌∙◌, subst}
 use Rattle.std.proofs.lemmas.List.{with_items_is}
 use Rattle.track_arithmetic.specs.declared.complex.Complex.{Complex}
 use Rattle.track_cells.specs.Gains.{gain_of, AreWithin}

@@ -1,5 +1,4 @@
 -- No symbol was taken.
-use Rattle.std.proofs.Common.{ap}
 use Rattle.tracker.proofs.Steps.{begins}
 use Rattle.tracker.proofs.tracker.Tracker.new.Goals as goal
 

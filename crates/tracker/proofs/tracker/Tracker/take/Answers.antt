@@ -1,11 +1,9 @@
 -- The symbol is kept, and the one seven before it is given.
-use Rattle.std.proofs.Common.{◌≡◌, ℕ, ◌+◌, ◌-◌, ◌++◌, ◌∷◌, [], List, length, ap, sym, ◌∙◌, subst}
-use Rattle.qam_map.specs.declared.cell.Cell.{Cell}
+use Rattle.std.proofs.Common.{◌≡◌, ℕ, ◌-◌, ◌++◌, ◌∷◌, [], length, ap, sym, ◌∙◌, subst}
 use Rattle.mode_set.specs.declared.modes.Mode.{Mode}
 use Rattle.channel_tracking.specs.Tracking.{Symbol, tracked_bytes}
-use Rattle.pilot_motion.specs.Means.{AreMeans}
 use Rattle.tracker.specs.Tracks.{TrackerState, Tracks}
-use Rattle.tracker.proofs.Steps.{made, cells_of, to_window, to_ring, waits, gives, count_of}
+use Rattle.tracker.proofs.Steps.{made, to_window, to_ring, waits, gives, count_of}
 use Rattle.tracker.proofs.tracker.Tracker.take.Goals as goal
 
 pub returns-then-count-lt8-clause-tracks : goal.returns-then-count-lt8-clause-tracks
