@@ -1,0 +1,42 @@
+-- What a tracker stands for: the symbols that it has had, and those that it has given.
+use Rattle.std.specs.Prelude.{◌≡◌, ℕ, ◌+◌, ◌-◌, ◌^◌, ◌≤◌, Bool, false, List, map, Option}
+use Rattle.mode_set.specs.StreamTable.{carriers}
+use Rattle.mode_set.specs.declared.modes.Mode.{Mode}
+use Rattle.mode_set.specs.declared.settings.Settings.{Settings}
+use Rattle.channel_tracking.specs.Comb.{points}
+use Rattle.channel_tracking.specs.Tracking.{Symbol, comb}
+use Rattle.pilot_motion.specs.Means.{AreMeans, AreSmall}
+use Rattle.pilot_motion.specs.declared.residues.Residues.{Residues}
+use Rattle.pilot_window.specs.Window.{WindowState, StandsFor}
+use Rattle.symbol_ring.specs.Ring.{RingState, Keeps}
+
+-- room for the gains at the comb points, twice, and at all carriers
+pub record HasRoom (m : Mode) (at_points turned at_carriers : ℕ) : Type 0 where
+  pub gains : at_points ≡ points m
+  pub centred : turned ≡ points m
+  pub all : at_carriers ≡ carriers m
+
+-- what is seen of a tracker
+pub record TrackerState : Type 0 where
+  pub settings : Settings
+  pub window : WindowState
+  pub ring : RingState
+  pub means : Option Residues
+  pub given : ℕ
+  pub ended : Bool
+
+-- before the end the last seven symbols are not given yet, after it at most these
+pub record IsTracking (m : Mode) (t : TrackerState) : Type 0 where
+  pub mode : t.settings.mode ≡ m
+  pub same : t.ring.count ≡ t.window.count
+  pub within : t.given ≤ t.window.count
+  pub late : t.window.count ≤ t.given + 7
+  pub going : t.ended ≡ false → t.given ≡ t.window.count - 7
+  pub few : t.window.count ≤ 2 ^ 32
+  pub small : AreSmall t.means
+
+-- these are the symbols that it has had
+pub record Tracks (t : TrackerState) (symbols : List Symbol) : Type 0 where
+  pub window : StandsFor t.settings.mode t.window (map (λ x. x.cells) symbols)
+  pub ring : Keeps (carriers t.settings.mode) t.ring symbols
+  pub means : AreMeans (comb t.settings symbols) (t.given - 1) t.means

@@ -1,0 +1,80 @@
+// The correction of a symbol.
+ghost use Rattle.std.specs.Prelude.{◌≡◌, ℕ, ◌+◌, ◌-◌, ◌*◌, ◌++◌, ◌<◌, ◌≤◌, ◌^◌, List, length, map, vec_len, vec_capacity};
+ghost use Rattle.mode_set.specs.StreamTable.{carriers};
+ghost use Rattle.channel_tracking.specs.BadSymbols.{middle as middle_of};
+ghost use Rattle.channel_tracking.specs.Tracking.{comb, gain, reference_power, tracked_bytes, Symbol};
+ghost use Rattle.pilot_motion.specs.Means.{AreMeans, AreSmall};
+ghost use Rattle.pilot_window.specs.Window.{StandsFor};
+ghost use Rattle.symbol_ring.specs.Ring.{Keeps};
+ghost use Rattle.track_cells.specs.Gains.{gain_of, AreWithin};
+
+use crate::gains::GainRoom;
+use mode_set::{Carriers, Settings};
+use pilot_motion::{Residues, follow, look, motion, noise};
+use pilot_window::PilotWindow;
+use symbol_ring::SymbolRing;
+use symbol_turns::continual_points;
+use track_arithmetic::Complex;
+use track_cells::{full_power, mean_power, push_corrected};
+
+// The power with which a cell of symbol `m` counts whole, in a file of so many symbols so far.
+fn reference_power<M: Carriers>(
+    settings: &Settings,
+    count: u64,
+    m: u64,
+    means: Option<Residues>,
+    middle: u64,
+    gains: &[Complex],
+) -> u64
+    requires mode { settings.now.mode ≡ M.MODE }
+    requires there { m < count }
+    requires late { count ≤ m + 8 }
+    requires few { count ≤ 2 ^ 32 }
+    requires means { AreSmall means }
+    requires middle { middle ≤ 2 ^ 44 }
+    requires carriers { length gains.now ≡ carriers M.MODE }
+    requires gains { AreWithin (2 ^ 25) gains.now }
+    ensures is { (symbols : List Symbol) → count ≡ length symbols → AreMeans (comb settings.now symbols) m means → middle ≡ middle_of (comb settings.now symbols) m → ((k : ℕ) → k < carriers M.MODE → gain_of gains.now k ≡ gain settings.now (comb settings.now symbols) m k) → result ≡ reference_power settings.now (comb settings.now symbols) m }
+    ensures some { 1 ≤ result }
+    ensures most { result ≤ 2 ^ 52 }
+{
+    let mean = mean_power(M::MODE, gains);
+    if count == 1 {
+        return mean;
+    }
+    let shape = settings.entry((m / 272) as u32).shape;
+    let pilots = continual_points(M::MODE).len() as u64;
+    full_power(shape, mean, noise(means, middle), pilots)
+}
+
+/// Appends symbol `m`, corrected, and answers the running means after it, by those before it.
+pub(crate) fn push_symbol<M: Carriers>(
+    settings: &Settings,
+    window: &PilotWindow<M>,
+    ring: &SymbolRing<M>,
+    m: u64,
+    means: Option<Residues>,
+    room: &mut GainRoom<M>,
+    to: &mut Vec<u8>,
+) -> Option<Residues>
+    requires mode { settings.now.mode ≡ M.MODE }
+    requires there { m < window.now.count }
+    requires late { window.now.count ≤ m + 8 }
+    requires few { window.now.count ≤ 2 ^ 32 }
+    requires same { ring.now.count ≡ window.now.count }
+    requires means { AreSmall means }
+    requires room { vec_len to.old + 5 * M.K ≤ vec_capacity to.old }
+    ensures capacity { vec_capacity to.new ≡ vec_capacity to.old }
+    ensures small { AreSmall result }
+    ensures means { (symbols : List Symbol) → StandsFor M.MODE window.now (map (λ x. x.cells) symbols) → AreMeans (comb settings.now symbols) (m - 1) means → AreMeans (comb settings.now symbols) m result }
+    ensures appended { (symbols : List Symbol) → StandsFor M.MODE window.now (map (λ x. x.cells) symbols) → Keeps M.K ring.now symbols → AreMeans (comb settings.now symbols) (m - 1) means → to.new.items ≡ to.old.items ++ tracked_bytes settings.now symbols m }
+{
+    let around = look(window, m);
+    let after = follow(window, m, &around, means);
+    let motion = motion(settings.guard, after);
+    room.find(settings.guard, window, m, &around, motion);
+    let gains = room.gains();
+    let full = reference_power::<M>(settings, window.count(), m, after, around.middle, gains);
+    push_corrected(full, gains, ring.cells(m), ring.weights(m), to);
+    after
+}
