@@ -1,7 +1,9 @@
 -- A symbol is compared, or left out.
 use Rattle.std.proofs.Common.{◌≡◌, ℕ, zero, suc, ◌+◌, ◌-◌, ◌*◌, ◌/◌, ◌%◌, ◌<◌, ◌≤◌, ◌≢◌, ◌⊎◌, inl, inr, Bool, true, false, not, cond, ◌&&◌, ◌||◌, List, [], ◌∷◌, ◌++◌, length, take, drop, get_or, refl, sym, ap, ap₂, ◌∙◌, arith, subst, length-drop}
 use Rattle.std.specs.Prelude.{nat_le, nat_lt, if◌then◌else◌, IsTrue, slice_index, ◌==◌}
-use Rattle.std.specs.Prelude.{Some, None}
+use Rattle.std.specs.Prelude.{Option, Some, None, All, slice_index_or}
+use Rattle.std.proofs.lemmas.List.{get_or_default}
+use Rattle.std.proofs.lemmas.List.Elements.{All-get_or}
 use Rattle.std.proofs.lemmas.List.FromFn.{length-map-range_with_len}
 use Rattle.std.proofs.lemmas.Bool.{cases_lt, leb-true, leb-false, true≢false}
 use Rattle.spec_words.specs.Bits.{bit, is_set}
@@ -22,10 +24,10 @@ use Rattle.measurement.specs.Known.{known_path, known_paths, is_present, is_zero
 use Rattle.symbol_sums.specs.Comparing.{Comparison, AlikeAreSummedAlike, symbol_sums}
 use Rattle.measure_report.specs.declared.sums.SymbolSums.{SymbolSums}
 use Rattle.known_bits.specs.Seen.{KnownState}
-use Rattle.symbol_comparison.specs.Seen.{SymbolState, known_of}
+use Rattle.symbol_comparison.specs.Seen.{SymbolState, ComparerState, known_of}
 use Rattle.known_bits.specs.Passing.{passed, HasPassed, IsSettled, has_bits}
-use Rattle.symbol_comparison.specs.Standing.{HavePassed, AreReady, IsSummed, beside}
-use Rattle.symbol_comparison.specs.Kept.{AreLong}
+use Rattle.symbol_comparison.specs.Standing.{HavePassed, AreReady, IsSummed, StandsBefore, beside, kept_at}
+use Rattle.symbol_comparison.specs.Kept.{AreLong, IsWhole}
 use Rattle.symbol_comparison.proofs.Paths.{bits_known, left_more, bits_from_step, path_begins, path_goes_on}
 
 le_same : (a b c d : ℕ) → (a ≤ b → c ≤ d) → (c ≤ d → a ≤ b) → nat_le a b ≡ nat_le c d
@@ -350,3 +352,23 @@ made_ready s now m hp lp here e a b = subst (λ (z : Settings). AreReady z hp lp
   hp_settled = a;
   lp_settled = b;
 })
+
+-- ---- what compares
+
+pub kept_whole : (k : ℕ) (xs : List SymbolState) (i : ℕ) (r : SymbolState) → length xs ≡ 4 → r ≡ slice_index_or xs (i % 4) r → All (IsWhole k) xs → IsWhole k r
+kept_whole k xs i r four e all = subst (IsWhole k) (sym e) (All-get_or (IsWhole k) xs (i % 4) r (omega (arith, four)) all)
+
+pub compare_summed : (x : ComparerState) (m : ℕ) (hp lp : KnownState) (known : Stream → List Bool) (r d : SymbolState) (result : Option SymbolSums) → length x.kept ≡ 4 → r ≡ slice_index_or x.kept (x.next % 4) r
+    → (HavePassed x.settings x.next hp lp x.coder known → IsSummed x.settings r known x.next result) → StandsBefore m x hp lp known → IsSummed x.settings (kept_at x m d) known m result
+compare_summed x m hp lp known r d result four e f h =
+    let there : r ≡ slice_index_or x.kept (m % 4) d = e ∙ get_or_default x.kept (x.next % 4) r d (omega (arith, four)) ∙ ap (λ (n : ℕ). slice_index_or x.kept (n % 4) d) h.next in
+    subst (λ (z : SymbolState). IsSummed x.settings z known m result) there
+    (subst (λ (n : ℕ). HavePassed x.settings n hp lp x.coder known → IsSummed x.settings r known n result) h.next f h.streams)
+
+pub compare_stands : (x new : ComparerState) (m : ℕ) (hp lp new_hp new_lp : KnownState) (known : Stream → List Bool) → new.settings ≡ x.settings → new.next ≡ x.next + 1
+    → (HavePassed x.settings x.next hp lp x.coder known → HavePassed x.settings (x.next + 1) new_hp new_lp new.coder known) → StandsBefore m x hp lp known → StandsBefore (m + 1) new new_hp new_lp known
+compare_stands x new m hp lp new_hp new_lp known same one f h = record {
+  next = one ∙ ap (λ (n : ℕ). n + 1) h.next;
+  streams = subst (λ (s : Settings). HavePassed s (m + 1) new_hp new_lp new.coder known) (sym same)
+      (subst (λ (n : ℕ). HavePassed x.settings n hp lp x.coder known → HavePassed x.settings (n + 1) new_hp new_lp new.coder known) h.next f h.streams);
+}

@@ -12,25 +12,25 @@ use Rattle.symbol_comparison.specs.Standing.{AreReady, HavePassed}
 use Rattle.symbol_comparison.proofs.Comparing.{compared, not_compared, made_ready}
 use Rattle.symbol_comparison.proofs.comparer.compare_symbol.Goals as goal
 
-pub remake-requires-settings : goal.remake-requires-settings
-remake-requires-settings g c =
+pub remake-requires-clause-settings : goal.remake-requires-clause-settings
+remake-requires-clause-settings g c =
     subst (λ (z : Settings). with_entry z c.parameters_of_symbol-entry.result ≡ settings_at z c.args.m) (sym (c.pass_both.ensures.settings ∙ c.requires.settings)) c.parameters_of_symbol-entry.ensures.settings
 
-pub remake-requires-ready : goal.remake-requires-ready
-remake-requires-ready g c =
+pub remake-requires-clause-ready : goal.remake-requires-clause-ready
+remake-requires-clause-ready g c =
     subst (λ (z : Settings). AreReady (settings_at z c.args.m) c.pass_both.new.hp c.pass_both.new.lp) (sym (c.pass_both.ensures.settings ∙ c.requires.settings))
     (made_ready c.args.settings.now c.with_entry-now.result c.args.m c.pass_both.new.hp c.pass_both.new.lp (c.with_entry-now.ensures ∙ c.parameters_of_symbol-entry.ensures.settings) c.if-has_all.ensures.all c.pass_both.ensures.hp_settled c.pass_both.ensures.lp_settled)
 
-pub sum_kept-requires-count : goal.sum_kept-requires-count
-sum_kept-requires-count g c =
+pub sum_kept-requires-clause-count : goal.sum_kept-requires-clause-count
+sum_kept-requires-clause-count g c =
     let s : Settings = c.args.settings.now in
     let here : c.with_entry-now.result ≡ settings_at s c.args.m = c.with_entry-now.ensures ∙ c.parameters_of_symbol-entry.ensures.settings in
     let same : c.pass_both.new.coder.settings ≡ s = c.pass_both.ensures.settings ∙ c.requires.settings in
     let there : settings_at c.pass_both.new.coder.settings c.args.m ≡ c.with_entry-now.result = ap (λ (z : Settings). settings_at z c.args.m) same ∙ sym here in
     ap length c.deref.ensures.value ∙ c.remake.ensures.count ∙ ap (λ (z : Settings). payload z.mode) there
 
-pub sum_kept-requires-small : goal.sum_kept-requires-small
-sum_kept-requires-small g c =
+pub sum_kept-requires-clause-small : goal.sum_kept-requires-clause-small
+sum_kept-requires-clause-small g c =
     let s : Settings = c.args.settings.now in
     let here : c.with_entry-now.result ≡ settings_at s c.args.m = c.with_entry-now.ensures ∙ c.parameters_of_symbol-entry.ensures.settings in
     let same : c.pass_both.new.coder.settings ≡ s = c.pass_both.ensures.settings ∙ c.requires.settings in
@@ -38,8 +38,8 @@ sum_kept-requires-small g c =
     subst (λ (xs : List ℕ). (q : ℕ) → q < payload c.with_entry-now.result.mode → slice_index xs q < 2 ^ label_bits c.with_entry-now.result.shape) (sym c.deref.ensures.value)
     (subst (λ (z : Settings). (q : ℕ) → q < payload z.mode → slice_index c.remake.new.labels.items q < 2 ^ label_bits z.shape) there c.remake.ensures.small)
 
-pub sum_kept-requires-whole : goal.sum_kept-requires-whole
-sum_kept-requires-whole g c =
+pub sum_kept-requires-clause-whole : goal.sum_kept-requires-clause-whole
+sum_kept-requires-clause-whole g c =
     let s : Settings = c.args.settings.now in
     let here : c.with_entry-now.result ≡ settings_at s c.args.m = c.with_entry-now.ensures ∙ c.parameters_of_symbol-entry.ensures.settings in
     let mode : c.with_entry-now.result.mode ≡ s.mode = ap (λ (z : Settings). z.mode) here ∙ c.settings.ensures.mode s (c.args.m / 272) in

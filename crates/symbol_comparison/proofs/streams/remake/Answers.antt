@@ -7,13 +7,13 @@ use Rattle.symbol_spans.specs.Spans.{settings_at}
 use Rattle.symbol_comparison.proofs.Comparing.{labels_here, makes_here, moved_bits, moved_stands, ready_enough, still_long}
 use Rattle.symbol_comparison.proofs.streams.remake.Goals as goal
 
-pub make_labels-requires-hp : goal.make_labels-requires-hp
-make_labels-requires-hp g c =
+pub make_labels-requires-clause-hp : goal.make_labels-requires-clause-hp
+make_labels-requires-clause-hp g c =
     let s : Settings = c.args.coder.now.settings in
     ready_enough c.steps.ensures.streams s (with_entry s c.args.entry.now) c.args.m c.args.hp.now c.args.lp.now c.requires.settings c.requires.ready Hp
 
-pub make_labels-requires-lp : goal.make_labels-requires-lp
-make_labels-requires-lp g c =
+pub make_labels-requires-clause-lp : goal.make_labels-requires-clause-lp
+make_labels-requires-clause-lp g c =
     let s : Settings = c.args.coder.now.settings in
     ready_enough c.steps.ensures.streams s (with_entry s c.args.entry.now) c.args.m c.args.hp.now c.args.lp.now c.requires.settings c.requires.ready Lp
 
