@@ -2,6 +2,7 @@
 ghost use Rattle.std.specs.Prelude.{◌≡◌, ◌+◌, ◌%◌, ◌<◌, ◌≤◌, ◌^◌, ℕ, List, Bool, IfOk, length, slice_index, slice_set, vec_capacity, All};
 ghost use Rattle.mode_set.specs.StreamTable.{carriers, payload, label_bits};
 ghost use Rattle.mode_set.specs.declared.modes.Stream.{Stream as AnyStream};
+ghost use Rattle.conv_code.specs.Coded.{zeros};
 ghost use Rattle.spec_words.specs.Bits.{is_set};
 ghost use Rattle.symbol_sums.specs.Comparing.{symbol_sums};
 ghost use Rattle.symbol_comparison.specs.Seen.{SymbolState};
@@ -114,6 +115,8 @@ impl<M: Carriers> Comparer<M> {
         requires mode { settings.now.mode ≡ M.MODE }
         ensures settings { IfOk result (λ x. x.settings ≡ settings.now) }
         ensures next { IfOk result (λ x. x.next ≡ 0) }
+        ensures hp { IfOk result (λ x. x.coder.hp ≡ zeros) }
+        ensures lp { IfOk result (λ x. x.coder.lp ≡ zeros) }
     {
         let coder = InnerTx::new(alloc, settings)?;
         let labels = Vec::with_capacity(alloc, settings.mode.payload() as usize)?;
