@@ -1,6 +1,6 @@
 -- A symbol is compared, or left out.
-use Rattle.std.proofs.Common.{◌≡◌, ℕ, zero, suc, ◌+◌, ◌-◌, ◌*◌, ◌/◌, ◌%◌, ◌<◌, ◌≤◌, ◌≢◌, ◌⊎◌, inl, inr, Bool, true, false, not, cond, ◌&&◌, ◌||◌, List, [], ◌∷◌, ◌++◌, length, take, drop, get_or, refl, sym, ap, ap₂, ◌∙◌, arith, subst, length-drop}
-use Rattle.std.specs.Prelude.{nat_le, nat_lt, if◌then◌else◌, IsTrue, slice_index, ◌==◌}
+use Rattle.std.proofs.Common.{◌≡◌, ℕ, ◌+◌, ◌-◌, ◌/◌, ◌%◌, ◌<◌, ◌≤◌, ◌≢◌, ◌⊎◌, inl, inr, Bool, true, false, not, ◌&&◌, ◌||◌, List, [], ◌++◌, length, take, drop, refl, sym, ap, ap₂, ◌∙◌, arith, subst, length-drop}
+use Rattle.std.specs.Prelude.{nat_le, nat_lt, if◌then◌else◌, slice_index, ◌==◌}
 use Rattle.std.specs.Prelude.{Option, Some, None, All, slice_index_or}
 use Rattle.std.proofs.lemmas.List.{get_or_default}
 use Rattle.std.proofs.lemmas.List.Elements.{All-get_or}
@@ -14,14 +14,14 @@ use Rattle.mode_set.specs.declared.modes.Stream.TheVariants.{Hp, Lp}
 use Rattle.mode_set.specs.declared.modes.Hierarchy.{Hierarchy}
 use Rattle.mode_set.specs.declared.modes.Hierarchy.TheVariants.{Flat, Alpha1, Alpha2, Alpha4}
 use Rattle.mode_set.specs.declared.settings.Settings.{Settings}
-use Rattle.symbol_spans.specs.Spans.{settings_at, steps_before, steps_of}
+use Rattle.symbol_spans.specs.Spans.{settings_at, steps_before}
 use Rattle.symbol_spans.specs.Laws.{StepsOfOneMore, StepsAreOfAStream, StartStays}
 use Rattle.bit_interleave.specs.Place.{stream_at}
 use Rattle.symbol_interleave.specs.Carried.{carried}
 use Rattle.puncture.specs.SentBits.{bits_from, sent_bit}
 use Rattle.inner_chain.specs.Labels.{Paths, TxState, IsBefore, AreLabels, AppendsLabels, from_step, register_of, input_bits, behind, coded_bits, label_bit, number_at}
-use Rattle.measurement.specs.Known.{known_path, known_paths, is_present, is_zero, suffices, is_compared, remade_bit}
-use Rattle.symbol_sums.specs.Comparing.{Comparison, AlikeAreSummedAlike, symbol_sums}
+use Rattle.measurement.specs.Known.{known_path, is_zero, suffices, is_compared, remade_bit}
+use Rattle.symbol_sums.specs.Comparing.{AlikeAreSummedAlike, symbol_sums}
 use Rattle.measure_report.specs.declared.sums.SymbolSums.{SymbolSums}
 use Rattle.known_bits.specs.Seen.{KnownState}
 use Rattle.symbol_comparison.specs.Seen.{SymbolState, ComparerState, known_of}
@@ -53,7 +53,7 @@ suffices_is next s σ m k register known h start =
     let long : length k.waiting ≡ length (known σ) - passed k = ap length h.waiting ∙ length-drop (passed k) (known σ) in
     let more : steps_before s σ (m + 1) ≡ steps_before s σ m + need (settings_at s m) σ = next s σ m in
     let reach : nat_le (k.lag + need (settings_at s m) σ) (length k.waiting) ≡ nat_le (steps_before s σ (m + 1)) (length (known σ)) =
-        le_same _ _ _ _ (λ l. omega (arith, l, long, more, h.before, h.lag, h.within)) (λ l. omega (arith, l, long, more, h.before, h.lag, h.within)) in
+    le_same _ _ _ _ (λ l. omega (arith, l, long, more, h.before, h.lag, h.within)) (λ l. omega (arith, l, long, more, h.before, h.lag, h.within)) in
     let first : (is_zero (settings_at s m).start || nat_le 6 k.before) ≡ (is_zero s.start || nat_le 6 (steps_before s σ m)) = ap₂ (λ (z : Start) (b : ℕ). is_zero z || nat_le 6 b) start h.before in
     ap₂ (λ (a b : Bool). not (has_stream (settings_at s m).hierarchy σ) || (a && b)) reach first
 
@@ -140,7 +140,7 @@ enough law s σ m k e = go (has_stream (settings_at s m).hierarchy σ) refl (cas
     go : (p : Bool) → has_stream (settings_at s m).hierarchy σ ≡ p → (0 < need (settings_at s m) σ) ⊎ (need (settings_at s m) σ ≤ 0) → need (settings_at s m) σ ≤ length k.waiting
     go true h c =
         let first : (nat_le (k.lag + need (settings_at s m) σ) (length k.waiting) && (is_zero (settings_at s m).start || nat_le 6 k.before)) ≡ true =
-            sym (ap (λ (b : Bool). not b || (nat_le (k.lag + need (settings_at s m) σ) (length k.waiting) && (is_zero (settings_at s m).start || nat_le 6 k.before))) h) ∙ e in
+        sym (ap (λ (b : Bool). not b || (nat_le (k.lag + need (settings_at s m) σ) (length k.waiting) && (is_zero (settings_at s m).start || nat_le 6 k.before))) h) ∙ e in
         let l : k.lag + need (settings_at s m) σ ≤ length k.waiting = leb-true _ _ (and_left _ _ first) in
         omega (arith, l)
     go false h (inl l) = absurd (true≢false (sym (law s σ (m / 272) l).here ∙ h))

@@ -68,4 +68,3 @@ path_goes_on register waiting n l few = ext_get_or false (take n waiting) (bits_
         let far : 6 ≤ i + 6 = omega arith in
         get_or-take n waiting i false below
         ∙ sym (get_or-map-range_with_len (bit (register ++ waiting)) 6 n i (i + 6) false below there ∙ get_or-append_right register waiting 6 (i + 6) false l far ∙ ap (λ (z : ℕ). get_or waiting z false) back)
-

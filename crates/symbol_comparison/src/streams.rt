@@ -19,11 +19,7 @@ use known_bits::KnownBits;
 use mode_set::{Carriers, Entry, Settings, Start, Stream};
 
 /// Moves the encoder of each stream on to the next symbol, as far as bits are known.
-pub(crate) fn pass_both<M: Carriers>(
-    coder: &mut InnerTx<M>,
-    hp: &mut KnownBits,
-    lp: &mut KnownBits,
-)
+pub(crate) fn pass_both<M: Carriers>(coder: &mut InnerTx<M>, hp: &mut KnownBits, lp: &mut KnownBits)
     ensures settings { coder.new.settings ≡ coder.old.settings }
     ensures registers { AreLong coder.old → AreLong coder.new }
     ensures hp_settled { IsSettled hp.new }

@@ -1,4 +1,4 @@
-use Rattle.std.proofs.Common.{◌≡◌, ◌%◌, ap, ◌∙◌, subst}
+use Rattle.std.proofs.Common.{◌%◌}
 use Rattle.std.specs.Prelude.{◌==◌}
 use Rattle.mode_set.specs.Entries.{with_entry}
 use Rattle.mode_set.specs.declared.modes.Stream.TheVariants.{Hp, Lp}

@@ -1,4 +1,4 @@
-use Rattle.std.proofs.Common.{◌≡◌, ℕ, ◌+◌, ◌≤◌, ◌^◌, refl, sym, ap, ◌∙◌, subst, arith}
+use Rattle.std.proofs.Common.{ℕ, ◌+◌, ◌≤◌, ◌^◌, refl, sym, ap, subst, arith}
 use Rattle.mode_set.specs.StreamTable.{carriers, payload}
 use Rattle.symbol_comparison.specs.Seen.{ComparerState}
 use Rattle.symbol_comparison.specs.Standing.{IsSummed, StandsBefore, kept_at}
