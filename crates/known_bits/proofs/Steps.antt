@@ -1,9 +1,10 @@
 -- The known bits of a stream and its encoder.
-use Rattle.std.proofs.Common.{◌≡◌, ℕ, ◌+◌, ◌-◌, ◌<◌, ◌≤◌, ◌⊎◌, inl, inr, Bool, false, List, [], length, take, drop, get_or, replicate, refl, sym, ap, ◌∙◌, arith, length-drop, length-take-le}
+use Rattle.std.proofs.Common.{◌≡◌, ℕ, ◌+◌, ◌-◌, ◌<◌, ◌≤◌, ◌⊎◌, inl, inr, Bool, false, List, [], ◌++◌, length, take, drop, get_or, replicate, refl, sym, ap, ◌∙◌, arith, length-drop, length-take-le}
 use Rattle.std.specs.Prelude.{min}
 use Rattle.std.proofs.lemmas.Bool.{cases_lt}
-use Rattle.std.proofs.lemmas.List.{get_or-take, get_or-drop, get_or-append_right, ext_get_or, drop_all}
+use Rattle.std.proofs.lemmas.List.{get_or-take, get_or-drop, get_or_append_left, get_or-append_right, ext_get_or, drop_all}
 use Rattle.std.proofs.lemmas.List.FromFn.{length-map-range_with_len, get_or-map-range_with_len}
+use Rattle.spec_words.specs.Bits.{bit}
 use Rattle.mode_set.specs.declared.modes.Stream.{Stream}
 use Rattle.mode_set.specs.declared.settings.Settings.{Settings}
 use Rattle.puncture.specs.SentBits.{bits_from}
@@ -28,6 +29,36 @@ bits_known known p n l =
         let far : 6 ≤ p + i + 6 = omega arith in
         get_or-take n (drop p known) i false below ∙ get_or-drop p known i false
         ∙ sym (get_or-map-range_with_len (known_path known) (p + 6) n i (p + i + 6) false below there ∙ get_or-append_right (replicate 6 false) known 6 (p + i + 6) false refl far ∙ ap (λ (z : ℕ). get_or known z false) back)
+
+-- a register of six bits and what waits behind it are those of a path
+pub path_begins : (register waiting : List Bool) → length register ≡ 6 → register ≡ bits_from (bit (register ++ waiting)) 0 6
+path_begins register waiting l = ext_get_or false register (bits_from (bit (register ++ waiting)) 0 6) (l ∙ sym (length-map-range_with_len (bit (register ++ waiting)) 0 6)) each
+  where
+    each : (i : ℕ) → i < length register → get_or register i false ≡ get_or (bits_from (bit (register ++ waiting)) 0 6) i false
+    each i m =
+        let below : i < 6 = omega (arith, m, l) in
+        let there : 0 + i ≡ i = omega arith in
+        sym (get_or-map-range_with_len (bit (register ++ waiting)) 0 6 i i false below there ∙ get_or_append_left register waiting false i m)
+
+pub path_goes_on : (register waiting : List Bool) (n : ℕ) → length register ≡ 6 → n ≤ length waiting → take n waiting ≡ bits_from (bit (register ++ waiting)) 6 n
+path_goes_on register waiting n l few = ext_get_or false (take n waiting) (bits_from (bit (register ++ waiting)) 6 n) (long ∙ sym (length-map-range_with_len (bit (register ++ waiting)) 6 n)) each
+  where
+    long : length (take n waiting) ≡ n
+    long = length-take-le n waiting few
+
+    each : (i : ℕ) → i < length (take n waiting) → get_or (take n waiting) i false ≡ get_or (bits_from (bit (register ++ waiting)) 6 n) i false
+    each i m =
+        let below : i < n = omega (arith, m, long) in
+        let there : 6 + i ≡ i + 6 = omega arith in
+        let back : i + 6 - 6 ≡ i = omega arith in
+        let far : 6 ≤ i + 6 = omega arith in
+        get_or-take n waiting i false below
+        ∙ sym (get_or-map-range_with_len (bit (register ++ waiting)) 6 n i (i + 6) false below there ∙ get_or-append_right register waiting 6 (i + 6) false l far ∙ ap (λ (z : ℕ). get_or waiting z false) back)
+
+pub stays_long : (waiting left register after : List Bool) (count : ℕ) → count ≤ length waiting → length register ≡ 6 → Skips waiting left register after count → length after ≡ 6
+stays_long waiting left register after count c l k =
+    ap length (k.register (bit (register ++ waiting)) 0 (path_begins register waiting l) (path_goes_on register waiting count l c))
+    ∙ length-map-range_with_len (bit (register ++ waiting)) (0 + count) 6
 
 -- the encoder passes what is known of the steps before the symbol
 pub passes : (s : Settings) (σ : Stream) (m : ℕ) (old : KnownState) (left register after known : List Bool) (count : ℕ) → count ≡ min old.lag (length old.waiting) → Skips old.waiting left register after count

@@ -64,6 +64,9 @@ impl KnownBits {
     pub fn pass_by<M: Carriers>(&mut self, stream: Stream, coder: &mut InnerTx<M>)
         ensures settings { coder.new.settings ≡ coder.old.settings }
         ensures settled { IsSettled self.new }
+        ensures before { self.new.before ≡ self.old.before }
+        ensures lag { self.new.lag ≤ self.new.before }
+        ensures long { length (register_of coder.old stream) ≡ 6 → length (register_of coder.new stream) ≡ 6 }
         ensures few { length self.new.waiting ≤ length self.old.waiting }
         ensures other { (σ : AnyStream) → σ ≢ stream → register_of coder.new σ ≡ register_of coder.old σ }
         ensures passed { (s : AnySettings) (m : ℕ) (known : List Bool) → HasPassed s stream m self.old (register_of coder.old stream) known → HasPassed s stream m self.new (register_of coder.new stream) known }
