@@ -203,17 +203,23 @@ fn wide_symbols(rt: HostRuntime) -> Result<(), Fail> {
     Ok(())
 }
 
+// Puts numbers of up to 255 in place of the weights of a file from its symbol 109 on.
+fn weigh(file: &mut [u8]) {
+    let first = 8 + 109 * SYMBOL + 4;
+    for (place, byte) in file.iter_mut().enumerate() {
+        if first <= place && place.wrapping_sub(first) % 5 == 0 {
+            *byte = (place.wrapping_mul(7) % 256) as u8;
+        }
+    }
+}
+
 // Symbols are handed on byte for byte, weights above 15 too, read as a whole and by few bytes.
 #[test]
 fn byte_for_byte(rt: HostRuntime) -> Result<(), Fail> {
     let alloc = rt.alloc();
     let cells = null_cells(&rt, alloc, BASE, false)?;
     let mut file = heard(alloc, &cells, 163, 3)?;
-    let mut place = 8 + 109 * SYMBOL + 4;
-    for byte in file.iter_mut().skip(place).step_by(5) {
-        *byte = (place.wrapping_mul(7) % 256) as u8;
-        place = place.wrapping_add(5);
-    }
+    weigh(&mut file);
     let report =
         "tune at 41 frame 4\nannounced constellation qpsk hierarchy none rate_hp 1/2 guard 1/32\nsymbols 3 tail 0\n";
     for most in [u32::MAX, 1_000] {
