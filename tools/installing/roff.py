@@ -10,7 +10,8 @@ LONG = 70  # a table of three columns or more with longer cells is a list
 
 def page(name, section, summary, body, version, source="dvbt"):
     """A whole page: its header, NAME, and the body."""
-    head = f"'\\\" t\n.TH {name.upper()} {section} \"\" \"{source} {version}\" \"DVB-T\"\n.nh\n.ad l\n.SH NAME\n"
+    # one long page on a terminal, so that no table meets its end
+    head = f"'\\\" t\n.TH {name.upper()} {section} \"\" \"{source} {version}\" \"DVB-T\"\n.if n .pl 2000v\n.nh\n.ad l\n.SH NAME\n"
     return f"{head}{escaped(name)} \\- {escaped(summary)}\n{body}"
 
 
