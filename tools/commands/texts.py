@@ -20,14 +20,14 @@ if not {"align", "track", "measure"} <= set(forms.FORMS):
     MONITOR += " (not usable yet: it needs track and measure)"
 
 FILES = {
-    "SETTINGS": "a TOML document of the transmission (docs/SETTINGS.md; examples/settings/)",
+    "SETTINGS": "a TOML document of the transmission (docs/use/SETTINGS.md; examples/settings/)",
     "HP": "a transport file, packets of 188 bytes: the only stream, or the sturdier of two",
     "LP": "a transport file: the second stream, with a hierarchy",
     "TS": "a transport file, packets of 188 bytes",
-    "CELLS": "a cell file: a header, then five bytes a carrier, symbol after symbol (docs/FILES.md)",
-    "OLD": "a cell file of version 1: four bytes a carrier, without a header (docs/FILES.md)",
+    "CELLS": "a cell file: a header, then five bytes a carrier, symbol after symbol (docs/use/FILES.md)",
+    "OLD": "a cell file of version 1: four bytes a carrier, without a header (docs/use/FILES.md)",
     "NEW": "the cell file of version 2 to write: a header, then five bytes a carrier",
-    "IN": "a cell file of version 2, from the first symbol of a super-frame on; of align, from any symbol on (docs/FILES.md)",
+    "IN": "a cell file of version 2, from the first symbol of a super-frame on; of align, from any symbol on (docs/use/FILES.md)",
     "OUT": "the file to write",
     "NUMBER": "one to ten digits, at most 4294967295; the same number gives the same lines everywhere",
 }
@@ -118,13 +118,13 @@ def help_of_all():
     out += ["  bin/dvbt --program          the path of that program, which is built if it isn't yet"]
     out += ["  -q, --quiet                 the program alone: no explanation, verdict or progress on standard error"]
     out += ["  --strict                    status 1 in place of 0 if there is a verdict: a line on what a run is worth"]
-    out += ["  --json                      the report as one object on one line (docs/JSON.md)"]
+    out += ["  --json                      the report as one object on one line (docs/use/JSON.md)"]
     out += ["  -                           in place of a file: standard input, or output; the report then goes to standard error"]
     out += ["  $DVBT_PROGRAM               names another program to run in its place", ""]
     out += ["There and back:"]
     out += [f"  {EXAMPLES[it][0]}" for it in ("modulate", "receive")]
     out += ["", "Statuses:"] + lines_of_statuses(None)
-    out += ["", "docs/SETTINGS.md lists the settings, docs/FILES.md describes the files."]
+    out += ["", "docs/use/SETTINGS.md lists the settings, docs/use/FILES.md describes the files."]
     return "\n".join(out)
 
 

@@ -90,7 +90,7 @@ def of_settings(form, text):
     if kind:
         return f"{path} looks like {kind}: SETTINGS comes first"
     name = f"{path}, read as SETTINGS," if refusal in ("too long", "not toml") else path
-    return f"{name} {settings.why_rejected(piece(path, 0, 65536), refusal)} (docs/SETTINGS.md)"
+    return f"{name} {settings.why_rejected(piece(path, 0, 65536), refusal)} (docs/use/SETTINGS.md)"
 
 
 def of_packet(form, text):
@@ -204,7 +204,7 @@ def of_header(form, text):
     if sync_in(begin[:EIGHT])[0]:
         return f"{path} looks like a transport file, and {form.command} reads cells: modulate makes them of packets"
     begins = f" ({begin[:8].hex(' ').upper()})" if begin else ""
-    return f"{path} does not begin with the header of a cell file of version 2{begins}: docs/FILES.md"
+    return f"{path} does not begin with the header of a cell file of version 2{begins}: docs/use/FILES.md"
 
 
 def of_no_frame(form, text):

@@ -20,7 +20,7 @@ Options:
   --rescue                         rescue in place of receive
   --lost N                         the signal is lost after N super-frames without reception (default: 4)
   --channel 6|7|8                  MHz of the channel, for times (default: 8)
-  --json                           a line of JSON a super-frame, and one for each event (docs/MONITOR.md)
+  --json                           a line of JSON a super-frame, and one for each event (docs/use/MONITOR.md)
   --log FILE                       append events, alarms and a line a minute, with time stamps
   --alarm LIMITS                   mer=DB viterbi=RATE rs=RATE bad=COUNT lock, with commas between
   --page PORT                      a page at http://127.0.0.1:PORT/; after the end of CELLS it stays until Ctrl-C
