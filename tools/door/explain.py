@@ -46,9 +46,9 @@ def of_usage(words):
         say(f"  {line}" for line in forms.lines_of_forms(command))
         say("NUMBER has one to ten digits and is at most 4294967295" if command == "trial" else [])
     elif command.startswith("-"):
-        options = f"{', '.join(forms.OPTIONS)}, before the command, and --help, --version and --program alone"
+        options = f"{', '.join(forms.OPTIONS)}, before the command, and --help, --version and --program without a command"
         is_alone = command in ("--version", "--program")
-        say(f"{command} stands alone" if is_alone else f"there is no option {command}; the options are {options}")
+        say(f"{command} takes no arguments" if is_alone else f"there is no option {command}; the options are {options}")
     elif command in ("help", "version"):
         of = f"{words[1]} " if command == "help" and words[1:] and words[1] in forms.FORMS else ""
         say(f"{command} is --{command}: bin/dvbt {of}--{command}")
@@ -122,7 +122,7 @@ def of_reading(form, text):
 
 
 def of_writing(form, text):
-    """A file can't be made, written or closed. If the line is missing, it is standard output that failed."""
+    """A file can't be created, written or closed. If the line is missing, it is standard output that failed."""
     paths = form.outputs if text == "write fault" else []
     names = " or ".join(paths) or "standard output"
     is_pipe = paths and all(os.path.exists(path) and stat.S_ISFIFO(os.stat(path).st_mode) for path in paths)
@@ -233,7 +233,7 @@ def what_stands(form, before, status=None):
         if now and now != before.get(path):
             yield f"{path} holds {now[1]:,} bytes{counted(form, kind, now[1])}{what}" if now[1] else f"{path} is empty"
         elif path:
-            yield f"{path} {'is unchanged' if now else 'was not made'}"
+            yield f"{path} {'is unchanged' if now else 'was not created'}"
 
 
 def counted(form, kind, size):
