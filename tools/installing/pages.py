@@ -65,7 +65,7 @@ def of_program(top):
     """The body of dvbt(1)."""
     usage = [*texts.USAGE, *(line for it in words.FORMS for line in words.lines_of_forms(it))]
     synopsis = "".join(f"\\fB{roff.escaped(line, True)}\\fR\n.br\n" for line in usage)
-    readme, files = read(top, "README.md"), read(top, "docs/use/FILES.md")
+    readme, running = read(top, "README.md"), read(top, "docs/use/RUNNING.md")
     about = roff.opening(readme).split("```")[0].strip()
     out = f".SH SYNOPSIS\n{synopsis}.SH DESCRIPTION\n{roff.body(about)}"
     out += ".SH OPTIONS\n" + tagged(options())
@@ -73,7 +73,7 @@ def of_program(top):
     out += f".SS monitor\n{roff.literal(arguments.HELP.split(chr(10)))}"
     out += ".SH ARGUMENTS\n" + tagged(texts.FILES.items())
     out += ".SH EXIT STATUS\n" + tagged(statuses())
-    out += roff.body(roff.sections(readme, "Limits")) + roff.body(roff.sections(files, "Pipes, devices and faults"))
+    out += roff.body(roff.sections(readme, "Limits")) + roff.body(roff.sections(running, "What the outputs hold", "Pipes, devices and faults"))
     return out + ".SH SEE ALSO\ndvbt\\-cells(5), dvbt\\-settings(5); ETSI EN 300 744, ETSI TR 101 290, ISO/IEC 13818\\-1\n"
 
 
