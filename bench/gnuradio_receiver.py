@@ -1,5 +1,5 @@
 #!/usr/bin/env python3
-"""Takes a cell file to samples by the recipe of docs/FILES.md and lets GNU Radio's DVB-T receiver take them back to packets.
+"""Takes a cell file to samples by the recipe of docs/use/FILES.md and lets GNU Radio's DVB-T receiver take them back to packets.
 
 usage: bench/gnuradio_receiver.py SETTINGS TS CELLS
 
@@ -27,7 +27,7 @@ GUARDS = {"1/32": dtv.GI_1_32, "1/16": dtv.GI_1_16, "1/8": dtv.GI_1_8, "1/4": dt
 
 
 def write_samples(path, cells, carriers, points, guard):
-    """The samples of a cell file, by the recipe of docs/FILES.md."""
+    """The samples of a cell file, by the recipe of docs/use/FILES.md."""
     file = np.fromfile(cells, dtype=[("re", ">i2"), ("im", ">i2"), ("weight", "u1")], offset=8).reshape(-1, carriers)
     values = (file["re"] + 1j * file["im"]) / 16384
     spectrum = np.zeros((len(values), points), complex)

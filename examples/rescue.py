@@ -1,5 +1,5 @@
 #!/usr/bin/env python3
-"""What `rescue` is worth: packets that come back at the edge, by `receive` and by `rescue` (docs/RESCUE.md).
+"""What `rescue` is worth: packets that come back at the edge, by `receive` and by `rescue` (docs/use/RESCUE.md).
 
 usage: examples/rescue.py [--out FOLDER] [--program CMD] [--only TEXT]
 

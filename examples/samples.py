@@ -106,7 +106,7 @@ def to_cells(mode, guard, source, to):
 
 
 def to_samples(mode, guard, source, to):
-    """A cell file to samples (docs/FILES.md)."""
+    """A cell file to samples (docs/use/FILES.md)."""
     points, count = (2048, 1705) if mode == "2k" else (8192, 6817)
     length = points // int(guard.partition("/")[2])
     if source.read(8) != header(mode):

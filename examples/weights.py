@@ -1,5 +1,5 @@
 #!/usr/bin/env python3
-"""A notch over 5 % of the carriers, received with and without weights (docs/WEIGHTS.md).
+"""A notch over 5 % of the carriers, received with and without weights (docs/use/WEIGHTS.md).
 
 usage: examples/weights.py [--out PICTURE.svg]
 

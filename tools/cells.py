@@ -5,7 +5,7 @@ exec python3 "$0" "$@"
 '''
 import _signal  # the built-in part alone: it comes before all that takes time
 
-__doc__ = """Looks into cell files, compares two, and measures one (docs/FILES.md, docs/CHECK-YOUR-EQUIPMENT.md).
+__doc__ = """Looks into cell files, compares two, and measures one (docs/use/FILES.md, docs/use/CHECK-YOUR-EQUIPMENT.md).
 
     tools/cells.py SETTINGS CELLS               symbols, TPS and powers; with --out a picture of the constellation
     tools/cells.py compare SETTINGS A B         how A differs from B: symbol, carrier, kind, label bit, clause, likeliest cause
@@ -13,7 +13,7 @@ __doc__ = """Looks into cell files, compares two, and measures one (docs/FILES.m
     tools/cells.py disturb SETTINGS CELLS OUT   the same cells with noise, to try a receiver on
 
 A cell file may be a pipe, and `-` is standard input (of `disturb` OUT also standard output). Files are read a frame at a
-time, so their length costs no memory. With --json what is found is one object on one line (docs/JSON.md).
+time, so their length costs no memory. With --json what is found is one object on one line (docs/use/JSON.md).
 
 Needs Python 3.9 or later, numpy, and for --out matplotlib too. On Debian:
     apt-get install python3-numpy python3-matplotlib
@@ -141,13 +141,13 @@ def parser_of(verb):
     """The parser of a command."""
     parser = Parser(verb)
     add = parser.add
-    add("settings", metavar="SETTINGS", help="the settings of the transmission (docs/SETTINGS.md)")
+    add("settings", metavar="SETTINGS", help="the settings of the transmission (docs/use/SETTINGS.md)")
     if verb == "compare":
         add("cells", metavar="A", help="the cell file that is judged")
         add("other", metavar="B", help="the cell file that it is judged by, as dvbt modulate writes it")
         add("--within", type=reach, default=0, metavar="N", help="parts that differ by N at most count as the same (default: 0)")
     else:
-        add("cells", metavar="CELLS", help="the cell file (docs/FILES.md), - for standard input")
+        add("cells", metavar="CELLS", help="the cell file (docs/use/FILES.md), - for standard input")
     if verb == "measure":
         add("--sent", metavar="CELLS",
             help="measure against this file, which dvbt modulate wrote by the same settings, not against the nearest points")
@@ -168,7 +168,7 @@ def parser_of(verb):
             "with commas between (default: data,pilot,tps)")
         add("--labels", action="store_true", help="write the label y0 y1 .. at each point of the constellation")
         add("--out", metavar="PNG", help="draw the constellation to this file; without it nothing is drawn")
-    add("--json", action="store_true", help="print what is found as one object on one line (docs/JSON.md)")
+    add("--json", action="store_true", help="print what is found as one object on one line (docs/use/JSON.md)")
     add("--version", action="version", version=version(), help="print the versions of this, of Python and of numpy")
     return parser
 

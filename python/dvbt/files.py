@@ -1,4 +1,4 @@
-"""Cell files as numpy arrays, a view of their bytes (docs/FILES.md). tools/cell_tools reads files by it, too."""
+"""Cell files as numpy arrays, a view of their bytes (docs/use/FILES.md). tools/cell_tools reads files by it, too."""
 from typing import Optional, Tuple
 
 import numpy as np

@@ -1,4 +1,4 @@
-"""The settings of a transmission (docs/SETTINGS.md), written as the TOML that the program reads."""
+"""The settings of a transmission (docs/use/SETTINGS.md), written as the TOML that the program reads."""
 import dataclasses
 from typing import Any, Mapping, Optional, Sequence, Union
 

@@ -1,4 +1,4 @@
-"""What a command of cells.py found: lines for a reader, and the same by name for a program (docs/JSON.md)."""
+"""What a command of cells.py found: lines for a reader, and the same by name for a program (docs/use/JSON.md)."""
 import json
 import math
 import os

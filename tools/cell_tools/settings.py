@@ -1,4 +1,4 @@
-"""The settings document (docs/SETTINGS.md) by the standard library alone: bin/dvbt explains by it, without numpy."""
+"""The settings document (docs/use/SETTINGS.md) by the standard library alone: bin/dvbt explains by it, without numpy."""
 import re
 
 from cell_tools import plain_toml
@@ -23,7 +23,7 @@ class Unfit(Exception):
 
 
 def read_settings(path):
-    """The settings document as a dictionary. What `dvbt` rejects (docs/SETTINGS.md) is rejected, with the line that it prints."""
+    """The settings document as a dictionary. What `dvbt` rejects (docs/use/SETTINGS.md) is rejected, with the line that it prints."""
     try:
         with open(path, "rb") as file:
             content = file.read(LONGEST + 1)
@@ -118,7 +118,7 @@ def why_no_entry(found):
 
 
 def settings_in(settings, super_frame):
-    """The settings with the parameters of a super-frame, from 0 (docs/SETTINGS.md, plans)."""
+    """The settings with the parameters of a super-frame, from 0 (docs/use/SETTINGS.md, plans)."""
     begun = [entry for entry in settings["plan"] if entry["after"] <= super_frame]
     if not begun:
         return settings

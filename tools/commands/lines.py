@@ -1,4 +1,4 @@
-"""The lines of a report, and the values that they have. docs/JSON.md says the same."""
+"""The lines of a report, and the values that they have. docs/use/JSON.md says the same."""
 
 COUNTS = "clean {clean} corrected {corrected} bad {bad} unphased {unphased} unmerged {unmerged}"
 TPS = "tps read {tps_read} bad {tps_bad}"

@@ -3,60 +3,60 @@ from commands import forms
 
 SHORT = {
     "modulate": "transport packets to the cells of the OFDM carriers",
-    "receive": "cells, noisy ones too, back to transport packets",
-    "rescue": "cells back to transport packets, more of them out of noise, at some cost in time",
-    "tune": "cells from any symbol on, their settings read from the signal",
-    "align": "cells from any symbol on as cells from a super-frame on, and the parameters that the signal announces",
-    "upgrade": "a cell file of version 1 as one of version 2",
-    "equalise": "cells corrected by the pilots of their own symbols",
-    "trial": "random packets of a number, there and back over disturbed cells",
+    "receive": "cells, noisy or not, to transport packets",
+    "rescue": "like receive; decodes failed words once more, with their least reliable bytes erased",
+    "tune": "like receive, from any symbol on; reads the parameters from the TPS",
+    "align": "cells from any symbol on to cells from a super-frame on; reports the parameters in the TPS",
+    "upgrade": "a cell file of version 1 to version 2",
+    "equalise": "corrects and weights cells by the pilots of their own symbols",
+    "trial": "sends random packets over disturbed cells and counts what comes back",
     "disperse": "energy dispersal alone, 188 bytes a packet",
-    "outer": "dispersal, Reed-Solomon code and outer interleaver, 204 bytes a packet",
+    "outer": "energy dispersal, Reed-Solomon code and outer interleaver, 204 bytes a packet",
     "inner": "those bytes, convolutionally coded and punctured",
 }
 
-MONITOR = "these joined: from live cells to packets and figures, on a screen or a page"
+MONITOR = "all in one: from live cells to packets and figures, on a screen or a page"
 if not {"align", "track", "measure"} <= set(forms.FORMS):
     MONITOR += " (not usable yet: it needs track and measure)"
 
 FILES = {
-    "SETTINGS": "a TOML document of the transmission (docs/SETTINGS.md; examples/settings/)",
-    "HP": "a transport file, packets of 188 bytes: the only stream, or the sturdier of two",
+    "SETTINGS": "a TOML document of the transmission (docs/use/SETTINGS.md; examples/settings/)",
+    "HP": "a transport file, packets of 188 bytes: the only stream, or the more robust of two",
     "LP": "a transport file: the second stream, with a hierarchy",
     "TS": "a transport file, packets of 188 bytes",
-    "CELLS": "a cell file: a header, then five bytes a carrier, symbol after symbol (docs/FILES.md)",
-    "OLD": "a cell file of version 1: four bytes a carrier, without a header (docs/FILES.md)",
+    "CELLS": "a cell file: a header, then five bytes a carrier, symbol after symbol (docs/use/FILES.md)",
+    "OLD": "a cell file of version 1: four bytes a carrier, without a header (docs/use/FILES.md)",
     "NEW": "the cell file of version 2 to write: a header, then five bytes a carrier",
-    "IN": "a cell file of version 2, from the first symbol of a super-frame on; of align, from any symbol on (docs/FILES.md)",
+    "IN": "a cell file of version 2, from the first symbol of a super-frame on; of align, from any symbol on (docs/use/FILES.md)",
     "OUT": "the file to write",
     "NUMBER": "one to ten digits, at most 4294967295; the same number gives the same lines everywhere",
 }
 
 MORE = {
-    "modulate": """Writes whole super-frames, at least one: the fewest that carry all packets and let a receiver have them
-back. Null packets fill the rest. Name LP if and only if the settings have a hierarchy, at the top or in their plan.""",
+    "modulate": """Writes whole super-frames, at least one: the fewest from which a receiver gets all packets. Null packets
+fill the rest. Name LP if and only if the settings have a hierarchy, at the top or in their plan.""",
     "receive": """Reads cells from the first symbol of a super-frame on and writes packets as they are decided. A
 packet that can't be corrected is written with transport_error_indicator set. Name LP if and only if the settings have
 a hierarchy, at the top or in their plan. Set start = "any" if the cells do not begin at the start of a transmission.
-Each cell has a weight of 0 to 15, by which its costs count.""",
+Each cell has a weight of 0 to 15, which scales its costs.""",
     "rescue": """Reads cells and writes packets as `receive` does. If a word of 204 bytes has more than eight errors, its eight
-least sure bytes are erased, and it is decoded once more: with up to four errors among the others it comes back, and
-is counted as rescued. Packets come later than those of `receive`, and no line `tps` is printed.""",
+least reliable bytes are erased, and it is decoded once more. If the others have at most four errors, it is recovered
+and counted as rescued. Packets come later than from `receive`, and no line `tps` is printed.""",
     "tune": """Finds the first 68 symbols whose TPS word can be read, takes constellation, hierarchy, rates and guard interval from
-it, and receives from the next super-frame on. Of the settings only mode, workers and max_symbols have an effect. Name
-LP if and only if the signal has a hierarchy. `tune at I frame F` reports the first symbol of the frame, counted from 0.
+it, and receives from the next super-frame on. Of the settings only mode, workers and max_symbols are used. Name LP if
+and only if the signal has a hierarchy. `tune at I frame F` reports the first symbol of the frame, counted from 0.
 Symbols before that super-frame are not received.""",
     "align": """Finds the first 68 symbols whose TPS word can be read, and writes the header and then each whole symbol from the next
-super-frame on, byte for byte and as soon as it is whole. So a file that begins at a super-frame loses its first one.
-`tune at I frame F` reports the first symbol of the frame, counted from 0, and `announced ..` its parameters, in the
-words of the settings file; `symbols N tail T` counts what was written and the bytes after it. Of the settings only
-mode and max_symbols have an effect.""",
-    "upgrade": """Writes the header of the settings' mode, and each cell of OLD's whole symbols with the weight 15, at
-which it counts whole. Of the settings only mode and max_symbols have an effect.""",
-    "equalise": """Divides each cell by the gain on the line between the two pilots around it, and writes it with a weight of
-0 to 15 by how strong that gain is. Serves one gain a symbol, or one that bends slowly over the carriers. Of the
-settings only mode and max_symbols have an effect.""",
-    "trial": """Writes no file: the lines count what was sent and what came back, null packets too. `cells` and `sum` are sums of
+super-frame on, unchanged and as soon as it is complete. A file that begins at a super-frame loses its first one.
+`tune at I frame F` reports the first symbol of the frame, counted from 0, and `announced ..` its parameters in the
+words of the settings file. `symbols N tail T` counts the symbols written and the bytes after them. Of the settings
+only mode and max_symbols are used.""",
+    "upgrade": """Writes the header of the settings' mode, and each cell of OLD's whole symbols with the full weight, 15.
+Of the settings only mode and max_symbols are used.""",
+    "equalise": """Divides each cell by the gain interpolated between the two pilots around it, and writes it with a weight of
+0 to 15 by the power of that gain. Use it for flat gains and for short echoes. Of the settings only mode and
+max_symbols are used.""",
+    "trial": """Writes no file. The lines count what was sent and what came back, with null packets. `cells` and `sum` are sums of
 bytes modulo 2^32.""",
     "disperse": "EN 300 744, 4.3.1.",
     "outer": "EN 300 744, 4.3.1 and 4.3.2.",
@@ -79,23 +79,23 @@ EXAMPLES = {
 
 # The statuses, in one line each, and which commands have them.
 STATUSES = [
-    (0, "the work was done whole; the lines say what was counted", forms.FORMS),
+    (0, "done; the lines have the counts", forms.FORMS),
     (2, "invalid command line: `usage`", forms.FORMS),
     (3, "the settings are rejected: `settings ..` says why", ("modulate", "receive", "rescue", "tune", "align", "upgrade", "equalise", "trial", "inner")),
     (4, "a packet does not begin with the sync byte 47: `hp packet N`, `lp packet N`, counted from 0",
      ("modulate", "disperse", "outer", "inner")),
     (5, "a file can't be opened or read: `read fault`", forms.FORMS),
-    (6, "a file can't be made, written or closed: `write fault`", forms.FORMS),
-    (7, "memory runs out: `memory`; no line if an argument is not UTF-8 or the files' buffers can't be taken",
+    (6, "an output can't be created, written or closed: `write fault`", forms.FORMS),
+    (7, "out of memory: `memory`; no line if an argument is not UTF-8 or there is no memory for the files' buffers",
      ("modulate", "receive", "rescue", "tune", "align", "upgrade", "equalise", "trial", "outer", "inner")),
-    (7, "an argument is not UTF-8, or the files' buffers can't be taken: no line", ("disperse",)),
+    (7, "an argument is not UTF-8, or there is no memory for the files' buffers: no line", ("disperse",)),
     (8, "more packets or symbols than the limit: `limit N`", forms.FORMS),
     (9, "the cells do not begin with the header of the settings' mode: `cells header`", ("receive", "rescue", "tune", "align", "equalise")),
-    (10, "no frame is found in the cells: `tune none`", ("tune", "align")),
+    (10, "no TPS word can be read in the cells: `tune none`", ("tune", "align")),
     (11, "the signal has a hierarchy and LP is not given, or the reverse: `tune form`", ("tune",)),
 ]
 OF_THE_DOOR = [
-    (1, "with --strict: 0, and bin/dvbt has a verdict on the run, such as: no reception"),
+    (1, "with --strict: done, but with a verdict, such as no reception"),
     (64, "nothing was started: a file would be destroyed, a descriptor is not open, an option follows the command, OLD is of version 2, or an output is a terminal"),
     (126, "the program could not be built, or its proof failed, or the one that $DVBT_PROGRAM names can't be run"),
     (127, "the program is not built, and the toolchain's command rt is not on the PATH"),
@@ -118,13 +118,13 @@ def help_of_all():
     out += ["  bin/dvbt --program          the path of that program, which is built if it isn't yet"]
     out += ["  -q, --quiet                 the program alone: no explanation, verdict or progress on standard error"]
     out += ["  --strict                    status 1 in place of 0 if there is a verdict: a line on what a run is worth"]
-    out += ["  --json                      the report as one object on one line (docs/JSON.md)"]
+    out += ["  --json                      the report as one object on one line (docs/use/JSON.md)"]
     out += ["  -                           in place of a file: standard input, or output; the report then goes to standard error"]
     out += ["  $DVBT_PROGRAM               names another program to run in its place", ""]
     out += ["There and back:"]
     out += [f"  {EXAMPLES[it][0]}" for it in ("modulate", "receive")]
     out += ["", "Statuses:"] + lines_of_statuses(None)
-    out += ["", "docs/SETTINGS.md lists the settings, docs/FILES.md describes the files."]
+    out += ["", "docs/use/SETTINGS.md lists the settings, docs/use/FILES.md describes the files."]
     return "\n".join(out)
 
 

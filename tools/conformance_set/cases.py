@@ -42,7 +42,7 @@ def cases():
 
 
 def disturbed(content, mode, noise, weights, muted):
-    """A cell file disturbed by the rule of docs/CONFORMANCE.md."""
+    """A cell file disturbed by the rule of docs/build/CONFORMANCE.md."""
     symbols = Symbols(mode)
     count = symbols.count(content) * symbols.carriers
     numbers = Numbers(2 * count + (count if weights == "spread" else 0))

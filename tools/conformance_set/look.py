@@ -24,7 +24,7 @@ def difference(found, content, expected):
     places = [at for at in range(HEADER, len(content), WIDTH) if content[at : at + WIDTH] != expected[at : at + WIDTH]]
     cells = [divmod((at - HEADER) // WIDTH, symbols.carriers) for at in places]
     if not cells:
-        return "nothing differs from the cells of the program, so those differ from the row as well"
+        return "nothing differs from the cells of the program, so those differ from the table as well"
     symbol, carrier = cells[0]
     text = f"{len(cells)} cell{'s' if len(cells) > 1 else ''}, the first in symbol {symbol} at carrier {carrier}, {kind(symbols, symbol, carrier)}"
     if all(content[at : at + 4] == expected[at : at + 4] for at in places):

@@ -1,4 +1,4 @@
-"""Pseudo-random sequences, the transport streams made of them, and the disturbance of cells (docs/CONFORMANCE.md)."""
+"""Pseudo-random sequences, the transport streams made of them, and the disturbance of cells (docs/build/CONFORMANCE.md)."""
 import array
 import sys
 

@@ -46,9 +46,9 @@ def of_usage(words):
         say(f"  {line}" for line in forms.lines_of_forms(command))
         say("NUMBER has one to ten digits and is at most 4294967295" if command == "trial" else [])
     elif command.startswith("-"):
-        options = f"{', '.join(forms.OPTIONS)}, before the command, and --help, --version and --program alone"
+        options = f"{', '.join(forms.OPTIONS)}, before the command, and --help, --version and --program without a command"
         is_alone = command in ("--version", "--program")
-        say(f"{command} stands alone" if is_alone else f"there is no option {command}; the options are {options}")
+        say(f"{command} takes no arguments" if is_alone else f"there is no option {command}; the options are {options}")
     elif command in ("help", "version"):
         of = f"{words[1]} " if command == "help" and words[1:] and words[1] in forms.FORMS else ""
         say(f"{command} is --{command}: bin/dvbt {of}--{command}")
@@ -90,7 +90,7 @@ def of_settings(form, text):
     if kind:
         return f"{path} looks like {kind}: SETTINGS comes first"
     name = f"{path}, read as SETTINGS," if refusal in ("too long", "not toml") else path
-    return f"{name} {settings.why_rejected(piece(path, 0, 65536), refusal)} (docs/SETTINGS.md)"
+    return f"{name} {settings.why_rejected(piece(path, 0, 65536), refusal)} (docs/use/SETTINGS.md)"
 
 
 def of_packet(form, text):
@@ -122,7 +122,7 @@ def of_reading(form, text):
 
 
 def of_writing(form, text):
-    """A file can't be made, written or closed. If the line is missing, it is standard output that failed."""
+    """A file can't be created, written or closed. If the line is missing, it is standard output that failed."""
     paths = form.outputs if text == "write fault" else []
     names = " or ".join(paths) or "standard output"
     is_pipe = paths and all(os.path.exists(path) and stat.S_ISFIFO(os.stat(path).st_mode) for path in paths)
@@ -204,7 +204,7 @@ def of_header(form, text):
     if sync_in(begin[:EIGHT])[0]:
         return f"{path} looks like a transport file, and {form.command} reads cells: modulate makes them of packets"
     begins = f" ({begin[:8].hex(' ').upper()})" if begin else ""
-    return f"{path} does not begin with the header of a cell file of version 2{begins}: docs/FILES.md"
+    return f"{path} does not begin with the header of a cell file of version 2{begins}: docs/use/FILES.md"
 
 
 def of_no_frame(form, text):
@@ -233,7 +233,7 @@ def what_stands(form, before, status=None):
         if now and now != before.get(path):
             yield f"{path} holds {now[1]:,} bytes{counted(form, kind, now[1])}{what}" if now[1] else f"{path} is empty"
         elif path:
-            yield f"{path} {'is unchanged' if now else 'was not made'}"
+            yield f"{path} {'is unchanged' if now else 'was not created'}"
 
 
 def counted(form, kind, size):

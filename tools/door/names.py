@@ -49,7 +49,7 @@ def given(form, closed):
     for file in files:
         number = 1 if file in data else file.number
         if file.is_output and number is not None and is_begun(number):
-            raise Rejected(f"{file.path} holds data already and would begin anew; pipe through `cat`, or name the file", file.path)
+            raise Rejected(f"{file.path} holds data already and would be truncated; pipe through `cat`, or name the file", file.path)
     for file in (it for it in files if it.number == 1):
         real = os.dup(1)  # the report takes the place of this one
         os.set_inheritable(real, True)

@@ -1,4 +1,4 @@
-"""The report as JSON (docs/JSON.md)."""
+"""The report as JSON (docs/use/JSON.md)."""
 import json
 import os
 

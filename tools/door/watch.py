@@ -123,7 +123,7 @@ def run(program, form, words, given, options, is_data, closed):
         explain.say("standard output took no more, so the last lines are lost")
         status = 6
     elif status < 0:
-        why = ": so it ends if it has too little stack or address space (docs/FILES.md)" if status == -signal.SIGSEGV else ""
+        why = ": so it ends if it has too little stack or address space (docs/use/RUNNING.md)" if status == -signal.SIGSEGV else ""
         tell([f"the program was ended by {name_of(-status)}{why}", *(explain.what_stands(form, before) if form else [])])
     elif status and "quiet" not in options:
         explain.of_refusal(form, words, status, lines[-1] if lines else "", before)

@@ -14,7 +14,8 @@ COPIED = [
     "python/*.*", "python/dvbt/*.py", "grc/*.yml",
     "dist/dvbt-x86-64-v?", "dist/SHA256SUMS", "examples/*.py", "examples/*.grc", "examples/sample.ts", "examples/settings/*.toml", "bench/gnuradio_receiver.py",
 ]
-DOCUMENTS = ["README.md", "CHANGELOG.md", "CITATION.cff", "docs/*"]  # to PREFIX/share/doc/dvbt
+DOCUMENTS = ["CITATION.cff", "docs/use/*", "docs/build/*"]  # to PREFIX/share/doc/dvbt, without docs/
+AT_THE_TOP = ["README.md", "CHANGELOG.md"]  # as well, with links to documents as they are placed there
 LINKS = {
     "bin/dvbt": "../lib/dvbt/bin/dvbt",
     "bin/dvbt-cells": "../lib/dvbt/tools/cells.py",
@@ -88,7 +89,9 @@ def lay(top, folder, prefix):
     tree.put(f"{LIBRARY}/SOURCES", f"{sources}\n")
     tree.put(f"{LIBRARY}/TOOLCHAIN", f"{toolchain}\n")
     for pattern in DOCUMENTS:
-        tree.copy(top, pattern, lambda name: f"share/doc/dvbt/{os.path.basename(name)}")
+        tree.copy(top, pattern, lambda name: f"share/doc/dvbt/{name.removeprefix('docs/')}")
+    for name in AT_THE_TOP:
+        tree.put(f"share/doc/dvbt/{name}", text_of(f"{top}/{name}").replace("](docs/", "]("))
     for name, text in pages.pages(top, prefix, version).items():
         tree.put(f"share/man/man{name[-1]}/{name}", text)
     for name, text in completion.COMPLETIONS.items():

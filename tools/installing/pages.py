@@ -1,4 +1,6 @@
 """The pages of the manual, of the same texts as `--help` and docs/."""
+import glob
+import os
 import re
 
 from commands import forms as words
@@ -7,13 +9,22 @@ from installing import roff
 from monitor import arguments
 
 
+DOCS = os.path.join(os.path.dirname(os.path.realpath(__file__)), "../../docs")
+
+
+def installed(name, prefix):
+    """Where a document of this name is installed."""
+    found = glob.glob(f"{DOCS}/*/{name}")
+    return f"{prefix}/share/doc/dvbt/{os.path.relpath(found[0], DOCS) if found else name}"
+
+
 def placed(text, prefix):
     """A text of the repository with the names that things have once they are installed."""
-    for name, page in (("docs/FILES.md", "dvbt-cells(5)"), ("docs/SETTINGS.md", "dvbt-settings(5)"), ("SETTINGS.md", "dvbt-settings(5)")):
-        text = re.sub(rf"\[[^\]]*\]\((?:\.\./)?{re.escape(name)}[^)]*\)|(?<![\w/]){re.escape(name)}", page, text)
+    for name, page in (("docs/use/FILES.md", "dvbt-cells(5)"), ("docs/use/SETTINGS.md", "dvbt-settings(5)"), ("SETTINGS.md", "dvbt-settings(5)")):
+        text = re.sub(rf"\[[^\]]*\]\((?:\.\./)*{re.escape(name)}[^)]*\)|(?<![\w/]){re.escape(name)}", page, text)
     text = re.sub(r"\[[^\]]*\]\(FILES\.md[^)]*\)", "dvbt-cells(5)", text)
-    text = re.sub(r"\[([\w-]+\.md)\]\([^)]*\)", rf"{prefix}/share/doc/dvbt/\1", text)
-    text = re.sub(r"(?<![\w/])docs/([\w-]+\.md)", rf"{prefix}/share/doc/dvbt/\1", text)
+    text = re.sub(r"\[(?:docs/\w+/)?([\w-]+\.md)\]\([^)]*\)", lambda found: installed(found[1], prefix), text)
+    text = re.sub(r"(?<![\w/])docs/\w+/([\w-]+\.md)", lambda found: installed(found[1], prefix), text)
     text = re.sub(r"bin/dvbt((?: COMMAND)? --\w+ {2,})", r"dvbt\1    ", text)  # the columns of --help
     text = text.replace("tools/cells.py", "dvbt-cells").replace("bin/dvbt", "dvbt")
     return re.sub(r"((?<![\w/])|(?<=\\fB))examples/", f"{prefix}/share/dvbt/examples/", text)
@@ -54,7 +65,7 @@ def of_program(top):
     """The body of dvbt(1)."""
     usage = [*texts.USAGE, *(line for it in words.FORMS for line in words.lines_of_forms(it))]
     synopsis = "".join(f"\\fB{roff.escaped(line, True)}\\fR\n.br\n" for line in usage)
-    readme, files = read(top, "README.md"), read(top, "docs/FILES.md")
+    readme, running = read(top, "README.md"), read(top, "docs/use/RUNNING.md")
     about = roff.opening(readme).split("```")[0].strip()
     out = f".SH SYNOPSIS\n{synopsis}.SH DESCRIPTION\n{roff.body(about)}"
     out += ".SH OPTIONS\n" + tagged(options())
@@ -62,13 +73,13 @@ def of_program(top):
     out += f".SS monitor\n{roff.literal(arguments.HELP.split(chr(10)))}"
     out += ".SH ARGUMENTS\n" + tagged(texts.FILES.items())
     out += ".SH EXIT STATUS\n" + tagged(statuses())
-    out += roff.body(roff.sections(readme, "Limits")) + roff.body(roff.sections(files, "Pipes, devices and faults"))
+    out += roff.body(roff.sections(readme, "Limits")) + roff.body(roff.sections(running, "What the outputs hold", "Pipes, devices and faults"))
     return out + ".SH SEE ALSO\ndvbt\\-cells(5), dvbt\\-settings(5); ETSI EN 300 744, ETSI TR 101 290, ISO/IEC 13818\\-1\n"
 
 
 def of_cells(top):
     """The body of dvbt-cells(5)."""
-    text = read(top, "docs/FILES.md")
+    text = read(top, "docs/use/FILES.md")
     names = ["Cell files", "Transport files", "Reading a cell file in numpy", "Reading a cell file in GNU Radio", "From cells to samples"]
     about = ".SH DESCRIPTION\n" + roff.body(roff.opening(text))
     return about + roff.body(roff.sections(text, *names)) + ".SH SEE ALSO\ndvbt(1), dvbt\\-settings(5)\n"
@@ -76,7 +87,7 @@ def of_cells(top):
 
 def of_settings(top):
     """The body of dvbt-settings(5)."""
-    text = read(top, "docs/SETTINGS.md")
+    text = read(top, "docs/use/SETTINGS.md")
     about = ".SH DESCRIPTION\n" + roff.body(roff.opening(text))
     return about + roff.body(text[text.index("\n## ") :]) + ".SH SEE ALSO\ndvbt(1), dvbt\\-cells(5)\n"
 
@@ -94,5 +105,5 @@ def pages(top, prefix, version):
     for file, (body, summary) in PAGES.items():
         name, section = file.rsplit(".", 1)
         text = placed(roff.page(name, section, summary, body(top), version), prefix)
-        found[file] = re.sub(r"(?<![\w/-])([A-Z][A-Z-]+\.md)", rf"{prefix}/share/doc/dvbt/\1", text)
+        found[file] = re.sub(r"(?<![\w/-])([A-Z][A-Z-]+\.md)", lambda it: installed(it[1], prefix), text)
     return found

@@ -8,24 +8,24 @@ HELP = """dvbt monitor: cells, live or recorded, to packets and figures: align, 
   dvbt monitor [OPTIONS] CELLS HP LP
 
   CELLS  a cell file of version 2, a FIFO, or - for standard input; it may begin at any symbol
-  HP     the packets received: the only stream, or the sturdier of two; without it there are figures alone
+  HP     the packets received: the only stream, or the more robust of two; without it there are figures alone
   LP     the packets of the second stream, if the signal has a hierarchy
 
 It finds a super-frame and reads the parameters (align), corrects the cells (track), receives (receive) and measures (measure).
-If the signal is gone it says so and begins anew at align. The programs are proved; what joins them is not.
+If the signal is lost it says so and starts again at align. The programs are proved; what joins them is not.
 
 Options:
-  --mode 2k|8k                     reject cells of the other mode; without it the header of CELLS tells the mode
+  --mode 2k|8k                     reject cells of the other mode; without it the mode is that of the header of CELLS
   --equaliser track|symbol|none    what corrects the cells: track (the default), equalise, or nothing
   --rescue                         rescue in place of receive
   --lost N                         the signal is lost after N super-frames without reception (default: 4)
   --channel 6|7|8                  MHz of the channel, for times (default: 8)
-  --json                           a line of JSON a super-frame, and one for each event (docs/MONITOR.md)
+  --json                           a line of JSON a super-frame, and one for each event (docs/use/MONITOR.md)
   --log FILE                       append events, alarms and a line a minute, with time stamps
   --alarm LIMITS                   mer=DB viterbi=RATE rs=RATE bad=COUNT lock, with commas between
   --page PORT                      a page at http://127.0.0.1:PORT/; after the end of CELLS it stays until Ctrl-C
 
-LIMITS: an alarm is raised if the MER is below DB, the bit error rate before Viterbi or before Reed-Solomon is above RATE, there
+LIMITS: an alarm is raised if the MER is below DB, the bit error ratio before Viterbi or before Reed-Solomon is above RATE, there
 are more than COUNT bad words a minute, or lock is lost. Each alarm prints a line, and the exit status is then 1.
 
 Example:
@@ -36,14 +36,14 @@ Statuses:
     1  an alarm was raised
     2  invalid command line
     5  CELLS can't be opened or read
-    6  an output can't be made or written
+    6  an output can't be created or written
     9  CELLS does not begin with the header of a cell file, or of the mode
-   10  no frame is found in the cells
+   10  no TPS word can be read in the cells
    64  nothing was started: a file would be destroyed
   126  a program of the chain failed, or could not be built"""
 
 LIMITS = {
-    "mer": "MER below {} dB", "viterbi": "bit error rate before Viterbi above {}", "rs": "bit error rate before Reed-Solomon above {}",
+    "mer": "MER below {} dB", "viterbi": "bit error ratio before Viterbi above {}", "rs": "bit error ratio before Reed-Solomon above {}",
     "bad": "more than {} bad words a minute", "lock": "lock lost",
 }
 OPTIONS = ["mode=", "equaliser=", "rescue", "lost=", "channel=", "json", "log=", "alarm=", "page="]

@@ -1,4 +1,4 @@
-"""What the lines of `measure` say: MER and bit error rates, words, and the time on air."""
+"""What the lines of `measure` say: MER and bit error ratios, words, and the time on air."""
 import math
 
 from commands import lines
@@ -40,12 +40,12 @@ class Stream:
 
     @property
     def viterbi(self):
-        """The bit error rate before the inner decoder, or None."""
+        """The bit error ratio before the inner decoder, or None."""
         return ratio(self.counts["wrong"], self.counts["bits"])
 
     @property
     def rs(self):
-        """The bit error rate before the outer decoder, or None. It is the least possible if a word is bad: of such a word nothing is
+        """The bit error ratio before the outer decoder, or None. It is the least possible if a word is bad: of such a word nothing is
         known but that nine of its bytes are wrong."""
         words = self.counts["clean"] + self.counts["corrected"] + self.counts["bad"]
         return ratio(self.counts["repaired"] + NINE * self.counts["bad"], WORD * words)

@@ -20,7 +20,7 @@ class Source:
         self.header = self.first(8)
         self.mode = HEADERS.get(self.header)
         if self.mode is None:
-            raise NoHeader(f"{path} does not begin with the header of a cell file of version 2 (docs/FILES.md)")
+            raise NoHeader(f"{path} does not begin with the header of a cell file of version 2 (docs/use/FILES.md)")
         if mode and mode != self.mode:
             raise NoHeader(f"{path} has cells of the {self.mode} mode, not of {mode}")
         self.size = SYMBOL[self.mode]
