@@ -9,6 +9,7 @@ SHORT = {
     "align": "cells from any symbol on as cells from a super-frame on, and the parameters that the signal announces",
     "upgrade": "a cell file of version 1 as one of version 2",
     "equalise": "cells corrected by the pilots of their own symbols",
+    "track": "cells corrected by the scattered pilots of neighbouring symbols: echoes as long as the guard interval",
     "trial": "random packets of a number, there and back over disturbed cells",
     "disperse": "energy dispersal alone, 188 bytes a packet",
     "outer": "dispersal, Reed-Solomon code and outer interleaver, 204 bytes a packet",
@@ -56,6 +57,10 @@ which it counts whole. Of the settings only mode and max_symbols have an effect.
     "equalise": """Divides each cell by the gain on the line between the two pilots around it, and writes it with a weight of
 0 to 15 by how strong that gain is. Serves one gain a symbol, or one that bends slowly over the carriers. Of the
 settings only mode and max_symbols have an effect.""",
+    "track": """Takes the gain of each carrier from the scattered pilots of the symbols around it, at every third carrier, so that it
+serves echoes of up to the guard interval, a channel that changes from symbol to symbol, and a common phase error. Weighs each
+cell by its power and the measured noise, and shares that with its old weight. A symbol is written after the seventh one that
+follows it, or at the end. Of the settings mode, guard, max_symbols and the constellations, those of the plan too, have an effect.""",
     "trial": """Writes no file: the lines count what was sent and what came back, null packets too. `cells` and `sum` are sums of
 bytes modulo 2^32.""",
     "disperse": "EN 300 744, 4.3.1.",
@@ -71,6 +76,7 @@ EXAMPLES = {
     "align": ["bin/dvbt align examples/settings/64qam.toml recorded.cells aligned.cells"],
     "upgrade": ["bin/dvbt upgrade examples/settings/64qam.toml old.cells new.cells"],
     "equalise": ["bin/dvbt equalise examples/settings/64qam.toml received.cells corrected.cells"],
+    "track": ["bin/dvbt track examples/settings/64qam.toml received.cells corrected.cells"],
     "trial": ["bin/dvbt trial examples/settings/qpsk.toml 7"],
     "disperse": ["bin/dvbt disperse examples/sample.ts out.ts"],
     "outer": ["bin/dvbt outer examples/sample.ts out.bin"],
@@ -81,16 +87,16 @@ EXAMPLES = {
 STATUSES = [
     (0, "the work was done whole; the lines say what was counted", forms.FORMS),
     (2, "invalid command line: `usage`", forms.FORMS),
-    (3, "the settings are rejected: `settings ..` says why", ("modulate", "receive", "rescue", "tune", "align", "upgrade", "equalise", "trial", "inner")),
+    (3, "the settings are rejected: `settings ..` says why", ("modulate", "receive", "rescue", "tune", "align", "upgrade", "equalise", "track", "trial", "inner")),
     (4, "a packet does not begin with the sync byte 47: `hp packet N`, `lp packet N`, counted from 0",
      ("modulate", "disperse", "outer", "inner")),
     (5, "a file can't be opened or read: `read fault`", forms.FORMS),
     (6, "a file can't be made, written or closed: `write fault`", forms.FORMS),
     (7, "memory runs out: `memory`; no line if an argument is not UTF-8 or the files' buffers can't be taken",
-     ("modulate", "receive", "rescue", "tune", "align", "upgrade", "equalise", "trial", "outer", "inner")),
+     ("modulate", "receive", "rescue", "tune", "align", "upgrade", "equalise", "track", "trial", "outer", "inner")),
     (7, "an argument is not UTF-8, or the files' buffers can't be taken: no line", ("disperse",)),
     (8, "more packets or symbols than the limit: `limit N`", forms.FORMS),
-    (9, "the cells do not begin with the header of the settings' mode: `cells header`", ("receive", "rescue", "tune", "align", "equalise")),
+    (9, "the cells do not begin with the header of the settings' mode: `cells header`", ("receive", "rescue", "tune", "align", "equalise", "track")),
     (10, "no frame is found in the cells: `tune none`", ("tune", "align")),
     (11, "the signal has a hierarchy and LP is not given, or the reverse: `tune form`", ("tune",)),
 ]
