@@ -1,6 +1,6 @@
 -- How many symbols bytes hold, and the symbols that were received of bytes that go on.
 use Rattle.std.proofs.Common.{◌≡◌, ℕ, zero, suc, ◌+◌, ◌*◌, ◌/◌, ◌%◌, ◌<◌, ◌≤◌, List, [], ◌∷◌, ◌++◌, length, take, drop, refl, ap, ap₂, sym, ◌∙◌, arith, map, length-append, length-take-le}
-use Rattle.std.proofs.lemmas.List.{append-nil, take-append-drop}
+use Rattle.std.proofs.lemmas.List.{take-append-drop}
 use Rattle.std.proofs.lemmas.List.FromFn.{length-map-range_with_len, map-range_with_len_more, take-map-range_with_len}
 use Rattle.spec_words.specs.Words.{numbers}
 use Rattle.mode_set.specs.StreamTable.{carriers}
@@ -8,9 +8,8 @@ use Rattle.mode_set.specs.declared.modes.Mode.{Mode}
 use Rattle.mode_set.specs.declared.modes.Mode.TheVariants.{M2k, M8k}
 use Rattle.mode_set.specs.declared.settings.Settings.{Settings}
 use Rattle.qam_map.specs.declared.cell.Cell.{Cell}
-use Rattle.frame_build.specs.Symbol.{cells_from, weights_from}
 use Rattle.channel_tracking.specs.Tracking.{Symbol}
-use Rattle.reception.specs.Cells.{symbol_length, symbols, tail, bytes_of_symbol, symbol_cells, symbol_weights}
+use Rattle.reception.specs.Cells.{symbol_length, symbols, tail, symbol_cells, symbol_weights}
 use Rattle.reception.specs.Laws.{CellsStay, WeightsStay, EndedSymbol, OneSymbolMore, SameSymbols, TailIsUnfinished, unfinished}
 use Rattle.tracking_laws.specs.Tracked.{received}
 use Rattle.track_run.specs.Working.{symbol_in}
@@ -75,6 +74,10 @@ symbol_at s bytes m = record { cells = symbol_cells s bytes m; weights = symbol_
 pub received_long : (s : Settings) (bytes : List ℕ) → length (received s bytes) ≡ symbols s bytes
 unfolding received numbers
 received_long s bytes = length-map-range_with_len (symbol_at s bytes) 0 (symbols s bytes)
+
+pub nothing_received : (s : Settings) → received s [] ≡ []
+unfolding received numbers
+nothing_received s = ap (λ (n : ℕ). map (symbol_at s []) (numbers n)) (no_symbols s)
 
 more_numbers : (f : ℕ → Symbol) (n : ℕ) → map f (numbers (suc n)) ≡ map f (numbers n) ++ f n ∷ []
 unfolding numbers

@@ -1,14 +1,13 @@
 -- What a call of the work gave, and what it wrote.
-use Rattle.std.proofs.Common.{◌≡◌, ℕ, ◌≤◌, Bool, true, List, [], ◌++◌, take, Result, Ok, Err, if◌then◌else◌, refl, ◌∙◌, sym, ap, subst}
+use Rattle.std.proofs.Common.{◌≡◌, ℕ, Bool, true, List, [], ◌++◌, take, Result, Ok, Err, if◌then◌else◌, refl, ◌∙◌, sym, ap, subst}
 use Rattle.std.proofs.lemmas.List.{append-nil}
-use Rattle.station_core.specs.Meaning.{Meaning, sink_at}
+use Rattle.station_core.specs.Meaning.{Meaning}
 use Rattle.station_core.specs.declared.ports.OutPort.{OutPort}
 use Rattle.station_core.specs.declared.ports.OutPort.TheVariants as outs
 use Rattle.run_clauses.specs.declared.work.Refusal.{Refusal}
 use Rattle.symbol_runs.specs.declared.stop.Stop.{Stop}
 use Rattle.symbol_runs.specs.declared.stop.Stop.TheVariants.{WriteFault}
-use Rattle.symbol_runs.specs.Outputs.{IsWriting}
-use Rattle.symbol_runs.specs.Work.{Does, Follows, Holds, HoldsFront, WritesOnly, Written}
+use Rattle.symbol_runs.specs.Work.{Does, Follows, Holds, HoldsFront, Written}
 use Rattle.symbol_runs.specs.Writing.{WritesAt}
 use Rattle.symbol_runs.proofs.Fronts.{all_of, none_of}
 use Rattle.cell_conversions.specs.Working.{written_at}
@@ -45,22 +44,6 @@ cells_append bytes old new (Err r) t w = (w.0, w.1, ap (λ (x : Meaning). x.cell
 
 pub cells_again : (a b c : Meaning) → CellsOnly a b → CellsOnly b c → CellsOnly a c
 cells_again a b c p q = q ∙ ap (λ (x : Meaning). record x { cells_out = record x.cells_out { written = c.cells_out.written }; write_faults = c.write_faults; pending = c.pending }) p
-
--- ---- only the outputs were written
-
-any_written : (old new : Meaning) (w l : List ℕ) (n k : ℕ) (b : Bool) → new ≡ record old { cells_out = record old.cells_out { written = w }; report = record old.report { written = l }; write_faults = n; report_faults = k; pending = b } → WritesOnly old new
-any_written old new w l n k b p = subst (λ (x : Meaning). WritesOnly old x) (sym p) refl
-
-pub cells_only : (old new : Meaning) → CellsOnly old new → WritesOnly old new
-cells_only old new p = any_written old new new.cells_out.written old.report.written new.write_faults old.report_faults new.pending p
-
-pub then_line : (line : List ℕ) (a b c : Meaning) (r : Result (Unit {0}) Stop) → CellsOnly a b → WritesAt outs.Report line b c r → WritesOnly a c
-then_line line a b c (Ok u) p w =
-    any_written a c b.cells_out.written (told b.tells b.report.written line) b.write_faults a.report_faults b.pending
-    (w ∙ ap (λ (x : Meaning). record x { report = record x.report { written = told b.tells b.report.written line } }) p)
-then_line line a b c (Err r) p w =
-    any_written a c b.cells_out.written (told b.tells b.report.written (take w.1 line)) c.write_faults c.report_faults b.pending
-    (w.2 ∙ ap (λ (x : Meaning). record x { report = record x.report { written = told b.tells b.report.written (take w.1 line) }; write_faults = c.write_faults; report_faults = c.report_faults }) p)
 
 -- ---- the symbols that were left, and the closing line
 module _ (m m' : Meaning) (cells line : List ℕ) (only : CellsOnly m m') where

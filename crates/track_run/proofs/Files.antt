@@ -1,6 +1,6 @@
 -- The new file of cells, and of cells that go on.
-use Rattle.std.proofs.Common.{◌≡◌, inl, inr, ℕ, ◌+◌, ◌-◌, ◌*◌, ◌<◌, ◌≤◌, Bool, true, List, [], ◌∷◌, ◌++◌, length, take, drop, refl, ap, ap₂, sym, ◌∙◌, subst, arith, append_assoc}
-use Rattle.std.specs.Prelude.{if◌then◌else◌, flat_map}
+use Rattle.std.proofs.Common.{◌≡◌, inl, inr, ℕ, ◌+◌, ◌-◌, ◌*◌, ◌<◌, ◌≤◌, Bool, List, [], ◌∷◌, ◌++◌, length, take, drop, refl, ap, ap₂, sym, ◌∙◌, arith, append_assoc}
+use Rattle.std.specs.Prelude.{if◌then◌else◌}
 use Rattle.std.proofs.lemmas.Bool.{cases_lt, le-leb, lt-leb}
 use Rattle.std.proofs.lemmas.List.{append-nil, take-append-drop}
 use Rattle.mode_set.specs.StreamTable.{carriers}
@@ -44,13 +44,13 @@ next_is law s all x n e = elim (cases_lt (length all) 7) [
       let before : n - 7 ≡ 0 = omega (arith, e, few) in
       let given : next_given s all x ≡ [] = ap (λ (b : Bool). if b then tracked_bytes s (all ++ x ∷ []) (length all - 7) else []) (lt-leb 7 (length all) few) in
       ap (corrected s (all ++ x ∷ [])) now ∙ none_corrected s (all ++ x ∷ []) ∙ sym (none_corrected s all) ∙ ap (corrected s all) (sym before)
-          ∙ sym (append-nil (corrected s all (n - 7))) ∙ ap (λ (l : List ℕ). corrected s all (n - 7) ++ l) (sym given)
+      ∙ sym (append-nil (corrected s all (n - 7))) ∙ ap (λ (l : List ℕ). corrected s all (n - 7) ++ l) (sym given)
   | inr many ↦
       let now : n + 1 - 7 ≡ n - 7 + 1 = omega (arith, e, many) in
       let place : n - 7 ≡ length all - 7 = omega (arith, e) in
       let given : next_given s all x ≡ tracked_bytes s (all ++ x ∷ []) (length all - 7) = ap (λ (b : Bool). if b then tracked_bytes s (all ++ x ∷ []) (length all - 7) else []) (le-leb 7 (length all) many) in
       ap (corrected s (all ++ x ∷ [])) now ∙ one_corrected s (all ++ x ∷ []) (n - 7)
-          ∙ ap₂ (λ (l r : List ℕ). l ++ r) (corrected_stay law s all (x ∷ []) (n - 7) (omega (arith, place))) (ap (tracked_bytes s (all ++ x ∷ [])) place ∙ sym given)
+      ∙ ap₂ (λ (l r : List ℕ). l ++ r) (corrected_stay law s all (x ∷ []) (n - 7) (omega (arith, place))) (ap (tracked_bytes s (all ++ x ∷ [])) place ∙ sym given)
 ]
 
 pub symbol_live : LiveSymbolsStay → Cuts → (s : Settings) (bytes piece : List ℕ) → tail s bytes ≡ 0 → tail s bytes + length piece ≡ symbol_length s

@@ -1,5 +1,5 @@
 -- The loop over the symbols that are left at the end.
-use Rattle.std.proofs.Common.{◌≡◌, ℕ, ◌+◌, ◌<◌, ◌≤◌, List, [], ◌++◌, length, take, Err, refl, ◌∙◌, sym, ap, arith, append_assoc}
+use Rattle.std.proofs.Common.{◌≡◌, ℕ, ◌+◌, ◌<◌, ◌≤◌, List, [], ◌++◌, length, take, Err, refl, ◌∙◌, sym, ap, append_assoc}
 use Rattle.std.proofs.Math.Seq.{take-append-add}
 use Rattle.std.proofs.lemmas.List.{append-nil, length-map}
 use Rattle.mode_set.specs.declared.settings.Settings.{Settings}

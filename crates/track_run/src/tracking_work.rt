@@ -89,6 +89,8 @@ impl<'a, S: Station<'a>, M: Carriers> SymbolWork<'a, S> for TrackingWork<M> {
     }
 
     fn take(&mut self, piece: &[u8], station: &mut S) -> Result<(), Stop> {
+        reception::laws::symbols();
+        channel_tracking::laws::live_symbols_stay();
         if piece.len() != 5 * M::K as usize {
             self.tail = piece.len() as u64;
             return Ok(());
