@@ -16,6 +16,7 @@ FORMS = {
     "align": [(SETTINGS, IN, CORRECTED)],
     "upgrade": [(SETTINGS, OLD, NEW)],
     "equalise": [(SETTINGS, IN, CORRECTED)],
+    "track": [(SETTINGS, IN, CORRECTED)],
     "trial": [(SETTINGS, NUMBER)],
     "disperse": [(TS, OUT)],
     "outer": [(TS, OUT)],

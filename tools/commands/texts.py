@@ -9,6 +9,7 @@ SHORT = {
     "align": "cells from any symbol on to cells from a super-frame on; reports the parameters in the TPS",
     "upgrade": "a cell file of version 1 to version 2",
     "equalise": "corrects and weights cells by the pilots of their own symbols",
+    "track": "corrects and weights cells by the pilots of neighbouring symbols; takes echoes of up to the guard interval",
     "trial": "sends random packets over disturbed cells and counts what comes back",
     "disperse": "energy dispersal alone, 188 bytes a packet",
     "outer": "energy dispersal, Reed-Solomon code and outer interleaver, 204 bytes a packet",
@@ -56,6 +57,11 @@ Of the settings only mode and max_symbols are used.""",
     "equalise": """Divides each cell by the gain interpolated between the two pilots around it, and writes it with a weight of
 0 to 15 by the power of that gain. Use it for flat gains and for short echoes. Of the settings only mode and
 max_symbols are used.""",
+    "track": """Takes the gain of each carrier from the scattered pilots of the symbols around it, which stand at every third
+carrier. Use it for echoes of up to the guard interval, for a channel that changes from symbol to symbol, and for a
+common phase error. Each cell is weighted by its power and the measured noise; the old weight scales that. A symbol is
+written after the seventh symbol that follows it, or at the end. Of the settings mode, guard, max_symbols and the
+constellations, also those of the plan, are used.""",
     "trial": """Writes no file. The lines count what was sent and what came back, with null packets. `cells` and `sum` are sums of
 bytes modulo 2^32.""",
     "disperse": "EN 300 744, 4.3.1.",
@@ -71,6 +77,7 @@ EXAMPLES = {
     "align": ["bin/dvbt align examples/settings/64qam.toml recorded.cells aligned.cells"],
     "upgrade": ["bin/dvbt upgrade examples/settings/64qam.toml old.cells new.cells"],
     "equalise": ["bin/dvbt equalise examples/settings/64qam.toml received.cells corrected.cells"],
+    "track": ["bin/dvbt track examples/settings/64qam.toml received.cells corrected.cells"],
     "trial": ["bin/dvbt trial examples/settings/qpsk.toml 7"],
     "disperse": ["bin/dvbt disperse examples/sample.ts out.ts"],
     "outer": ["bin/dvbt outer examples/sample.ts out.bin"],
@@ -81,16 +88,16 @@ EXAMPLES = {
 STATUSES = [
     (0, "done; the lines have the counts", forms.FORMS),
     (2, "invalid command line: `usage`", forms.FORMS),
-    (3, "the settings are rejected: `settings ..` says why", ("modulate", "receive", "rescue", "tune", "align", "upgrade", "equalise", "trial", "inner")),
+    (3, "the settings are rejected: `settings ..` says why", ("modulate", "receive", "rescue", "tune", "align", "upgrade", "equalise", "track", "trial", "inner")),
     (4, "a packet does not begin with the sync byte 47: `hp packet N`, `lp packet N`, counted from 0",
      ("modulate", "disperse", "outer", "inner")),
     (5, "a file can't be opened or read: `read fault`", forms.FORMS),
     (6, "an output can't be created, written or closed: `write fault`", forms.FORMS),
     (7, "out of memory: `memory`; no line if an argument is not UTF-8 or there is no memory for the files' buffers",
-     ("modulate", "receive", "rescue", "tune", "align", "upgrade", "equalise", "trial", "outer", "inner")),
+     ("modulate", "receive", "rescue", "tune", "align", "upgrade", "equalise", "track", "trial", "outer", "inner")),
     (7, "an argument is not UTF-8, or there is no memory for the files' buffers: no line", ("disperse",)),
     (8, "more packets or symbols than the limit: `limit N`", forms.FORMS),
-    (9, "the cells do not begin with the header of the settings' mode: `cells header`", ("receive", "rescue", "tune", "align", "equalise")),
+    (9, "the cells do not begin with the header of the settings' mode: `cells header`", ("receive", "rescue", "tune", "align", "equalise", "track")),
     (10, "no TPS word can be read in the cells: `tune none`", ("tune", "align")),
     (11, "the signal has a hierarchy and LP is not given, or the reverse: `tune form`", ("tune",)),
 ]

@@ -94,4 +94,5 @@ CHECKS = {
     "align": [written, symbols],
     "upgrade": [written, symbols],
     "equalise": [signal, written, symbols],
+    "track": [signal, written, symbols],
 }

@@ -11,7 +11,8 @@ use Rattle.tune_run.specs.TuneCommand.{tune_command}
 use Rattle.align_run.specs.AlignCommand.{align_command}
 use Rattle.upgrade_run.specs.UpgradeCommand.{upgrade_command}
 use Rattle.equalise_run.specs.EqualiseCommand.{equalise_command}
-use Rattle.dvbt_top.specs.Order.{Order, Disperse, Outer, Inner, Code, Modulate, Receive, Rescue, Tune, Align, Upgrade, Equalise, Trial, order_of}
+use Rattle.track_run.specs.TrackCommand.{track_command}
+use Rattle.dvbt_top.specs.Order.{Order, Disperse, Outer, Inner, Code, Modulate, Receive, Rescue, Tune, Align, Upgrade, Equalise, Track, Trial, order_of}
 
 -- words of no form: they are refused, and no file is asked for
 abbrev pub no_command : Command
@@ -44,6 +45,7 @@ command_for (Some (Tune settings cells hp lp)) = tune_command settings cells hp 
 command_for (Some (Align settings old new)) = align_command settings old new
 command_for (Some (Upgrade settings old new)) = upgrade_command settings old new
 command_for (Some (Equalise settings old new)) = equalise_command settings old new
+command_for (Some (Track settings old new)) = track_command settings old new
 command_for (Some (Trial settings number)) = trial_command settings number
 
 abbrev pub command_of : List (List ℕ) → Command

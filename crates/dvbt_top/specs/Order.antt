@@ -31,6 +31,8 @@ pub data Order : Type 0 where
   Upgrade : List ℕ → List ℕ → List ℕ → Order
   -- equalise SETTINGS IN OUT
   Equalise : List ℕ → List ℕ → List ℕ → Order
+  -- track SETTINGS IN OUT
+  Track : List ℕ → List ℕ → List ℕ → Order
   -- trial SETTINGS NUMBER
   Trial : List ℕ → ℕ → Order
 
@@ -49,7 +51,8 @@ order_of (name ∷ settings ∷ input ∷ output ∷ []) = if bytes_eq name (cod
     else if bytes_eq name (codes "tune") then Some (Tune settings input output None)
     else if bytes_eq name (codes "align") then Some (Align settings input output)
     else if bytes_eq name (codes "upgrade") then Some (Upgrade settings input output)
-    else if bytes_eq name (codes "equalise") then Some (Equalise settings input output) else None
+    else if bytes_eq name (codes "equalise") then Some (Equalise settings input output)
+    else if bytes_eq name (codes "track") then Some (Track settings input output) else None
 order_of (name ∷ settings ∷ first ∷ second ∷ third ∷ []) = if bytes_eq name (codes "modulate") then Some (Modulate settings first (Some second) third)
     else if bytes_eq name (codes "receive") then Some (Receive settings first second (Some third))
     else if bytes_eq name (codes "rescue") then Some (Rescue settings first second (Some third))

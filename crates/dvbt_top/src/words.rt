@@ -52,6 +52,7 @@ fn of_three<'a>(name: &str, settings: &'a str, a: &'a str, b: &'a str) -> Option
         "align" => Some(Form::Align(settings, a, b)),
         "upgrade" => Some(Form::Upgrade(settings, a, b)),
         "equalise" => Some(Form::Equalise(settings, a, b)),
+        "track" => Some(Form::Track(settings, a, b)),
         _ => None,
     }
 }

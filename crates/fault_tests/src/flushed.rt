@@ -137,6 +137,7 @@ fn cells(rt: HostRuntime) -> Result<(), Fail> {
         "align s a cells",
         "upgrade s a cells",
         "equalise s a cells",
+        "track s a cells",
     ];
     for text in texts {
         for refused in of_symbols(text) {

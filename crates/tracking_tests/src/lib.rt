@@ -1,4 +1,4 @@
-//! Channel tracking, layer by layer, beside values from outside.
+//! Channel tracking, layer by layer and as the command `track` over a station in memory, beside values from outside.
 //!
 //! The crate has tests alone.
 #![tactic(auto)]
@@ -7,3 +7,11 @@
 mod arithmetic;
 #[cfg(test)]
 mod corrected_cells;
+#[cfg(test)]
+mod files;
+#[cfg(test)]
+mod refused;
+#[cfg(test)]
+mod tracked;
+#[cfg(test)]
+mod trackers;

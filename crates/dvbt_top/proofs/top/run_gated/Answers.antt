@@ -81,6 +81,13 @@ returns-in-Some-Equalise g c =
     subst (λ (x : Option Order). Run (command_for x) c.args.limits.packets old new c.equalise.result)
     (ap (λ (f : Form). Some (order f)) (sym c.in-Some-Equalise.field-0-is) ∙ c.in-Some-Equalise.ensures) c.equalise.ensures
 
+pub returns-in-Some-Track : goal.returns-in-Some-Track
+returns-in-Some-Track g c =
+    let old : Meaning = g.S.Station.meaning c.args.station.now in
+    let new : Meaning = g.S.Station.meaning c.track.new.station in
+    subst (λ (x : Option Order). Run (command_for x) c.args.limits.packets old new c.track.result)
+    (ap (λ (f : Form). Some (order f)) (sym c.in-Some-Track.field-0-is) ∙ c.in-Some-Track.ensures) c.track.ensures
+
 pub returns-in-Some-Trial : goal.returns-in-Some-Trial
 returns-in-Some-Trial g c =
     let old : Meaning = g.S.Station.meaning c.args.station.now in

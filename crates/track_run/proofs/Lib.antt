@@ -1,0 +1,9 @@
+pub mod Bytes
+pub mod Growing
+pub mod Files
+pub mod Taking
+pub mod Calls
+pub mod Left
+pub mod Stood
+pub mod Commands
+pub mod WholeRun

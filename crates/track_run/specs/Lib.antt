@@ -1,0 +1,4 @@
+pub mod Tracked
+pub mod OwnLaws
+pub mod TrackCommand
+pub mod Working
