@@ -1,6 +1,6 @@
 //! Every command on files: packets are modulated and received in both modes, in each constellation, with a hierarchy and with a
-//! plan; what was sent is tuned in to; cells with noise and weights are received, rescued and equalised; packets are dispersed
-//! and coded, and old cells upgraded; a trial runs. One of the files has a packet that is refused.
+//! plan; what was sent is tuned in to, and aligned; cells with noise and weights are received, rescued, equalised, tracked and
+//! measured; packets are dispersed and coded, and old cells upgraded; a trial runs. One of the files has a packet that is refused.
 //!
 //! Each run has a station of its own. It prints its report and its status, and then what stands in
 //! each file that it wrote, as the system reads it. What it has to print, in the file `stdout`, was
@@ -51,7 +51,7 @@ static WIDE: [Run; 2] = [
 
 /// One stream on QPSK, and on 16-QAM from its second super-frame on, up to a limit of symbols. What is announced suffices to
 /// receive it from there on.
-static PLANNED: [Run; 3] = [
+static PLANNED: [Run; 4] = [
     (
         "modulate planned.toml lp.ts planned.cells",
         &["planned.cells"],
@@ -61,10 +61,14 @@ static PLANNED: [Run; 3] = [
         &["planned.ts"],
     ),
     ("tune settings.toml planned.cells tuned.ts", &["tuned.ts"]),
+    (
+        "align settings.toml planned.cells aligned.cells",
+        &["aligned.cells"],
+    ),
 ];
 
 /// Its cells with noise and weights.
-static NOISY: [Run; 4] = [
+static NOISY: [Run; 7] = [
     ("receive planned.toml noisy.cells noisy.ts", &["noisy.ts"]),
     (
         "rescue planned.toml noisy.cells rescued.ts",
@@ -78,6 +82,15 @@ static NOISY: [Run; 4] = [
         "receive planned.toml equalised.cells equalised.ts",
         &["equalised.ts"],
     ),
+    (
+        "track planned.toml noisy.cells tracked.cells",
+        &["tracked.cells"],
+    ),
+    (
+        "receive planned.toml tracked.cells tracked.ts",
+        &["tracked.ts"],
+    ),
+    ("measure planned.toml noisy.cells", &[]),
 ];
 
 /// The other commands.
