@@ -1,6 +1,6 @@
 -- The steps of a division by the gain.
-use Rattle.std.proofs.Common.{◌≡◌, ℕ, ◌+◌, ◌*◌, ◌/◌, ◌^◌, ◌<◌, ◌≤◌, ap, sym, ◌∙◌, arith, Bool, min}
-use Rattle.std.specs.Prelude.{ℤ, pos, negsuc, ◌+ℤ◌, ◌-ℤ◌, ◌*ℤ◌, nat_abs, ◌==◌, if◌then◌else◌}
+use Rattle.std.proofs.Common.{◌≡◌, ℕ, ◌+◌, ◌*◌, ◌/◌, ◌^◌, ◌<◌, ◌≤◌, ap, sym, ◌∙◌, arith, subst, Bool, min, inl, inr}
+use Rattle.std.specs.Prelude.{ℤ, pos, negsuc, ◌+ℤ◌, ◌-ℤ◌, ◌*ℤ◌, nat_abs, ◌==◌, if◌then◌else◌, ◌⊎◌, ◌-◌}
 use Rattle.std.specs.Int.{int_max, int_min, saturate_to_bits}
 use Rattle.std.proofs.lemmas.Int.{ints, clamps}
 use Rattle.std.proofs.lemmas.Nat.{mul-le, le-div}
@@ -34,6 +34,12 @@ digits u p a b c d r s t v some ea eb ec ed small few =
 
 pub full : (u p : ℕ) → 0 < u → 15 * u ≤ p → 15 ≡ min 15 (p / u)
 full u p some most = omega (arith, le-div 15 p u some most)
+
+pub is_share : (g p u : ℕ) → 0 < u → g * u ≤ p → (g ≡ 15) ⊎ (p - g * u < u) → g ≤ 15 → g ≡ min 15 (p / u)
+is_share g p u some low test few = elim test [
+  | inl e ↦ e ∙ full u p some (subst (λ (z : ℕ). z * u ≤ p) e low)
+  | inr lt ↦ let is : p / u ≡ g = div-eq_of_lt-le u low (omega (arith, lt, low)) in omega (arith, is, few)
+]
 
 pub zero_power : (g : Gain) (c : Cell) (w p : ℕ) → p ≡ power g → p ≡ 0 → ◌≡◌ {A = Equalised} (record { cell = blank; weight = 0 }) (corrected g c w)
 unfolding corrected

@@ -1,10 +1,9 @@
 // A cell divided by the gain of its carrier.
-ghost use Rattle.std.specs.Prelude.{◌≡◌, ℕ, ◌+◌, ◌*◌, ◌^◌, ◌<◌, ◌≤◌, nat_abs, min, ◌/◌, ◌==◌, if◌then◌else◌, pos, ◌+ℤ◌, ◌-ℤ◌, ◌*ℤ◌, ◌<ℤ◌};
+ghost use Rattle.std.specs.Prelude.{◌≡◌, ℕ, ◌+◌, ◌*◌, ◌^◌, ◌<◌, ◌≤◌, nat_abs, min, ◌/◌, ◌==◌, if◌then◌else◌, pos, ◌+ℤ◌, ◌-ℤ◌, ◌*ℤ◌, ◌<ℤ◌, IsTrue};
 ghost use Rattle.cell_equal.specs.Equal.{power, nearest, value_near, divided, corrected};
 ghost use Rattle.cell_equal.specs.State.{IsSmall};
 
-use crate::estimate::Reciprocal;
-use crate::{Equalised, Gain};
+use crate::{Equalised, Gain, estimate};
 use qam_map::Cell;
 
 // The product of a value of a cell and a part of a gain.
@@ -98,16 +97,15 @@ fn value_by(guess: i16, x: i64, n: u64) -> i16
     value_near(x, n)
 }
 
-// A quotient by 21845 times the distance of the pilots.
-fn quotient(value: i64, span: u8, n: u64, reciprocal: Reciprocal) -> i16
+// A quotient by 21845 times the distance of the pilots, by a guess at it.
+fn quotient(guess: i16, value: i64, span: u8, n: u64) -> i16
     requires value { nat_abs value ≤ 2 ^ 35 }
     requires span { span ≤ 12 }
     requires some { 0 < n }
     requires most { n ≤ 2 ^ 39 }
     ensures { result ≡ value_near (pos (21845 * span) *ℤ value) n }
 {
-    let x = scaled(span, value);
-    value_by(reciprocal.quotient(x), x, n)
+    value_by(guess, scaled(span, value), n)
 }
 
 // The part of a cell along the gain (u, v), times the gain's amplitude.
@@ -160,6 +158,30 @@ fn fifteen_at_most(power: u64, unit: u64) -> u8
     eights + fours + twos + ones
 }
 
+// Whether a number is the quotient of two powers, 15 at most.
+fn is_quotient(guess: u8, power: u64, unit: u64) -> bool
+    requires guess { guess ≤ 15 }
+    requires unit { 0 < unit }
+    requires most { unit ≤ 2 ^ 37 }
+    ensures { IsTrue result → guess ≡ min 15 (power / unit) }
+{
+    let part = u64::from(guess) * unit;
+    part <= power && (guess == 15 || power - part < unit)
+}
+
+// The quotient of two powers, 15 at most: the guess where it passes the test.
+fn fifteen_by(guess: u8, power: u64, unit: u64) -> u8
+    requires guess { guess ≤ 15 }
+    requires unit { 0 < unit }
+    requires most { unit ≤ 2 ^ 37 }
+    ensures { result ≡ min 15 (power / unit) }
+{
+    if is_quotient(guess, power, unit) {
+        return guess;
+    }
+    fifteen_at_most(power, unit)
+}
+
 // The weight after the correction: 0 stays, else it is sixteen times the power of the gain, 15 at most.
 fn weight_after(old: u8, span: u8, n: u64) -> u8
     requires some { 1 ≤ span }
@@ -171,7 +193,7 @@ fn weight_after(old: u8, span: u8, n: u64) -> u8
         return 0;
     }
     let one = 21845 * u64::from(span);
-    fifteen_at_most(16 * n, one * one)
+    fifteen_by(estimate::weight(n, span), 16 * n, one * one)
 }
 
 // The cell divided by a gain of this power.
@@ -182,24 +204,15 @@ fn divided(gain: Gain, cell: Cell, n: u64) -> Cell
     requires most { n ≤ 2 ^ 39 }
     ensures { result ≡ divided gain cell }
 {
-    let reciprocal = Reciprocal::of(n);
+    let (re, im) = estimate::parts(gain, cell);
     Cell {
-        re: quotient(
-            along(cell.re, cell.im, gain.re, gain.im),
-            gain.span,
-            n,
-            reciprocal,
-        ),
-        im: quotient(
-            across(cell.re, cell.im, gain.re, gain.im),
-            gain.span,
-            n,
-            reciprocal,
-        ),
+        re: quotient(re, along(cell.re, cell.im, gain.re, gain.im), gain.span, n),
+        im: quotient(im, across(cell.re, cell.im, gain.re, gain.im), gain.span, n),
     }
 }
 
 // The cell divided by the gain, and its weight.
+#[inline(always)]
 pub(crate) fn corrected(gain: Gain, cell: Cell, weight: u8) -> Equalised
     requires { IsSmall gain }
     ensures { result ≡ corrected gain cell weight }
@@ -215,5 +228,52 @@ pub(crate) fn corrected(gain: Gain, cell: Cell, weight: u8) -> Equalised
     Equalised {
         cell: restored,
         weight: weight_after(weight, gain.span, n),
+    }
+}
+
+// The cell divided by a gain of this power, by divisions.
+fn plainly_divided(gain: Gain, cell: Cell, n: u64) -> Cell
+    requires small { IsSmall gain }
+    requires n { n ≡ power gain }
+    requires some { 0 < n }
+    requires most { n ≤ 2 ^ 39 }
+    ensures { result ≡ divided gain cell }
+{
+    let re = along(cell.re, cell.im, gain.re, gain.im);
+    let im = across(cell.re, cell.im, gain.re, gain.im);
+    Cell {
+        re: value_near(scaled(gain.span, re), n),
+        im: value_near(scaled(gain.span, im), n),
+    }
+}
+
+// The weight after the correction, by a division.
+fn plain_weight(old: u8, span: u8, n: u64) -> u8
+    requires some { 1 ≤ span }
+    requires span { span ≤ 12 }
+    requires n { n ≤ 2 ^ 39 }
+    ensures { result ≡ (if old == 0 then 0 else min 15 (16 * n / (21845 * span) ^ 2)) }
+{
+    let one = 21845 * u64::from(span);
+    let all = 16 * n / (one * one);
+    if old == 0 { 0 } else { all.min(15) as u8 }
+}
+
+// The cell divided by the gain, and its weight, by divisions.
+pub(crate) fn plainly_corrected(gain: Gain, cell: Cell, weight: u8) -> Equalised
+    requires { IsSmall gain }
+    ensures { result ≡ corrected gain cell weight }
+{
+    let n = power(gain);
+    if n == 0 {
+        return Equalised {
+            cell: Cell { re: 0, im: 0 },
+            weight: 0,
+        };
+    }
+    let restored = plainly_divided(gain, cell, n);
+    Equalised {
+        cell: restored,
+        weight: plain_weight(weight, gain.span, n),
     }
 }

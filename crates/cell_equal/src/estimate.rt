@@ -1,32 +1,45 @@
-// A guess at quotients by one divisor, which the parts of a cell share.
+// Guesses at a corrected cell and its weight. Nothing is promised of them: whoever takes one tests it.
+ghost use Rattle.std.specs.Prelude.{◌≤◌};
+ghost use Rattle.cell_equal.specs.State.{IsSmall};
 
-// About 2^78 divided by a number that is first shifted to 48 bits, and the shift.
-#[derive(Clone, Copy, Debug, PartialEq, Eq)]
-pub(crate) struct Reciprocal {
-    value: i64,
-    shift: u32,
+use crate::Gain;
+use qam_map::Cell;
+
+// About 2^60 divided by the square of 21845 times each distance of two pilots.
+#[rattlefmt::skip]
+static SHARES: [u64; 13] = [
+    0, 2415992834, 603998209, 268443649, 150999553, 96639714,
+    67110913, 49305977, 37749889, 29827073, 24159929, 19966883, 16777729,
+];
+
+// The whole number nearest to a float, if that is a value of a cell.
+// The last digit of the sum is worth 2^-20, so its whole part stands above its last 20 bits.
+fn near(quotient: f64) -> i16 {
+    let sum = quotient + 6442450944.5;
+    if sum >= 1.0 {
+        ((sum.to_bits() >> 20 & 0xFFFF) as u16).cast_signed()
+    } else {
+        0
+    }
 }
 
-impl Reciprocal {
-    // The first half of the digits comes of a division in 32 bits, which is far cheaper than one in 64,
-    // and one step of Newton's method gives as many again. It is no more than a guess, so nothing is
-    // promised of it, and whoever takes it tests it.
-    pub(crate) fn of(n: u64) -> Reciprocal {
-        let shift = n.leading_zeros().wrapping_sub(16);
-        let wide = n.wrapping_shl(shift);
-        let high = (wide >> 32) % 65536;
-        let first = i64::from(u32::MAX / (high as u32 + 1));
-        let rest = (1i64 << 56).wrapping_sub(first.wrapping_mul((wide >> 8) as i64));
-        let value = first
-            .wrapping_mul(1 << 14)
-            .wrapping_add(first.wrapping_mul(rest) >> 42);
-        Reciprocal { value, shift }
-    }
+// About the parts of the cell divided by the gain.
+pub(crate) fn parts(gain: Gain, cell: Cell) -> (i16, i16)
+    requires { IsSmall gain }
+{
+    let (u, v) = (f64::from(gain.re as i32), f64::from(gain.im as i32));
+    let (re, im) = (f64::from(cell.re), f64::from(cell.im));
+    let scale = f64::from(21845 * u32::from(gain.span)) / (u * u + v * v);
+    (
+        near((re * u + im * v) * scale),
+        near((im * u - re * v) * scale),
+    )
+}
 
-    // About x / n, where that is a value of a cell.
-    pub(crate) fn quotient(self, x: i64) -> i16 {
-        let scaled = x.wrapping_shl(self.shift) >> 32;
-        let near = scaled.wrapping_mul(self.value).wrapping_add(1 << 45) >> 46;
-        ((near.cast_unsigned() % 65536) as u16).cast_signed()
-    }
+// About sixteen times the power of a gain divided by that of 21845 times the distance of the pilots, 15 at most.
+pub(crate) fn weight(power: u64, span: u8) -> u8
+    requires { span ≤ 12 }
+    ensures { result ≤ 15 }
+{
+    (power.wrapping_mul(SHARES[span as usize]) >> 56).min(15) as u8
 }

@@ -9,6 +9,8 @@ mod equalised;
 mod estimate;
 mod gain;
 pub mod laws;
+pub mod plain;
+mod runs;
 mod span;
 mod symbol;
 

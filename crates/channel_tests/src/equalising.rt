@@ -2,7 +2,7 @@
 ghost use Rattle.std.specs.Prelude.{◌≡◌, ◌+◌, ◌*◌, ◌<◌, length};
 ghost use Rattle.mode_set.specs.StreamTable.{carriers};
 
-use cell_equal::equalise;
+use cell_equal::{equalise, plain};
 use mode_set::Mode;
 use pilots::{CarrierKind, kind, reference};
 use qam_map::Cell;
@@ -20,7 +20,7 @@ fn carriers_of(mode: Mode) -> u32
     }
 }
 
-// The symbol's corrected bytes.
+// The symbol's corrected bytes, which the definition's program gives as well.
 fn equalised(
     rt: &impl Abort,
     alloc: Global,
@@ -33,6 +33,9 @@ fn equalised(
     assert!(rt; l < 68 && cells.len() == count && weights.len() == count);
     let mut bytes = Vec::with_capacity(alloc, 5 * count).expect(rt, "memory");
     equalise(mode, l, cells, weights, &mut bytes);
+    let mut plainly = Vec::with_capacity(alloc, 5 * count).expect(rt, "memory");
+    plain::equalise(mode, l, cells, weights, &mut plainly);
+    assert!(rt; bytes == plainly, "symbol {l}");
     bytes
 }
 

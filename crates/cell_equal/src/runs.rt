@@ -1,0 +1,58 @@
+// The carriers from one pilot to the next.
+ghost use Rattle.std.specs.Prelude.{◌≡◌, ℕ, List, ◌+◌, ◌-◌, ◌*◌, ◌<◌, ◌≤◌, ◌++◌, length, vec_len, vec_capacity};
+ghost use Rattle.mode_set.specs.StreamTable.{carriers};
+ghost use Rattle.cell_equal.specs.Equal.{bytes_of, corrected};
+ghost use Rattle.cell_equal.specs.State.{IsAround, IsSmall, first_bytes};
+
+use crate::Gain;
+use crate::divide::corrected;
+use crate::span::Span;
+use frame_build::{cell_bytes, push_five};
+use mode_set::Mode;
+use qam_map::Cell;
+
+// Appends a cell divided by a gain.
+#[inline(always)]
+fn push_corrected(gain: Gain, cell: Cell, weight: u8, to: &mut Vec<u8>)
+    requires small { IsSmall gain }
+    requires room { vec_len to.old + 5 ≤ vec_capacity to.old }
+    ensures bytes { to.new.items ≡ to.old.items ++ bytes_of (corrected gain cell weight) }
+    ensures len { vec_len to.new ≡ vec_len to.old + 5 }
+    ensures capacity { vec_capacity to.new ≡ vec_capacity to.old }
+{
+    let restored = corrected(gain, cell, weight);
+    push_five(cell_bytes(restored.cell, restored.weight), to);
+}
+
+// Appends the corrected cells from carrier `from` up to the first pilot at or above it.
+pub(crate) fn push_run(
+    mode: Mode,
+    l: u8,
+    cells: &[Cell],
+    weights: &[u8],
+    from: u32,
+    span: &mut Span,
+    to: &mut Vec<u8>,
+)
+    requires symbol { l < 68 }
+    requires cells { length cells.now ≡ carriers mode }
+    requires weights { length weights.now ≡ carriers mode }
+    requires carrier { from < carriers mode }
+    requires before { IsAround mode l cells.now (from - 1) span.old }
+    requires room { vec_len to.old + 5 * (carriers mode - from) ≤ vec_capacity to.old }
+    ensures around { IsAround mode l cells.now span.new.right span.new }
+    ensures forward { from ≤ span.new.right }
+    ensures within { span.new.right < carriers mode }
+    ensures bytes { (start : List ℕ) → to.old.items ≡ start ++ first_bytes mode l cells.now weights.now from → to.new.items ≡ start ++ first_bytes mode l cells.now weights.now (span.new.right + 1) }
+    ensures len { vec_len to.new + 5 * from ≡ vec_len to.old + 5 * (span.new.right + 1) }
+    ensures capacity { vec_capacity to.new ≡ vec_capacity to.old }
+{
+    span.advance(mode, l, cells, from);
+    let right = span.right;
+    for k in from..right {
+        let at = k as usize;
+        push_corrected(span.before_right(k), cells[at], weights[at], to);
+    }
+    let at = right as usize;
+    push_corrected(span.at_right, cells[at], weights[at], to);
+}
