@@ -7,6 +7,7 @@ SHORT = {
     "rescue": "cells back to transport packets, more of them out of noise, at some cost in time",
     "tune": "cells from any symbol on, their settings read from the signal",
     "align": "cells from any symbol on as cells from a super-frame on, and the parameters that the signal announces",
+    "measure": "MER, bit error rates, words and TPS of each super-frame of cells, while they come",
     "upgrade": "a cell file of version 1 as one of version 2",
     "equalise": "cells corrected by the pilots of their own symbols",
     "trial": "random packets of a number, there and back over disturbed cells",
@@ -51,6 +52,10 @@ super-frame on, byte for byte and as soon as it is whole. So a file that begins 
 `tune at I frame F` reports the first symbol of the frame, counted from 0, and `announced ..` its parameters, in the
 words of the settings file; `symbols N tail T` counts what was written and the bytes after it. Of the settings only
 mode and max_symbols have an effect.""",
+    "measure": """Compares each data cell with the cell that the decoded bits stand for, and prints sums of each super-frame
+three symbols after its end: power and error of the cells (MER is 10 log10 (power / error)), bits and those decided wrong
+before the inner decoder, outer words and repaired bits, TPS words. The closing lines are those of `receive`. Reads cells
+from the first symbol of a super-frame on. On a terminal, and with --json, bin/dvbt prints MER and error rates (docs/MEASURING.md).""",
     "upgrade": """Writes the header of the settings' mode, and each cell of OLD's whole symbols with the weight 15, at
 which it counts whole. Of the settings only mode and max_symbols have an effect.""",
     "equalise": """Divides each cell by the gain on the line between the two pilots around it, and writes it with a weight of
@@ -69,6 +74,7 @@ EXAMPLES = {
     "rescue": ["bin/dvbt rescue examples/settings/64qam.toml noisy.cells back.ts"],
     "tune": ["bin/dvbt tune examples/settings/64qam.toml recorded.cells back.ts"],
     "align": ["bin/dvbt align examples/settings/64qam.toml recorded.cells aligned.cells"],
+    "measure": ["bin/dvbt measure examples/settings/64qam.toml noisy.cells"],
     "upgrade": ["bin/dvbt upgrade examples/settings/64qam.toml old.cells new.cells"],
     "equalise": ["bin/dvbt equalise examples/settings/64qam.toml received.cells corrected.cells"],
     "trial": ["bin/dvbt trial examples/settings/qpsk.toml 7"],
@@ -81,16 +87,16 @@ EXAMPLES = {
 STATUSES = [
     (0, "the work was done whole; the lines say what was counted", forms.FORMS),
     (2, "invalid command line: `usage`", forms.FORMS),
-    (3, "the settings are rejected: `settings ..` says why", ("modulate", "receive", "rescue", "tune", "align", "upgrade", "equalise", "trial", "inner")),
+    (3, "the settings are rejected: `settings ..` says why", ("modulate", "receive", "rescue", "tune", "align", "measure", "upgrade", "equalise", "trial", "inner")),
     (4, "a packet does not begin with the sync byte 47: `hp packet N`, `lp packet N`, counted from 0",
      ("modulate", "disperse", "outer", "inner")),
     (5, "a file can't be opened or read: `read fault`", forms.FORMS),
     (6, "a file can't be made, written or closed: `write fault`", forms.FORMS),
     (7, "memory runs out: `memory`; no line if an argument is not UTF-8 or the files' buffers can't be taken",
-     ("modulate", "receive", "rescue", "tune", "align", "upgrade", "equalise", "trial", "outer", "inner")),
+     ("modulate", "receive", "rescue", "tune", "align", "measure", "upgrade", "equalise", "trial", "outer", "inner")),
     (7, "an argument is not UTF-8, or the files' buffers can't be taken: no line", ("disperse",)),
     (8, "more packets or symbols than the limit: `limit N`", forms.FORMS),
-    (9, "the cells do not begin with the header of the settings' mode: `cells header`", ("receive", "rescue", "tune", "align", "equalise")),
+    (9, "the cells do not begin with the header of the settings' mode: `cells header`", ("receive", "rescue", "tune", "align", "measure", "equalise")),
     (10, "no frame is found in the cells: `tune none`", ("tune", "align")),
     (11, "the signal has a hierarchy and LP is not given, or the reverse: `tune form`", ("tune",)),
 ]

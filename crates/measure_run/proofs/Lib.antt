@@ -1,0 +1,5 @@
+pub mod Existing
+pub mod Whole
+pub mod Printing
+pub mod Commands
+pub mod WholeRun

@@ -1,0 +1,4 @@
+pub mod Measured
+pub mod MeasureLaws
+pub mod MeasureCommand
+pub mod Working
