@@ -1,10 +1,12 @@
 // Symbols beside their remade labels.
-ghost use Rattle.std.specs.Prelude.{◌≡◌, ◌+◌, ◌%◌, ◌<◌, ◌≤◌, ◌^◌, ℕ, List, Bool, IfOk, length, slice_index, slice_set, vec_capacity, All};
+ghost use Rattle.std.specs.Prelude.{◌≡◌, ◌≢◌, ◌+◌, ◌%◌, ◌<◌, ◌≤◌, ◌^◌, ℕ, List, Bool, IfOk, length, slice_index, slice_set, vec_capacity, All};
 ghost use Rattle.mode_set.specs.StreamTable.{carriers, payload, label_bits};
 ghost use Rattle.mode_set.specs.declared.modes.Stream.{Stream as AnyStream};
 ghost use Rattle.conv_code.specs.Coded.{zeros};
 ghost use Rattle.spec_words.specs.Bits.{is_set};
 ghost use Rattle.symbol_sums.specs.Comparing.{symbol_sums};
+ghost use Rattle.known_bits.specs.Seen.{KnownState};
+ghost use Rattle.known_bits.specs.Passing.{IsSettled};
 ghost use Rattle.symbol_comparison.specs.Seen.{SymbolState};
 ghost use Rattle.symbol_comparison.specs.Kept.{AreLong, IsWhole};
 ghost use Rattle.symbol_comparison.specs.Standing.{HavePassed, IsSummed, StandsBefore, kept_at};
@@ -135,6 +137,9 @@ impl<M: Carriers> Comparer<M> {
         requires cells { length cells.now ≡ carriers self.old.settings.mode }
         requires weights { length weights.now ≡ carriers self.old.settings.mode }
         ensures kept { self.new ≡ record self.old { kept = slice_set self.old.kept (symbol % 4) (record { cells = cells.now; weights = weights.now }) } }
+        ensures here { (d : SymbolState) → kept_at self.new symbol d ≡ record { cells = cells.now; weights = weights.now } }
+        ensures others { (m : ℕ) (d : SymbolState) → m % 4 ≢ symbol % 4 → kept_at self.new m d ≡ kept_at self.old m d }
+        ensures stands { (m : ℕ) (hp lp : KnownState) (known : AnyStream → List Bool) → StandsBefore m self.old hp lp known → StandsBefore m self.new hp lp known }
     {
         self.kept[(symbol % 4) as usize].put(cells, weights);
     }
@@ -148,7 +153,8 @@ impl<M: Carriers> Comparer<M> {
 
     /// The sums of the next symbol beside what the known bits of the streams stand for: None exactly if it is not compared.
     ///
-    /// The symbol is one of the four that are kept, and fewer than 2^32 symbols were compared or left out.
+    /// The symbol is one of the four that are kept, and fewer than 2^32 symbols were compared or left out. Of a symbol that is left
+    /// out no known bit waits afterwards.
     pub fn compare(&mut self, hp: &mut KnownBits, lp: &mut KnownBits) -> Option<SymbolSums>
         requires few { self.old.next < 2 ^ 32 }
         requires hp_before { hp.old.before < 2 ^ 60 }
@@ -156,12 +162,14 @@ impl<M: Carriers> Comparer<M> {
         ensures settings { self.new.settings ≡ self.old.settings }
         ensures next { self.new.next ≡ self.old.next + 1 }
         ensures kept { self.new.kept ≡ self.old.kept }
+        ensures hp_settled { IsSettled hp.new }
+        ensures lp_settled { IsSettled lp.new }
         ensures summed { (m : ℕ) (known : AnyStream → List Bool) (d : SymbolState) → StandsBefore m self.old hp.old lp.old known → IsSummed self.old.settings (kept_at self.old m d) known m result }
         ensures stands { (m : ℕ) (known : AnyStream → List Bool) → StandsBefore m self.old hp.old lp.old known → StandsBefore (m + 1) self.new hp.new lp.new known }
     {
         let m = self.next;
         self.next += 1;
-        compare_symbol(
+        let sums = compare_symbol(
             &self.settings,
             m,
             &self.kept[(m % 4) as usize],
@@ -169,6 +177,8 @@ impl<M: Carriers> Comparer<M> {
             hp,
             lp,
             &mut self.labels,
-        )
+        );
+        pass_both(&mut self.coder, hp, lp);
+        sums
     }
 }
