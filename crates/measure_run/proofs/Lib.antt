@@ -3,3 +3,4 @@ pub mod Whole
 pub mod Printing
 pub mod Commands
 pub mod WholeRun
+pub mod Feeding

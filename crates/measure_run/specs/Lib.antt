@@ -2,3 +2,4 @@ pub mod Measured
 pub mod MeasureLaws
 pub mod MeasureCommand
 pub mod Working
+pub mod Feeder

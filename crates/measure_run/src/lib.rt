@@ -5,7 +5,10 @@
 #![tactic(auto)]
 
 mod cell_measurer;
+mod command;
+mod measurers;
 mod measuring_work;
 mod no_files;
 mod writing;
 
+pub use command::measure;

@@ -33,7 +33,7 @@ returns-in_err-write_some-clause-written g c = λ t.
     let lines = c.args.lines.now in
     let text : List ℕ = c.as_bytes.result.now in
     let a = report_appends text m' m'' (Err c.in_err-write_some.field-0.0) (ap (λ (x : Meaning). x.tells) inv.others ∙ t) c.in_err-write_some.ensures.writes in
-    let f = line_front lines c.loop-line.line-index _ text m.report.written m''.report.written a.1 c.loop-line-test.true (c.as_bytes.ensures.value ∙ c.as_str.ensures.value)
+    let f = line_front lines c.loop-line.line-index _ text m.report.written m''.report.written a.1 c.loop-line-test.true (c.as_bytes.ensures.value ∙ c.as_str.ensures.value ∙ ap (λ (l : ArrayString). l.bytes) c.line-item.is)
     (a.2 ∙ (λ i. inv.written t i ++ take a.1 text)) in
     handed_on c.from_residual.result c.in_err-write_some.field-0.0 (Appends (concat (texts lines)) m.report.written m''.report.written) c.from_residual.ensures.1 (a.0, f.0, f.1)
 
@@ -47,7 +47,7 @@ loop-line-preserved g c =
     let n : ℕ = c.loop-line.line-index in
     let text : List ℕ = c.as_bytes.result.now in
     let w : WritesAt outs.Report text m' m'' (Ok tt) = c.in_ok-write_some.ensures.writes in
-    let more : concat (texts (take (n + 1) lines)) ≡ concat (texts (take n lines)) ++ text = line_more lines n _ text c.loop-line-test.true ? in
+    let more : concat (texts (take (n + 1) lines)) ≡ concat (texts (take n lines)) ++ text = line_more lines n _ text c.loop-line-test.true (c.as_bytes.ensures.value ∙ c.as_str.ensures.value ∙ ap (λ (l : ArrayString). l.bytes) c.line-item.is) in
     let p : Printed m m'' (concat (texts (take (n + 1) lines))) = subst (Printed m m'') (sym more)
     (line_printed m m' m'' (concat (texts (take n lines))) text (inv.printing, inv.others, inv.write_faults, inv.report_faults, inv.written) w) in
     record { printing = p.0; others = p.1; write_faults = p.2; report_faults = p.3; written = p.4 }
