@@ -1,5 +1,5 @@
 -- `measure` is a command on cells: what it comes to is what its work gives.
-use Rattle.std.proofs.Common.{◌≡◌, ◌⊎◌, inl, inr, true, ℕ, ◌<◌, ◌≤◌, Bool, List, [], ◌∷◌, ◌++◌, take, drop, Option, Some, None, refl, ◌∙◌, sym, ap, subst, arith, append_assoc, if◌then◌else◌}
+use Rattle.std.proofs.Common.{◌≡◌, ◌⊎◌, inl, inr, true, ℕ, ◌<◌, ◌≤◌, Bool, List, [], ◌++◌, take, drop, Option, Some, None, refl, ◌∙◌, sym, ap, subst, arith, append_assoc, if◌then◌else◌}
 use Rattle.std.specs.Prelude.{option_and_then}
 use Rattle.std.proofs.lemmas.Bool.{cases_lt, le-ltb, lt-ltb, true≢false}
 use Rattle.std.proofs.lemmas.List.{append-nil, append_cancel_right, drop_all, length-take, take-append-drop}
@@ -19,14 +19,13 @@ use Rattle.measurement_laws.specs.Remade.{ErrorIsFromSent, RemadeAreSent}
 use Rattle.measurement_laws.specs.Totals.{ClosingIsReceived, LinesAddUp}
 use Rattle.run_clauses.specs.declared.work.Refusal.{Refusal}
 use Rattle.run_clauses.specs.declared.work.Refusal.TheVariants.{Limit}
-use Rattle.run_clauses.specs.Command.{Command, Files, IsOutput, Unread}
+use Rattle.run_clauses.specs.Command.{Command, Files, Unread}
 use Rattle.run_clauses.specs.StatedSettings.{settings_of}
 use Rattle.symbol_runs.specs.Work.{Written}
 use Rattle.symbol_runs.specs.Cells.{GivenUpTo}
 use Rattle.symbol_runs.specs.Commands.{CellCommand, Come, ComeSoFar, ComesTo, Continues}
-use Rattle.receive_run.specs.OneOutput.{AtMostOne, ExactlyOne}
 use Rattle.receive_run.specs.ReceiveCommand.{header_by, most_cells}
-use Rattle.receive_run.specs.Received.{cells_in, IsAll, IsCutOff, IsSoFar, reception_refusal, within_limit}
+use Rattle.receive_run.specs.Received.{cells_in, IsSoFar, reception_refusal, within_limit}
 use Rattle.receive_run.proofs.Commands.{behind, symbols_none}
 use Rattle.receive_run.proofs.Parts.{some_bytes}
 use Rattle.measure_run.specs.MeasureCommand.{measure_command, no_names}

@@ -1,5 +1,5 @@
 -- Bytes have a measurement at each moment: the definitions reject no input.
-use Rattle.std.proofs.Common.{◌≡◌, ◌⊎◌, inl, inr, ℕ, zero, suc, ◌+◌, ◌-◌, ◌*◌, ◌/◌, ◌<◌, ◌≤◌, min, Bool, true, false, cond, List, ◌++◌, Option, Some, None, refl, arith, if◌then◌else◌}
+use Rattle.std.proofs.Common.{◌⊎◌, inl, inr, ℕ, zero, suc, ◌+◌, ◌-◌, ◌*◌, ◌/◌, ◌<◌, ◌≤◌, min, Bool, true, false, cond, List, ◌++◌, Some, None, refl, arith, if◌then◌else◌}
 use Rattle.std.specs.Prelude.{◌&&◌, not, count_by, sum_by}
 use Rattle.std.proofs.lemmas.Bool.{cases_lt}
 use Rattle.mode_set.specs.declared.modes.Stream.{Stream}
@@ -10,7 +10,6 @@ use Rattle.outer_chain.specs.Bits.{bytes_of}
 use Rattle.outer_chain.specs.Words.{Tally, Tallies, count, has, is_clean, phase_before, word_at}
 use Rattle.reception.specs.Cells.{symbols}
 use Rattle.reception.specs.Frames.{CountsWords, frame_bits, tps_cells}
-use Rattle.reception.specs.Streams.{Reception, Live, Final}
 use Rattle.reception_laws.specs.Laws.{SomeFinal, SomeLive}
 use Rattle.symbol_sums.specs.Comparing.{bits_in, cells_in, error_in, muted_in, power_in, wrong_in}
 use Rattle.measure_report.specs.declared.sums.StreamSums.{StreamSums}

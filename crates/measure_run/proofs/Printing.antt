@@ -1,16 +1,14 @@
 -- What the calls of the work print.
 use Rattle.std.proofs.Common.{◌≡◌, ℕ, zero, suc, ◌+◌, ◌<◌, List, [], ◌∷◌, ◌++◌, length, get_or, take, true, refl, ◌∙◌, sym, ap, subst, arith, append_assoc, Result, Ok, Err}
-use Rattle.std.specs.Prelude.{map}
 use Rattle.std.specs.List.{concat}
 use Rattle.std.proofs.lemmas.List.{append-nil}
 use Rattle.std.proofs.Math.Seq.{take-append-add}
 use Rattle.arrayvec.specs.ArrayString.{ArrayString}
-use Rattle.station_core.specs.Meaning.{Meaning, sink_at}
+use Rattle.station_core.specs.Meaning.{Meaning}
 use Rattle.station_core.specs.declared.ports.OutPort.{OutPort}
 use Rattle.station_core.specs.declared.ports.OutPort.TheVariants as outs
 use Rattle.run_clauses.specs.declared.work.Refusal.{Refusal}
 use Rattle.symbol_runs.specs.declared.stop.Stop.{Stop}
-use Rattle.symbol_runs.specs.declared.stop.Stop.TheVariants.{WriteFault}
 use Rattle.symbol_runs.specs.Outputs.{IsWriting}
 use Rattle.symbol_runs.specs.Work.{Does, Follows, Holds, HoldsFront, WritesOnly, Written}
 use Rattle.symbol_runs.proofs.Fronts.{front_of, none_of}

@@ -1,5 +1,5 @@
 -- The lines of bytes are one list, and bytes that end no symbol leave them.
-use Rattle.std.proofs.Common.{◌≡◌, ℕ, ◌+◌, ◌-◌, ◌*◌, ◌<◌, ◌≤◌, List, [], ◌++◌, length, take, drop, refl, ◌∙◌, sym, ap, ap₂, subst, arith, append_assoc, take-append-drop, length-take-le}
+use Rattle.std.proofs.Common.{◌≡◌, ℕ, ◌+◌, ◌-◌, ◌*◌, ◌<◌, ◌≤◌, List, [], ◌++◌, length, take, drop, ◌∙◌, sym, ap, ap₂, subst, arith, append_assoc, take-append-drop, length-take-le}
 use Rattle.std.specs.Prelude.{None, flat_map}
 use Rattle.std.specs.List.{concat}
 use Rattle.std.proofs.lemmas.List.{length-append}
@@ -9,8 +9,6 @@ use Rattle.std.proofs.Math.Seq.{take-append-add}
 use Rattle.mode_set.specs.declared.settings.Settings.{Settings}
 use Rattle.reception.specs.Cells.{symbol_length, symbols, tail}
 use Rattle.reception.specs.Laws.{IsWithin, SameSymbols}
-use Rattle.reception.specs.Lines.{closing_lines}
-use Rattle.reception.specs.Streams.{Final}
 use Rattle.reception.proofs.Numbered.{no_parts, same_parts}
 use Rattle.spec_words.specs.Words.{numbers}
 use Rattle.reception_laws.specs.Laws.{SomeFinal, SomeLive}

@@ -142,7 +142,8 @@ const ONE: &str =
 const ONE_OF_ANY: &str =
     "superframe 0 symbols 0 cells 0 muted 0 power 0 error 0 tps read 0 bad 0\nhp bits 0 wrong 0 words 0 clean 0 corrected 0 bad 0 unphased 0 unmerged 0 repaired 0\nsymbols 1 tail 7\ntps read 0 bad 0\nhp words 0 clean 0 corrected 0 bad 0 unphased 0 unmerged 0\n";
 
-const PUNCTURED: &str = "mode = \"2k\"\nconstellation = \"qpsk\"\nrate_hp = \"3/4\"\nguard = \"1/32\"\n";
+const PUNCTURED: &str =
+    "mode = \"2k\"\nconstellation = \"qpsk\"\nrate_hp = \"3/4\"\nguard = \"1/32\"\n";
 
 const ONE_PUNCTURED: &str =
     "superframe 0 symbols 1 cells 1512 muted 0 power 405857768400 error 0 tps read 0 bad 0\nhp bits 3024 wrong 0 words 0 clean 0 corrected 0 bad 0 unphased 0 unmerged 0 repaired 0\nsymbols 1 tail 0\ntps read 0 bad 0\nhp words 0 clean 0 corrected 0 bad 0 unphased 0 unmerged 0\n";

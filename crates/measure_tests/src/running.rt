@@ -1,7 +1,5 @@
 // Runs of `measure`, and what they leave.
-use run_tools::{
-    Conditions, File, Ran, SUPER_FRAME, SYMBOL, UNMADE, ample, run_files, text_bytes,
-};
+use run_tools::{Conditions, File, Ran, SUPER_FRAME, SYMBOL, UNMADE, ample, run_files, text_bytes};
 use std::alloc::{AllocError, Global};
 use std::process::Abort;
 use std::thread::Threads;
@@ -55,7 +53,10 @@ pub(crate) fn sent<R: Threads + Sync>(
 ) -> Result<Vec<u8>, AllocError> {
     let hp = File::Counted(packets.0, 0).bytes(alloc)?;
     let (words, lp) = match packets.1 {
-        Some(count) => ("modulate s a b cells", File::Counted(count, 0).bytes(alloc)?),
+        Some(count) => (
+            "modulate s a b cells",
+            File::Counted(count, 0).bytes(alloc)?,
+        ),
         None => ("modulate s a cells", Vec::new(alloc)),
     };
     let settings = text_bytes(alloc, settings.0, settings.1)?;

@@ -1,6 +1,5 @@
 use Rattle.std.proofs.Common.{◌<◌, List, ℕ, Some, refl, ◌∙◌, ap, subst, arith}
 use Rattle.station_core.specs.Meaning.{Meaning}
-use Rattle.station_core.specs.declared.ports.OutPort.{OutPort}
 use Rattle.mode_set.specs.declared.settings.Settings.{Settings}
 use Rattle.frame_build.specs.CellFile.{header}
 use Rattle.reception.specs.Cells.{symbol_length}

@@ -1,5 +1,4 @@
 use Rattle.std.proofs.Common.{◌++◌, ℕ, List, ap, ◌∙◌}
-use Rattle.std.specs.List.{concat}
 use Rattle.reception.specs.Cells.{symbol_length}
 use Rattle.measurer.specs.Seen.{MeasurerState}
 use Rattle.measure_run.proofs.Feeding.{live, took}

@@ -1,4 +1,4 @@
-use Rattle.std.proofs.Common.{◌≡◌, ℕ, ◌++◌, List, refl, subst}
+use Rattle.std.proofs.Common.{ℕ, ◌++◌, List, refl, subst}
 use Rattle.std.specs.List.{concat}
 use Rattle.station_core.specs.Meaning.{Meaning}
 use Rattle.symbol_runs.specs.Work.{Written}

@@ -1,4 +1,4 @@
-use Rattle.std.proofs.Common.{◌≡◌, ℕ, ◌++◌, List, refl, subst, arith}
+use Rattle.std.proofs.Common.{ℕ, ◌++◌, List, refl, subst, arith}
 use Rattle.std.specs.List.{concat}
 use Rattle.station_core.specs.Meaning.{Meaning}
 use Rattle.mode_set.specs.declared.settings.Settings.{Settings}
@@ -6,7 +6,7 @@ use Rattle.reception.specs.Streams.{so_far}
 use Rattle.receive_run.specs.Writing.{Appends}
 use Rattle.run_clauses.specs.declared.work.Refusal.{Refusal}
 use Rattle.measurement.specs.Lines.{MeasureLive}
-use Rattle.measure_run.specs.Working.{Prints, printed}
+use Rattle.measure_run.specs.Working.{Prints}
 use Rattle.measure_run.proofs.Printing.{prints, report_only}
 use Rattle.measure_run.proofs.measuring_work.MeasuringWorkSymbolWork.take.Goals as goal
 
