@@ -157,7 +157,7 @@ def draw(path, rows):
     curve(TOP, [row[1] for row in rows], 0, 30, "none", "measured", 1)
     second = TOP + HEIGHT + GAP
     curve(second, [power(row[2]) for row in rows], -7, 0, "none", "before Viterbi", 1)
-    curve(second, [power(row[3]) for row in rows], -7, 0, "6,4", "before RS (none if no word was repaired)", 0)
+    curve(second, [power(row[3]) for row in rows], -7, 0, "6,4", "before RS (grey: at least this)", 0)
     for number in range(0, len(rows), 4):
         lines.append(f'<text x="{across(number):.1f}" y="{second + HEIGHT + 18}" text-anchor="middle">{number}</text>')
     lines.append(f'<text x="{LEFT + WIDTH / 2}" y="{second + HEIGHT + 40}" text-anchor="middle">super-frame (grey: words are bad, so decided bits are partly wrong)</text>')

@@ -2,7 +2,7 @@
 from cell_tools.standard_error import put
 from commands.lines import parsed
 from door import explain
-from monitor.figures import SUPER_FRAME, Reader, SuperFrame, clock, rate
+from monitor.figures import SUPER_FRAME, Reader, SuperFrame, rate
 
 
 class Frames:
@@ -47,14 +47,14 @@ class Table:
 
 def heads(streams):
     """The heads of the columns."""
-    of = {stream: f"{stream.upper()} " if len(streams) > 1 else "" for stream in streams}
-    return ["air", "MER dB", *(head for it in streams for head in (f"{of[it]}BER before Viterbi", "before RS", "bad words")), "TPS read"]
+    of = {stream: stream.upper() if len(streams) > 1 else "BER" for stream in streams}
+    return ["air", "MER dB", *(head for it in streams for head in (f"{of[it]} before Viterbi", "before RS", "bad words")), "TPS read"]
 
 
 def row(frame, frames):
     """The figures of a super-frame. A figure that bad words make doubtful has a question mark, a rate that is the least possible a sign."""
     doubt = "?" if frame.bad else ""
-    cells = [clock((frame.number + 1) * SUPER_FRAME * frames.each), "-" if frame.mer is None else f"{frame.mer:.1f}{doubt}"]
+    cells = [air(frame.at + SUPER_FRAME * frames.each), "-" if frame.mer is None else f"{frame.mer:.1f}{doubt}"]
     for name in frames.streams:
         stream = frame.streams[name]
         of_stream = "?" if stream.counts["bad"] and stream.viterbi is not None else ""
@@ -65,5 +65,11 @@ def row(frame, frames):
 
 def aligned(cells):
     """Cells beside one another, each as wide as its head can be."""
-    widths = [8, 8, *([22, 11, 11] * ((len(cells) - 3) // 3)), 10]
+    widths = [10, 8, *([19, 11, 11] * ((len(cells) - 3) // 3)), 10]
     return "".join(cell.rjust(width) for cell, width in zip(cells, widths))
+
+
+def air(seconds):
+    """Hours, minutes and seconds with tenths."""
+    tenths = round(10 * seconds)
+    return f"{tenths // 36000}:{tenths // 600 % 60:02}:{tenths // 10 % 60:02}.{tenths % 10}"
