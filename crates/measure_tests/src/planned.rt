@@ -74,7 +74,7 @@ fn limits_of_symbols(rt: HostRuntime) -> Result<(), Fail> {
     let cells = sent(&rt, alloc, (BASE, ""), (300, None), 2)?;
     for (more, report) in &LIMITS {
         let file = Vec::from_slice(alloc, &cells)?;
-        let ran = measured(&rt, alloc, (BASE, *more), file, ample(0))?;
+        let ran = measured(&rt, alloc, (BASE, *more), file, ample(5_000))?;
         stands(&rt, &ran, 8, report);
     }
     Ok(())

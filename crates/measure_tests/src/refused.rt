@@ -29,7 +29,7 @@ fn refused_words_settings_and_cells(rt: HostRuntime) -> Result<(), Fail> {
         let mut cells = Vec::from_slice(alloc, b"DVTC\x02\0\0\0".as_slice())?;
         cells.truncate(*length);
         let inputs = (cells, Vec::new(alloc));
-        let ran = run_files(&rt, alloc, text, settings, inputs, 1, ample(0))?;
+        let ran = run_files(&rt, alloc, text, settings, inputs, 1, ample(5_000))?;
         stands(&rt, &ran, *status, report);
     }
     Ok(())
@@ -72,7 +72,7 @@ fn faults(rt: HostRuntime) -> Result<(), Fail> {
     for (call, status, report) in &FAULTS {
         let conditions = Conditions {
             failing: Some(*call),
-            ..ample(0)
+            ..ample(5_000)
         };
         let again = Vec::from_slice(alloc, &file)?;
         let ran = measured(&rt, alloc, (BASE, ""), again, conditions)?;

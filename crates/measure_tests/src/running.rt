@@ -37,7 +37,7 @@ pub(crate) fn prints<R: Abort + Threads + Sync>(
     cells: Vec<u8>,
     report: &str,
 ) -> Result<(), AllocError> {
-    let ran = measured(rt, alloc, settings, cells, ample(0))?;
+    let ran = measured(rt, alloc, settings, cells, ample(5_000))?;
     stands(rt, &ran, 0, report);
     Ok(())
 }
