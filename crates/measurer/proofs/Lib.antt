@@ -1,0 +1,4 @@
+mod Knowing
+mod Lining
+mod Summing
+mod Counting
