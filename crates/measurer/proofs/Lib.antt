@@ -2,3 +2,4 @@ mod Knowing
 mod Lining
 mod Summing
 mod Counting
+mod Taking
