@@ -3,3 +3,4 @@ mod Lining
 mod Summing
 mod Counting
 mod Taking
+mod Comparing

@@ -165,7 +165,7 @@ took_on laws x hp lp ran_hp ran_lp comparer cells within bytes p n en ew run_hp 
 
 -- ---- what the calls ask
 
-few_steps : NoSteps → bits_law.StepsAreFew → (s : Settings) (σ : Stream) (n : ℕ) → steps_before s σ n ≤ 31752 * n
+pub few_steps : NoSteps → bits_law.StepsAreFew → (s : Settings) (σ : Stream) (n : ℕ) → steps_before s σ n ≤ 31752 * n
 few_steps none few s σ n =
     let e : 0 + n ≡ n = omega arith in
     let same = ap (steps_before s σ) e in
