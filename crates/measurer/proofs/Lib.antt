@@ -4,3 +4,5 @@ mod Summing
 mod Counting
 mod Taking
 mod Comparing
+mod Lasting
+mod Framing

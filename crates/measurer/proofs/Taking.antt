@@ -108,13 +108,13 @@ pub record AreTaken : Type 0 where
   pub next : OneSymbolMore
   pub more : MoreBitsKnown
 
-pub took_on : AreTaken → (x : MeterState) (hp lp : StreamMeter) (ran_hp ran_lp : BranchState) (comparer : ComparerState) (cells : CostsState) (within : Bool) (bytes p : List ℕ) (n : ℕ)
+pub took_on : AreTaken → (x : MeterState) (hp lp : StreamMeter) (ran_hp ran_lp : BranchState) (comparer : ComparerState) (kept : List SymbolState) (cells : CostsState) (within : Bool) (bytes p : List ℕ) (n : ℕ)
     → n ≡ cells.taken - 1 → within ≡ nat_le cells.taken (272 * (x.current.number + 1)) → HasTaken cells.hp x.hp.branch ran_hp → HasTaken cells.lp x.lp.branch ran_lp → GivesOn within (record x.hp { branch = ran_hp }) hp → GivesOn within (record x.lp { branch = ran_lp }) lp
-    → comparer ≡ record x.comparer { kept = comparer.kept } → ((d : SymbolState) → kept_at comparer n d ≡ record { cells = cells.cells; weights = cells.weights })
+    → comparer ≡ record x.comparer { kept = kept } → ((d : SymbolState) → kept_at comparer n d ≡ record { cells = cells.cells; weights = cells.weights })
     → ((m : ℕ) (d : SymbolState) → m % 4 ≢ n % 4 → kept_at comparer m d ≡ kept_at x.comparer m d)
     → ((m : ℕ) (hp lp : KnownState) (known : Stream → List Bool) → StandsBefore m x.comparer hp lp known → StandsBefore m comparer hp lp known)
     → TakesSymbol x cells bytes p → MetersStand so_far cells.settings (bytes ++ p) (record { comparer = comparer; hp = hp; lp = lp; current = x.current })
-took_on laws x hp lp ran_hp ran_lp comparer cells within bytes p n en ew run_hp run_lp give_hp give_lp keeps here others stands_on t = record {
+took_on laws x hp lp ran_hp ran_lp comparer kept cells within bytes p n en ew run_hp run_lp give_hp give_lp keeps here others stands_on t = record {
   bits = bits;
   meters = λ σ. meters σ;
   settings = ap (λ (z : ComparerState). z.settings) keeps ∙ g.stand.settings;
@@ -208,3 +208,53 @@ room enough long x ran pairs s bytes Lp g settled t l =
 
 pub more_few : (x : ReportCounts) (n k : ℕ) → n ≤ k → AreFew x n → AreFew x k
 more_few x n k l h = record { all = omega (arith, h.all, l); current = omega (arith, h.current, l); later = omega (arith, h.later, l) }
+
+pub record AreAsked : Type 0 where
+  pub ready : StandsReady
+  pub runs : RunsOn
+  pub counts : CountsAreFew
+  pub room : RoomForSymbol
+  pub none : NoSteps
+  pub few : bits_law.StepsAreFew
+  pub long : CostsAreSteps
+
+-- what a symbol asks of both streams
+pub record Asked (x : StreamMeter) : Type 0 where
+  pub run : (pairs : List CostPair) → length pairs ≤ 31752 → MayRunOver pairs x.branch
+  pub has_run : (ran : BranchState) (pairs : List CostPair) → HasTaken pairs x.branch ran → HasRun (record x { branch = ran })
+  pub room : (ran : BranchState) (pairs : List CostPair) → HasTaken pairs x.branch ran → length pairs ≤ 31752 → length x.known.waiting + length ran.wait ≤ 127008
+  pub words : x.words.all.words ≤ 2 ^ 49
+
+pub asked_hp : AreAsked → (x : MeterState) (cells : CostsState) → TakesNext x cells → cells.taken ≤ 2 ^ 32 → Asked x.hp
+asked_hp laws x cells t l =
+    let s = cells.settings in
+    let g = t.takes.goes_on in
+    let few : symbols s t.bytes ≤ 2 ^ 32 = omega (arith, t.takes.taken, l) in
+    record {
+      run = λ pairs k. may_run laws.ready laws.counts laws.none laws.few laws.long x.hp pairs s t.bytes Hp x.current.number (g.stand.bits Hp) (g.stand.meters Hp) few k;
+      has_run = λ ran pairs k. has_run laws.ready laws.runs x.hp ran pairs s t.bytes Hp x.current.number (g.stand.bits Hp) (g.stand.meters Hp) k;
+      room = λ ran pairs k m. room laws.room laws.long x ran pairs s t.bytes Hp g g.hp_settled k m;
+      words = few_words laws.counts laws.none laws.few laws.long x.hp s t.bytes Hp x.current.number (g.stand.bits Hp) (g.stand.meters Hp) few;
+    }
+
+pub asked_lp : AreAsked → (x : MeterState) (cells : CostsState) → TakesNext x cells → cells.taken ≤ 2 ^ 32 → Asked x.lp
+asked_lp laws x cells t l =
+    let s = cells.settings in
+    let g = t.takes.goes_on in
+    let few : symbols s t.bytes ≤ 2 ^ 32 = omega (arith, t.takes.taken, l) in
+    record {
+      run = λ pairs k. may_run laws.ready laws.counts laws.none laws.few laws.long x.lp pairs s t.bytes Lp x.current.number (g.stand.bits Lp) (g.stand.meters Lp) few k;
+      has_run = λ ran pairs k. has_run laws.ready laws.runs x.lp ran pairs s t.bytes Lp x.current.number (g.stand.bits Lp) (g.stand.meters Lp) k;
+      room = λ ran pairs k m. room laws.room laws.long x ran pairs s t.bytes Lp g g.lp_settled k m;
+      words = few_words laws.counts laws.none laws.few laws.long x.lp s t.bytes Lp x.current.number (g.stand.bits Lp) (g.stand.meters Lp) few;
+    }
+
+pub kept_on : (x : MeterState) (hp lp : StreamMeter) (comparer : ComparerState) (kept : List SymbolState) (taken before : ℕ) → taken ≡ before + 1 → AreKept x (taken - 1) → ((n : ℕ) → AreFew x.hp.reports n → AreFew hp.reports (n + 16)) → ((n : ℕ) → AreFew x.lp.reports n → AreFew lp.reports (n + 16))
+    → comparer ≡ record x.comparer { kept = kept } → AreKept (record { comparer = comparer; hp = hp; lp = lp; current = x.current }) taken
+kept_on x hp lp comparer kept taken before e k hp_more lp_more same = record {
+  hp_reports = more_few hp.reports (16 * (taken - 1) + 16) (16 * taken) (omega (arith, e)) (hp_more (16 * (taken - 1)) k.hp_reports);
+  lp_reports = more_few lp.reports (16 * (taken - 1) + 16) (16 * taken) (omega (arith, e)) (lp_more (16 * (taken - 1)) k.lp_reports);
+  little = k.little;
+  symbols = omega (arith, k.symbols, ap (λ (z : ComparerState). z.next) same);
+  next = omega (arith, k.next, ap (λ (z : ComparerState). z.next) same);
+}
