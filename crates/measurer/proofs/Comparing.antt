@@ -175,3 +175,32 @@ rest_stays x (Some y) = refl
 pub begun_next : (x : MeterState) (comparer : ComparerState) (hp lp : KnownState) (current : Current) (result : Option SymbolSums) → Compares x.comparer comparer x.hp.known x.lp.known hp lp result → HasBegun x
     → HasBegun (record { comparer = comparer; hp = record x.hp { known = hp }; lp = record x.lp { known = lp }; current = current })
 begun_next x comparer hp lp current result made h = record { known = h.known; stands = subst (λ (k : ℕ). StandsBefore k comparer hp lp h.known) (sym made.next) (made.stands x.comparer.next h.known h.stands) }
+
+-- ---- symbol after symbol, at the end
+
+-- so it is before symbol m, where the comparing began at x
+pub record ComparesOn (x y : MeterState) (m to : ℕ) : Type 0 where
+  pub next : y.comparer.next ≡ m
+  pub begun : HasBegun y
+  pub little : AreLittle y.current.sums (6048 * y.current.symbols)
+  pub symbols : y.current.symbols + to ≤ 272 + m
+  pub from : x.comparer.next ≤ m
+  pub current : y.current ≡ record x.current { symbols = y.current.symbols; sums = y.current.sums }
+  pub compared : (s : Settings) (bytes : List ℕ) → MetersStand at_end s bytes x → to ≤ symbols s bytes → symbols s bytes < x.comparer.next + 4 → 272 * x.current.number ≤ x.comparer.next → MetersStand at_end s bytes y
+
+pub compares_first : (x : MeterState) (m to : ℕ) → m ≡ x.comparer.next → HasBegun x → AreLittle x.current.sums (6048 * x.current.symbols) → x.current.symbols + to ≤ 272 + x.comparer.next → ComparesOn x x m to
+compares_first x m to e begun little l = record { next = sym e; begun = begun; little = little; symbols = omega (arith, e, l); from = omega (arith, e); current = refl; compared = λ s bytes h a b d. h }
+
+pub compares_next : (x y z : MeterState) (m to : ℕ) → m < to → ComparesOn x y m to → HasBegun z → AreLittle z.current.sums (6048 * z.current.symbols) → z.current.symbols ≤ y.current.symbols + 1 → z.comparer.next ≡ y.comparer.next + 1
+    → z.current ≡ record y.current { symbols = z.current.symbols; sums = z.current.sums }
+    → ((moment : Moment) (s : Settings) (bytes : List ℕ) → MetersStand moment s bytes y → IsDue moment (symbols s bytes) y.comparer.next → 272 * y.current.number ≤ y.comparer.next → MetersStand moment s bytes z) → ComparesOn x z (m + 1) to
+compares_next x y z m to l c begun little few next current compare = record {
+  next = next ∙ ap (λ (k : ℕ). k + 1) c.next;
+  begun = begun;
+  little = little;
+  symbols = omega (arith, few, c.symbols);
+  from = omega (arith, c.from);
+  current = current ∙ ap (λ (k : Current). record k { symbols = z.current.symbols; sums = z.current.sums }) c.current;
+  compared = λ s bytes h a b d.
+      compare at_end s bytes (c.compared s bytes h a b d) (omega (arith, c.next, l, a), omega (arith, c.next, c.from, b)) (omega (arith, d, c.from, c.next, ap (λ (k : Current). k.number) c.current));
+}

@@ -6,3 +6,6 @@ mod Taking
 mod Comparing
 mod Lasting
 mod Framing
+mod Giving
+mod Feeding
+mod Ending
