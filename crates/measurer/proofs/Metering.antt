@@ -45,7 +45,7 @@ lies_in grow s σ j n before after within b a from w = go (cases_lt (272 * (j + 
   where
     go : (272 * (j + 1) < n + 1) ⊎ (n + 1 ≤ 272 * (j + 1)) → LieIn within s σ j before after
     go (inl l) =
-        let e : within ≡ false = w ∙ lt-leb (272 * (j + 1)) (n + 1) l in
+        let e : within ≡ false = w ∙ lt-leb (n + 1) (272 * (j + 1)) l in
         let up : 272 * (j + 1) ≤ n = omega (arith, l) in
         let h : steps_before s σ (272 * (j + 1)) ≤ before = omega (arith, grow s σ (272 * (j + 1)) n up, b) in
         subst (λ (z : Bool). LieIn z s σ j before after) (sym e) h
