@@ -80,4 +80,4 @@ none_past next grow long s bytes m known l k =
     let end : length (known Hp) ≡ steps_before s Hp (symbols s bytes) = ended_long memory (start_of s.start) (costs s bytes Hp) (known Hp) (k.at_end (omega (arith, l))) ∙ long s bytes Hp in
     let some : 1 ≤ need (settings_at s m) Hp = hp_steps (settings_at s m) in
     let short : length (known Hp) < steps_before s Hp (m + 1) = omega (arith, end, some, grow s Hp (symbols s bytes) m l, next s Hp m) in
-    not_both (nat_le (steps_before s Hp (m + 1)) (length (known Hp))) (is_zero s.start || nat_le 6 (steps_before s Hp m)) (suffices s m known Lp) (lt-leb (length (known Hp)) (steps_before s Hp (m + 1)) short)
+    not_both (nat_le (steps_before s Hp (m + 1)) (length (known Hp))) (is_zero s.start || nat_le 6 (steps_before s Hp m)) (suffices s m known Lp) (lt-leb (steps_before s Hp (m + 1)) (length (known Hp)) short)

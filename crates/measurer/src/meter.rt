@@ -231,6 +231,8 @@ impl<M: Carriers> FrameMeter<M> {
         ensures current { self.new.current ≡ self.old.current }
         ensures finished { (bytes : List ℕ) → GoOn settings.now bytes self.old → MetersStand at_end settings.now bytes self.new }
     {
+        known_bits::laws::rooms();
+        symbol_spans::laws::steps();
         symbol_comparison::laws::standing();
         stream_meter::laws::ready();
         stream_meter::laws::few();
