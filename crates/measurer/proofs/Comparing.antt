@@ -183,13 +183,13 @@ pub record ComparesOn (x y : MeterState) (m to : ℕ) : Type 0 where
   pub next : y.comparer.next ≡ m
   pub begun : HasBegun y
   pub little : AreLittle y.current.sums (6048 * y.current.symbols)
-  pub symbols : y.current.symbols + to ≤ 272 + m
+  pub few : y.current.symbols + to ≤ 272 + m
   pub from : x.comparer.next ≤ m
   pub current : y.current ≡ record x.current { symbols = y.current.symbols; sums = y.current.sums }
   pub compared : (s : Settings) (bytes : List ℕ) → MetersStand at_end s bytes x → to ≤ symbols s bytes → symbols s bytes < x.comparer.next + 4 → 272 * x.current.number ≤ x.comparer.next → MetersStand at_end s bytes y
 
 pub compares_first : (x : MeterState) (m to : ℕ) → m ≡ x.comparer.next → HasBegun x → AreLittle x.current.sums (6048 * x.current.symbols) → x.current.symbols + to ≤ 272 + x.comparer.next → ComparesOn x x m to
-compares_first x m to e begun little l = record { next = sym e; begun = begun; little = little; symbols = omega (arith, e, l); from = omega (arith, e); current = refl; compared = λ s bytes h a b d. h }
+compares_first x m to e begun little l = record { next = sym e; begun = begun; little = little; few = omega (arith, e, l); from = omega (arith, e); current = refl; compared = λ s bytes h a b d. h }
 
 pub compares_next : (x y z : MeterState) (m to : ℕ) → m < to → ComparesOn x y m to → HasBegun z → AreLittle z.current.sums (6048 * z.current.symbols) → z.current.symbols ≤ y.current.symbols + 1 → z.comparer.next ≡ y.comparer.next + 1
     → z.current ≡ record y.current { symbols = z.current.symbols; sums = z.current.sums }
@@ -198,7 +198,7 @@ compares_next x y z m to l c begun little few next current compare = record {
   next = next ∙ ap (λ (k : ℕ). k + 1) c.next;
   begun = begun;
   little = little;
-  symbols = omega (arith, few, c.symbols);
+  few = omega (arith, few, c.few);
   from = omega (arith, c.from);
   current = current ∙ ap (λ (k : Current). record k { symbols = z.current.symbols; sums = z.current.sums }) c.current;
   compared = λ s bytes h a b d.

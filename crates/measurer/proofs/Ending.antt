@@ -7,10 +7,11 @@ use Rattle.mode_set.specs.declared.settings.Settings.{Settings}
 use Rattle.known_bits.specs.Seen.{KnownState}
 use Rattle.reception.specs.Cells.{symbols}
 use Rattle.reception.specs.Frames.{tps_cells, frame_bits, CountsWords}
-use Rattle.reception.specs.Lines.{counts_of}
+use Rattle.reception.specs.Lines.{counts_of, closing_lines}
 use Rattle.reception.specs.Streams.{at_end}
 use Rattle.rx_report.specs.Text as text
 use Rattle.rx_report.specs.declared.counts.Counts.{Counts}
+use Rattle.stream_decoders.specs.Framing.{FrameStands}
 use Rattle.stream_decoders.specs.declared.frames.FrameReader.{FrameReader}
 use Rattle.symbol_comparison.specs.Seen.{ComparerState}
 use Rattle.symbol_sums.specs.Tables.{AreLittle}
@@ -193,21 +194,53 @@ all_begun taken first second last h within few = elim (cases_lt (272 * first) ta
 ]
 
 pub final_lines : (s : Settings) (bytes : List ℕ) (taken first second : ℕ) (frames : FrameReader) (z : MeterState) (given : List ℕ) (out0 out1 out2 out : List (List ℕ)) (more1 more2 : List (List ℕ)) (counts : Counts) → symbols s bytes ≡ taken → HasGiven taken first second z.current.number
-    → first ≤ begun_by taken → taken < 272 * (first + 1) + 3 → out0 ≡ [] → out1 ≡ out0 ++ more1 → out2 ≡ out1 ++ more2 → out ≡ out2 ++ text.closing_lines counts → IsEnding s bytes frames z (given ++ concat more1 ++ concat more2) → AreClosing s bytes counts → MeasureFinal s bytes (given ++ concat out)
+    → first ≤ begun_by taken → taken < 272 * (first + 1) + 3 → out0 ≡ [] → out1 ≡ out0 ++ more1 → out2 ≡ out1 ++ more2 → out ≡ out2 ++ text.closing_lines counts → IsEnding s bytes frames z (given ++ (concat more1 ++ concat more2)) → AreClosing s bytes counts → MeasureFinal s bytes (given ++ concat out)
 final_lines s bytes taken first second frames z given out0 out1 out2 out more1 more2 counts count steps within few none e1 e2 e h c = record {
   frames = h.lines_are.frames;
   are = λ j l. h.lines_are.are j (omega (arith, l, last, count));
   reception = c.reception;
   final = c.final;
-  is = ap (λ (k : List (List ℕ)). given ++ concat k) lines ∙ ap (λ (k : List ℕ). given ++ k) parts ∙ sym (append_assoc given (concat more1 ++ concat more2) (concat (text.closing_lines counts)))
-      ∙ ap₂ (λ (a b : List ℕ). a ++ b) (h.lines_are.is ∙ ap (lines_of h.lines_are.frames) (last ∙ ap begun_by (sym count))) (ap (λ (k : Counts). concat (text.closing_lines k)) c.is);
+  is = all ∙ ap₂ (λ (a b : List ℕ). a ++ b) front back;
 }
   where
     last : z.current.number ≡ begun_by taken
     last = all_begun taken first second z.current.number steps within few
+
+    front : given ++ (concat more1 ++ concat more2) ≡ lines_of h.lines_are.frames (begun_by (symbols s bytes))
+    front = h.lines_are.is ∙ ap (lines_of h.lines_are.frames) (last ∙ ap begun_by (sym count))
+
+    back : concat (text.closing_lines counts) ≡ closing_lines s bytes c.reception
+    back = ap (λ (k : Counts). concat (text.closing_lines k)) c.is
 
     lines : out ≡ (more1 ++ more2) ++ text.closing_lines counts
     lines = e ∙ ap (λ (k : List (List ℕ)). k ++ text.closing_lines counts) (e2 ∙ ap (λ (k : List (List ℕ)). k ++ more2) (e1 ∙ ap (λ (k : List (List ℕ)). k ++ more1) none))
 
     parts : concat ((more1 ++ more2) ++ text.closing_lines counts) ≡ (concat more1 ++ concat more2) ++ concat (text.closing_lines counts)
     parts = concat-append (more1 ++ more2) (text.closing_lines counts) ∙ ap (λ (k : List ℕ). k ++ concat (text.closing_lines counts)) (concat-append more1 more2)
+
+    all : given ++ concat out ≡ (given ++ (concat more1 ++ concat more2)) ++ concat (text.closing_lines counts)
+    all =
+        let one : given ++ concat out ≡ given ++ concat ((more1 ++ more2) ++ text.closing_lines counts) = ap (λ (k : List (List ℕ)). given ++ concat k) lines in
+        let two : given ++ concat ((more1 ++ more2) ++ text.closing_lines counts) ≡ given ++ ((concat more1 ++ concat more2) ++ concat (text.closing_lines counts)) = ap (λ (k : List ℕ). given ++ k) parts in
+        one ∙ two ∙ sym (append_assoc given (concat more1 ++ concat more2) (concat (text.closing_lines counts)))
+
+-- what the end of a super-frame makes of the parts
+pub record EndsFrame (s : Settings) (taken : ℕ) (frames : FrameReader) (x y : MeterState) (old new : List (List ℕ)) : Type 0 where
+  pub further : 272 * x.current.number < taken → y.current.number ≡ x.current.number + 1
+  pub stays : taken ≤ 272 * x.current.number → y.current.number ≡ x.current.number
+  pub ended : (bytes given : List ℕ) → symbols s bytes ≡ taken → IsEnding s bytes frames x given → Adds old new (IsEnding s bytes frames y) given
+
+pub ended_next : (s : Settings) (taken : ℕ) (frames : FrameReader) (x y : MeterState) (old new : List (List ℕ)) → IsEnded s taken frames x → EndsFrame s taken frames x y old new → IsEnded s taken frames y
+ended_next s taken frames x y old new h e =
+    let a = e.ended h.bytes h.lines h.count h.ending in
+    record { bytes = h.bytes; lines = h.lines ++ concat a.more; count = h.count; ending = a.then }
+
+pub finishes : (s : Settings) (bytes given : List ℕ) (taken : ℕ) (frames : FrameReader) (y z1 z2 : MeterState) (out0 out1 out2 out : List (List ℕ)) (counts : Counts) → symbols s bytes ≡ taken → IsEnding s bytes frames y given → EndsFrame s taken frames y z1 out0 out1 → EndsFrame s taken frames z1 z2 out1 out2
+    → out0 ≡ [] → out ≡ out2 ++ text.closing_lines counts → (MetersStand at_end s bytes z2 → FrameStands s.mode frames (tps_cells s bytes) (symbols s bytes) → AreClosing s bytes counts) → MeasureFinal s bytes (given ++ concat out)
+finishes s bytes given taken frames y z1 z2 out0 out1 out2 out counts count h e1 e2 none e close =
+    let a1 = e1.ended bytes given count h in
+    let a2 = e2.ended bytes (given ++ concat a1.more) count a1.then in
+    final_lines s bytes taken y.current.number z1.current.number frames z2 given out0 out1 out2 out a1.more a2.more counts count
+    (record { further = e1.further; stays = e1.stays; further_2 = e2.further; stays_2 = e2.stays })
+    (omega (arith, h.within, count)) (omega (arith, h.few, count)) none a1.is a2.is e
+    (subst (λ (z : List ℕ). IsEnding s bytes frames z2 z) (append_assoc given (concat a1.more) (concat a2.more)) a2.then) (close a2.then.stand a2.then.reader)

@@ -2,6 +2,9 @@
 use Rattle.std.proofs.Common.{◌≡◌, ℕ, ◌+◌, ◌-◌, ◌*◌, ◌/◌, ◌<◌, ◌≤◌, Bool, true, false, List, [], ◌++◌, take, map, refl, sym, ap, ap₂, ◌∙◌, subst, arith, append-nil}
 use Rattle.std.specs.List.{concat}
 use Rattle.code_paths.specs.declared.costs.CostPair.{CostPair}
+use Rattle.mode_set.specs.StreamTable.{carriers}
+use Rattle.mode_set.specs.declared.modes.Mode.{Mode}
+use Rattle.mode_set.specs.declared.modes.Mode.TheVariants.{M2k, M8k}
 use Rattle.mode_set.specs.declared.modes.Stream.{Stream}
 use Rattle.mode_set.specs.declared.modes.Stream.TheVariants.{Hp, Lp}
 use Rattle.mode_set.specs.declared.settings.Settings.{Settings}
@@ -26,11 +29,12 @@ use Rattle.measurement.specs.Lines.{defined_by}
 use Rattle.measurer.specs.declared.current.Current.{Current}
 use Rattle.measurer.specs.Seen.{MeterState, meter_of, MeasurerState}
 use Rattle.measurer.specs.Standing.{MeterStands, MetersStand, KeepsLast, FramesStand, GoOn, StandsFor, symbol_of}
-use Rattle.measurer.specs.Steps.{TakesSymbol, HasCompared, HasLines, IsLive}
+use Rattle.measurer.specs.Kept.{HasMeasured, IsKept}
+use Rattle.measurer.specs.Steps.{AreKept, TakesSymbol, TakesNext, HasBegun, HasCompared, IsCompared, HasLines, IsLive}
 use Rattle.measurer.proofs.Knowing.{known_back}
 use Rattle.measurer.proofs.Summing.{summed_stays}
-use Rattle.measurer.proofs.Counting.{words_stay, frames_alike}
-use Rattle.measurer.proofs.Lining.{lines_stay, live_lines, lines_live}
+use Rattle.measurer.proofs.Counting.{words_stay, frames_alike, no_words}
+use Rattle.measurer.proofs.Lining.{lines_stay, live_lines, lines_live, no_lines}
 
 pub record AreFed : Type 0 where
   pub same : SameSymbols
@@ -202,3 +206,78 @@ fed_whole laws old new meter took compared gave frames new_frames ended bytes pi
       lines_are = lines_live new.settings (bytes ++ take n piece) (given ++ concat out) l.lines_are;
       goes_on = record { meters = l.goes_on; frames = l.frames_stand };
     }
+
+-- ---- at first
+
+no_symbols : (m : Mode) → 0 / (5 * carriers m) ≡ 0
+no_symbols M2k = refl
+no_symbols M8k = refl
+
+no_frames : (word : ℕ → List Bool) (number read bad : ℕ) → number ≡ 0 → read ≡ 0 → bad ≡ 0 → CountsWords word (4 * number) read bad
+no_frames word number read bad e f g =
+    subst (λ (n : ℕ). CountsWords word (4 * n) read bad) (sym e) (subst (λ (r : ℕ). CountsWords word 0 r bad) (sym f) (subst (λ (b : ℕ). CountsWords word 0 0 b) (sym g) (no_words word)))
+
+pub first_stands : (cells : CostsState) (meter : MeterState) (frames : FrameReader) (s : Settings) → cells.settings ≡ s → HasHad cells [] → GoOn s [] meter → meter.current.number ≡ 0 → meter.current.read_before ≡ 0 → meter.current.bad_before ≡ 0
+    → ((mode : Mode) (shown : ℕ → List Cell) → FrameStands mode frames shown 0) → StandsFor so_far (state cells meter frames false) [] []
+first_stands cells meter frames s kept had g number read bad framed =
+    let none : symbols cells.settings [] ≡ 0 = no_symbols cells.settings.mode in
+    let zero_lines : 0 ≡ defined_by (symbols cells.settings []) = omega (arith, none) in
+    record {
+      ended = refl;
+      taken = had.taken;
+      rest = had.rest;
+      lines_are = lines_live cells.settings [] [] (subst (λ (k : ℕ). HasLines cells.settings [] k []) zero_lines (no_lines cells.settings []));
+      goes_on = record {
+        meters = subst (λ (z : Settings). GoOn z [] meter) (sym kept) g;
+        frames = record {
+          reader = subst (λ (k : ℕ). FrameStands cells.settings.mode frames (tps_cells cells.settings []) k) (sym none) (framed cells.settings.mode (tps_cells cells.settings []));
+          before = no_frames (frame_bits (tps_cells cells.settings [])) meter.current.number meter.current.read_before meter.current.bad_before number read bad;
+        };
+      };
+    }
+
+-- ---- what a measurer keeps
+
+pub may_take : AreFed → (old new : CostsState) (meter : MeterState) (frames : FrameReader) (ended : Bool) (piece : List ℕ) (n : ℕ) → new.settings ≡ old.settings → ((bytes : List ℕ) → HasHad old bytes → Fed new bytes piece n) → new.whole ≡ true → HasMeasured (state old meter frames ended) → TakesNext meter new
+may_take laws old new meter frames ended piece n kept fed whole m = record { bytes = m.bytes; p = take n piece; takes = takes_symbol laws old new meter frames ended m.bytes piece m.lines n kept fed whole m.stands }
+
+pub may_compare : AreFed → (old new : CostsState) (meter took compared : MeterState) (frames new_frames : FrameReader) (ended : Bool) (piece : List ℕ) (n : ℕ) → new.settings ≡ old.settings → ((bytes : List ℕ) → HasHad old bytes → Fed new bytes piece n) → new.whole ≡ true
+    → Moved new meter took compared frames new_frames → HasMeasured (state old meter frames ended) → IsCompared new.settings new.taken new_frames compared
+may_compare laws old new meter took compared frames new_frames ended piece n kept fed whole moved m =
+    let c = has_compared laws old new meter took compared frames new_frames ended m.bytes piece m.lines n kept fed whole moved m.stands in
+    record { bytes = m.bytes ++ take n piece; lines = m.lines; count = c.0; compared = c.1 }
+
+pub begun_took : (new : CostsState) (meter took : MeterState) → TakesNext meter new → ((bytes p : List ℕ) → TakesSymbol meter new bytes p → MetersStand so_far new.settings (bytes ++ p) took) → HasBegun took
+begun_took new meter took t f = let s = f t.bytes t.p t.takes in record { known = s.bits; stands = s.before }
+
+pub next_took : (new : CostsState) (meter took : MeterState) → TakesNext meter new → took.comparer.next ≡ meter.comparer.next → took.comparer.next ≡ new.taken - 4
+next_took new meter took t e = omega (arith, e, t.takes.goes_on.next, t.takes.taken)
+
+pub number_took : (new : CostsState) (meter took : MeterState) → TakesNext meter new → took.current ≡ meter.current → took.current.number ≡ defined_by (new.taken - 1)
+number_took new meter took t e = omega (arith, ap (λ (z : Current). z.number) e, t.takes.goes_on.number, t.takes.taken)
+
+pub measured_within : AreFed → (old new : CostsState) (meter : MeterState) (frames : FrameReader) (ended : Bool) (piece : List ℕ) (n : ℕ) → new.settings ≡ old.settings → ((bytes : List ℕ) → HasHad old bytes → Fed new bytes piece n) → new.whole ≡ false → HasMeasured (state old meter frames ended) → HasMeasured (state new meter frames ended)
+measured_within laws old new meter frames ended piece n kept fed part m = record {
+  bytes = m.bytes ++ take n piece;
+  lines = m.lines ++ concat [];
+  stands = fed_within laws old new meter frames ended m.bytes piece m.lines [] n kept fed part refl m.stands;
+}
+
+pub measured_whole : AreFed → (old new : CostsState) (meter took compared gave : MeterState) (frames new_frames : FrameReader) (ended : Bool) (piece : List ℕ) (out : List (List ℕ)) (n : ℕ) → new.settings ≡ old.settings → ((bytes : List ℕ) → HasHad old bytes → Fed new bytes piece n) → new.whole ≡ true
+    → Moved new meter took compared frames new_frames
+    → ((bytes given : List ℕ) → symbols new.settings bytes ≡ new.taken → HasCompared new.settings bytes new_frames compared given → IsLive new.settings bytes new_frames gave (given ++ concat out))
+    → HasMeasured (state old meter frames ended) → HasMeasured (state new gave new_frames ended)
+measured_whole laws old new meter took compared gave frames new_frames ended piece out n kept fed whole moved live m = record {
+  bytes = m.bytes ++ take n piece;
+  lines = m.lines ++ concat out;
+  stands = fed_whole laws old new meter took compared gave frames new_frames ended m.bytes piece m.lines out n kept fed whole moved live m.stands;
+}
+
+pub kept_within : (old new : CostsState) (meter : MeterState) (frames : FrameReader) (ended : Bool) → IsKept (state old meter frames ended) → new.taken ≡ old.taken → (HasMeasured (state old meter frames ended) → HasMeasured (state new meter frames ended)) → IsKept (state new meter frames ended)
+kept_within old new meter frames ended k e f = record {
+  few_taken = omega (arith, e, k.few_taken);
+  symbol = k.symbol;
+  few_frames = omega (arith, e, k.few_frames);
+  kept = λ going. subst (AreKept meter) (sym e) (k.kept going);
+  measured = λ going. f (k.measured going);
+}

@@ -40,8 +40,6 @@ use Rattle.measurer.proofs.Lasting.{none_past}
 use Rattle.measurer.proofs.Taking.{few_steps}
 
 pub record AreDone : Type 0 where
-  pub some_given : SomeAreGiven
-  pub some_ended : SomeAreEnded
   pub given_once : GivenOnce
   pub ended_once : EndedOnce
   pub same : SameCosts
@@ -103,10 +101,10 @@ frames_all n j l = omega (arith, l)
 frames_few : (n j : ℕ) → n < 272 * (j + 1) + 4 → n / 68 - 4 * j ≡ min 4 (n / 68 - 4 * j)
 frames_few n j l = omega (arith, l)
 
-pub frame_sums : AreDone → (x : MeterState) (frames : FrameReader) (moment : Moment) (s : Settings) (bytes : List ℕ) (hp lp : StreamSums) (of_lp : Option StreamSums) → SumsUp x.hp x.current.sums.hp hp → SumsUp x.lp x.current.sums.lp lp → of_lp ≡ (if exists_in s Lp then Some lp else None)
+pub frame_sums : AreDone → SomeAreGiven → SomeAreEnded → (x : MeterState) (frames : FrameReader) (moment : Moment) (s : Settings) (bytes : List ℕ) (hp lp : StreamSums) (of_lp : Option StreamSums) → SumsUp x.hp x.current.sums.hp hp → SumsUp x.lp x.current.sums.lp lp → of_lp ≡ (if exists_in s Lp then Some lp else None)
     → MetersStand moment s bytes x → FramesStand s bytes frames x.current → IsDone moment (symbols s bytes) x.comparer.next x.current.number
     → AreSums s bytes x.current.number (record { number = x.current.number; symbols = x.current.symbols; cells = x.current.sums.cells; muted = x.current.sums.muted; power = x.current.sums.power; error = x.current.sums.error; tps_read = frames.read - x.current.read_before; tps_bad = frames.bad - x.current.bad_before; hp = hp; lp = of_lp })
-frame_sums laws x frames moment s bytes hp lp of_lp give_hp give_lp e h f d = record {
+frame_sums laws some_given some_ended x frames moment s bytes hp lp of_lp give_hp give_lp e h f d = record {
   known = known;
   are_known = λ m σ p q. are m σ;
   number = refl;
@@ -135,10 +133,10 @@ frame_sums laws x frames moment s bytes hp lp of_lp give_hp give_lp e h f d = re
     facts = done_facts moment (symbols s bytes) x.comparer.next x.current.number d
 
     known : Knowns
-    known m σ = (some_known laws.some_given laws.some_ended s bytes σ m).0
+    known m σ = (some_known some_given some_ended s bytes σ m).0
 
-    are : (m : ℕ) (σ : Stream) → IsKnown s bytes σ m ((some_known laws.some_given laws.some_ended s bytes σ m).0)
-    are m σ = (some_known laws.some_given laws.some_ended s bytes σ m).1
+    are : (m : ℕ) (σ : Stream) → IsKnown s bytes σ m ((some_known some_given some_ended s bytes σ m).0)
+    are m σ = (some_known some_given some_ended s bytes σ m).1
 
     first : AreFirstSums s bytes known x.current.number (x.comparer.next - 272 * x.current.number) x.current
     first = h.summed known (λ m σ p q. are m σ)

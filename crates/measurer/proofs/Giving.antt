@@ -1,5 +1,5 @@
 -- The lines that a symbol defines.
-use Rattle.std.proofs.Common.{◌≡◌, ℕ, ◌+◌, ◌-◌, ◌*◌, ◌/◌, ◌^◌, ◌<◌, ◌≤◌, List, [], ◌++◌, ◌×◌, ◌⊎◌, inl, inr, refl, sym, ap, ◌∙◌, subst, arith, append-nil}
+use Rattle.std.proofs.Common.{◌≡◌, ℕ, ◌+◌, ◌-◌, ◌*◌, ◌/◌, ◌^◌, ◌<◌, ◌≤◌, List, [], ◌++◌, ◌⊎◌, inl, inr, refl, sym, ap, ◌∙◌, subst, arith, append-nil}
 use Rattle.std.specs.List.{concat}
 use Rattle.std.proofs.lemmas.Bool.{cases_lt}
 use Rattle.mode_set.specs.declared.modes.Stream.TheVariants.{Hp, Lp}
@@ -73,15 +73,15 @@ defined_there n j e = omega (arith, e)
 
 -- a number of symbols that defines no lines more
 defined_same : (n j : ℕ) → j ≡ defined_by (n - 1) → (n ≡ 272 * (j + 1) + 3 → ⊥) → j ≡ defined_by n
-defined_same n j e no = elim (cases_lt (272 * (j + 1) + 2) n) [
+defined_same n j e absent = elim (cases_lt (272 * (j + 1) + 2) n) [
   | inl l ↦ elim (cases_lt (272 * (j + 1) + 3) n) [
       | inl k ↦ absurd (omega (arith, e, k))
-      | inr k ↦ absurd (no (omega (arith, l, k)))
+      | inr k ↦ absurd (absent (omega (arith, l, k)))
     ]
   | inr l ↦ omega (arith, e, l)
 ]
 
-no_little : (j read bad : ℕ) → AreLittle (nothing_of j read bad).sums (6048 * (nothing_of j read bad).symbols)
+pub no_little : (j read bad : ℕ) → AreLittle (nothing_of j read bad).sums (6048 * (nothing_of j read bad).symbols)
 no_little j read bad = record { cells = omega arith; muted = omega arith; power = omega arith; error = omega arith; hp = (omega arith, omega arith); lp = (omega arith, omega arith) }
 
 -- the parts after the lines were given
@@ -113,7 +113,7 @@ given_live s bytes frames x y given old out h e none p stand adds = record {
     there = defined_there (symbols s bytes) x.current.number e
 
 pub none_live : (s : Settings) (bytes : List ℕ) (frames : FrameReader) (x : MeterState) (given : List ℕ) (out : List (List ℕ)) → HasCompared s bytes frames x given → (symbols s bytes ≡ 272 * (x.current.number + 1) + 3 → ⊥) → out ≡ [] → IsLive s bytes frames x (given ++ concat out)
-none_live s bytes frames x given out h no none = record {
+none_live s bytes frames x given out h absent none = record {
   goes_on = record { next = h.next; number = same; hp_settled = h.hp_settled; lp_settled = h.lp_settled; stand = h.stand };
   frames_stand = h.frames_stand;
   lines_are = subst (λ (z : List (List ℕ)). HasLines s bytes (defined_by (symbols s bytes)) (given ++ concat z)) (sym none)
@@ -121,7 +121,7 @@ none_live s bytes frames x given out h no none = record {
 }
   where
     same : x.current.number ≡ defined_by (symbols s bytes)
-    same = defined_same (symbols s bytes) x.current.number h.number no
+    same = defined_same (symbols s bytes) x.current.number h.number absent
 
 pub kept_given : (x y : MeterState) (frames : FrameReader) (taken : ℕ) → AreKept x taken → Passed x y frames → 272 * (x.current.number + 1) ≤ x.comparer.next → ((n : ℕ) → AreFew x.hp.reports n → AreFew y.hp.reports n) → ((n : ℕ) → AreFew x.lp.reports n → AreFew y.lp.reports n) → AreKept y taken
 kept_given x y frames taken k p l hp lp = record {

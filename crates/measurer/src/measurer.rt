@@ -91,6 +91,7 @@ fn compare_next<M: Carriers>(taken: u64, meter: &mut FrameMeter<M>)
     ensures lp_settled { IsSettled meter.new.lp.known }
     ensures compared { (s : AnySettings) (bytes : List ℕ) → symbols s bytes ≡ taken → MetersStand so_far s bytes meter.old → MetersStand so_far s bytes meter.new }
 {
+    symbol_spans::laws::steps();
     if taken > LATER {
         meter.compare();
     }
@@ -193,6 +194,9 @@ impl<M: Carriers> Measurer<M> {
         ensures few { length out.new ≤ 3 }
         ensures fed { (bytes given : List ℕ) → StandsFor so_far self.old bytes given → StandsFor so_far self.new (bytes ++ take result piece.now) (given ++ concat out.new) }
     {
+        reception::laws::symbols();
+        reception::laws::costs();
+        measurement::laws::sums_stay();
         out.clear();
         let count = self.cells.feed(piece);
         if !self.cells.whole() {
