@@ -6,3 +6,4 @@ mod Metering
 mod Lasting
 mod Closing
 mod Finishing
+mod First
