@@ -42,16 +42,29 @@ whole_costs same s bytes σ k e =
     let w : IsWithin s first rest = rest_within s.mode (length bytes) k (length first) (length rest) e long (length-drop n bytes) in
     sym (same s first rest σ w) ∙ ap (λ (z : List ℕ). costs s z σ) (take-append-drop n bytes)
 
--- what the decoder of a stream has given is what is known for the symbol that is due
-pub due_known : SameCosts → (moment : Moment) (s : Settings) (bytes : List ℕ) (σ : Stream) (m : ℕ) (bits : List Bool) → IsDecoded moment (start_of s.start) (costs s bytes σ) bits → IsDue moment (symbols s bytes) m → IsKnown s bytes σ m bits
-due_known same so_far s bytes σ m bits d e = record {
+-- symbol m is the fourth last of n, or at the end one of the last three or none of them
+abbrev pub HasLast : Moment → ℕ → ℕ → Type 0
+HasLast so_far n m = n ≡ m + 4
+HasLast at_end n m = n < m + 4
+
+-- what the decoder of a stream has given is what is known for such a symbol
+pub last_known : SameCosts → (moment : Moment) (s : Settings) (bytes : List ℕ) (σ : Stream) (m : ℕ) (bits : List Bool) → IsDecoded moment (start_of s.start) (costs s bytes σ) bits → HasLast moment (symbols s bytes) m → IsKnown s bytes σ m bits
+last_known same so_far s bytes σ m bits d e = record {
   so_far = λ h. subst (λ (z : List CostPair). Given memory (start_of s.start) z bits) (sym (whole_costs same s bytes σ (m + 4) (sym e))) d;
   at_end = λ h. absurd (omega (arith, h, e));
 }
-due_known same at_end s bytes σ m bits d e = record {
-  so_far = λ h. absurd (omega (arith, h, e.1));
+last_known same at_end s bytes σ m bits d e = record {
+  so_far = λ h. absurd (omega (arith, h, e));
   at_end = λ h. d;
 }
+
+due_last : (moment : Moment) (n m : ℕ) → IsDue moment n m → HasLast moment n m
+due_last so_far n m e = e
+due_last at_end n m e = e.1
+
+-- so it is of the symbol that is due
+pub due_known : SameCosts → (moment : Moment) (s : Settings) (bytes : List ℕ) (σ : Stream) (m : ℕ) (bits : List Bool) → IsDecoded moment (start_of s.start) (costs s bytes σ) bits → IsDue moment (symbols s bytes) m → IsKnown s bytes σ m bits
+due_known same moment s bytes σ m bits d e = last_known same moment s bytes σ m bits d (due_last moment (symbols s bytes) m e)
 
 -- bits that are known for a symbol of more bytes
 pub known_back : (s : Settings) (bytes more : List ℕ) (σ : Stream) (m : ℕ) (bits : List Bool) → m + 4 ≤ symbols s bytes → IsKnown s (bytes ++ more) σ m bits → IsKnown s bytes σ m bits

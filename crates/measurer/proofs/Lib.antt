@@ -2,8 +2,14 @@ mod Knowing
 mod Lining
 mod Summing
 mod Counting
-mod Metering
+mod Taking
+mod Comparing
 mod Lasting
-mod Closing
+mod Framing
+mod Giving
+mod Feeding
+mod Ending
+mod Metering
 mod Finishing
 mod First
+mod Closing

@@ -121,6 +121,7 @@ pub record IsEnding (s : Settings) (bytes : List ℕ) (frames : FrameReader) (x 
   pub few : symbols s bytes < 272 * (x.current.number + 1) + 3
   pub last : 272 * x.current.number < symbols s bytes → symbols s bytes < x.comparer.next + 4
   pub from : 272 * x.current.number < symbols s bytes → 272 * x.current.number ≤ x.comparer.next
+  pub to : x.comparer.next ≤ 272 * (x.current.number + 1)
   pub stand : MetersStand at_end s bytes x
   pub reader : FrameStands s.mode frames (tps_cells s bytes) (symbols s bytes)
   pub before : 272 * x.current.number < symbols s bytes → CountsWords (frame_bits (tps_cells s bytes)) (4 * x.current.number) x.current.read_before x.current.bad_before

@@ -9,8 +9,6 @@ ghost use Rattle.symbol_sums.specs.Tables.{AreLittle};
 ghost use Rattle.reception.specs.Frames.{tps_cells};
 ghost use Rattle.stream_decoders.specs.Framing.{FrameStands};
 ghost use Rattle.measurer.specs.Sums.{nothing_of};
-ghost use Rattle.stream_decoders.specs.Branches.{HasTaken};
-ghost use Rattle.word_workers.specs.Symbols.{MayRunOver};
 ghost use Rattle.stream_meter.specs.Reports.{AreFew};
 ghost use Rattle.measurement.specs.SuperFrames.{AreSums};
 ghost use Rattle.measurer.specs.Standing.{GoOn, MetersStand, FramesStand};
@@ -85,27 +83,6 @@ impl<M: Carriers> FrameMeter<M> {
         self.current.number
     }
 
-    /// Runs the decoders over the symbol that was ended.
-    fn run<R: Threads + Sync, G: Gate>(&mut self, rt: &R, gate: &G, cells: &SymbolCosts<M>)
-        requires hp { MayRunOver cells.now.hp self.old.hp.branch }
-        requires lp { MayRunOver cells.now.lp self.old.lp.branch }
-        ensures rest { self.new ≡ record self.old { hp = record self.old.hp { branch = self.new.hp.branch }; lp = record self.old.lp { branch = self.new.lp.branch } } }
-        ensures hp { HasTaken cells.now.hp self.old.hp.branch self.new.hp.branch }
-        ensures lp { HasTaken cells.now.lp self.old.lp.branch self.new.lp.branch }
-    {
-        self.events.clear();
-        take_symbol(
-            rt,
-            gate,
-            cells.settings().has_lp(),
-            cells.pairs(Stream::Hp),
-            cells.pairs(Stream::Lp),
-            &mut self.hp.branch,
-            &mut self.lp.branch,
-            &mut self.events,
-        );
-    }
-
     /// Takes the symbol that was ended: decodes it, hands on what is decided then, and keeps its cells.
     pub(crate) fn take<R: Threads + Sync, G: Gate>(
         &mut self,
@@ -127,13 +104,23 @@ impl<M: Carriers> FrameMeter<M> {
         stream_meter::laws::few();
         stream_meter::laws::room();
         symbol_spans::laws::steps();
-        code_paths::given_once();
+        known_bits::laws::rooms();
         reception::laws::symbols();
         reception::laws::costs();
         let settings = cells.settings();
         let taken = cells.symbols();
         let within = taken <= SYMBOLS * (self.current.number + 1);
-        self.run(rt, gate, cells);
+        self.events.clear();
+        take_symbol(
+            rt,
+            gate,
+            settings.has_lp(),
+            cells.pairs(Stream::Hp),
+            cells.pairs(Stream::Lp),
+            &mut self.hp.branch,
+            &mut self.lp.branch,
+            &mut self.events,
+        );
         self.hp.give_on(rt, gate, settings.workers, within);
         self.lp.give_on(rt, gate, settings.workers, within);
         self.comparer.keep(taken - 1, cells.cells(), cells.weights());
