@@ -11,4 +11,5 @@ mod Feeding
 mod Ending
 mod Metering
 mod Finishing
+mod First
 mod Closing
