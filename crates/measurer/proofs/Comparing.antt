@@ -122,10 +122,10 @@ compared_on laws x comparer hp lp current result made ec moment s bytes h due fr
     sums known are =
         let d = symbol_of s bytes x.comparer.next in
         let stands : StandsBefore x.comparer.next x.comparer x.hp.known x.lp.known known = record {
-              next = refl;
-              streams = λ σ. subst (λ (b : List Bool). HasPassed x.comparer.settings σ x.comparer.next (known_of x.hp.known x.lp.known σ) (register_of x.comparer.coder σ) b)
-                  (known_once laws.given_once laws.ended_once s bytes σ x.comparer.next (h.bits σ) (known σ) (known_here σ) (are σ)) (h.before.streams σ);
-            } in
+          next = refl;
+          streams = λ σ. subst (λ (b : List Bool). HasPassed x.comparer.settings σ x.comparer.next (known_of x.hp.known x.lp.known σ) (register_of x.comparer.coder σ) b)
+              (known_once laws.given_once laws.ended_once s bytes σ x.comparer.next (h.bits σ) (known σ) (known_here σ) (are σ)) (h.before.streams σ);
+        } in
         subst (λ (z : Settings). IsSummed z (symbol_of s bytes x.comparer.next) known x.comparer.next result) h.settings
         (subst (λ (z : SymbolState). IsSummed x.comparer.settings z known x.comparer.next result) (h.keeps x.comparer.next d within.0 within.1) (made.summed x.comparer.next known d stands))
 

@@ -48,7 +48,7 @@ pub record FollowOn (word : ℕ → List Bool) (n k read bad read1 bad1 : ℕ) :
 pub words_follow : (word : ℕ → List Bool) (n k read bad read1 bad1 : ℕ) → CountsWords word n read bad → CountsWords word (n + k) read1 bad1 → FollowOn word n k read bad read1 bad1
 words_follow word n k read bad read1 bad1 x y =
     let alike : count x.is_read n ≡ count y.is_read n = count_alike x.is_read y.is_read n
-            (λ f l. same_test (x.is_read f) (y.is_read f) (λ t. (y.reads f (omega (arith, l))).1 ((x.reads f l).0 t)) (λ t. (x.reads f l).1 ((y.reads f (omega (arith, l))).0 t))) in
+    (λ f l. same_test (x.is_read f) (y.is_read f) (λ t. (y.reads f (omega (arith, l))).1 ((x.reads f l).0 t)) (λ t. (x.reads f l).1 ((y.reads f (omega (arith, l))).0 t))) in
     let split : count y.is_read (n + k) ≡ count y.is_read n + count (λ i. y.is_read (n + i)) k = count_on y.is_read n k in
     let few : count (λ i. y.is_read (n + i)) k ≤ k = count_few (λ i. y.is_read (n + i)) k in
     record {

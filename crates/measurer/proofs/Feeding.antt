@@ -281,3 +281,6 @@ kept_within old new meter frames ended k e f = record {
   kept = λ going. subst (AreKept meter) (sym e) (k.kept going);
   measured = λ going. f (k.measured going);
 }
+
+pub kept_first : (x : MeterState) (taken : ℕ) → taken ≡ 0 → AreKept x 0 → AreKept x taken
+kept_first x taken e k = subst (AreKept x) (sym e) k

@@ -75,9 +75,9 @@ defined_there n j e = omega (arith, e)
 defined_same : (n j : ℕ) → j ≡ defined_by (n - 1) → (n ≡ 272 * (j + 1) + 3 → ⊥) → j ≡ defined_by n
 defined_same n j e absent = elim (cases_lt (272 * (j + 1) + 2) n) [
   | inl l ↦ elim (cases_lt (272 * (j + 1) + 3) n) [
-      | inl k ↦ absurd (omega (arith, e, k))
-      | inr k ↦ absurd (absent (omega (arith, l, k)))
-    ]
+    | inl k ↦ absurd (omega (arith, e, k))
+    | inr k ↦ absurd (absent (omega (arith, l, k)))
+  ]
   | inr l ↦ omega (arith, e, l)
 ]
 

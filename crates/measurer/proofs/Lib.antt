@@ -9,7 +9,6 @@ mod Framing
 mod Giving
 mod Feeding
 mod Ending
-mod Metering
 mod Finishing
 mod First
 mod Closing

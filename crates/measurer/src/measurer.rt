@@ -12,8 +12,8 @@ ghost use Rattle.measurer.specs.Sums.{nothing_of};
 ghost use Rattle.measurer.specs.Standing.{MetersStand, FramesStand, StandsFor};
 ghost use Rattle.measurer.specs.Steps.{AreKept, HasBegun, HasStood, IsDone, CountsOn, HasLines, HasCompared, IsCompared, IsLive, IsEnding, IsEnded, HasPlace, Adds};
 
+use crate::measure_out::{MeasureOut, put_counts, put_super_frame};
 use crate::meter::FrameMeter;
-use crate::out::{MeasureOut, put_counts, put_super_frame};
 use mode_set::{Carriers, Settings};
 use std::alloc::{AllocError, Global};
 use std::marker::Model;

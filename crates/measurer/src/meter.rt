@@ -123,7 +123,8 @@ impl<M: Carriers> FrameMeter<M> {
         );
         self.hp.give_on(rt, gate, settings.workers, within);
         self.lp.give_on(rt, gate, settings.workers, within);
-        self.comparer.keep(taken - 1, cells.cells(), cells.weights());
+        self.comparer
+            .keep(taken - 1, cells.cells(), cells.weights());
     }
 
     /// Compares the next symbol, or leaves it out.
@@ -149,7 +150,9 @@ impl<M: Carriers> FrameMeter<M> {
         code_paths::given_once();
         code_paths::ended_once();
         reception::laws::costs();
-        let sums = self.comparer.compare(&mut self.hp.known, &mut self.lp.known);
+        let sums = self
+            .comparer
+            .compare(&mut self.hp.known, &mut self.lp.known);
         self.current.add(&sums);
     }
 

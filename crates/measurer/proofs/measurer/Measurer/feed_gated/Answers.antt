@@ -104,16 +104,16 @@ give_lines-requires-clause-compared g c =
     let measured : HasMeasured old = c.self.invariant.measured going in
     let t : TakesNext x.meter new = may_take laws x.cells new x.meter x.frames x.ended c.args.piece.now c.feed-count.result c.feed-count.ensures.settings c.feed-count.ensures.fed whole measured in
     let moved : Moved new x.meter c.take-2.new.self c.compare_next.new.meter x.frames c.take.new.self = record {
-          take = c.take-2.ensures.taken;
-          took_current = c.take-2.ensures.current;
-          compare = λ s b e. c.compare_next.ensures.compared s b (e ∙ sym c.symbols-2.ensures.number);
-          next = c.compare_next.ensures.next ∙ ap (λ (k : ℕ). k - 3) c.symbols-2.ensures.number;
-          current = c.compare_next.ensures.current;
-          hp_settled = c.compare_next.ensures.hp_settled;
-          lp_settled = c.compare_next.ensures.lp_settled;
-          framed = subst (λ (z : Settings). (shown : ℕ → List Cell) (m : ℕ) → shown m ≡ map (cell_of new.cells) (tps_carriers z.mode) → FrameStands z.mode x.frames shown m → FrameStands z.mode c.take.new.self shown (m + 1)) c.settings.ensures.settings
-              (subst (λ (z : List Cell). (shown : ℕ → List Cell) (m : ℕ) → shown m ≡ map (cell_of z) (tps_carriers c.settings.result.now.mode) → FrameStands c.settings.result.now.mode x.frames shown m → FrameStands c.settings.result.now.mode c.take.new.self shown (m + 1)) c.cells.ensures.cells c.take.ensures.taken);
-        } in
+      take = c.take-2.ensures.taken;
+      took_current = c.take-2.ensures.current;
+      compare = λ s b e. c.compare_next.ensures.compared s b (e ∙ sym c.symbols-2.ensures.number);
+      next = c.compare_next.ensures.next ∙ ap (λ (k : ℕ). k - 3) c.symbols-2.ensures.number;
+      current = c.compare_next.ensures.current;
+      hp_settled = c.compare_next.ensures.hp_settled;
+      lp_settled = c.compare_next.ensures.lp_settled;
+      framed = subst (λ (z : Settings). (shown : ℕ → List Cell) (m : ℕ) → shown m ≡ map (cell_of new.cells) (tps_carriers z.mode) → FrameStands z.mode x.frames shown m → FrameStands z.mode c.take.new.self shown (m + 1)) c.settings.ensures.settings
+          (subst (λ (z : List Cell). (shown : ℕ → List Cell) (m : ℕ) → shown m ≡ map (cell_of z) (tps_carriers c.settings.result.now.mode) → FrameStands c.settings.result.now.mode x.frames shown m → FrameStands c.settings.result.now.mode c.take.new.self shown (m + 1)) c.cells.ensures.cells c.take.ensures.taken);
+    } in
     may_compare laws x.cells new x.meter c.take-2.new.self c.compare_next.new.meter x.frames c.take.new.self x.ended c.args.piece.now c.feed-count.result c.feed-count.ensures.settings c.feed-count.ensures.fed whole moved measured
 
 pub returns-clause-fed : goal.returns-clause-fed
@@ -127,16 +127,16 @@ returns-clause-fed g c = λ b given.
     let measured : HasMeasured old = c.self.invariant.measured going in
     let t : TakesNext x.meter new = may_take laws x.cells new x.meter x.frames x.ended c.args.piece.now c.feed-count.result c.feed-count.ensures.settings c.feed-count.ensures.fed whole measured in
     let moved : Moved new x.meter c.take-2.new.self c.compare_next.new.meter x.frames c.take.new.self = record {
-          take = c.take-2.ensures.taken;
-          took_current = c.take-2.ensures.current;
-          compare = λ s b e. c.compare_next.ensures.compared s b (e ∙ sym c.symbols-2.ensures.number);
-          next = c.compare_next.ensures.next ∙ ap (λ (k : ℕ). k - 3) c.symbols-2.ensures.number;
-          current = c.compare_next.ensures.current;
-          hp_settled = c.compare_next.ensures.hp_settled;
-          lp_settled = c.compare_next.ensures.lp_settled;
-          framed = subst (λ (z : Settings). (shown : ℕ → List Cell) (m : ℕ) → shown m ≡ map (cell_of new.cells) (tps_carriers z.mode) → FrameStands z.mode x.frames shown m → FrameStands z.mode c.take.new.self shown (m + 1)) c.settings.ensures.settings
-              (subst (λ (z : List Cell). (shown : ℕ → List Cell) (m : ℕ) → shown m ≡ map (cell_of z) (tps_carriers c.settings.result.now.mode) → FrameStands c.settings.result.now.mode x.frames shown m → FrameStands c.settings.result.now.mode c.take.new.self shown (m + 1)) c.cells.ensures.cells c.take.ensures.taken);
-        } in
+      take = c.take-2.ensures.taken;
+      took_current = c.take-2.ensures.current;
+      compare = λ s b e. c.compare_next.ensures.compared s b (e ∙ sym c.symbols-2.ensures.number);
+      next = c.compare_next.ensures.next ∙ ap (λ (k : ℕ). k - 3) c.symbols-2.ensures.number;
+      current = c.compare_next.ensures.current;
+      hp_settled = c.compare_next.ensures.hp_settled;
+      lp_settled = c.compare_next.ensures.lp_settled;
+      framed = subst (λ (z : Settings). (shown : ℕ → List Cell) (m : ℕ) → shown m ≡ map (cell_of new.cells) (tps_carriers z.mode) → FrameStands z.mode x.frames shown m → FrameStands z.mode c.take.new.self shown (m + 1)) c.settings.ensures.settings
+          (subst (λ (z : List Cell). (shown : ℕ → List Cell) (m : ℕ) → shown m ≡ map (cell_of z) (tps_carriers c.settings.result.now.mode) → FrameStands c.settings.result.now.mode x.frames shown m → FrameStands c.settings.result.now.mode c.take.new.self shown (m + 1)) c.cells.ensures.cells c.take.ensures.taken);
+    } in
     subst (λ (z : MeasurerState). StandsFor so_far z b given → StandsFor so_far (state new c.give_lines.new.meter c.take.new.self x.ended) (b ++ take c.feed-count.result c.args.piece.now) (given ++ concat c.give_lines.new.out)) c.self.view_is
     (fed_whole laws x.cells new x.meter c.take-2.new.self c.compare_next.new.meter c.give_lines.new.meter x.frames c.take.new.self x.ended b c.args.piece.now given c.give_lines.new.out c.feed-count.result c.feed-count.ensures.settings c.feed-count.ensures.fed whole moved
     c.give_lines.ensures.live)
@@ -152,16 +152,16 @@ invariant_of-self-2 g c =
     let measured : HasMeasured old = c.self.invariant.measured going in
     let t : TakesNext x.meter new = may_take laws x.cells new x.meter x.frames x.ended c.args.piece.now c.feed-count.result c.feed-count.ensures.settings c.feed-count.ensures.fed whole measured in
     let moved : Moved new x.meter c.take-2.new.self c.compare_next.new.meter x.frames c.take.new.self = record {
-          take = c.take-2.ensures.taken;
-          took_current = c.take-2.ensures.current;
-          compare = λ s b e. c.compare_next.ensures.compared s b (e ∙ sym c.symbols-2.ensures.number);
-          next = c.compare_next.ensures.next ∙ ap (λ (k : ℕ). k - 3) c.symbols-2.ensures.number;
-          current = c.compare_next.ensures.current;
-          hp_settled = c.compare_next.ensures.hp_settled;
-          lp_settled = c.compare_next.ensures.lp_settled;
-          framed = subst (λ (z : Settings). (shown : ℕ → List Cell) (m : ℕ) → shown m ≡ map (cell_of new.cells) (tps_carriers z.mode) → FrameStands z.mode x.frames shown m → FrameStands z.mode c.take.new.self shown (m + 1)) c.settings.ensures.settings
-              (subst (λ (z : List Cell). (shown : ℕ → List Cell) (m : ℕ) → shown m ≡ map (cell_of z) (tps_carriers c.settings.result.now.mode) → FrameStands c.settings.result.now.mode x.frames shown m → FrameStands c.settings.result.now.mode c.take.new.self shown (m + 1)) c.cells.ensures.cells c.take.ensures.taken);
-        } in
+      take = c.take-2.ensures.taken;
+      took_current = c.take-2.ensures.current;
+      compare = λ s b e. c.compare_next.ensures.compared s b (e ∙ sym c.symbols-2.ensures.number);
+      next = c.compare_next.ensures.next ∙ ap (λ (k : ℕ). k - 3) c.symbols-2.ensures.number;
+      current = c.compare_next.ensures.current;
+      hp_settled = c.compare_next.ensures.hp_settled;
+      lp_settled = c.compare_next.ensures.lp_settled;
+      framed = subst (λ (z : Settings). (shown : ℕ → List Cell) (m : ℕ) → shown m ≡ map (cell_of new.cells) (tps_carriers z.mode) → FrameStands z.mode x.frames shown m → FrameStands z.mode c.take.new.self shown (m + 1)) c.settings.ensures.settings
+          (subst (λ (z : List Cell). (shown : ℕ → List Cell) (m : ℕ) → shown m ≡ map (cell_of z) (tps_carriers c.settings.result.now.mode) → FrameStands c.settings.result.now.mode x.frames shown m → FrameStands c.settings.result.now.mode c.take.new.self shown (m + 1)) c.cells.ensures.cells c.take.ensures.taken);
+    } in
     let more = c.feed-count.ensures.ended whole in
     record {
       few_taken = omega (arith, more, c.requires.few, ap (λ (z : MeasurerState). z.taken) c.self.view_is);

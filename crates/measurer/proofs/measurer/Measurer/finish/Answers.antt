@@ -30,14 +30,14 @@ end_super_frame-requires-2-clause-ending g c =
     let m : HasMeasured (state x.cells x.meter x.frames x.ended) = c.self.invariant.measured (ap (λ (z : MeasurerState). z.ended) c.self.view_is ∙ c.requires.going) in
     let finished = subst (λ (z : Settings). (bytes : List ℕ) → GoOn z bytes x.meter → MetersStand at_end z bytes c.finish.new.self) c.settings-2.ensures.settings c.finish.ensures.finished in
     let first : IsEnded x.cells.settings x.cells.taken x.frames c.finish.new.self = record {
-          bytes = m.bytes;
-          lines = m.lines;
-          count = sym m.stands.taken;
-          ending = ending_first x.cells.settings m.bytes x.frames x.meter c.finish.new.self m.lines m.stands.goes_on.meters m.stands.goes_on.frames c.finish.ensures.comparer c.finish.ensures.current (finished m.bytes m.stands.goes_on.meters)
-              (live_lines x.cells.settings m.bytes m.lines m.stands.lines_are);
-        } in
+      bytes = m.bytes;
+      lines = m.lines;
+      count = sym m.stands.taken;
+      ending = ending_first x.cells.settings m.bytes x.frames x.meter c.finish.new.self m.lines m.stands.goes_on.meters m.stands.goes_on.frames c.finish.ensures.comparer c.finish.ensures.current (finished m.bytes m.stands.goes_on.meters)
+          (live_lines x.cells.settings m.bytes m.lines m.stands.lines_are);
+    } in
     let e1 : EndsFrame x.cells.settings x.cells.taken x.frames c.finish.new.self c.end_super_frame.new.meter c.clear.new.self c.end_super_frame.new.out =
-            record { further = c.end_super_frame.ensures.further; stays = c.end_super_frame.ensures.stays; ended = c.end_super_frame.ensures.ended } in
+    record { further = c.end_super_frame.ensures.further; stays = c.end_super_frame.ensures.stays; ended = c.end_super_frame.ensures.ended } in
     ended_next x.cells.settings x.cells.taken x.frames c.finish.new.self c.end_super_frame.new.meter c.clear.new.self c.end_super_frame.new.out first e1
 
 pub returns-clause-finished : goal.returns-clause-finished
@@ -46,9 +46,9 @@ returns-clause-finished g c = λ bytes given.
     let s = x.cells.settings in
     let finished = subst (λ (z : Settings). (bytes : List ℕ) → GoOn z bytes x.meter → MetersStand at_end z bytes c.finish.new.self) c.settings-2.ensures.settings c.finish.ensures.finished in
     let e1 : EndsFrame s x.cells.taken x.frames c.finish.new.self c.end_super_frame.new.meter c.clear.new.self c.end_super_frame.new.out =
-            record { further = c.end_super_frame.ensures.further; stays = c.end_super_frame.ensures.stays; ended = c.end_super_frame.ensures.ended } in
+    record { further = c.end_super_frame.ensures.further; stays = c.end_super_frame.ensures.stays; ended = c.end_super_frame.ensures.ended } in
     let e2 : EndsFrame s x.cells.taken x.frames c.end_super_frame.new.meter c.end_super_frame-2.new.meter c.end_super_frame.new.out c.end_super_frame-2.new.out =
-            record { further = c.end_super_frame-2.ensures.further; stays = c.end_super_frame-2.ensures.stays; ended = c.end_super_frame-2.ensures.ended } in
+    record { further = c.end_super_frame-2.ensures.further; stays = c.end_super_frame-2.ensures.stays; ended = c.end_super_frame-2.ensures.ended } in
     subst (λ (z : MeasurerState). StandsFor so_far z bytes given → StandsFor at_end (state x.cells c.end_super_frame-2.new.meter x.frames true) bytes (given ++ concat c.put_counts.new.out)) c.self.view_is
     (λ h. record {
       ended = refl;

@@ -1,6 +1,5 @@
-use Rattle.std.proofs.Common.{◌≡◌, ℕ, [], sym, subst, arith}
-use Rattle.measurer.specs.Steps.{AreKept}
-use Rattle.measurer.proofs.Feeding.{first_stands}
+use Rattle.std.proofs.Common.{[], arith}
+use Rattle.measurer.proofs.Feeding.{first_stands, kept_first}
 use Rattle.measurer.proofs.measurer.Measurer.new.Goals as goal
 
 pub invariant_of-result : goal.invariant_of-result
@@ -8,7 +7,7 @@ invariant_of-result g c = record {
   few_taken = omega (arith, c.in_ok-new.ensures.taken);
   symbol = omega (arith, c.new-3.ensures.symbol);
   few_frames = omega (arith, c.new-3.ensures.read, c.new-3.ensures.bad);
-  kept = λ _. subst (AreKept c.in_ok-new-2.result) (sym c.in_ok-new.ensures.taken) c.in_ok-new-2.ensures.kept;
+  kept = λ _. kept_first _ _ c.in_ok-new.ensures.taken c.in_ok-new-2.ensures.kept;
   measured = λ _. record {
     bytes = [];
     lines = [];
