@@ -1,5 +1,5 @@
 -- What a measurer stands for.
-use Rattle.std.specs.Prelude.{◌≡◌, ℕ, ◌+◌, ◌-◌, ◌*◌, ◌<◌, ◌≤◌, Bool, List, ⊤}
+use Rattle.std.specs.Prelude.{◌≡◌, ℕ, ◌+◌, ◌-◌, ◌*◌, ◌<◌, ◌≤◌, Bool, true, false, List, ⊤}
 use Rattle.code_paths.specs.declared.costs.CostPair.{CostPair}
 use Rattle.mode_set.specs.declared.modes.Stream.{Stream}
 use Rattle.mode_set.specs.declared.settings.Settings.{Settings}
@@ -18,7 +18,6 @@ use Rattle.symbol_comparison.specs.Standing.{StandsBefore, kept_at}
 use Rattle.measurement.specs.Known.{IsKnown}
 use Rattle.measurement.specs.Lines.{defined_by, MeasureLive, MeasureFinal}
 use Rattle.measurement.specs.SuperFrames.{Knowns, told_before}
-use Rattle.receiver.specs.Standing.{is_end}
 use Rattle.measurer.specs.declared.current.Current.{Current}
 use Rattle.measurer.specs.Seen.{MeterState, meter_of, MeasurerState}
 use Rattle.measurer.specs.Sums.{AreSummed}
@@ -46,8 +45,6 @@ pub record MetersStand (moment : Moment) (s : Settings) (bytes : List ℕ) (x : 
   pub meters : (σ : Stream) → MeterStands moment (meter_of x σ) s bytes σ x.current.number (bits σ)
   pub settings : x.comparer.settings ≡ s
   pub before : StandsBefore x.comparer.next x.comparer x.hp.known x.lp.known bits
-  pub hp_settled : IsSettled x.hp.known
-  pub lp_settled : IsSettled x.lp.known
   pub keeps : KeepsLast s bytes (symbols s bytes) x.comparer
   pub summed : AreSummed s bytes x.comparer.next x.current
 
@@ -56,11 +53,18 @@ pub record FramesStand (s : Settings) (bytes : List ℕ) (frames : FrameReader) 
   pub reader : FrameStands s.mode frames (tps_cells s bytes) (symbols s bytes)
   pub before : CountsWords (frame_bits (tps_cells s bytes)) (4 * x.number) x.read_before x.bad_before
 
--- all symbols but the last three are compared or left out, and the lines of all super-frames of them are given
+-- So it is between two symbols: all symbols but the last three are compared or left out, and the super-frame is that of the next one. The
+-- encoders have passed all known bits before it.
+pub record GoOn (s : Settings) (bytes : List ℕ) (x : MeterState) : Type 0 where
+  pub next : x.comparer.next ≡ symbols s bytes - 3
+  pub number : x.current.number ≡ defined_by (symbols s bytes)
+  pub hp_settled : IsSettled x.hp.known
+  pub lp_settled : IsSettled x.lp.known
+  pub stand : MetersStand so_far s bytes x
+
+-- until the end the parts of a measurer stand for the bytes
 pub record IsMeasuring (x : MeasurerState) (bytes : List ℕ) : Type 0 where
-  pub next : x.meter.comparer.next ≡ symbols x.settings bytes - 3
-  pub number : x.meter.current.number ≡ defined_by (symbols x.settings bytes)
-  pub meters : MetersStand so_far x.settings bytes x.meter
+  pub meters : GoOn x.settings bytes x.meter
   pub frames : FramesStand x.settings bytes x.frames x.meter.current
 
 -- the lines of the bytes at a moment
@@ -68,7 +72,10 @@ abbrev pub AreLines : Moment → Settings → List ℕ → List ℕ → Type 0
 AreLines so_far = MeasureLive
 AreLines at_end = MeasureFinal
 
--- until the end the parts of the measurer stand for the bytes
+abbrev pub is_end : Moment → Bool
+is_end so_far = false
+is_end at_end = true
+
 abbrev pub GoesOn : Moment → MeasurerState → List ℕ → Type 0
 GoesOn so_far x bytes = IsMeasuring x bytes
 GoesOn at_end x bytes = ⊤

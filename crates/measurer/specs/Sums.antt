@@ -1,5 +1,5 @@
 -- The sums of a super-frame so far.
-use Rattle.std.specs.Prelude.{◌≡◌, ℕ, ◌+◌, ◌-◌, ◌*◌, ◌<◌, ◌≤◌, if◌then◌else◌, List, count_by, sum_by}
+use Rattle.std.specs.Prelude.{◌≡◌, ℕ, ◌+◌, ◌-◌, ◌*◌, ◌<◌, ◌≤◌, if◌then◌else◌, List, Option, None, Some, count_by, sum_by}
 use Rattle.std.specs.List.{range_with_len}
 use Rattle.mode_set.specs.declared.modes.Stream.{Stream}
 use Rattle.mode_set.specs.declared.modes.Stream.TheVariants.{Hp, Lp}
@@ -7,7 +7,18 @@ use Rattle.mode_set.specs.declared.settings.Settings.{Settings}
 use Rattle.symbol_sums.specs.Comparing.{Comparison, cells_in, muted_in, power_in, error_in, bits_in, wrong_in}
 use Rattle.measurement.specs.Known.{IsKnown, is_compared, comparison}
 use Rattle.measurement.specs.SuperFrames.{Knowns}
+use Rattle.measure_report.specs.declared.sums.SymbolSums.{SymbolSums}
+use Rattle.symbol_sums.specs.Tables.{plus, no_sums}
 use Rattle.measurer.specs.declared.current.Current.{Current}
+
+-- super-frame j before its first symbol, with these counts of the frames before it
+abbrev pub nothing_of : ℕ → ℕ → ℕ → Current
+nothing_of j read bad = record { number = j; symbols = 0; sums = no_sums; read_before = read; bad_before = bad }
+
+-- a symbol more, if it is compared
+abbrev pub with_symbol : Current → Option SymbolSums → Current
+with_symbol x None = x
+with_symbol x (Some sums) = record x { symbols = x.symbols + 1; sums = plus x.sums sums }
 
 -- the first k symbols of super-frame j
 abbrev pub first_of : ℕ → ℕ → List ℕ

@@ -1,5 +1,7 @@
 // The sums of a super-frame, symbol after symbol.
-ghost use Rattle.std.specs.Prelude.{◌≡◌};
+ghost use Rattle.std.specs.Prelude.{◌≡◌, ◌+◌, ◌*◌, ◌<◌, ◌≤◌, ◌^◌, IfSome, Some};
+ghost use Rattle.symbol_sums.specs.Tables.{AreLittle, no_sums};
+ghost use Rattle.measurer.specs.Sums.{nothing_of, with_symbol};
 
 use measure_report::{BitSums, SymbolSums};
 use stream_decoders::FrameReader;
@@ -20,7 +22,9 @@ pub struct Current {
 }
 
 /// The sums of no symbol.
-fn nothing() -> SymbolSums {
+fn nothing() -> SymbolSums
+    ensures is { result ≡ no_sums }
+{
     let none = BitSums { bits: 0, wrong: 0 };
     SymbolSums {
         cells: 0,
@@ -32,14 +36,21 @@ fn nothing() -> SymbolSums {
     }
 }
 
-fn add_bits(sums: &mut BitSums, more: &BitSums) {
+fn add_bits(sums: &mut BitSums, more: &BitSums)
+    requires bits { sums.old.bits + more.now.bits < 2 ^ 60 }
+    requires wrong { sums.old.wrong + more.now.wrong < 2 ^ 60 }
+    ensures bits { sums.new.bits ≡ sums.old.bits + more.now.bits }
+    ensures wrong { sums.new.wrong ≡ sums.old.wrong + more.now.wrong }
+{
     sums.bits += more.bits;
     sums.wrong += more.wrong;
 }
 
 impl Current {
     /// The first super-frame.
-    pub(crate) fn first() -> Current {
+    pub(crate) fn first() -> Current
+        ensures is { result ≡ nothing_of 0 0 0 }
+    {
         Current {
             number: 0,
             symbols: 0,
@@ -50,7 +61,9 @@ impl Current {
     }
 
     /// A super-frame of this number before which the reader has counted the words of all frames.
-    pub(crate) fn at(number: u64, frames: &FrameReader) -> Current {
+    pub(crate) fn at(number: u64, frames: &FrameReader) -> Current
+        ensures is { result ≡ nothing_of number frames.now.read frames.now.bad }
+    {
         Current {
             number,
             symbols: 0,
@@ -60,16 +73,31 @@ impl Current {
         }
     }
 
+    /// Adds the sums of a symbol.
+    fn add_symbol(&mut self, more: &SymbolSums)
+        requires symbols { self.old.symbols < 272 }
+        requires little { AreLittle self.old.sums (6048 * self.old.symbols) }
+        requires symbol { AreLittle more.now 6048 }
+        ensures added { self.new ≡ with_symbol self.old (Some more.now) }
+    {
+        self.symbols += 1;
+        self.sums.cells += more.cells;
+        self.sums.muted += more.muted;
+        self.sums.power += more.power;
+        self.sums.error += more.error;
+        add_bits(&mut self.sums.hp, &more.hp);
+        add_bits(&mut self.sums.lp, &more.lp);
+    }
+
     /// Adds a symbol, if it was compared.
-    pub(crate) fn add(&mut self, symbol: &Option<SymbolSums>) {
+    pub(crate) fn add(&mut self, symbol: &Option<SymbolSums>)
+        requires symbols { self.old.symbols < 272 }
+        requires little { AreLittle self.old.sums (6048 * self.old.symbols) }
+        requires symbol { IfSome symbol.now (λ sums. AreLittle sums 6048) }
+        ensures added { self.new ≡ with_symbol self.old symbol.now }
+    {
         if let Some(more) = symbol {
-            self.symbols += 1;
-            self.sums.cells += more.cells;
-            self.sums.muted += more.muted;
-            self.sums.power += more.power;
-            self.sums.error += more.error;
-            add_bits(&mut self.sums.hp, &more.hp);
-            add_bits(&mut self.sums.lp, &more.lp);
+            self.add_symbol(more);
         }
     }
 }

@@ -5,10 +5,10 @@
 #![tactic(auto)]
 
 mod current;
+mod measure_out;
 mod measurer;
 mod meter;
-mod out;
 
 pub use current::Current;
+pub use measure_out::MeasureOut;
 pub use measurer::Measurer;
-pub use out::MeasureOut;

@@ -2,10 +2,18 @@
 ghost use Rattle.std.specs.Prelude.{◌≡◌, ◌+◌, ◌-◌, ◌*◌, ◌<◌, ◌≤◌, ◌^◌, ◌++◌, [], ℕ, List, true, false, min, take, length, IfOk};
 ghost use Rattle.std.specs.List.{concat};
 ghost use Rattle.reception.specs.Streams.{so_far, at_end};
-ghost use Rattle.measurer.specs.Standing.{StandsFor};
+ghost use Rattle.mode_set.specs.declared.settings.Settings.{Settings as AnySettings};
+ghost use Rattle.known_bits.specs.Passing.{IsSettled};
+ghost use Rattle.reception.specs.Cells.{symbols};
+ghost use Rattle.reception.specs.Streams.{Moment};
+ghost use Rattle.stream_meter.specs.Reports.{AreFew};
+ghost use Rattle.measurement.specs.Lines.{defined_by};
+ghost use Rattle.measurer.specs.Sums.{nothing_of};
+ghost use Rattle.measurer.specs.Standing.{MetersStand, FramesStand, StandsFor};
+ghost use Rattle.measurer.specs.Steps.{AreKept, HasBegun, HasStood, IsDone, CountsOn, HasLines, HasCompared, IsCompared, IsLive, IsEnding, IsEnded, HasPlace, Adds};
 
+use crate::measure_out::{MeasureOut, put_counts, put_super_frame};
 use crate::meter::FrameMeter;
-use crate::out::{MeasureOut, put_counts, put_super_frame};
 use mode_set::{Carriers, Settings};
 use std::alloc::{AllocError, Global};
 use std::marker::Model;
@@ -33,10 +41,13 @@ pub struct Measurer<M: Carriers> {
 
 impl<M: Carriers> Model for Measurer<M> {
     ghost use Rattle.measurer.specs.Seen.{MeasurerState};
+    ghost use Rattle.measurer.specs.Kept.{IsKept};
 
     ghost Value = { MeasurerState };
 
     ghost view = { λ x. record { settings = x.cells.settings; rest = x.cells.rest; taken = x.cells.taken; meter = x.meter; frames = x.frames; ended = x.ended } };
+
+    ghost invariant = { λ x. IsKept (record { settings = x.cells.settings; rest = x.cells.rest; taken = x.cells.taken; meter = x.meter; frames = x.frames; ended = x.ended }) };
 }
 
 /// Gives the lines of the current super-frame, and passes on to the next one.
@@ -45,25 +56,62 @@ fn close_super_frame<M: Carriers>(
     frames: &FrameReader,
     meter: &mut FrameMeter<M>,
     out: &mut MeasureOut,
-) {
+)
+    requires few { meter.old.current.number < 2 ^ 31 }
+    requires counts { CountsOn meter.old.current frames.now }
+    requires stood { HasStood cells.now.settings meter.old }
+    requires room { length out.old ≤ 6 }
+    ensures few { length out.new ≤ length out.old + 3 }
+    ensures comparer { meter.new.comparer ≡ meter.old.comparer }
+    ensures hp_known { meter.new.hp.known ≡ meter.old.hp.known }
+    ensures lp_known { meter.new.lp.known ≡ meter.old.lp.known }
+    ensures current { meter.new.current ≡ nothing_of (meter.old.current.number + 1) frames.now.read frames.now.bad }
+    ensures hp_reports { (n : ℕ) → AreFew meter.old.hp.reports n → AreFew meter.new.hp.reports n }
+    ensures lp_reports { (n : ℕ) → AreFew meter.old.lp.reports n → AreFew meter.new.lp.reports n }
+    ensures stand { (moment : Moment) (bytes : List ℕ) → MetersStand moment cells.now.settings bytes meter.old → IsDone moment (symbols cells.now.settings bytes) meter.old.comparer.next meter.old.current.number → MetersStand moment cells.now.settings bytes meter.new }
+    ensures lines { (moment : Moment) (bytes given : List ℕ) → MetersStand moment cells.now.settings bytes meter.old → FramesStand cells.now.settings bytes frames.now meter.old.current
+        → IsDone moment (symbols cells.now.settings bytes) meter.old.comparer.next meter.old.current.number → HasLines cells.now.settings bytes meter.old.current.number given
+        → Adds out.old out.new (HasLines cells.now.settings bytes (meter.old.current.number + 1)) given }
+{
     put_super_frame(&meter.super_frame(frames, cells), out);
     meter.advance(frames, cells.settings());
 }
 
-/// Compares the symbol that can be compared now, if one can.
-fn compare_next<M: Carriers>(taken: u64, meter: &mut FrameMeter<M>) {
+/// Compares the symbol that the last one makes known, if there is one.
+fn compare_next<M: Carriers>(taken: u64, meter: &mut FrameMeter<M>)
+    requires few { taken ≤ 2 ^ 32 }
+    requires kept { AreKept meter.old taken }
+    requires next { meter.old.comparer.next ≡ taken - 4 }
+    requires number { meter.old.current.number ≡ defined_by (taken - 1) }
+    requires begun { HasBegun meter.old }
+    ensures kept { AreKept meter.new taken }
+    ensures next { meter.new.comparer.next ≡ taken - 3 }
+    ensures current { meter.new.current ≡ record meter.old.current { symbols = meter.new.current.symbols; sums = meter.new.current.sums } }
+    ensures hp_settled { IsSettled meter.new.hp.known }
+    ensures lp_settled { IsSettled meter.new.lp.known }
+    ensures compared { (s : AnySettings) (bytes : List ℕ) → symbols s bytes ≡ taken → MetersStand so_far s bytes meter.old → MetersStand so_far s bytes meter.new }
+{
+    symbol_spans::laws::steps();
     if taken > LATER {
         meter.compare();
     }
 }
 
-/// Gives the lines that are defined now, if some are.
+/// Gives the lines that the last symbol defines, if it defines some.
 fn give_lines<M: Carriers>(
     cells: &SymbolCosts<M>,
     frames: &FrameReader,
     meter: &mut FrameMeter<M>,
     out: &mut MeasureOut,
-) {
+)
+    requires few { cells.now.taken ≤ 2 ^ 32 }
+    requires kept { AreKept meter.old cells.now.taken }
+    requires compared { IsCompared cells.now.settings cells.now.taken frames.now meter.old }
+    requires none { out.old ≡ [] }
+    ensures few { length out.new ≤ 3 }
+    ensures kept { AreKept meter.new cells.now.taken }
+    ensures live { (bytes given : List ℕ) → symbols cells.now.settings bytes ≡ cells.now.taken → HasCompared cells.now.settings bytes frames.now meter.old given → IsLive cells.now.settings bytes frames.now meter.new (given ++ concat out.new) }
+{
     if cells.symbols() == SYMBOLS * (meter.number() + 1) + LATER {
         close_super_frame(cells, frames, meter, out);
     }
@@ -75,10 +123,21 @@ fn end_super_frame<M: Carriers>(
     frames: &FrameReader,
     meter: &mut FrameMeter<M>,
     out: &mut MeasureOut,
-) {
+)
+    requires few { cells.now.taken ≤ 2 ^ 32 }
+    requires place { HasPlace meter.old cells.now.taken }
+    requires ending { IsEnded cells.now.settings cells.now.taken frames.now meter.old }
+    requires room { length out.old ≤ 6 }
+    ensures few { length out.new ≤ length out.old + 3 }
+    ensures place { HasPlace meter.new cells.now.taken }
+    ensures further { 272 * meter.old.current.number < cells.now.taken → meter.new.current.number ≡ meter.old.current.number + 1 }
+    ensures stays { cells.now.taken ≤ 272 * meter.old.current.number → meter.new.current.number ≡ meter.old.current.number }
+    ensures ended { (bytes given : List ℕ) → symbols cells.now.settings bytes ≡ cells.now.taken → IsEnding cells.now.settings bytes frames.now meter.old given → Adds out.old out.new (IsEnding cells.now.settings bytes frames.now meter.new) given }
+{
     let taken = cells.symbols();
-    if SYMBOLS * meter.number() < taken {
-        meter.compare_up_to(taken.min(SYMBOLS * (meter.number() + 1)));
+    let number = meter.number();
+    if SYMBOLS * number < taken {
+        meter.compare_up_to(taken.min(SYMBOLS * (number + 1)));
         close_super_frame(cells, frames, meter, out);
     }
 }
@@ -135,6 +194,9 @@ impl<M: Carriers> Measurer<M> {
         ensures few { length out.new ≤ 3 }
         ensures fed { (bytes given : List ℕ) → StandsFor so_far self.old bytes given → StandsFor so_far self.new (bytes ++ take result piece.now) (given ++ concat out.new) }
     {
+        reception::laws::symbols();
+        reception::laws::costs();
+        measurement::laws::sums_stay();
         out.clear();
         let count = self.cells.feed(piece);
         if !self.cells.whole() {
@@ -162,7 +224,7 @@ impl<M: Carriers> Measurer<M> {
         out.clear();
         self.ended = true;
         let workers = self.cells.settings().workers;
-        self.meter.finish(rt, workers);
+        self.meter.finish(rt, workers, self.cells.settings());
         end_super_frame(&self.cells, &self.frames, &mut self.meter, out);
         end_super_frame(&self.cells, &self.frames, &mut self.meter, out);
         put_counts(&self.meter.counts(&self.frames, &self.cells), out);

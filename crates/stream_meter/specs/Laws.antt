@@ -1,12 +1,12 @@
 -- The laws of the meter of a stream, each the clause of a public function of the module laws.
-use Rattle.std.specs.Prelude.{◌≡◌, ℕ, ◌+◌, ◌*◌, ◌≤◌, Bool, List, [], ◌++◌, length}
+use Rattle.std.specs.Prelude.{◌≡◌, ℕ, ◌+◌, ◌*◌, ◌≤◌, Bool, List, length}
 use Rattle.code_paths.specs.declared.costs.CostPair.{CostPair}
 use Rattle.inner_decoder.specs.Running.{BranchState}
 use Rattle.mode_set.specs.declared.modes.Stream.{Stream}
 use Rattle.mode_set.specs.declared.settings.Settings.{Settings}
 use Rattle.symbol_spans.specs.Spans.{steps_before}
-use Rattle.reception.specs.Streams.{Moment, so_far, start_of}
-use Rattle.stream_decoders.specs.Branches.{HasGiven, HasTaken}
+use Rattle.reception.specs.Streams.{so_far}
+use Rattle.stream_decoders.specs.Branches.{HasTaken}
 use Rattle.known_bits.specs.Passing.{HasPassed, IsSettled}
 use Rattle.stream_meter.specs.declared.stream.StreamMeter.{StreamMeter}
 use Rattle.stream_meter.specs.Standing.{Stands, IsReady, HasRun}

@@ -15,8 +15,8 @@ pub fn few()
     ensures counts { CountsAreFew }
 {
     rooms();
+    steps();
     words();
-    outer_chain::laws::bits();
 }
 
 /// With the bits of a symbol more there is room for the known bits, if three symbols at most were not compared, and also at the end.

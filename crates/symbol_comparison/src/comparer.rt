@@ -1,10 +1,11 @@
 // Symbols beside their remade labels.
-ghost use Rattle.std.specs.Prelude.{◌≡◌, ◌≢◌, ◌+◌, ◌%◌, ◌<◌, ◌≤◌, ◌^◌, ℕ, List, Bool, IfOk, length, slice_index, slice_set, vec_capacity, All};
+ghost use Rattle.std.specs.Prelude.{◌≡◌, ◌≢◌, ◌+◌, ◌%◌, ◌<◌, ◌≤◌, ◌^◌, ℕ, List, Bool, IfOk, IfSome, length, slice_index, slice_set, vec_capacity, All};
 ghost use Rattle.mode_set.specs.StreamTable.{carriers, payload, label_bits};
 ghost use Rattle.mode_set.specs.declared.modes.Stream.{Stream as AnyStream};
 ghost use Rattle.conv_code.specs.Coded.{zeros};
 ghost use Rattle.spec_words.specs.Bits.{is_set};
 ghost use Rattle.symbol_sums.specs.Comparing.{symbol_sums};
+ghost use Rattle.symbol_sums.specs.Tables.{AreLittle};
 ghost use Rattle.known_bits.specs.Seen.{KnownState};
 ghost use Rattle.known_bits.specs.Passing.{IsSettled};
 ghost use Rattle.symbol_comparison.specs.Seen.{SymbolState};
@@ -68,6 +69,7 @@ fn sum_kept(settings: &Settings, l: u8, labels: &[u8], kept: &KeptSymbol) -> Sym
     requires count { length labels.now ≡ payload settings.now.mode }
     requires small { (q : ℕ) → q < payload settings.now.mode → slice_index labels.now q < 2 ^ label_bits settings.now.shape }
     requires whole { IsWhole (carriers settings.now.mode) kept.now }
+    ensures little { AreLittle result (payload settings.now.mode) }
     ensures sums { result ≡ symbol_sums (record { settings = settings.now; cells = kept.now.cells; weights = kept.now.weights; symbol = l; labels = λ q. is_set (slice_index labels.now q) }) }
 {
     sum_symbol(settings, l, labels, kept.cells(), kept.weights())
@@ -93,6 +95,7 @@ fn compare_symbol<M: Carriers>(
     ensures settings { coder.new.settings ≡ settings.now }
     ensures capacity { vec_capacity labels.new ≡ vec_capacity labels.old }
     ensures registers { AreLong coder.new }
+    ensures little { IfSome result (λ sums. AreLittle sums (payload settings.now.mode)) }
     ensures summed { (known : AnyStream → List Bool) → HavePassed settings.now m hp.old lp.old coder.old known → IsSummed settings.now kept.now known m result }
     ensures passed { (known : AnyStream → List Bool) → HavePassed settings.now m hp.old lp.old coder.old known → HavePassed settings.now (m + 1) hp.new lp.new coder.new known }
 {
@@ -153,8 +156,8 @@ impl<M: Carriers> Comparer<M> {
 
     /// The sums of the next symbol beside what the known bits of the streams stand for: None exactly if it is not compared.
     ///
-    /// The symbol is one of the four that are kept, and fewer than 2^32 symbols were compared or left out. Of a symbol that is left
-    /// out no known bit waits afterwards.
+    /// The symbol is one of the four that are kept, and fewer than 2^32 symbols were compared or left out. The encoders pass the known
+    /// bits of a symbol that is left out.
     pub fn compare(&mut self, hp: &mut KnownBits, lp: &mut KnownBits) -> Option<SymbolSums>
         requires few { self.old.next < 2 ^ 32 }
         requires hp_before { hp.old.before < 2 ^ 60 }
@@ -164,6 +167,7 @@ impl<M: Carriers> Comparer<M> {
         ensures kept { self.new.kept ≡ self.old.kept }
         ensures hp_settled { IsSettled hp.new }
         ensures lp_settled { IsSettled lp.new }
+        ensures little { IfSome result (λ sums. AreLittle sums (payload self.old.settings.mode)) }
         ensures summed { (m : ℕ) (known : AnyStream → List Bool) (d : SymbolState) → StandsBefore m self.old hp.old lp.old known → IsSummed self.old.settings (kept_at self.old m d) known m result }
         ensures stands { (m : ℕ) (known : AnyStream → List Bool) → StandsBefore m self.old hp.old lp.old known → StandsBefore (m + 1) self.new hp.new lp.new known }
     {

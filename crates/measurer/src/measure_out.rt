@@ -1,5 +1,5 @@
 // The lines that a call gives.
-ghost use Rattle.std.specs.Prelude.{◌≡◌, ◌+◌, ◌<◌, ◌≤◌, ◌++◌, ◌∷◌, [], IfOk, map, length};
+ghost use Rattle.std.specs.Prelude.{◌≡◌, ◌+◌, ◌<◌, ◌≤◌, ◌++◌, ◌∷◌, [], IfOk, IfSome, IsNone, map, length};
 ghost use Rattle.arrayvec.specs.ArrayString.{ArrayString};
 ghost use Rattle.measure_report.specs.Text.{lines};
 ghost use Rattle.rx_report.specs.Text.{closing_lines};
@@ -64,16 +64,24 @@ impl MeasureOut {
     }
 }
 
+/// Appends a line, if there is one.
+fn put_line(line: Option<Line>, out: &mut MeasureOut)
+    requires room { length out.old < 12 }
+    ensures some { IfSome line (λ l. out.new ≡ out.old ++ l.bytes ∷ []) }
+    ensures none { IsNone line → out.new ≡ out.old }
+{
+    if let Some(line) = line {
+        out.push(line);
+    }
+}
+
 /// Appends the lines of a super-frame.
 pub(crate) fn put_super_frame(sums: &SuperFrame, out: &mut MeasureOut)
     requires room { length out.old ≤ 9 }
     ensures lines { out.new ≡ out.old ++ lines sums.now }
 {
     for number in 0..3 {
-        match sums.line(number) {
-            Some(line) => out.push(line),
-            None => {}
-        }
+        put_line(sums.line(number), out);
     }
 }
 
@@ -83,9 +91,6 @@ pub(crate) fn put_counts(counts: &Counts, out: &mut MeasureOut)
     ensures lines { out.new ≡ out.old ++ closing_lines counts.now }
 {
     for number in 0..4 {
-        match counts.line(number) {
-            Some(line) => out.push(line),
-            None => {}
-        }
+        put_line(counts.line(number), out);
     }
 }
