@@ -61,7 +61,8 @@ ABOUT = {
     "compare": "Compares the cell file A with B: the first difference with symbol, carrier, kind, label bit and clause of EN 300 744, counts, "
     "and the likeliest cause.",
     "measure": "Measures a cell file: MER over the data cells, pilots, TPS words, whether the theorem on noise applies, and if not, what to "
-    "expect of receive. Ends with 1 if a part of the theorem's premise fails or a TPS word can't be read.",
+    "expect of receive. Without --sent the MER is decision-directed, against the nearest points; dvbt measure compares with the cells that the "
+    "decoded bits stand for (docs/use/MEASURING.md). Ends with 1 if a part of the theorem's premise fails or a TPS word can't be read.",
     "disturb": "Writes the cells with noise. The same seed gives the same noise everywhere.",
 }
 STATUSES = """Statuses, those of dvbt: 0 all checks hold; 1 one fails; 2 invalid command line; 3 the settings are rejected; 5 a file can't be

@@ -14,6 +14,7 @@ FORMS = {
     "rescue": [(SETTINGS, CELLS, TO_HP), (SETTINGS, CELLS, TO_HP, TO_LP)],
     "tune": [(SETTINGS, CELLS, TO_HP), (SETTINGS, CELLS, TO_HP, TO_LP)],
     "align": [(SETTINGS, IN, CORRECTED)],
+    "measure": [(SETTINGS, CELLS)],
     "upgrade": [(SETTINGS, OLD, NEW)],
     "equalise": [(SETTINGS, IN, CORRECTED)],
     "track": [(SETTINGS, IN, CORRECTED)],

@@ -7,6 +7,7 @@ SHORT = {
     "rescue": "like receive; decodes failed words once more, with their least reliable bytes erased",
     "tune": "like receive, from any symbol on; reads the parameters from the TPS",
     "align": "cells from any symbol on to cells from a super-frame on; reports the parameters in the TPS",
+    "measure": "reports MER, bit error rates, words and TPS of each super-frame, while the cells come",
     "upgrade": "a cell file of version 1 to version 2",
     "equalise": "corrects and weights cells by the pilots of their own symbols",
     "track": "corrects and weights cells by the pilots of neighbouring symbols; takes echoes of up to the guard interval",
@@ -52,6 +53,10 @@ super-frame on, unchanged and as soon as it is complete. A file that begins at a
 `tune at I frame F` reports the first symbol of the frame, counted from 0, and `announced ..` its parameters in the
 words of the settings file. `symbols N tail T` counts the symbols written and the bytes after them. Of the settings
 only mode and max_symbols are used.""",
+    "measure": """Compares each data cell with the cell that the decoded bits stand for. Prints sums of each super-frame three
+symbols after its end: power and error of the cells (MER is 10 log10 (power / error)), bits and those that are wrong before
+the inner decoder, outer words, repaired bits and TPS words. The closing lines are those of `receive`. Reads cells from the
+first symbol of a super-frame on. On a terminal, and with --json, bin/dvbt prints MER and error rates (docs/use/MEASURING.md).""",
     "upgrade": """Writes the header of the settings' mode, and each cell of OLD's whole symbols with the full weight, 15.
 Of the settings only mode and max_symbols are used.""",
     "equalise": """Divides each cell by the gain interpolated between the two pilots around it, and writes it with a weight of
@@ -75,6 +80,7 @@ EXAMPLES = {
     "rescue": ["bin/dvbt rescue examples/settings/64qam.toml noisy.cells back.ts"],
     "tune": ["bin/dvbt tune examples/settings/64qam.toml recorded.cells back.ts"],
     "align": ["bin/dvbt align examples/settings/64qam.toml recorded.cells aligned.cells"],
+    "measure": ["bin/dvbt measure examples/settings/64qam.toml noisy.cells"],
     "upgrade": ["bin/dvbt upgrade examples/settings/64qam.toml old.cells new.cells"],
     "equalise": ["bin/dvbt equalise examples/settings/64qam.toml received.cells corrected.cells"],
     "track": ["bin/dvbt track examples/settings/64qam.toml received.cells corrected.cells"],
@@ -88,16 +94,16 @@ EXAMPLES = {
 STATUSES = [
     (0, "done; the lines have the counts", forms.FORMS),
     (2, "invalid command line: `usage`", forms.FORMS),
-    (3, "the settings are rejected: `settings ..` says why", ("modulate", "receive", "rescue", "tune", "align", "upgrade", "equalise", "track", "trial", "inner")),
+    (3, "the settings are rejected: `settings ..` says why", ("modulate", "receive", "rescue", "tune", "align", "measure", "upgrade", "equalise", "track", "trial", "inner")),
     (4, "a packet does not begin with the sync byte 47: `hp packet N`, `lp packet N`, counted from 0",
      ("modulate", "disperse", "outer", "inner")),
     (5, "a file can't be opened or read: `read fault`", forms.FORMS),
     (6, "an output can't be created, written or closed: `write fault`", forms.FORMS),
     (7, "out of memory: `memory`; no line if an argument is not UTF-8 or there is no memory for the files' buffers",
-     ("modulate", "receive", "rescue", "tune", "align", "upgrade", "equalise", "track", "trial", "outer", "inner")),
+     ("modulate", "receive", "rescue", "tune", "align", "measure", "upgrade", "equalise", "track", "trial", "outer", "inner")),
     (7, "an argument is not UTF-8, or there is no memory for the files' buffers: no line", ("disperse",)),
     (8, "more packets or symbols than the limit: `limit N`", forms.FORMS),
-    (9, "the cells do not begin with the header of the settings' mode: `cells header`", ("receive", "rescue", "tune", "align", "equalise", "track")),
+    (9, "the cells do not begin with the header of the settings' mode: `cells header`", ("receive", "rescue", "tune", "align", "measure", "equalise", "track")),
     (10, "no TPS word can be read in the cells: `tune none`", ("tune", "align")),
     (11, "the signal has a hierarchy and LP is not given, or the reverse: `tune form`", ("tune",)),
 ]

@@ -13,7 +13,11 @@ class Report:
 
     def __init__(self, form, to, refusal=None):
         self.form, self.to, self.rest, self.at, self.found = form, to, "", None, {}
-        self.refusal, self.verdict = refusal, None
+        self.refusal, self.verdict, self.frames = refusal, None, None
+        if form and form.command == "measure":
+            from door.measuring import Frames
+
+            self.frames = Frames(form)
 
     def take(self, piece):
         """Takes what the program prints."""
@@ -23,7 +27,11 @@ class Report:
 
     def line(self, line):
         place, values = lines.parsed(line)
-        if place == "live":
+        if place == "live" and self.frames:
+            frame = self.frames.take(line)
+            if frame:
+                put(json.dumps(frame.described()).encode() + b"\n", self.to)
+        elif place == "live":
             self.at = values.get("superframe", self.at)
             put(json.dumps({"superframe": self.at, **values}).encode() + b"\n", self.to)
         elif place == "refusal":

@@ -92,6 +92,7 @@ CHECKS = {
     "rescue": [reception, signal, symbols],
     "tune": [reception, symbols],
     "align": [written, symbols],
+    "measure": [reception, signal, symbols],
     "upgrade": [written, symbols],
     "equalise": [signal, written, symbols],
     "track": [signal, written, symbols],

@@ -108,13 +108,19 @@ def run(program, form, words, given, options, is_data, closed):
     progress = Progress(form, "quiet" not in options and sys.stderr.isatty())
     signal.signal(signal.SIGUSR1, progress.tell)
     to, report = 2 if is_data else 1, None
+    take = lambda piece: put(piece, to)
     if "json" in options:
         from door.report import Report
 
         report = Report(form, to)
+        take = report.take
+    elif form and form.command == "measure" and "quiet" not in options and os.isatty(to):
+        from door.measuring import Table
+
+        take = Table(form, to).take
     child = Child(program, given, closed)
     progress.pid = child.pid
-    lines, is_lost = handed_on(child, progress, report.take if report else lambda piece: put(piece, to), to)
+    lines, is_lost = handed_on(child, progress, take, to)
     status = child.status()
     progress.clear()
     if is_data and os.path.isfile("/dev/fd/1"):

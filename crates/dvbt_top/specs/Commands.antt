@@ -9,10 +9,11 @@ use Rattle.rescue_run.specs.RescueCommand.{rescue_command}
 use Rattle.trial_run.specs.TrialCommand.{trial_command}
 use Rattle.tune_run.specs.TuneCommand.{tune_command}
 use Rattle.align_run.specs.AlignCommand.{align_command}
+use Rattle.measure_run.specs.MeasureCommand.{measure_command}
 use Rattle.upgrade_run.specs.UpgradeCommand.{upgrade_command}
 use Rattle.equalise_run.specs.EqualiseCommand.{equalise_command}
 use Rattle.track_run.specs.TrackCommand.{track_command}
-use Rattle.dvbt_top.specs.Order.{Order, Disperse, Outer, Inner, Code, Modulate, Receive, Rescue, Tune, Align, Upgrade, Equalise, Track, Trial, order_of}
+use Rattle.dvbt_top.specs.Order.{Order, Disperse, Outer, Inner, Code, Modulate, Receive, Rescue, Tune, Align, Measure, Upgrade, Equalise, Track, Trial, order_of}
 
 -- words of no form: they are refused, and no file is asked for
 abbrev pub no_command : Command
@@ -43,6 +44,7 @@ command_for (Some (Receive settings cells hp lp)) = receive_command settings cel
 command_for (Some (Rescue settings cells hp lp)) = rescue_command settings cells hp lp
 command_for (Some (Tune settings cells hp lp)) = tune_command settings cells hp lp
 command_for (Some (Align settings old new)) = align_command settings old new
+command_for (Some (Measure settings cells)) = measure_command settings cells
 command_for (Some (Upgrade settings old new)) = upgrade_command settings old new
 command_for (Some (Equalise settings old new)) = equalise_command settings old new
 command_for (Some (Track settings old new)) = track_command settings old new

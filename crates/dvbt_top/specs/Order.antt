@@ -27,6 +27,8 @@ pub data Order : Type 0 where
   Tune : List ℕ → List ℕ → List ℕ → Option (List ℕ) → Order
   -- align SETTINGS IN OUT
   Align : List ℕ → List ℕ → List ℕ → Order
+  -- measure SETTINGS CELLS
+  Measure : List ℕ → List ℕ → Order
   -- upgrade SETTINGS OLD NEW
   Upgrade : List ℕ → List ℕ → List ℕ → Order
   -- equalise SETTINGS IN OUT
@@ -43,6 +45,7 @@ coding_of name = if bytes_eq name (codes "disperse") then Some Disperse else if 
 -- the form that the words are of, if they are of one
 abbrev pub order_of : List (List ℕ) → Option Order
 order_of (name ∷ first ∷ second ∷ []) = if bytes_eq name (codes "trial") then option_map (λ number. Trial first number) (number_of second)
+    else if bytes_eq name (codes "measure") then Some (Measure first second)
     else option_map (λ coding. Code coding first second) (coding_of name)
 order_of (name ∷ settings ∷ input ∷ output ∷ []) = if bytes_eq name (codes "inner") then Some (Code (Inner settings) input output)
     else if bytes_eq name (codes "modulate") then Some (Modulate settings input None output)

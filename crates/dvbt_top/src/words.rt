@@ -33,6 +33,7 @@ fn of_two<'a>(name: &str, first: &'a str, second: &'a str) -> Option<Form<'a>>
 {
     match name {
         "trial" => number_of(second).map(|number| Form::Trial(first, number)),
+        "measure" => Some(Form::Measure(first, second)),
         "disperse" => Some(Form::Disperse(first, second)),
         "outer" => Some(Form::Outer(first, second)),
         _ => None,

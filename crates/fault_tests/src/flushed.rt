@@ -135,6 +135,7 @@ fn cells(rt: HostRuntime) -> Result<(), Fail> {
         "rescue s a hp",
         "tune s a hp",
         "align s a cells",
+        "measure s a",
         "upgrade s a cells",
         "equalise s a cells",
         "track s a cells",

@@ -5,6 +5,7 @@
 #![tactic(auto)]
 
 mod known;
+pub mod laws;
 mod moving;
 
 pub use known::KnownBits;

@@ -4,7 +4,6 @@ use Rattle.std.proofs.lemmas.List.Elements.{All-push}
 use Rattle.spec_words.specs.Bits.{spelled}
 use Rattle.bit_pack.specs.Queue.{bits_of_bytes}
 use Rattle.inner_decoder.specs.Running.{BranchState}
-use Rattle.outer_chain.specs.Words.{word_count}
 use Rattle.known_bits.specs.Seen.{KnownState}
 use Rattle.measured_words.specs.Seen.{WordsState}
 use Rattle.measured_words.specs.Counted.{Measures}

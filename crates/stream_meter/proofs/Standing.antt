@@ -1,6 +1,6 @@
 -- The meter of a stream.
-use Rattle.std.proofs.Common.{◌≡◌, ℕ, ◌+◌, ◌-◌, ◌*◌, ◌/◌, ◌<◌, ◌≤◌, Bool, not, ◌&&◌, List, [], ◌∷◌, ◌++◌, length, take, drop, refl, sym, ap, ap₂, ◌∙◌, arith, subst, append_assoc, length-append}
-use Rattle.std.specs.Prelude.{All, Option, min, count_by, sum_by}
+use Rattle.std.proofs.Common.{◌≡◌, ℕ, ◌+◌, ◌-◌, ◌*◌, ◌/◌, ◌<◌, ◌≤◌, Bool, List, [], ◌∷◌, ◌++◌, length, refl, sym, ap, ap₂, ◌∙◌, arith, subst, append_assoc, length-append}
+use Rattle.std.specs.Prelude.{All, Option, min}
 use Rattle.std.specs.List.{range_with_len}
 use Rattle.std.proofs.lemmas.List.{take_all, drop_all}
 use Rattle.std.proofs.lemmas.List.Elements.{All-head, All-tail}
@@ -12,12 +12,11 @@ use Rattle.mode_set.specs.declared.modes.Stream.{Stream}
 use Rattle.mode_set.specs.declared.settings.Settings.{Settings}
 use Rattle.symbol_spans.specs.Spans.{words_before}
 use Rattle.outer_chain.specs.Bits.{bytes_of, ByteOfBits}
-use Rattle.outer_chain.specs.Words.{word_count, word_at, IsNear, phase_before, has, is_clean}
+use Rattle.outer_chain.specs.Words.{word_count, word_at, IsNear}
 use Rattle.reception.specs.Costs.{costs}
 use Rattle.reception.specs.Streams.{Moment}
 use Rattle.symbol_sums.specs.Comparing.{bits_in, wrong_in}
-use Rattle.measure_report.specs.declared.sums.StreamSums.{StreamSums}
-use Rattle.measurement.specs.SuperFrames.{Knowns, over_compared, known_with, told, told_before, words_of, repaired_in, AreStreamSums}
+use Rattle.measurement.specs.SuperFrames.{Knowns, over_compared, known_with, told, told_before, words_of, AreStreamSums}
 use Rattle.known_bits.specs.Seen.{KnownState}
 use Rattle.measured_words.specs.declared.counts.WordSums.{WordSums}
 use Rattle.measured_words.specs.Sums.{sums_over}
@@ -25,7 +24,7 @@ use Rattle.measured_words.specs.Seen.{WordsState}
 use Rattle.measured_words.specs.Counted.{Measures}
 use Rattle.stream_meter.specs.declared.stream.StreamMeter.{StreamMeter}
 use Rattle.stream_meter.specs.Passing.{HasBits, HasRoom, Takes}
-use Rattle.stream_meter.specs.Standing.{Stands, HasStarted, MayGive}
+use Rattle.stream_meter.specs.Standing.{Stands, MayGive}
 use Rattle.stream_meter.proofs.Bits.{length_bits}
 
 -- the bits of a symbol leave room
@@ -74,13 +73,13 @@ no_bytes (a ∷ b ∷ c ∷ d ∷ e ∷ f ∷ g ∷ []) l = refl
 no_bytes (a ∷ b ∷ c ∷ d ∷ e ∷ f ∷ g ∷ h ∷ w) l = absurd (omega (arith, l))
 
 -- the whole bytes of bytes' bits and fewer than eight more
-bytes_back : ByteOfBits → (bytes : List ℕ) (w : List Bool) → All (λ b. b < 256) bytes → length w < 8 → bytes_of (bits_of_bytes bytes ++ w) ≡ bytes
+pub bytes_back : ByteOfBits → (bytes : List ℕ) (w : List Bool) → All (λ b. b < 256) bytes → length w < 8 → bytes_of (bits_of_bytes bytes ++ w) ≡ bytes
 bytes_back one [] w s l = no_bytes w l
 bytes_back one (b ∷ bytes) w s l =
     ap bytes_of (append_assoc (spelled 8 b) (bits_of_bytes bytes) w) ∙ one b (bits_of_bytes bytes ++ w) (All-head (λ b. b < 256) b bytes s)
     ∙ ap (λ z. b ∷ z) (bytes_back one bytes w (All-tail (λ b. b < 256) b bytes s) l)
 
-none_more : (d k n : ℕ) → d + k ≡ n → k ≡ 0 → d ≡ n
+pub none_more : (d k n : ℕ) → d + k ≡ n → k ≡ 0 → d ≡ n
 none_more d k n e z = omega (arith, e, z)
 
 below : (n d a b limit : ℕ) → d ≡ a → a ≡ b → n < min b limit → n < d

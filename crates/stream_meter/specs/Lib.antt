@@ -1,3 +1,4 @@
 pub mod Passing
 pub mod Reports
 pub mod Standing
+pub mod Laws

@@ -1,10 +1,15 @@
 -- What the meter of a stream stands for.
-use Rattle.std.specs.Prelude.{◌≡◌, ℕ, ◌+◌, ◌-◌, ◌<◌, Bool, false, List, [], ◌++◌, length}
+use Rattle.std.specs.Prelude.{◌≡◌, ℕ, ◌+◌, ◌-◌, ◌<◌, Bool, false, List, [], ◌++◌, length, Option}
 use Rattle.code_paths.specs.declared.costs.CostPair.{CostPair}
 use Rattle.mode_set.specs.declared.modes.Stream.{Stream}
 use Rattle.mode_set.specs.declared.settings.Settings.{Settings}
 use Rattle.symbol_spans.specs.Spans.{words_before}
-use Rattle.reception.specs.Streams.{Moment, start_of}
+use Rattle.inner_decoder.specs.Seen.{DecoderState}
+use Rattle.outer_chain.specs.Bits.{bytes_of}
+use Rattle.outer_chain.specs.Words.{Packets, Tally, Tallies}
+use Rattle.reception.specs.Streams.{Moment, so_far, start_of}
+use Rattle.reception.specs.Lines.{stream_counts}
+use Rattle.rx_report.specs.declared.counts.StreamCounts.{StreamCounts}
 use Rattle.stream_decoders.specs.Branches.{HasGiven}
 use Rattle.stream_meter.specs.declared.stream.StreamMeter.{StreamMeter}
 use Rattle.stream_meter.specs.Passing.{HasBits}
@@ -36,8 +41,23 @@ pub record MayGive (x : StreamMeter) : Type 0 where
   pub none : x.words.slots ≡ []
   pub started : HasStarted x
 
+-- a decoder that goes on gave the bits of some costs
+pub record IsGiving (d : DecoderState) : Type 0 where
+  pub start : Option (List Bool)
+  pub costs : List CostPair
+  pub bits : List Bool
+  pub reports : List ℕ
+  pub given : HasGiven so_far d start costs bits reports
+
+-- a meter whose decoder has run a symbol, and goes on
+pub record HasRun (x : StreamMeter) : Type 0 where
+  pub giving : IsGiving x.branch.decoder
+  pub loaded : x.branch.loaded ≡ []
+  pub may : MayGive x
+
 -- a meter between two symbols
 pub record IsReady (x : StreamMeter) : Type 0 where
+  pub giving : IsGiving x.branch.decoder
   pub going : x.branch.decoder.ended ≡ false
   pub loaded : x.branch.loaded ≡ []
   pub wait : x.branch.wait ≡ []
@@ -49,3 +69,17 @@ pub record Gave (old new : StreamMeter) : Type 0 where
   pub none : new.words.slots ≡ []
   pub bits : (bits : List Bool) (done from : ℕ) → HasBits old.part old.words bits done from (old.words_before - 11)
       → (n : ℕ) × HasBits new.part new.words (bits ++ old.branch.wait) n from (old.words_before - 11)
+
+-- a meter went on to these costs and reports: its decoder gave more bits, which are known, and the words that they end are counted
+pub record WentOn (moment : Moment) (old new : StreamMeter) (s : Settings) (σ : Stream) (j from : ℕ) (c : List CostPair) (bits : List Bool) (reports : List ℕ) : Type 0 where
+  pub more : List Bool
+  pub known : new.known ≡ record old.known { waiting = old.known.waiting ++ more }
+  pub stands : Stands moment new s σ j from c (bits ++ more) reports
+
+-- the counts of all words of these bits and of so many reports, and what packets the words give
+pub record AreTotals (bits : List Bool) (reports : List ℕ) (counts : StreamCounts) : Type 0 where
+  pub packets : List ℕ
+  pub are_packets : Packets (bytes_of bits) packets
+  pub tally : Tally
+  pub are_tallied : Tallies (bytes_of bits) tally
+  pub is : counts ≡ stream_counts tally (length reports)

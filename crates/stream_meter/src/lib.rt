@@ -4,6 +4,7 @@
 //! words, and counts the decoder's reports by super-frames. At the end of a super-frame it has the sums of the stream in it.
 #![tactic(auto)]
 
+pub mod laws;
 mod passing;
 mod reports;
 mod stream;

@@ -1,2 +1,3 @@
 mod Paths
 mod Comparing
+mod Standing

@@ -1,10 +1,13 @@
 // Symbols beside their remade labels.
-ghost use Rattle.std.specs.Prelude.{◌≡◌, ◌+◌, ◌%◌, ◌<◌, ◌≤◌, ◌^◌, ℕ, List, Bool, IfOk, length, slice_index, slice_set, vec_capacity, All};
+ghost use Rattle.std.specs.Prelude.{◌≡◌, ◌≢◌, ◌+◌, ◌%◌, ◌<◌, ◌≤◌, ◌^◌, ℕ, List, Bool, IfOk, IfSome, length, slice_index, slice_set, vec_capacity, All};
 ghost use Rattle.mode_set.specs.StreamTable.{carriers, payload, label_bits};
 ghost use Rattle.mode_set.specs.declared.modes.Stream.{Stream as AnyStream};
 ghost use Rattle.conv_code.specs.Coded.{zeros};
 ghost use Rattle.spec_words.specs.Bits.{is_set};
 ghost use Rattle.symbol_sums.specs.Comparing.{symbol_sums};
+ghost use Rattle.symbol_sums.specs.Tables.{AreLittle};
+ghost use Rattle.known_bits.specs.Seen.{KnownState};
+ghost use Rattle.known_bits.specs.Passing.{IsSettled};
 ghost use Rattle.symbol_comparison.specs.Seen.{SymbolState};
 ghost use Rattle.symbol_comparison.specs.Kept.{AreLong, IsWhole};
 ghost use Rattle.symbol_comparison.specs.Standing.{HavePassed, IsSummed, StandsBefore, kept_at};
@@ -66,6 +69,7 @@ fn sum_kept(settings: &Settings, l: u8, labels: &[u8], kept: &KeptSymbol) -> Sym
     requires count { length labels.now ≡ payload settings.now.mode }
     requires small { (q : ℕ) → q < payload settings.now.mode → slice_index labels.now q < 2 ^ label_bits settings.now.shape }
     requires whole { IsWhole (carriers settings.now.mode) kept.now }
+    ensures little { AreLittle result (payload settings.now.mode) }
     ensures sums { result ≡ symbol_sums (record { settings = settings.now; cells = kept.now.cells; weights = kept.now.weights; symbol = l; labels = λ q. is_set (slice_index labels.now q) }) }
 {
     sum_symbol(settings, l, labels, kept.cells(), kept.weights())
@@ -91,6 +95,7 @@ fn compare_symbol<M: Carriers>(
     ensures settings { coder.new.settings ≡ settings.now }
     ensures capacity { vec_capacity labels.new ≡ vec_capacity labels.old }
     ensures registers { AreLong coder.new }
+    ensures little { IfSome result (λ sums. AreLittle sums (payload settings.now.mode)) }
     ensures summed { (known : AnyStream → List Bool) → HavePassed settings.now m hp.old lp.old coder.old known → IsSummed settings.now kept.now known m result }
     ensures passed { (known : AnyStream → List Bool) → HavePassed settings.now m hp.old lp.old coder.old known → HavePassed settings.now (m + 1) hp.new lp.new coder.new known }
 {
@@ -135,6 +140,9 @@ impl<M: Carriers> Comparer<M> {
         requires cells { length cells.now ≡ carriers self.old.settings.mode }
         requires weights { length weights.now ≡ carriers self.old.settings.mode }
         ensures kept { self.new ≡ record self.old { kept = slice_set self.old.kept (symbol % 4) (record { cells = cells.now; weights = weights.now }) } }
+        ensures here { (d : SymbolState) → kept_at self.new symbol d ≡ record { cells = cells.now; weights = weights.now } }
+        ensures others { (m : ℕ) (d : SymbolState) → m % 4 ≢ symbol % 4 → kept_at self.new m d ≡ kept_at self.old m d }
+        ensures stands { (m : ℕ) (hp lp : KnownState) (known : AnyStream → List Bool) → StandsBefore m self.old hp lp known → StandsBefore m self.new hp lp known }
     {
         self.kept[(symbol % 4) as usize].put(cells, weights);
     }
@@ -148,7 +156,8 @@ impl<M: Carriers> Comparer<M> {
 
     /// The sums of the next symbol beside what the known bits of the streams stand for: None exactly if it is not compared.
     ///
-    /// The symbol is one of the four that are kept, and fewer than 2^32 symbols were compared or left out.
+    /// The symbol is one of the four that are kept, and fewer than 2^32 symbols were compared or left out. The encoders pass the known
+    /// bits of a symbol that is left out.
     pub fn compare(&mut self, hp: &mut KnownBits, lp: &mut KnownBits) -> Option<SymbolSums>
         requires few { self.old.next < 2 ^ 32 }
         requires hp_before { hp.old.before < 2 ^ 60 }
@@ -156,12 +165,15 @@ impl<M: Carriers> Comparer<M> {
         ensures settings { self.new.settings ≡ self.old.settings }
         ensures next { self.new.next ≡ self.old.next + 1 }
         ensures kept { self.new.kept ≡ self.old.kept }
+        ensures hp_settled { IsSettled hp.new }
+        ensures lp_settled { IsSettled lp.new }
+        ensures little { IfSome result (λ sums. AreLittle sums (payload self.old.settings.mode)) }
         ensures summed { (m : ℕ) (known : AnyStream → List Bool) (d : SymbolState) → StandsBefore m self.old hp.old lp.old known → IsSummed self.old.settings (kept_at self.old m d) known m result }
         ensures stands { (m : ℕ) (known : AnyStream → List Bool) → StandsBefore m self.old hp.old lp.old known → StandsBefore (m + 1) self.new hp.new lp.new known }
     {
         let m = self.next;
         self.next += 1;
-        compare_symbol(
+        let sums = compare_symbol(
             &self.settings,
             m,
             &self.kept[(m % 4) as usize],
@@ -169,6 +181,8 @@ impl<M: Carriers> Comparer<M> {
             hp,
             lp,
             &mut self.labels,
-        )
+        );
+        pass_both(&mut self.coder, hp, lp);
+        sums
     }
 }

@@ -6,6 +6,7 @@
 
 mod comparer;
 mod history;
+pub mod laws;
 mod streams;
 
 pub use comparer::Comparer;

@@ -67,6 +67,13 @@ returns-in-Some-Align g c =
     subst (λ (x : Option Order). Run (command_for x) c.args.limits.packets old new c.align.result)
     (ap (λ (f : Form). Some (order f)) (sym c.in-Some-Align.field-0-is) ∙ c.in-Some-Align.ensures) c.align.ensures
 
+pub returns-in-Some-Measure : goal.returns-in-Some-Measure
+returns-in-Some-Measure g c =
+    let old : Meaning = g.S.Station.meaning c.args.station.now in
+    let new : Meaning = g.S.Station.meaning c.measure.new.station in
+    subst (λ (x : Option Order). Run (command_for x) c.args.limits.packets old new c.measure.result)
+    (ap (λ (f : Form). Some (order f)) (sym c.in-Some-Measure.field-0-is) ∙ c.in-Some-Measure.ensures) c.measure.ensures
+
 pub returns-in-Some-Upgrade : goal.returns-in-Some-Upgrade
 returns-in-Some-Upgrade g c =
     let old : Meaning = g.S.Station.meaning c.args.station.now in

@@ -1,4 +1,4 @@
-use Rattle.std.proofs.Common.{◌≡◌, ◌+◌, ◌-◌, ◌*◌, ◌/◌, ◌%◌, ◌≤◌, length, arith}
+use Rattle.std.proofs.Common.{◌*◌, ◌/◌, ◌%◌, ◌≤◌, length, arith}
 use Rattle.stream_meter.proofs.Bits.{takes_more, left_wait, known_long, has_room, room_left, room_less}
 use Rattle.stream_meter.proofs.passing.pass_bits.Goals as goal
 

@@ -1,4 +1,4 @@
-use Rattle.std.proofs.Common.{◌≡◌, ℕ, ◌+◌, ◌-◌, ◌*◌, ◌≤◌, length, arith, subst}
+use Rattle.std.proofs.Common.{◌≡◌, ℕ, ◌+◌, ◌*◌, ◌≤◌, length, arith, subst}
 use Rattle.stream_meter.specs.Passing.{Takes}
 use Rattle.stream_meter.proofs.Bits.{takes_none, takes_more, left_wait, known_long, has_room, room_left}
 use Rattle.stream_meter.proofs.passing.pass_bytes.Goals as goal

@@ -1,4 +1,3 @@
-use Rattle.std.proofs.Common.{◌*◌}
 use Rattle.stream_meter.specs.Passing.{Takes}
 use Rattle.stream_meter.proofs.passing.pass_single_bits.Given as goal
 

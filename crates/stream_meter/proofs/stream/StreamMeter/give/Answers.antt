@@ -1,5 +1,4 @@
-use Rattle.std.proofs.Common.{◌≡◌, ◌+◌, ◌≤◌, ◌<◌, length, ap, arith}
-use Rattle.measured_words.specs.Seen.{WordsState}
+use Rattle.std.proofs.Common.{ap, arith}
 use Rattle.measured_words.specs.declared.counts.WordSums.{WordSums}
 use Rattle.stream_meter.proofs.Standing.{room_at_first, none_waits, all_known, all_given}
 use Rattle.stream_meter.proofs.stream.StreamMeter.give.Goals as goal

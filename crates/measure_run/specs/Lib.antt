@@ -1,0 +1,5 @@
+pub mod Measured
+pub mod MeasureLaws
+pub mod MeasureCommand
+pub mod Working
+pub mod Feeder

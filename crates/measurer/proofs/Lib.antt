@@ -1,0 +1,14 @@
+mod Knowing
+mod Lining
+mod Summing
+mod Counting
+mod Taking
+mod Comparing
+mod Lasting
+mod Framing
+mod Giving
+mod Feeding
+mod Ending
+mod Finishing
+mod First
+mod Closing

@@ -1,0 +1,5 @@
+pub mod Seen
+pub mod Sums
+pub mod Standing
+pub mod Steps
+pub mod Kept

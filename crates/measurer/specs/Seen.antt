@@ -1,0 +1,30 @@
+-- What is seen of a measurer.
+use Rattle.std.specs.Prelude.{ℕ, Bool, List}
+use Rattle.mode_set.specs.declared.modes.Stream.{Stream}
+use Rattle.mode_set.specs.declared.modes.Stream.TheVariants.{Hp, Lp}
+use Rattle.mode_set.specs.declared.settings.Settings.{Settings}
+use Rattle.stream_decoders.specs.declared.frames.FrameReader.{FrameReader}
+use Rattle.stream_meter.specs.declared.stream.StreamMeter.{StreamMeter}
+use Rattle.symbol_comparison.specs.Seen.{ComparerState}
+use Rattle.measurer.specs.declared.current.Current.{Current}
+
+-- what measures the symbols: the comparer, the meter of each stream, and the sums of the super-frame so far
+pub record MeterState : Type 0 where
+  pub comparer : ComparerState
+  pub hp : StreamMeter
+  pub lp : StreamMeter
+  pub current : Current
+
+abbrev pub meter_of : MeterState → Stream → StreamMeter
+meter_of x Hp = x.hp
+meter_of x Lp = x.lp
+
+-- the settings, the bytes of the unfinished symbol, the number of whole symbols, the meters, the reader of TPS words, and whether the
+-- measurer has ended
+pub record MeasurerState : Type 0 where
+  pub settings : Settings
+  pub rest : List ℕ
+  pub taken : ℕ
+  pub meter : MeterState
+  pub frames : FrameReader
+  pub ended : Bool
