@@ -1,7 +1,7 @@
 // The laws of known bits, as contracts of functions that do nothing.
 ghost use Rattle.known_bits.specs.Laws.{NothingPassed, MoreBitsKnown, StepsAreFew, FewWait};
 
-/// Before the first symbol the encoder has passed nothing, and more bits that are known leave what it has passed.
+/// The encoder begins before the first symbol, with no known bit. More known bits do not move it.
 pub fn passing()
     ensures first { NothingPassed }
     ensures more { MoreBitsKnown }
@@ -9,8 +9,8 @@ pub fn passing()
     symbol_spans::laws::steps();
 }
 
-/// A symbol has at most 31,752 steps of a stream, and no more bits wait in settled known bits than the steps of the symbols from
-/// the next one on.
+/// A symbol has at most 31,752 steps of a stream. If the encoder has passed what it could, no more bits wait than the symbols from
+/// the next one on have steps.
 pub fn rooms()
     ensures steps { StepsAreFew }
     ensures wait { FewWait }

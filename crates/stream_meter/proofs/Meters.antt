@@ -1,10 +1,11 @@
 -- The meter of a stream goes on.
-use Rattle.std.proofs.Common.{◌≡◌, ℕ, zero, suc, ◌+◌, ◌-◌, ◌*◌, ◌/◌, ◌<◌, ◌≤◌, ◌⊎◌, inl, inr, Bool, cond, not, ◌&&◌, List, [], ◌++◌, length, refl, sym, ap, ap₂, ◌∙◌, arith, subst, length-append, length-drop}
+use Rattle.std.proofs.Common.{◌≡◌, ℕ, zero, suc, ◌+◌, ◌-◌, ◌*◌, ◌/◌, ◌<◌, ◌≤◌, ◌⊎◌, inl, inr, Bool, cond, not, ◌&&◌, List, [], ◌∷◌, ◌++◌, length, refl, sym, ap, ap₂, ◌∙◌, arith, subst, length-append, length-drop}
 use Rattle.std.specs.Prelude.{All, Option, min, count_by}
 use Rattle.std.proofs.lemmas.List.Elements.{All-nil, All-weaker}
+use Rattle.std.specs.List.{range_with_len}
+use Rattle.std.proofs.lemmas.List.Sums.{sum_by_push}
 use Rattle.std.proofs.lemmas.List.FromFn.{length-range_with_len}
 use Rattle.spec_words.specs.Words.{numbers}
-use Rattle.symbol_sums.proofs.Counting.{no_numbers, sum_more}
 use Rattle.bit_pack.specs.Queue.{bits_of_bytes}
 use Rattle.code_paths.specs.declared.costs.CostPair.{CostPair}
 use Rattle.inner_decoder.specs.Events.{ats}
@@ -272,15 +273,20 @@ advances one grow whole steps moment x words limit counts s σ j from c bits rep
 
 -- ---- all words
 
+range_push : (a n : ℕ) → range_with_len a (suc n) ≡ range_with_len a n ++ (a + n) ∷ []
+range_push a zero = let e : a ≡ a + 0 = omega arith in ap (λ (z : ℕ). z ∷ []) e
+range_push a (suc n) =
+    let f : a + 1 + n ≡ a + suc n = omega arith in
+    ap (λ (z : List ℕ). a ∷ z) (range_push (a + 1) n) ∙ ap (λ (z : ℕ). a ∷ (range_with_len (a + 1) n ++ z ∷ [])) f
+
 -- the two ways to count below a number
 count_is : (p : ℕ → Bool) (n : ℕ) → count_by p (numbers n) ≡ count p n
-unfolding count
-count_is p zero = no_numbers (λ k. cond (p k) 1 0)
+unfolding count numbers
+count_is p zero = refl
 count_is p (suc n) =
-    let next : suc n ≡ n + 1 = omega arith in
-    let step = sum_more (λ k. cond (p k) 1 0) n in
-    let rest = count_is p n in
-    ap (λ (z : ℕ). count_by p (numbers z)) next ∙ (omega (arith, step, rest))
+    let e : 0 + n ≡ n = omega arith in
+    let rest : count_by p (range_with_len 0 n) ≡ count p n = count_is p n in
+    ap (count_by p) (range_push 0 n ∙ ap (λ (z : ℕ). range_with_len 0 n ++ z ∷ []) e) ∙ sum_by_push (λ k. cond (p k) 1 0) (range_with_len 0 n) n ∙ (omega (arith, rest))
 
 tallied : (near : ℕ → Option (List ℕ)) (word : ℕ → List ℕ) (n : ℕ) (unmerged : ℕ) (words : WordSums) → words ≡ sums_over near word (numbers n)
     → (let r : StreamCounts = record { words = words.words; clean = words.clean; corrected = words.corrected; bad = words.bad; unphased = words.unphased; unmerged = unmerged } in r) ≡ stream_counts (tally_to near word n) unmerged

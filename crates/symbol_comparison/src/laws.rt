@@ -3,7 +3,7 @@ ghost use Rattle.symbol_comparison.specs.Laws.{StandsAtFirst, MoreBitsKnown};
 
 use known_bits::laws::passing;
 
-/// At first no symbol was compared and no bit is known, and more bits that are known leave where a comparer stands.
+/// A comparer begins before the first symbol, with no known bit. More known bits do not move it.
 pub fn standing()
     ensures first { StandsAtFirst }
     ensures more { MoreBitsKnown }
