@@ -22,6 +22,7 @@ BEGINNING = {"2k": 68, "8k": 24}  # clean symbols before the cut, enough for the
 SETTLING = 36  # words after the cut in which the inner decoder and the delay lines still have bits from before
 ONES = np.array([bin(byte).count("1") for byte in range(256)])
 LIMIT = 2e-4  # error ratio before Reed-Solomon for quasi error free reception (EN 300 744, annex A)
+EDGE = 200  # bits at both ends of what the decoder in floating point gives that are not compared
 GAP = 0.6  # dB between two trials, between which the logarithm of the error ratio counts as a straight line
 NOISE = {}  # by shape: white noise of power 1
 
@@ -65,9 +66,11 @@ class Link:
         return done.stdout
 
     def set_channel(self, channel):
-        """Sends the cells through a channel, without noise."""
+        """Sends the cells through a channel, without noise, and scales it so that its mean power over all cells is 1."""
         self.came, self.gain = channel.through(self.cells)
-        self.strongest = np.quantile(abs(self.gain[:: max(1, len(self.gain) // 64)]), 0.99)
+        level = np.mean(abs(self.gain) ** 2) ** 0.5
+        self.came, self.gain = self.came / level, self.gain / level
+        self.level = np.mean(abs(self.gain))
 
     def noise(self, ratio):
         """Noise at this C/N in dB, and its power on a carrier. C is the mean power of all carriers, pilots included."""
@@ -88,9 +91,9 @@ class Link:
         return self.content((self.came + noise) / self.gain, rule(strength, power, self.constellation))
 
     def corrected(self, command, ratio):
-        """The cells as a command corrects them. Before it the strongest carriers have the nominal amplitude of a cell file."""
+        """The cells as a command corrects them. Before it the mean pilot has 0.9 of its nominal amplitude, as after examples/samples.py."""
         noise, _ = self.noise(ratio)
-        self.write("came", self.content((self.came + noise) / self.strongest, 15))
+        self.write("came", self.content((self.came + noise) * (0.9 / self.level), 15))
         self.run(command, "s.toml", "came", "right")
         return (self.folder / "right").read_bytes()
 
@@ -130,29 +133,47 @@ class Link:
     def required(self, way, guess, most=40.0, doubt=False):
         """The C/N in dB at which the error ratio is LIMIT, or None if it is higher at `most`. `way` makes a cell file of a C/N. With
         `doubt` it looks at `most` first."""
-        found = {}
+        return required(lambda ratio: self.error_ratio(way(ratio)), guess, most, doubt)
 
-        def height(ratio):
-            """The decades above LIMIT."""
-            if ratio not in found:
-                found[ratio] = np.log10(self.error_ratio(way(ratio)) / LIMIT)
-            return found[ratio]
+    def required_in_float(self, decoder, symbols, guess):
+        """The same for the decoder in floating point, over the first symbols, with a known channel."""
+        sent = decoder.decoded(self.cells[:symbols], 1.0)
 
-        if doubt and height(most) > 0:
+        def errors(ratio):
+            noise, power = self.noise(ratio)
+            gain = self.gain[:symbols]
+            back = decoder.decoded((self.came[:symbols] + noise[:symbols]) / gain, abs(gain) ** 2 / power)
+            wrong = (back != sent)[EDGE:-EDGE]
+            return max(wrong.sum(), 0.5) / wrong.size
+
+        return required(errors, guess)
+
+
+def required(errors, guess, most=40.0, doubt=False):
+    """The C/N in dB at which the error ratio that `errors` gives is LIMIT, or None if it is higher at `most`."""
+    found = {}
+
+    def height(ratio):
+        """The decades above LIMIT."""
+        if ratio not in found:
+            found[ratio] = np.log10(errors(ratio) / LIMIT)
+        return found[ratio]
+
+    if doubt and height(most) > 0:
+        return None
+    low = high = round(guess + GAP / 2, 2)
+    step = GAP
+    while height(high) > 0:
+        if high >= most:
             return None
-        low = high = round(guess + GAP / 2, 2)
-        step = GAP
-        while height(high) > 0:
-            if high >= most:
-                return None
-            low, high, step = high, min(round(high + step, 2), most), 2 * step
-        step = GAP
-        while low >= high or height(low) <= 0:
-            low, high, step = round(low - step, 2), low, 2 * step
-        while high - low > 1.3 * GAP:
-            middle = round((low + high) / 2 if high - low > 2 else between(low, high, height), 2)
-            low, high = (middle, high) if height(middle) > 0 else (low, middle)
-        return between(low, high, height, 0)
+        low, high, step = high, min(round(high + step, 2), most), 2 * step
+    step = GAP
+    while low >= high or height(low) <= 0:
+        low, high, step = round(low - step, 2), low, 2 * step
+    while high - low > 1.3 * GAP:
+        middle = round((low + high) / 2 if high - low > 2 else between(low, high, height), 2)
+        low, high = (middle, high) if height(middle) > 0 else (low, middle)
+    return between(low, high, height, 0)
 
 
 def between(low, high, height, margin=0.3):

@@ -69,5 +69,6 @@ def picture(path, rows, most, curves, below):
     ratios = sorted(rows)
     ticks = ratios if len(ratios) <= 16 else ratios[::2]
     x = Axis(below, ratios[0], ratios[-1], ticks)
-    y = Axis("packets that come back as sent", 0, most, [0, most // 4, most // 2, most * 3 // 4, most])
+    step = next(step for step in (250, 1000, 2500, 10000) if most < 5 * step)
+    y = Axis("packets that come back as sent", 0, most, [*range(0, most - step // 2, step), most])
     plot(path, x, y, [Curve(name, [(ratio, rows[ratio][column]) for ratio in ratios]) for name, column in curves])
