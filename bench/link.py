@@ -22,7 +22,7 @@ BEGINNING = {"2k": 68, "8k": 24}  # clean symbols before the cut, enough for the
 SETTLING = 36  # words after the cut in which the inner decoder and the delay lines still have bits from before
 ONES = np.array([bin(byte).count("1") for byte in range(256)])
 LIMIT = 2e-4  # error ratio before Reed-Solomon for quasi error free reception (EN 300 744, annex A)
-EDGE = 200  # bits at both ends of what the decoder in floating point gives that are not compared
+EDGE = 200  # bits at the end of what the decoder in floating point gives that are not compared
 GAP = 0.6  # dB between two trials, between which the logarithm of the error ratio counts as a straight line
 NOISE = {}  # by shape: white noise of power 1
 
@@ -53,7 +53,8 @@ class Link:
         self.clean = (self.folder / "clean").read_bytes()
         self.cells = complex_of(cells_in(self.clean[8:], mode))
         self.power = float(np.mean(abs(self.cells) ** 2))
-        self.first = int(BEGINNING[mode] * symbol) // 204 + SETTLING
+        self.words = symbol / 204  # of a symbol
+        self.first = int(BEGINNING[mode] * self.words) + SETTLING
         self.reference = None
 
     def run(self, *words):
@@ -70,7 +71,8 @@ class Link:
         self.came, self.gain = channel.through(self.cells)
         level = np.mean(abs(self.gain) ** 2) ** 0.5
         self.came, self.gain = self.came / level, self.gain / level
-        self.level = np.mean(abs(self.gain))
+        mean, most = np.mean(abs(self.gain)), np.quantile(abs(self.gain[:: max(1, len(self.gain) // 64)]), 0.99)
+        self.scales = {"track": 1 / most, "equalise": 0.9 / mean}
 
     def noise(self, ratio):
         """Noise at this C/N in dB, and its power on a carrier. C is the mean power of all carriers, pilots included."""
@@ -90,10 +92,11 @@ class Link:
         strength = abs(self.gain) ** 2
         return self.content((self.came + noise) / self.gain, rule(strength, power, self.constellation))
 
-    def corrected(self, command, ratio):
-        """The cells as a command corrects them. Before it the mean pilot has 0.9 of its nominal amplitude, as after examples/samples.py."""
+    def corrected(self, command, ratio, scale=None):
+        """The cells as a command corrects them. They are scaled before it: for `track` so that the strongest pilots have the nominal
+        amplitude of a cell file, for `equalise`, whose weights go by the amplitude, so that the mean pilot has 0.9 of it."""
         noise, _ = self.noise(ratio)
-        self.write("came", self.content((self.came + noise) * (0.9 / self.level), 15))
+        self.write("came", self.content((self.came + noise) * (scale or self.scales[command]), 15))
         self.run(command, "s.toml", "came", "right")
         return (self.folder / "right").read_bytes()
 
@@ -115,14 +118,15 @@ class Link:
         sent = set(map(bytes, self.packets))
         return sum(bytes(packet) in sent for packet in self.received(content))
 
-    def error_ratio(self, content):
-        """The error ratio before Reed-Solomon."""
+    def error_ratio(self, content, symbols=None):
+        """The error ratio before Reed-Solomon, over all symbols or the first ones."""
         if self.reference is None:
             self.reference = self.cut(self.clean)
         back = self.cut(content)
         if back.shape != self.reference.shape:
             return 0.5
-        wrong = (back ^ self.reference)[self.first :, 2:]  # the bytes before have the sync byte and the mark
+        end = int(symbols * self.words) if symbols else len(back)
+        wrong = (back ^ self.reference)[self.first : end, 2:]  # the bytes before have the sync byte and the mark
         return max(ONES[wrong].sum(), 0.5) / (8 * wrong.size)
 
     def cut(self, content):
@@ -130,10 +134,10 @@ class Link:
         end = 8 + BEGINNING[self.mode] * self.size
         return self.received(self.clean[:end] + content[end + CUT * self.size :])
 
-    def required(self, way, guess, most=40.0, doubt=False):
+    def required(self, way, guess, most=40.0, doubt=False, symbols=None):
         """The C/N in dB at which the error ratio is LIMIT, or None if it is higher at `most`. `way` makes a cell file of a C/N. With
         `doubt` it looks at `most` first."""
-        return required(lambda ratio: self.error_ratio(way(ratio)), guess, most, doubt)
+        return required(lambda ratio: self.error_ratio(way(ratio), symbols), guess, most, doubt)
 
     def required_in_float(self, decoder, symbols, guess):
         """The same for the decoder in floating point, over the first symbols, with a known channel."""
@@ -143,7 +147,7 @@ class Link:
             noise, power = self.noise(ratio)
             gain = self.gain[:symbols]
             back = decoder.decoded((self.came[:symbols] + noise[:symbols]) / gain, abs(gain) ** 2 / power)
-            wrong = (back != sent)[EDGE:-EDGE]
+            wrong = (back != sent)[len(sent) * BEGINNING[self.mode] // symbols : -EDGE]
             return max(wrong.sum(), 0.5) / wrong.size
 
         return required(errors, guess)
