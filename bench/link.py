@@ -1,8 +1,8 @@
 """A link: cells of `modulate` through a channel, corrected in one of three ways, and what `receive` makes of them. Needs numpy.
 
 The error ratio before Reed-Solomon is counted on the output of `receive` itself. Four symbols are cut out of the cells after a
-clean beginning. From there on no received word is a code word, so the outer decoder repairs nothing: the packets are the bits
-of the inner decoder, descrambled and marked. They are compared with those that the cells as sent give at the same cut.
+clean beginning. From there on no received word is a codeword, so the outer decoder repairs nothing: the packets are the bits
+of the inner decoder, deinterleaved, descrambled and marked. They are compared with the bits that were sent, by `outer` and `disperse`.
 """
 import pathlib
 import subprocess
@@ -17,6 +17,7 @@ from dvbt.files import CARRIERS, Version2, cells_in, complex_of, content_of  # n
 from air import weights_of  # noqa: E402
 
 BITS = {"qpsk": 2, "16qam": 4, "64qam": 6}
+NULL = b"\x47\x1f\xff\x10" + 184 * b"\xff"
 CUT = 4  # symbols: the pilots have this period
 BEGINNING = {"2k": 68, "8k": 24}  # clean symbols before the cut, enough for the phase of the dispersal
 SETTLING = 36  # words after the cut in which the inner decoder and the delay lines still have bits from before
@@ -53,9 +54,9 @@ class Link:
         self.clean = (self.folder / "clean").read_bytes()
         self.cells = complex_of(cells_in(self.clean[8:], mode))
         self.power = float(np.mean(abs(self.cells) ** 2))
-        self.words = symbol / 204  # of a symbol
+        self.symbol, self.words = symbol, symbol / 204  # bytes of a symbol, and words
         self.first = int(BEGINNING[mode] * self.words) + SETTLING
-        self.reference = None
+        self.sent = self.sent_through_cut()
 
     def run(self, *words):
         """Runs a command in the link's folder."""
@@ -120,14 +121,27 @@ class Link:
 
     def error_ratio(self, content, symbols=None):
         """The error ratio before Reed-Solomon, over all symbols or the first ones."""
-        if self.reference is None:
-            self.reference = self.cut(self.clean)
         back = self.cut(content)
-        if back.shape != self.reference.shape:
+        if back.shape != self.sent.shape:
             return 0.5
         end = int(symbols * self.words) if symbols else len(back)
-        wrong = (back ^ self.reference)[self.first : end, 2:]  # the bytes before have the sync byte and the mark
+        wrong = (back ^ self.sent)[self.first : end, 2:]  # the bytes before have the sync byte and the mark
         return max(ONES[wrong].sum(), 0.5) / (8 * wrong.size)
+
+    def sent_through_cut(self):
+        """The packets that `receive` gives of the cells with the cut if the inner decoder errs nowhere, from `first` on."""
+        (self.folder / "more.ts").write_bytes(self.packets.tobytes() + 22 * NULL)
+        self.run("outer", "more.ts", "outer")
+        self.outer = np.fromfile(self.folder / "outer", "u1")
+        (self.folder / "zeros.ts").write_bytes(8 * (b"\x47" + bytes(187)))
+        self.run("disperse", "zeros.ts", "dispersal")
+        dispersal = np.fromfile(self.folder / "dispersal", "u1").reshape(8, 188)
+        at, length = int(BEGINNING[self.mode] * self.symbol), int(CUT * self.symbol)
+        stream = np.concatenate([self.outer[:at], self.outer[at + length :]])
+        words = int((272 * self.frames - CUT) * self.symbol) // 204 - 11
+        places = np.arange(204 * words)
+        found = stream[places + places % 12 * 204].reshape(words, 204)[:, :188]  # the deinterleaver (4.3.2)
+        return found ^ dispersal[np.arange(words) % 8]
 
     def cut(self, content):
         """The packets of cells whose beginning is clean and from which symbols are cut out after it."""
@@ -141,7 +155,7 @@ class Link:
 
     def required_in_float(self, decoder, symbols, guess):
         """The same for the decoder in floating point, over the first symbols, with a known channel."""
-        sent = decoder.decoded(self.cells[:symbols], 1.0)
+        sent = np.unpackbits(self.outer[: int(symbols * self.symbol)])
 
         def errors(ratio):
             noise, power = self.noise(ratio)
