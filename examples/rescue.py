@@ -96,7 +96,7 @@ def main():
                 continue
             rows, count = setting(words.program, name, rate, in_frame, frames, tenths)
             if out:
-                air.picture(out / f"rescue-{name}.svg", rows, count, CURVES, f"MER, dB ({name}, rate {rate})")
+                air.picture(out / f"rescue-{name}.svg", rows, count, CURVES, f"MER, dB ({name.upper().replace('QAM', '-QAM')}, rate {rate})")
 
 
 if __name__ == "__main__":
