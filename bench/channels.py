@@ -39,18 +39,18 @@ class Still:
         return cells * self.gain, np.broadcast_to(self.gain, cells.shape)
 
 
-def gaussian(mode, guard="1/4"):
+def gaussian(mode):
     """A gain of 1 everywhere."""
     return Still("Gaussian", mode, [(1, 0)])
 
 
-def ricean(mode, guard="1/4"):
+def ricean(mode):
     """F1 of annex B: a direct path, and twenty echoes of a tenth of its power together."""
     direct = np.sqrt(RICEAN * sum(amplitude**2 for amplitude, _, _ in PATHS))
     return Still("Ricean F1", mode, [(direct, 0)] + annex_paths())
 
 
-def rayleigh(mode, guard="1/4"):
+def rayleigh(mode):
     """P1 of annex B: the twenty echoes alone."""
     return Still("Rayleigh P1", mode, annex_paths())
 
