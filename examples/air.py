@@ -67,7 +67,7 @@ def weights_of(power, noise, constellation):
 def picture(path, rows, most, curves, below):
     """Draws the counts of each row, by its MER, as curves of a name and a column; most is the greatest count there is."""
     ratios = sorted(rows)
-    ticks = ratios if len(ratios) <= 16 else ratios[::2]
+    ticks = ratios if len(ratios) < 15 else ratios[::2]
     x = Axis(below, ratios[0], ratios[-1], ticks)
     step = next(step for step in (250, 1000, 2500, 10000) if most < 5 * step)
     y = Axis("packets that come back as sent", 0, most, [*range(0, most - step // 2, step), most])
