@@ -16,11 +16,16 @@ except ImportError as error:
         os.execv(DEBIAN, [DEBIAN, *sys.argv])
     sys.exit(f"{sys.argv[0]}: {error}; it needs numpy (Debian: python3-numpy)")
 
-DOOR = f"{pathlib.Path(__file__).resolve().parent.parent}/bin/dvbt -q"
+TOP = pathlib.Path(__file__).resolve().parent.parent
+DOOR = f"{TOP}/bin/dvbt -q"
+sys.path.insert(0, str(TOP / "tools"))
+from cell_tools.svg import Axis, Curve, plot  # noqa: E402
+
 HEADER = b"DVTC\x02\x00\x00\x00"  # of a file of the 2K mode
 CARRIERS = 1705
 CELL = np.dtype([("re", ">i2"), ("im", ">i2"), ("weight", "u1")])
 UNIT = 16384  # the amplitude of a cell of mean power
+FULL = {"qpsk": 8, "16qam": 25, "64qam": 100}  # from so many times the power of the noise on, a carrier gets the full weight
 
 
 def run(program, *words):
@@ -46,32 +51,24 @@ def write_cells(path, cells, weights):
     pathlib.Path(path).write_bytes(HEADER + file.tobytes())
 
 
-def noise_of(drawn, ratio, shape):
-    """White noise of that MER in dB, drawn for so many cells."""
-    parts = drawn.normal(0, UNIT * 10 ** (-ratio / 20) / 2**0.5, (2, *shape))
+def noise_of(generator, ratio, shape):
+    """White noise at that MER in dB, for an array of cells."""
+    parts = generator.normal(0, UNIT * 10 ** (-ratio / 20) / 2**0.5, (2, *shape))
     return parts[0] + 1j * parts[1]
 
 
+def weights_of(power, noise, constellation):
+    """The weight of each carrier by the power of its gain and the power of the noise before the equaliser (docs/use/WEIGHTS.md). The carriers
+    stand in the last axis. Both powers are in units of the mean power of a data cell that is sent."""
+    most = np.minimum(FULL[constellation] * noise, 1.5 * power.mean(axis=-1, keepdims=True))
+    return np.clip(np.rint(15 * power / most), 0, 15).astype("u1")
+
+
 def picture(path, rows, most, curves, below):
-    """Draws the counts of each row, by its MER, as curves of a name and a style; most is the greatest count there is."""
-    lines, left, top, width, height = [], 60, 20, 480, 260
-    first, last = min(rows), max(rows)
-
-    def at(ratio, count):
-        return f"{left + width * (ratio - first) / (last - first):.1f},{top + height * (1 - count / most):.1f}"
-
-    for number, (name, column, style) in enumerate(curves):
-        points = " ".join(at(ratio, counts[column]) for ratio, counts in rows.items())
-        lines.append(f'<polyline fill="none" stroke="black" stroke-width="2" stroke-dasharray="{style}" points="{points}"/>')
-        y = top + 14 + 18 * number
-        lines.append(f'<line x1="{left + 12}" y1="{y - 4}" x2="{left + 52}" y2="{y - 4}" stroke="black" stroke-width="2" stroke-dasharray="{style}"/>')
-        lines.append(f'<text x="{left + 60}" y="{y}">{name}</text>')
-    for ratio in rows:
-        lines.append(f'<text x="{at(ratio, 0).split(",")[0]}" y="{top + height + 18}" text-anchor="middle">{ratio}</text>')
-    for count in (0, most // 2, most):
-        lines.append(f'<text x="{left - 8}" y="{float(at(first, count).split(",")[1]) + 4}" text-anchor="end">{count}</text>')
-    lines.append(f'<rect x="{left}" y="{top}" width="{width}" height="{height}" fill="none" stroke="grey"/>')
-    lines.append(f'<text x="{left + width // 2}" y="{top + height + 40}" text-anchor="middle">{below}</text>')
-    body = "\n".join(lines)
-    size = f'width="{left + width + 20}" height="{top + height + 50}"'
-    pathlib.Path(path).write_text(f'<svg xmlns="http://www.w3.org/2000/svg" {size} font-family="sans-serif" font-size="13">\n<rect width="100%" height="100%" fill="white"/>\n{body}\n</svg>\n')
+    """Draws the counts of each row, by its MER, as curves of a name and a column; most is the greatest count there is."""
+    ratios = sorted(rows)
+    ticks = ratios if len(ratios) < 15 else ratios[::2]
+    x = Axis(below, ratios[0], ratios[-1], ticks)
+    step = next(step for step in (250, 1000, 2500, 10000) if most < 5 * step)
+    y = Axis("packets that come back as sent", 0, most, [*range(0, most - step // 2, step), most])
+    plot(path, x, y, [Curve(name, [(ratio, rows[ratio][column]) for ratio in ratios]) for name, column in curves])

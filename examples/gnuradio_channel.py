@@ -1,15 +1,15 @@
 #!/usr/bin/env python3
-"""The way of a real signal: GNU Radio's DVB-T transmitter, a channel, `dvbt equalise` and `dvbt receive`, as a notebook.
+"""A real signal from end to end: GNU Radio's DVB-T transmitter, a long echo, `dvbt track` and `dvbt receive`, as a notebook.
 
 usage: examples/gnuradio_channel.py
 
-GNU Radio modulates a transport file to samples. A channel turns and weakens them, adds an echo within the guard interval,
-noise, a wrong carrier frequency, and cuts off their beginning. A front end of a few lines finds the symbols and the
-frequency and takes the samples back to carriers; it estimates nothing of the channel. `dvbt equalise` corrects the cells by
-their pilots, and `dvbt receive` gives the packets. GNU Radio's own receiver gets the same samples. Prints how many packets
-came back of each. Ends with 0 where those of `dvbt` are packets that were sent, in a row, and no word is bad. Passed over
-with a message where GNU Radio 3.10 or numpy is not installed (Debian: gnuradio, python3-numpy). Each part `# %%` is a cell for
-editors that know them.
+GNU Radio modulates a transport file to samples. A channel rotates and attenuates them, adds an echo of 0.9 of the guard interval,
+noise and a frequency offset, and cuts off the beginning. A short front end finds the symbols and the frequency and converts
+the samples to carriers; it estimates nothing of the channel. `dvbt track` corrects the cells by the pilots of neighbouring symbols,
+and `dvbt receive` decodes them. `dvbt equalise` and GNU Radio's own receiver get the same signal. Prints how many packets each of
+them gives. Ends with 0 if those of `track` are packets that were sent, in a row, and no word is bad. Passed over with a message if
+GNU Radio 3.10 or numpy is not installed (Debian: gnuradio, python3-numpy), or if the program lacks `track`. Each part `# %%` is a
+cell for editors that know them.
 """
 # %% What is needed
 import os
@@ -33,15 +33,15 @@ except ImportError as error:
     print(f"gnuradio_channel.py: passed over: GNU Radio or numpy is not installed ({error})")
     sys.exit(0)
 
-CARRIERS, PAYLOAD, POINTS, GUARD = 1705, 1512, 2048, 64  # of the 2K mode at guard 1/32
+CARRIERS, PAYLOAD, POINTS, GUARD = 1705, 1512, 2048, 512  # of the 2K mode at guard 1/4
 SYMBOL = POINTS + GUARD
-SETTINGS = {"mode": "2k", "constellation": "16qam", "rate_hp": "2/3", "guard": "1/32", "cell_id": 0}
+SETTINGS = {"mode": "2k", "constellation": "16qam", "rate_hp": "2/3", "guard": "1/4", "cell_id": 0}
 SHAPE = (PAYLOAD, dtv.MOD_16QAM, dtv.NH)
 # TPS has no LP rate without a hierarchy: three zeros (4.6.2), which are GNU Radio's 1/2
-SIGNALS = (dtv.MOD_16QAM, dtv.NH, dtv.C2_3, dtv.C1_2, dtv.GI_1_32, dtv.T2k, 1, 0)
+SIGNALS = (dtv.MOD_16QAM, dtv.NH, dtv.C2_3, dtv.C1_2, dtv.GI_1_4, dtv.T2k, 1, 0)
 WORDS = 672  # outer words of a super-frame: 68 * 4 symbols of 1512 carriers with 4 bits at rate 2/3, in 1632 bits each
-GAIN = 0.8 * np.exp(1.1j)  # weaker, and turned
-ECHO, DELAY = 0.25 * np.exp(2j), 12  # the amplitude of the echo beside the direct way, and its samples
+GAIN = 0.8 * np.exp(1.1j)  # weaker, and rotated
+ECHO, DELAY = 0.7 * np.exp(2j), 460  # the amplitude of the echo relative to the direct path (-3 dB), and its samples: 0.9 of the guard
 OFFSET = 3.37  # the wrong carrier frequency, in carriers
 RATIO = 24  # decibels of the signal above the noise
 SYNC = [int(bit) for bit in "0011010111101110"]  # s1 to s16 of TPS in frames 1 and 3, the opposite in 2 and 4 (4.6.2)
@@ -78,7 +78,7 @@ def transmit(packets):
 
 
 def through_channel(samples, rng):
-    """What comes of samples: turned, weakened, with an echo, noise and a wrong frequency, and without their beginning."""
+    """The samples after the channel: rotated, attenuated, with an echo, noise and a frequency offset, and without their beginning."""
     echo = np.concatenate([np.zeros(DELAY), samples[:-DELAY]]) * ECHO
     came = GAIN * (samples + echo) * np.exp(2j * np.pi * OFFSET / POINTS * np.arange(len(samples)))
     power = np.mean(abs(came) ** 2) / 10 ** (RATIO / 10)
@@ -87,12 +87,12 @@ def through_channel(samples, rng):
 
 
 def synchronised(samples):
-    """The samples of whole symbols, with their frequency corrected to less than a carrier: a guard interval is like the
-    end of its symbol, but for the phase that the wrong frequency makes of the way between them."""
+    """The samples of whole symbols, with their frequency corrected to less than a carrier: a guard interval equals the end of its
+    symbol, but for the phase that the frequency offset adds from one to the other."""
     count = len(samples) // SYMBOL - 1
     likeness = samples[:-POINTS].conj() * samples[POINTS:]
-    sums = np.convolve(likeness[: count * SYMBOL], np.ones(GUARD), "valid")
-    sums = np.resize(sums, (count, SYMBOL)).sum(axis=0)
+    sums = likeness[: count * SYMBOL].reshape(count, SYMBOL).sum(axis=0)
+    sums = np.convolve(np.concatenate([sums, sums[: GUARD - 1]]), np.ones(GUARD), "valid")
     first = int(np.argmax(abs(sums)))
     fraction = np.angle(sums[first]) / (2 * np.pi)
     samples = samples[first:] * np.exp(-2j * np.pi * fraction / POINTS * np.arange(len(samples) - first))
@@ -101,8 +101,8 @@ def synchronised(samples):
 
 
 def carriers_of(symbols, kinds):
-    """The cells of symbols, after the transform, with the frequency corrected by whole carriers: there the continual
-    pilots are alike from symbol to symbol. Also the turn from a symbol to the next."""
+    """The cells of symbols, after the transform, with the frequency corrected by whole carriers: at the right one the continual
+    pilots are alike from symbol to symbol. Also the rotation from a symbol to the next."""
     points = np.fft.fftshift(np.fft.fft(symbols[:, GUARD - MARGIN : SYMBOL - MARGIN]), axes=1)
     middle = (POINTS - CARRIERS + 1) // 2
     best = None
@@ -116,7 +116,7 @@ def carriers_of(symbols, kinds):
 
 
 def first_super_frame(cells, kinds, turn):
-    """The first symbol of a super-frame, by TPS: a bit is 1 where the TPS cells turn round from a symbol to the next."""
+    """The first symbol of a super-frame, by TPS: a bit is 1 if the TPS cells change sign from a symbol to the next."""
     tps = cells[:, kinds.tps]
     turns = np.sum((tps[1:] * tps[:-1].conj() / turn).real, axis=1)
     bits = (turns < 0).astype(int).tolist()  # bits[m] is the TPS bit of symbol m + 1
@@ -128,6 +128,22 @@ def first_super_frame(cells, kinds, turn):
     sys.exit("no frame was found")
 
 
+def received(command):
+    """The packets that `receive` gives once the command has corrected the cells, and whether they are sent ones in a row."""
+    if run("bin/dvbt", "-q", command, "s.toml", "came.cells", "right.cells").returncode == 2:
+        print(f"gnuradio_channel.py: passed over: the program lacks the command {command}")
+        sys.exit(0)
+    report = run("bin/dvbt", "-q", "receive", "s.toml", "right.cells", "back.ts").stdout
+    back = gnuradio_receiver.packets("back.ts")
+    at = packets.index(back[0]) if back and back[0] in packets else None
+    # null packets follow the last packet that was sent
+    wanted = [] if at is None else (packets[at:] + [gnuradio_receiver.NULL] * len(back))[: len(back)]
+    is_well = back != [] and back == wanted and " bad 0 " in report.splitlines()[-1]
+    right = sum(packet in sent for packet in back)
+    print(f"{command}: {right} packets that were sent" + (f", in a row from number {at} on, and no word is bad" if is_well else ""))
+    return is_well
+
+
 gr.logging().set_default_level(gr.log_levels.error)  # not how it chose its buffers
 folder = tempfile.TemporaryDirectory()
 os.chdir(folder.name)
@@ -135,6 +151,7 @@ text = "".join(f"{key} = {value!r}\n".replace("'", '"') for key, value in SETTIN
 pathlib.Path("s.toml").write_text(text + 'start = "any"\n')
 random.seed(1)
 packets = [b"\x47" + random.randbytes(187) for _ in range(WORDS * 5)]
+sent = set(packets)
 
 # %% From packets to the samples that came
 came = through_channel(transmit(packets), np.random.default_rng(1))
@@ -148,28 +165,20 @@ cells, shift, turn = carriers_of(symbols, kinds)
 first = first_super_frame(cells, kinds, turn)
 cells = cells[first : first + (len(cells) - first) // 272 * 272]
 print(f"found {len(symbols)} symbols, {fraction + shift:.2f} carriers off; {len(cells)} are in whole super-frames")
-# the pilots at 0.9 of their amplitude; the cells fit 16 bits
+# the mean pilot at 0.9 of the nominal amplitude; the cells fit 16 bits
 cells = cells * (0.9 * 21845 / np.mean(abs(cells[:, kinds.continual])))
 file = np.empty(cells.shape, [("re", ">i2"), ("im", ">i2"), ("weight", "u1")])
 file["re"], file["im"], file["weight"] = np.rint(cells.real.clip(-32768, 32767)), np.rint(cells.imag.clip(-32768, 32767)), 15
 pathlib.Path("came.cells").write_bytes(b"DVTC\x02\x00\x00\x00" + file.tobytes())
 
 # %% dvbt corrects and receives
-run("bin/dvbt", "equalise", "s.toml", "came.cells", "right.cells")
-report = run("bin/dvbt", "receive", "s.toml", "right.cells", "back.ts").stdout
-back = gnuradio_receiver.packets("back.ts")
-at = packets.index(back[0]) if back and back[0] in packets else None
-# null packets follow the last packet that was sent
-wanted = [] if at is None else (packets[at:] + [gnuradio_receiver.NULL] * len(back))[: len(back)]
-is_well = back != [] and back == wanted and " bad 0 " in report.splitlines()[-1]
-where = f"in a row from number {at} on" if is_well else "NOT all of them those that were sent"
-print(f"dvbt received {len(back)} packets, {where}")
+received("equalise")
+is_well = received("track")
 
 # %% and GNU Radio's own receiver
 gnuradio_receiver.receive(SETTINGS, "came.samples", "theirs.ts")
 theirs = gnuradio_receiver.packets("theirs.ts")
-sent = set(packets)
-print(f"GNU Radio received {len(theirs)} packets, {sum(packet in sent for packet in theirs)} of them packets that were sent")
+print(f"GNU Radio's receiver: {sum(packet in sent for packet in theirs)} packets that were sent, of {len(theirs)} that it gives")
 
-# %% What came of it
+# %% The result
 sys.exit(0 if is_well else 1)

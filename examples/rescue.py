@@ -3,11 +3,11 @@
 
 usage: examples/rescue.py [--out FOLDER] [--program CMD] [--only TEXT]
 
-For each of three settings: makes some super-frames of packets, sends them by `modulate`, adds white noise that is drawn from
-a fixed number, and hands the cells to `receive` and to `rescue`. Prints for each MER which share of the packets comes back as
-it was sent by each, how many words were rescued, and how many packets come that no one sent and that have no error mark: those
-are words taken for another word of the code. Last the MER from which half of the packets come back, and from which 99 of 100 do,
-and by how many dB `rescue` needs less. With --out draws a picture of each setting there. Needs numpy (Debian: python3-numpy).
+For each of three settings it sends some super-frames of packets by `modulate`, adds white noise from a fixed seed, and runs
+`receive` and `rescue`. It prints for each MER the share of packets that come back as sent, the number of rescued words, and the
+packets that nobody sent and that have no error mark: words decoded to a wrong codeword. At the end it prints the MER from which
+half of the packets come back, and 99 of 100, and how many dB less `rescue` needs. With --out it draws a picture of each setting
+there. Needs numpy (Debian: python3-numpy).
 """
 import argparse
 import os
@@ -26,7 +26,7 @@ ROWS = [
     ("16qam", "3/4", 756, 4, range(98, 113)),
     ("64qam", "2/3", 1008, 3, range(139, 154)),
 ]
-CURVES = [("receive", 0, "6,4"), ("rescue", 1, "none")]
+CURVES = [("rescue", 1), ("receive", 0)]
 
 
 def packets_back(program, command, sent):
@@ -62,9 +62,9 @@ def least(rows, column, wanted):
 def setting(program, name, rate, words, frames, tenths):
     """Prints the rows of a setting; answers these and how many packets there are."""
     count = words * frames - START
-    drawn = random.Random(f"{name} {rate}")
+    generator = random.Random(f"{name} {rate}")
     # a sync byte and no error mark, as packets on air have
-    packets = [b"\x47\x01" + drawn.randbytes(186) for _ in range(count)]
+    packets = [b"\x47\x01" + generator.randbytes(186) for _ in range(count)]
     pathlib.Path("s.toml").write_text(f'mode = "2k"\nconstellation = "{name}"\nrate_hp = "{rate}"\nguard = "1/32"\n')
     pathlib.Path("in.ts").write_bytes(b"".join(packets))
     air.run(program, "modulate", "s.toml", "in.ts", "out.cells")
@@ -96,7 +96,7 @@ def main():
                 continue
             rows, count = setting(words.program, name, rate, in_frame, frames, tenths)
             if out:
-                air.picture(out / f"rescue-{name}.svg", rows, count, CURVES, f"MER, dB ({name}, rate {rate})")
+                air.picture(out / f"rescue-{name}.svg", rows, count, CURVES, f"MER, dB ({name.upper().replace('QAM', '-QAM')}, rate {rate})")
 
 
 if __name__ == "__main__":

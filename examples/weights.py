@@ -4,9 +4,9 @@
 usage: examples/weights.py [--out PICTURE.svg]
 
 Makes a super-frame of packets, sends it by `bin/dvbt modulate` through a channel with a notch and white noise, equalises
-it, and hands it to `bin/dvbt receive` twice: with all weights 15, and with the weights that the channel asks for. Prints
-how many packets come back as they were sent, for some strengths of the noise, and draws them. The noise is drawn from a
-fixed number. Needs numpy (Debian: python3-numpy).
+it, and runs `bin/dvbt receive` twice: with all weights 15, and with weights by the rule of docs/use/WEIGHTS.md. Prints for each
+strength of the noise how many packets come back as they were sent. --out draws them. The noise comes from a fixed seed.
+Needs numpy (Debian: python3-numpy).
 """
 import argparse
 import os
@@ -20,8 +20,8 @@ from air import np
 SETTINGS = 'mode = "2k"\nconstellation = "64qam"\nrate_hp = "2/3"\nguard = "1/32"\n'
 PACKETS = 997  # a super-frame of these settings gives 997 packets back
 NOTCH, WIDTH, DEPTH = 800, 85, 25  # its first carrier, how many it has, and how deep it is in its middle, in dB
-RATIOS = range(13, 27)  # MER in dB of the cells beside the notch
-CURVES = [("no notch", 0, "6,4"), ("notch, weights", 2, "none"), ("notch, all weights 15", 1, "2,3")]
+RATIOS = range(13, 27)  # MER in dB of the cells outside the notch
+CURVES = [("notch, weights", 2), ("no notch", 0), ("notch, all weights 15", 1)]
 
 
 def channel():
@@ -30,12 +30,6 @@ def channel():
     places = (np.arange(WIDTH) + 0.5) / WIDTH
     power[NOTCH : NOTCH + WIDTH] = 10 ** (-DEPTH / 10 * np.sin(np.pi * places) ** 2)
     return power
-
-
-def weights_of(power):
-    """The weight of each carrier: 15 where the noise behind the equaliser is as weak as it gets, and else so much less as
-    it is stronger."""
-    return np.clip(np.rint(15 * power / power.max()), 0, 15).astype("u1")
 
 
 def received(cells, weights, sent):
@@ -52,7 +46,8 @@ def row(sent_cells, sent, ratio):
     power = channel()
     noise = air.noise_of(np.random.RandomState(ratio), ratio, sent_cells.shape)
     equalised = sent_cells + noise / np.sqrt(power)
-    return received(sent_cells + noise, 15, sent), received(equalised, 15, sent), received(equalised, weights_of(power), sent)
+    weights = air.weights_of(power, 10 ** (-ratio / 10), "64qam")
+    return received(sent_cells + noise, 15, sent), received(equalised, 15, sent), received(equalised, weights, sent)
 
 
 def main():
@@ -62,21 +57,21 @@ def main():
     out = out.absolute() if out else None
     with tempfile.TemporaryDirectory() as folder:
         os.chdir(folder)
-        drawn = random.Random(300744)
-        sent = b"".join(b"\x47" + drawn.randbytes(187) for _ in range(PACKETS))
+        generator = random.Random(300744)
+        sent = b"".join(b"\x47" + generator.randbytes(187) for _ in range(PACKETS))
         pathlib.Path("s.toml").write_text(SETTINGS)
         pathlib.Path("in.ts").write_bytes(sent)
         air.run(air.DOOR, "modulate", "s.toml", "in.ts", "out.cells")
         cells = air.read_cells("out.cells")
-        weights = weights_of(channel())[NOTCH : NOTCH + WIDTH]
-        print(f"weights within the notch: {' '.join(map(str, weights))}")
+        weights = air.weights_of(channel(), 10 ** (-RATIOS[0] / 10), "64qam")[NOTCH : NOTCH + WIDTH]
+        print(f"weights within the notch at {RATIOS[0]} dB: {' '.join(map(str, weights))}")
         print(f"packets of {PACKETS} that come back\n MER, dB   no notch   notch, all weights 15   notch, weights")
         rows = {}
         for ratio in RATIOS:
             rows[ratio] = row(cells, sent, ratio)
             print(f"{ratio:8} {rows[ratio][0]:10} {rows[ratio][1]:23} {rows[ratio][2]:16}", flush=True)
         if out:
-            air.picture(out, rows, PACKETS, CURVES, "MER of the cells beside the notch, dB")
+            air.picture(out, rows, PACKETS, CURVES, "MER of the cells outside the notch, dB")
 
 
 if __name__ == "__main__":
