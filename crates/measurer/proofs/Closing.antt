@@ -1,5 +1,5 @@
 -- The counts at the end are those of a reception.
-use Rattle.std.proofs.Common.{◌≡◌, ℕ, ◌/◌, Bool, List, length, ap, ◌∙◌}
+use Rattle.std.proofs.Common.{◌≡◌, ℕ, List, length, ap, ◌∙◌}
 use Rattle.std.specs.Prelude.{Option, Some, None, if◌then◌else◌}
 use Rattle.mode_set.specs.declared.modes.Stream.{Stream}
 use Rattle.mode_set.specs.declared.modes.Stream.TheVariants.{Hp, Lp}
@@ -9,10 +9,9 @@ use Rattle.outer_chain.specs.Bits.{bytes_of}
 use Rattle.outer_chain.specs.Words.{Packets, Tally, Tallies}
 use Rattle.rx_report.specs.declared.counts.Counts.{Counts}
 use Rattle.rx_report.specs.declared.counts.StreamCounts.{StreamCounts}
-use Rattle.reception.specs.Cells.{symbols, tail}
+use Rattle.reception.specs.Cells.{symbols}
 use Rattle.reception.specs.Frames.{tps_cells}
 use Rattle.reception.specs.Laws.{TailIsUnfinished, unfinished}
-use Rattle.reception.specs.Lines.{counts_of, counts_of_stream}
 use Rattle.reception.specs.Streams.{at_end, Reception}
 use Rattle.stream_decoders.specs.Framing.{FrameStands}
 use Rattle.stream_decoders.specs.declared.frames.FrameReader.{FrameReader}

@@ -1,5 +1,5 @@
 -- A symbol compared.
-use Rattle.std.proofs.Common.{◌≡◌, ℕ, ◌+◌, ◌-◌, ◌*◌, ◌/◌, ◌%◌, ◌^◌, ◌<◌, ◌≤◌, Bool, List, [], ◌++◌, refl, sym, ap, ◌∙◌, subst, arith}
+use Rattle.std.proofs.Common.{◌≡◌, ℕ, ◌+◌, ◌-◌, ◌*◌, ◌%◌, ◌^◌, ◌<◌, ◌≤◌, Bool, List, refl, sym, ap, ◌∙◌, subst, arith}
 use Rattle.std.specs.Prelude.{Option, Some, None, IfSome, slice_index_or}
 use Rattle.code_paths.specs.declared.costs.CostPair.{CostPair}
 use Rattle.code_paths.specs.Laws.{GivenOnce, EndedOnce}
@@ -9,11 +9,10 @@ use Rattle.mode_set.specs.declared.modes.Mode.TheVariants.{M2k, M8k}
 use Rattle.mode_set.specs.declared.modes.Stream.{Stream}
 use Rattle.mode_set.specs.declared.modes.Stream.TheVariants.{Hp, Lp}
 use Rattle.mode_set.specs.declared.settings.Settings.{Settings}
-use Rattle.symbol_spans.specs.Spans.{steps_before}
 use Rattle.symbol_spans.specs.Laws.{NoSteps}
 use Rattle.inner_chain.specs.Labels.{register_of}
 use Rattle.known_bits.specs.Seen.{KnownState}
-use Rattle.known_bits.specs.Passing.{HasPassed, IsSettled}
+use Rattle.known_bits.specs.Passing.{HasPassed}
 use Rattle.known_bits.specs.Laws.{StepsAreFew}
 use Rattle.reception.specs.Cells.{symbols}
 use Rattle.reception.specs.Costs.{costs}
@@ -29,7 +28,7 @@ use Rattle.measurement.specs.Known.{IsKnown}
 use Rattle.measurer.specs.declared.current.Current.{Current}
 use Rattle.measurer.specs.Seen.{MeterState, meter_of}
 use Rattle.measurer.specs.Sums.{AreFirstSums, AreSummed, with_symbol}
-use Rattle.measurer.specs.Standing.{MeterStands, MetersStand, KeepsLast, symbol_of}
+use Rattle.measurer.specs.Standing.{MeterStands, MetersStand, symbol_of}
 use Rattle.measurer.specs.Steps.{HasBegun, IsDue}
 use Rattle.measurer.proofs.Knowing.{due_known, known_once}
 use Rattle.measurer.proofs.Summing.{symbol_more}

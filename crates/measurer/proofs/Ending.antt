@@ -1,13 +1,12 @@
 -- The end of a measurement.
-use Rattle.std.proofs.Common.{◌≡◌, ℕ, suc, ◌+◌, ◌-◌, ◌*◌, ◌/◌, ◌^◌, ◌<◌, ◌≤◌, min, List, [], ◌++◌, ◌⊎◌, inl, inr, refl, sym, ap, ap₂, ◌∙◌, subst, arith, append-nil, append_assoc}
+use Rattle.std.proofs.Common.{◌≡◌, ℕ, ◌+◌, ◌-◌, ◌*◌, ◌/◌, ◌^◌, ◌<◌, ◌≤◌, min, List, [], ◌++◌, inl, inr, sym, ap, ap₂, ◌∙◌, subst, arith, append-nil, append_assoc}
 use Rattle.std.specs.List.{concat}
 use Rattle.std.proofs.lemmas.Bool.{cases_lt}
 use Rattle.std.proofs.lemmas.List.Folds.{concat-append}
 use Rattle.mode_set.specs.declared.settings.Settings.{Settings}
-use Rattle.known_bits.specs.Seen.{KnownState}
 use Rattle.reception.specs.Cells.{symbols}
 use Rattle.reception.specs.Frames.{tps_cells, frame_bits, CountsWords}
-use Rattle.reception.specs.Lines.{counts_of, closing_lines}
+use Rattle.reception.specs.Lines.{closing_lines}
 use Rattle.reception.specs.Streams.{at_end}
 use Rattle.rx_report.specs.Text as text
 use Rattle.rx_report.specs.declared.counts.Counts.{Counts}
@@ -18,10 +17,8 @@ use Rattle.symbol_sums.specs.Tables.{AreLittle}
 use Rattle.measurement.specs.Lines.{defined_by, begun_by, lines_of, MeasureFinal}
 use Rattle.measurer.specs.declared.current.Current.{Current}
 use Rattle.measurer.specs.Seen.{MeterState}
-use Rattle.measurer.specs.Sums.{nothing_of}
 use Rattle.measurer.specs.Standing.{MetersStand, FramesStand, GoOn}
 use Rattle.measurer.specs.Steps.{AreKept, HasBegun, HasStood, IsDone, CountsOn, HasLines, IsEnding, IsEnded, HasPlace, Adds, AreClosing}
-use Rattle.measurer.proofs.Lining.{live_lines}
 use Rattle.measurer.proofs.Giving.{Passed, no_little, counts_now}
 
 -- ---- at first

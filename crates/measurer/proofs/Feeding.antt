@@ -1,5 +1,5 @@
 -- Bytes more for a measurer.
-use Rattle.std.proofs.Common.{◌≡◌, ℕ, ◌+◌, ◌-◌, ◌*◌, ◌/◌, ◌<◌, ◌≤◌, Bool, true, false, List, [], ◌++◌, take, map, refl, sym, ap, ap₂, ◌∙◌, subst, arith, append-nil}
+use Rattle.std.proofs.Common.{◌≡◌, ℕ, ◌+◌, ◌-◌, ◌*◌, ◌/◌, Bool, true, false, List, [], ◌++◌, take, map, refl, sym, ap, ap₂, ◌∙◌, subst, arith, append-nil}
 use Rattle.std.specs.List.{concat}
 use Rattle.code_paths.specs.declared.costs.CostPair.{CostPair}
 use Rattle.mode_set.specs.StreamTable.{carriers}
@@ -13,11 +13,10 @@ use Rattle.qam_map.specs.declared.cell.Cell.{Cell}
 use Rattle.qam_map.specs.Cells.{cell_of}
 use Rattle.known_bits.specs.Passing.{IsSettled}
 use Rattle.reception.specs.Cells.{symbols}
-use Rattle.reception.specs.Costs.{costs}
 use Rattle.reception.specs.Frames.{tps_cells, frame_bits, CountsWords}
 use Rattle.reception.specs.Laws.{IsWithin, SameSymbols, OneSymbolMore, CellsStay, WeightsStay, TpsCellsStay, BitsOfCells, SameCosts}
 use Rattle.reception.specs.Streams.{so_far}
-use Rattle.stream_decoders.specs.Fed.{HasHad, Ends, Fed}
+use Rattle.stream_decoders.specs.Fed.{HasHad, Fed}
 use Rattle.stream_decoders.specs.Framing.{FrameStands}
 use Rattle.stream_decoders.specs.Seen.{CostsState}
 use Rattle.stream_decoders.specs.declared.frames.FrameReader.{FrameReader}
@@ -28,7 +27,7 @@ use Rattle.measurement.specs.Laws.{SumsStay}
 use Rattle.measurement.specs.Lines.{defined_by}
 use Rattle.measurer.specs.declared.current.Current.{Current}
 use Rattle.measurer.specs.Seen.{MeterState, meter_of, MeasurerState}
-use Rattle.measurer.specs.Standing.{MeterStands, MetersStand, KeepsLast, FramesStand, GoOn, StandsFor, symbol_of}
+use Rattle.measurer.specs.Standing.{MeterStands, MetersStand, KeepsLast, FramesStand, GoOn, StandsFor}
 use Rattle.measurer.specs.Kept.{HasMeasured, IsKept}
 use Rattle.measurer.specs.Steps.{AreKept, TakesSymbol, TakesNext, HasBegun, HasCompared, IsCompared, HasLines, IsLive}
 use Rattle.measurer.proofs.Knowing.{known_back}

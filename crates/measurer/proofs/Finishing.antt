@@ -1,5 +1,5 @@
 -- What the meters stand for at the end.
-use Rattle.std.proofs.Common.{◌≡◌, ℕ, ◌+◌, ◌-◌, ◌*◌, ◌/◌, ◌^◌, ◌<◌, ◌≤◌, Bool, List, ◌++◌, length, sym, ap, ◌∙◌, subst, arith}
+use Rattle.std.proofs.Common.{◌≡◌, ℕ, ◌+◌, ◌*◌, ◌^◌, ◌≤◌, Bool, List, ◌++◌, length, sym, subst, arith}
 use Rattle.inner_chain.specs.Labels.{register_of}
 use Rattle.known_bits.specs.Passing.{HasPassed}
 use Rattle.known_bits.specs.Seen.{KnownState}

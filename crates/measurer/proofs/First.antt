@@ -1,10 +1,9 @@
 -- The meters before the first symbol.
-use Rattle.std.proofs.Common.{◌≡◌, ℕ, ◌+◌, ◌-◌, ◌*◌, ◌/◌, ◌<◌, ◌≤◌, ◌⊎◌, inl, Bool, List, [], length, refl, sym, ap, ◌∙◌, subst, arith}
+use Rattle.std.proofs.Common.{◌≡◌, ℕ, ◌+◌, ◌-◌, ◌*◌, ◌/◌, ◌≤◌, inl, List, [], refl, sym, ap, subst, arith}
 use Rattle.conv_code.specs.Coded.{zeros}
 use Rattle.code_paths.specs.declared.costs.CostPair.{CostPair}
 use Rattle.known_bits.specs.Laws.{nothing_known}
 use Rattle.known_bits.specs.Passing.{IsSettled}
-use Rattle.known_bits.specs.Seen.{KnownState}
 use Rattle.mode_set.specs.StreamTable.{carriers}
 use Rattle.mode_set.specs.declared.modes.Mode.{Mode}
 use Rattle.mode_set.specs.declared.modes.Mode.TheVariants.{M2k, M8k}
@@ -12,12 +11,10 @@ use Rattle.mode_set.specs.declared.modes.Stream.{Stream}
 use Rattle.mode_set.specs.declared.modes.Stream.TheVariants.{Hp, Lp}
 use Rattle.mode_set.specs.declared.settings.Settings.{Settings}
 use Rattle.reception.specs.Cells.{symbols}
-use Rattle.reception.specs.Costs.{costs}
 use Rattle.reception.specs.Laws.{NoCosts}
 use Rattle.reception.specs.Streams.{so_far}
 use Rattle.symbol_sums.specs.Tables.{AreLittle, no_sums}
 use Rattle.stream_meter.specs.declared.reports.ReportCounts.{ReportCounts}
-use Rattle.stream_meter.specs.declared.stream.StreamMeter.{StreamMeter}
 use Rattle.stream_meter.specs.Reports.{AreFew, no_reports}
 use Rattle.stream_meter.specs.Standing.{Stands}
 use Rattle.symbol_comparison.specs.Laws.{StandsAtFirst}

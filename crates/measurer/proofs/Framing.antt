@@ -1,5 +1,5 @@
 -- The sums of a super-frame, and the next one.
-use Rattle.std.proofs.Common.{◌≡◌, ℕ, zero, suc, ◌+◌, ◌-◌, ◌*◌, ◌/◌, ◌^◌, ◌<◌, ◌≤◌, min, Bool, false, List, length, if◌then◌else◌, refl, sym, ap, ◌∙◌, subst, arith}
+use Rattle.std.proofs.Common.{◌≡◌, ℕ, suc, ◌+◌, ◌-◌, ◌*◌, ◌/◌, ◌^◌, ◌<◌, ◌≤◌, min, Bool, List, length, if◌then◌else◌, refl, sym, ap, ◌∙◌, subst, arith}
 use Rattle.std.specs.Prelude.{Option, Some, None}
 use Rattle.code_paths.specs.declared.costs.CostPair.{CostPair}
 use Rattle.code_paths.specs.Laws.{GivenOnce, EndedOnce}
@@ -25,12 +25,11 @@ use Rattle.symbol_comparison.specs.Standing.{StandsBefore}
 use Rattle.symbol_sums.specs.Comparing.{bits_in, wrong_in}
 use Rattle.measure_report.specs.declared.sums.BitSums.{BitSums}
 use Rattle.measure_report.specs.declared.sums.StreamSums.{StreamSums}
-use Rattle.measure_report.specs.declared.sums.SuperFrame.{SuperFrame}
-use Rattle.measurement.specs.Known.{IsKnown, is_compared}
-use Rattle.measurement.specs.SuperFrames.{Knowns, over_compared, known_with, told, told_before, AreStreamSums, AreSums}
+use Rattle.measurement.specs.Known.{IsKnown}
+use Rattle.measurement.specs.SuperFrames.{Knowns, over_compared, known_with, told_before, AreStreamSums, AreSums}
 use Rattle.measurer.specs.declared.current.Current.{Current}
 use Rattle.measurer.specs.Seen.{MeterState, meter_of}
-use Rattle.measurer.specs.Sums.{AreFirstSums, AreSummed, nothing_of}
+use Rattle.measurer.specs.Sums.{AreFirstSums, nothing_of}
 use Rattle.measurer.specs.Standing.{MeterStands, MetersStand, FramesStand}
 use Rattle.measurer.specs.Steps.{IsDone, CountsOn, HasStood}
 use Rattle.measurer.proofs.Knowing.{HasLast, last_known, known_once, some_known}

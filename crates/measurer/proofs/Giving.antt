@@ -1,12 +1,11 @@
 -- The lines that a symbol defines.
-use Rattle.std.proofs.Common.{◌≡◌, ℕ, ◌+◌, ◌-◌, ◌*◌, ◌/◌, ◌^◌, ◌<◌, ◌≤◌, List, [], ◌++◌, ◌⊎◌, inl, inr, refl, sym, ap, ◌∙◌, subst, arith, append-nil}
+use Rattle.std.proofs.Common.{◌≡◌, ℕ, ◌+◌, ◌-◌, ◌*◌, ◌/◌, ◌≤◌, List, [], ◌++◌, inl, inr, sym, ap, ◌∙◌, subst, arith, append-nil}
 use Rattle.std.specs.List.{concat}
 use Rattle.std.proofs.lemmas.Bool.{cases_lt}
 use Rattle.mode_set.specs.declared.modes.Stream.TheVariants.{Hp, Lp}
 use Rattle.mode_set.specs.declared.settings.Settings.{Settings}
 use Rattle.symbol_spans.specs.Spans.{steps_before}
 use Rattle.symbol_spans.specs.Laws.{NoSteps}
-use Rattle.known_bits.specs.Seen.{KnownState}
 use Rattle.known_bits.specs.Passing.{IsSettled}
 use Rattle.reception.specs.Cells.{symbols}
 use Rattle.reception.specs.Frames.{tps_cells, frame_bits, CountsWords}
@@ -20,8 +19,8 @@ use Rattle.measurement.specs.Lines.{defined_by}
 use Rattle.measurer.specs.declared.current.Current.{Current}
 use Rattle.measurer.specs.Seen.{MeterState}
 use Rattle.measurer.specs.Sums.{nothing_of}
-use Rattle.measurer.specs.Standing.{MetersStand, FramesStand, GoOn}
-use Rattle.measurer.specs.Steps.{AreKept, HasBegun, HasStood, IsDone, CountsOn, HasLines, HasCompared, IsLive, Adds}
+use Rattle.measurer.specs.Standing.{MetersStand, FramesStand}
+use Rattle.measurer.specs.Steps.{AreKept, HasBegun, IsDone, CountsOn, HasLines, HasCompared, IsLive, Adds}
 
 -- ---- the next symbol is compared
 

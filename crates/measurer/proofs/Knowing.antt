@@ -1,9 +1,9 @@
 -- The bits known for a symbol, and the bits that its decoders have given.
-use Rattle.std.proofs.Common.{◌≡◌, ℕ, ◌+◌, ◌-◌, ◌*◌, ◌/◌, ◌%◌, ◌<◌, ◌≤◌, Bool, List, ◌++◌, take, drop, length, ◌⊎◌, inl, inr, refl, sym, ap, ◌∙◌, subst, arith, length-append}
+use Rattle.std.proofs.Common.{◌≡◌, ℕ, ◌+◌, ◌-◌, ◌*◌, ◌/◌, ◌%◌, ◌<◌, ◌≤◌, Bool, List, ◌++◌, take, drop, length, ◌⊎◌, inl, inr, refl, sym, ap, ◌∙◌, subst, arith}
 use Rattle.std.proofs.lemmas.Bool.{cases_lt}
 use Rattle.std.proofs.lemmas.List.{take-append-drop, take-append-le, length-take-le, length-drop}
 use Rattle.code_paths.specs.declared.costs.CostPair.{CostPair}
-use Rattle.code_paths.specs.Streams.{Given, Ended}
+use Rattle.code_paths.specs.Streams.{Given}
 use Rattle.code_paths.specs.Laws.{GivenOnce, EndedOnce}
 use Rattle.path_laws.specs.Laws.{IsStart, SomeAreGiven, SomeAreEnded}
 use Rattle.mode_set.specs.StreamTable.{carriers}
@@ -13,7 +13,7 @@ use Rattle.mode_set.specs.declared.modes.Start.{Start}
 use Rattle.mode_set.specs.declared.modes.Start.TheVariants.{Zero, Any}
 use Rattle.mode_set.specs.declared.modes.Stream.{Stream}
 use Rattle.mode_set.specs.declared.settings.Settings.{Settings}
-use Rattle.reception.specs.Cells.{symbol_length, symbols, tail}
+use Rattle.reception.specs.Cells.{symbol_length, symbols}
 use Rattle.reception.specs.Costs.{costs}
 use Rattle.reception.specs.Laws.{IsWithin, SameCosts}
 use Rattle.reception.specs.Streams.{memory, start_of, Moment, so_far, at_end, IsDecoded}

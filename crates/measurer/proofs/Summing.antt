@@ -1,24 +1,23 @@
 -- The sums of the first symbols of a super-frame.
 use Rattle.std.proofs.Common.{◌≡◌, ℕ, zero, suc, ◌+◌, ◌-◌, ◌*◌, ◌<◌, ◌≤◌, Bool, true, false, cond, List, ◌++◌, refl, sym, ap, ap₂, ◌∙◌, arith}
-use Rattle.std.specs.Prelude.{Option, Some, None, sum_by, count_by, IsNone, IfSome}
+use Rattle.std.specs.Prelude.{Option, Some, None, sum_by, count_by}
 use Rattle.std.specs.List.{range_with_len}
 use Rattle.std.proofs.lemmas.List.Sums.{sum_by-cons}
 use Rattle.mode_set.specs.declared.modes.Stream.{Stream}
 use Rattle.mode_set.specs.declared.modes.Stream.TheVariants.{Hp, Lp}
 use Rattle.mode_set.specs.declared.settings.Settings.{Settings}
-use Rattle.symbol_spans.specs.Spans.{settings_at}
 use Rattle.qam_map.specs.declared.cell.Cell.{Cell}
 use Rattle.reception.specs.Cells.{symbols}
 use Rattle.reception.specs.Laws.{CellsStay, WeightsStay}
 use Rattle.symbol_sums.specs.Comparing.{Comparison, symbol_sums, cells_in, muted_in, power_in, error_in, bits_in, wrong_in}
 use Rattle.measure_report.specs.declared.sums.SymbolSums.{SymbolSums}
-use Rattle.measurement.specs.Known.{IsKnown, is_compared, remade_bit, comparison}
+use Rattle.measurement.specs.Known.{is_compared, comparison}
 use Rattle.measurement.specs.SuperFrames.{Knowns, over_compared, compared_in}
-use Rattle.measurement.proofs.Lists.{range_same, range_counts}
+use Rattle.measurement.proofs.Lists.{range_same}
 use Rattle.symbol_comparison.specs.Standing.{IsSummed, beside}
 use Rattle.measurer.specs.declared.current.Current.{Current}
 use Rattle.measurer.specs.Standing.{symbol_of}
-use Rattle.measurer.specs.Sums.{first_of, over_first, AreFirstSums, AreKnown, AreSummed, nothing_of, with_symbol}
+use Rattle.measurer.specs.Sums.{first_of, over_first, AreFirstSums, AreSummed, nothing_of, with_symbol}
 use Rattle.measurer.proofs.Knowing.{known_back}
 
 -- ---- numbers in a row

@@ -1,5 +1,5 @@
 -- A symbol more for the meters of both streams.
-use Rattle.std.proofs.Common.{◌≡◌, ◌≢◌, ℕ, ◌+◌, ◌-◌, ◌*◌, ◌/◌, ◌%◌, ◌^◌, ◌<◌, ◌≤◌, Bool, true, false, List, [], ◌++◌, length, ◌⊎◌, inl, inr, refl, sym, ap, ap₂, ◌∙◌, subst, arith, length-append}
+use Rattle.std.proofs.Common.{◌≡◌, ◌≢◌, ℕ, ◌+◌, ◌-◌, ◌*◌, ◌%◌, ◌^◌, ◌<◌, ◌≤◌, Bool, List, ◌++◌, length, inl, inr, sym, ap, ap₂, ◌∙◌, subst, arith, length-append}
 use Rattle.std.specs.Prelude.{nat_le}
 use Rattle.std.proofs.lemmas.Bool.{cases_lt, le-leb, lt-leb}
 use Rattle.code_paths.specs.declared.costs.CostPair.{CostPair}
@@ -19,11 +19,10 @@ use Rattle.reception.specs.Costs.{costs}
 use Rattle.reception.specs.Laws.{CostsAreSteps, CellsStay, WeightsStay, OneSymbolMore}
 use Rattle.reception.specs.Streams.{so_far}
 use Rattle.stream_decoders.specs.Branches.{HasTaken}
-use Rattle.stream_decoders.specs.Fed.{Ends}
-use Rattle.stream_decoders.specs.Seen.{CostsState, pairs_of}
+use Rattle.stream_decoders.specs.Seen.{CostsState}
 use Rattle.stream_meter.specs.Laws.{StandsReady, RunsOn, CountsAreFew, RoomForSymbol}
 use Rattle.stream_meter.specs.Reports.{LieIn, AreFew}
-use Rattle.stream_meter.specs.Standing.{Stands, WentOn, IsReady, HasRun}
+use Rattle.stream_meter.specs.Standing.{Stands, WentOn, HasRun}
 use Rattle.stream_meter.specs.declared.stream.StreamMeter.{StreamMeter}
 use Rattle.stream_meter.specs.declared.reports.ReportCounts.{ReportCounts}
 use Rattle.symbol_comparison.specs.Laws.{MoreBitsKnown}
@@ -31,7 +30,6 @@ use Rattle.symbol_comparison.specs.Seen.{SymbolState, ComparerState}
 use Rattle.symbol_comparison.specs.Standing.{StandsBefore, kept_at}
 use Rattle.word_workers.specs.Symbols.{MayRunOver}
 use Rattle.measurement.specs.Lines.{defined_by}
-use Rattle.measurer.specs.declared.current.Current.{Current}
 use Rattle.measurer.specs.Seen.{MeterState, meter_of}
 use Rattle.measurer.specs.Sums.{AreSummed}
 use Rattle.measurer.specs.Standing.{MeterStands, MetersStand, GoOn, KeepsLast, symbol_of}

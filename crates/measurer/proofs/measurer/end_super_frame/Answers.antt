@@ -1,4 +1,4 @@
-use Rattle.std.proofs.Common.{◌≡◌, ◌+◌, ◌*◌, ◌<◌, min, ℕ, List, arith}
+use Rattle.std.proofs.Common.{◌≡◌, ◌+◌, ◌*◌, ◌<◌, min, arith}
 use Rattle.reception.specs.Streams.{at_end}
 use Rattle.measurer.proofs.Ending.{ComparesTo, closed_end, counts_to}
 use Rattle.measurer.proofs.measurer.end_super_frame.Goals as goal

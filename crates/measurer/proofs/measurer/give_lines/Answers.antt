@@ -1,8 +1,8 @@
-use Rattle.std.proofs.Common.{◌≡◌, ◌+◌, ◌*◌, ◌≤◌, ℕ, List, arith}
+use Rattle.std.proofs.Common.{◌≡◌, ◌+◌, ◌*◌, arith}
 use Rattle.reception.specs.Cells.{symbols}
 use Rattle.reception.specs.Streams.{so_far}
 use Rattle.measurer.specs.Steps.{IsDone}
-use Rattle.measurer.proofs.Giving.{counts_now, done_now, Passed, kept_given, given_live, none_live}
+use Rattle.measurer.proofs.Giving.{counts_now, done_now, kept_given, given_live, none_live}
 use Rattle.measurer.proofs.measurer.give_lines.Goals as goal
 
 pub close_super_frame-requires-clause-counts : goal.close_super_frame-requires-clause-counts

@@ -1,4 +1,4 @@
-use Rattle.std.proofs.Common.{◌≡◌, ◌+◌, ◌-◌, ◌*◌, ◌^◌, ◌<◌, ◌≤◌, ◌++◌, ℕ, List, true, false, take, map, sym, ap, ◌∙◌, subst, arith}
+use Rattle.std.proofs.Common.{◌≡◌, ◌+◌, ◌-◌, ◌++◌, ℕ, List, true, false, take, map, sym, ap, ◌∙◌, subst, arith}
 use Rattle.std.specs.List.{concat}
 use Rattle.mode_set.specs.declared.settings.Settings.{Settings}
 use Rattle.pilots.specs.Carriers.{tps_carriers}
@@ -7,8 +7,8 @@ use Rattle.qam_map.specs.Cells.{cell_of}
 use Rattle.reception.specs.Streams.{so_far}
 use Rattle.stream_decoders.specs.Framing.{FrameStands}
 use Rattle.measurement.specs.Lines.{defined_by}
-use Rattle.measurer.specs.Kept.{HasMeasured, IsKept}
-use Rattle.measurer.specs.Seen.{MeterState, MeasurerState}
+use Rattle.measurer.specs.Kept.{HasMeasured}
+use Rattle.measurer.specs.Seen.{MeasurerState}
 use Rattle.measurer.specs.Standing.{StandsFor}
 use Rattle.measurer.specs.Steps.{AreKept, TakesNext}
 use Rattle.measurer.proofs.Feeding.{AreFed, Moved, state, fed_within, fed_whole, may_take, may_compare, begun_took, next_took, number_took, measured_within, measured_whole, kept_within}

@@ -1,9 +1,9 @@
-use Rattle.std.proofs.Common.{◌≡◌, ◌++◌, ℕ, List, true, false, refl, sym, ap, ◌∙◌, subst}
+use Rattle.std.proofs.Common.{◌++◌, ℕ, List, true, refl, sym, ap, ◌∙◌, subst}
 use Rattle.std.specs.List.{concat}
 use Rattle.mode_set.specs.declared.settings.Settings.{Settings}
 use Rattle.reception.specs.Streams.{so_far, at_end}
 use Rattle.measurer.specs.Kept.{HasMeasured}
-use Rattle.measurer.specs.Seen.{MeterState, MeasurerState}
+use Rattle.measurer.specs.Seen.{MeasurerState}
 use Rattle.measurer.specs.Standing.{StandsFor, GoOn, MetersStand}
 use Rattle.measurer.specs.Steps.{IsEnded}
 use Rattle.measurer.proofs.Lining.{live_lines}

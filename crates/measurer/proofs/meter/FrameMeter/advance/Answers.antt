@@ -1,6 +1,5 @@
-use Rattle.std.proofs.Common.{◌≡◌, ◌+◌, ◌^◌, ◌<◌, ℕ, List, refl, sym, ap, subst}
+use Rattle.std.proofs.Common.{◌+◌, ◌^◌, ◌<◌, refl, sym, subst}
 use Rattle.reception.specs.Cells.{symbols}
-use Rattle.reception.specs.Streams.{Moment}
 use Rattle.stream_meter.specs.Reports.{AreFew}
 use Rattle.measurer.specs.declared.current.Current.{Current}
 use Rattle.measurer.specs.Seen.{MeterState}

@@ -1,6 +1,5 @@
-use Rattle.std.proofs.Common.{◌≡◌, ◌*◌, ◌^◌, ◌<◌, ◌≤◌, ℕ, sym, ap, subst, ◌∙◌, arith}
+use Rattle.std.proofs.Common.{◌*◌, ◌^◌, ◌<◌, ◌≤◌, sym, subst}
 use Rattle.reception.specs.Cells.{symbols}
-use Rattle.symbol_comparison.specs.Seen.{ComparerState}
 use Rattle.measurer.specs.Seen.{MeterState}
 use Rattle.measurer.specs.Standing.{MetersStand}
 use Rattle.measurer.specs.Steps.{HasBegun, IsDue}

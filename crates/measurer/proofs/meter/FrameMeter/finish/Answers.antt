@@ -1,12 +1,12 @@
-use Rattle.std.proofs.Common.{◌≡◌, ℕ, List, sym, refl, subst}
+use Rattle.std.proofs.Common.{sym, refl, subst}
 use Rattle.mode_set.specs.declared.modes.Stream.TheVariants.{Hp, Lp}
 use Rattle.mode_set.specs.declared.settings.Settings.{Settings}
 use Rattle.reception.specs.Costs.{costs}
-use Rattle.reception.specs.Streams.{so_far, at_end}
+use Rattle.reception.specs.Streams.{so_far}
 use Rattle.measurer.specs.Seen.{MeterState}
 use Rattle.measurer.specs.Standing.{GoOn, MetersStand}
 use Rattle.measurer.specs.Steps.{HasGone}
-use Rattle.measurer.proofs.Finishing.{EndLaws, MayEnd, may_end, meters_ended}
+use Rattle.measurer.proofs.Finishing.{may_end, meters_ended}
 use Rattle.measurer.proofs.meter.FrameMeter.finish.Goals as goal
 
 pub finish-requires-clause-ready : goal.finish-requires-clause-ready

@@ -1,6 +1,5 @@
-use Rattle.std.proofs.Common.{◌≡◌, ◌-◌, ℕ, List, sym, ap, subst}
+use Rattle.std.proofs.Common.{◌-◌, sym, subst}
 use Rattle.reception.specs.Cells.{symbols}
-use Rattle.reception.specs.Streams.{Moment}
 use Rattle.measure_report.specs.declared.sums.SuperFrame.{SuperFrame}
 use Rattle.measurement.specs.SuperFrames.{AreSums}
 use Rattle.measurer.specs.Seen.{MeterState}
