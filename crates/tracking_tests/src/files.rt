@@ -1,6 +1,6 @@
 // Files of cells that are tracked, and what they come to.
-use pilots::is_pilot;
 use mode_set::Mode;
+use pilots::is_pilot;
 use rand_core::utils::NextWord;
 use rand_pcg::Lcg64Xsh32;
 use run_tools::{Conditions, Ran, SYMBOL, run_files, text_bytes};
@@ -12,12 +12,12 @@ use std::thread::Threads;
 pub(crate) const TRACK: &str = "track s a cells";
 
 /// The header of a cell file of the 2K mode.
-pub(crate) const HEADER: [u8; 8] = *b"DVTC\x02\x00\x00\x00";
+pub(crate) const HEADER: [u8; 8] = [0x44, 0x56, 0x54, 0x43, 2, 0, 0, 0];
 
 /// The header of a cell file of the 8K mode.
-pub(crate) const WIDE_HEADER: [u8; 8] = *b"DVTC\x02\x01\x00\x00";
+pub(crate) const WIDE_HEADER: [u8; 8] = [0x44, 0x56, 0x54, 0x43, 2, 1, 0, 0];
 
-const DIGITS: [u8; 16] = *b"0123456789abcdef";
+const DIGITS: &str = "0123456789abcdef";
 
 /// The generator's stream for random cells.
 const STREAM: u64 = 105;
@@ -60,13 +60,18 @@ pub(crate) fn sum_of(bytes: &[u8]) -> u32 {
     sum
 }
 
+// A hexadecimal digit.
+fn digit_of(number: u8) -> u8 {
+    DIGITS.as_bytes()[usize::from(number % 16)]
+}
+
 /// Have the bytes this SHA-256, in hexadecimal digits? The only error is want of memory.
 pub(crate) fn has_digest(alloc: Global, bytes: &[u8], digits: &str) -> Result<bool, AllocError> {
     let digest = Sha256::digest(bytes);
     let mut text = Vec::new(alloc);
     for byte in digest.iter() {
-        text.push(DIGITS[usize::from(byte / 16)])?;
-        text.push(DIGITS[usize::from(byte % 16)])?;
+        text.push(digit_of(*byte / 16))?;
+        text.push(digit_of(*byte % 16))?;
     }
     Ok(text.as_slice() == digits.as_bytes())
 }
@@ -87,7 +92,9 @@ pub(crate) fn turned(alloc: Global, file: &[u8]) -> Result<Vec<u8>, AllocError> 
     for cell in file[file.len().min(8)..].chunks_exact(5) {
         let y = part_of(cell[2], cell[3]).clamp(-32_768, 32_767);
         bytes.extend_from_slice(part_bytes(-y).as_slice())?;
-        bytes.extend_from_slice(&[cell[0], cell[1], cell[4]])?;
+        bytes.push(cell[0])?;
+        bytes.push(cell[1])?;
+        bytes.push(cell[4])?;
     }
     Ok(bytes)
 }
@@ -101,20 +108,29 @@ fn exchanged(cell: &[u8; 5]) -> [u8; 5] {
 fn added(cell: &[u8; 5], other: &[u8; 5]) -> [u8; 5] {
     let re = part_of(cell[0], cell[1]).clamp(-32_768, 32_767);
     let im = part_of(cell[2], cell[3]).clamp(-32_768, 32_767);
-    let more_re = part_of(other[0], other[1]).clamp(-32_768, 32_767).div_euclid(4);
-    let more_im = part_of(other[2], other[3]).clamp(-32_768, 32_767).div_euclid(4);
+    let more_re = part_of(other[0], other[1])
+        .clamp(-32_768, 32_767)
+        .div_euclid(4);
+    let more_im = part_of(other[2], other[3])
+        .clamp(-32_768, 32_767)
+        .div_euclid(4);
     let re = part_bytes(re + more_re);
     let im = part_bytes(im + more_im);
     [re[0], re[1], im[0], im[1], cell[4]]
 }
 
-// The cell at this place of the cells after a header, or zeros.
-fn cell_at(cells: &[u8], place: usize) -> [u8; 5] {
-    let mut cell = [0u8; 5];
-    for (to, from) in cell.iter_mut().zip(cells.iter().skip(place)) {
-        *to = *from;
+// The cell at this place of a file, or zeros.
+fn cell_at(file: &[u8], place: usize) -> [u8; 5] {
+    if file.len() < 5 || place > file.len() - 5 {
+        return [0; 5];
     }
-    cell
+    [
+        file[place],
+        file[place + 1],
+        file[place + 2],
+        file[place + 3],
+        file[place + 4],
+    ]
 }
 
 /// The first 48 symbols of these cells, in which the cells of even carriers of symbols 8, 12 and 16 have their parts

@@ -1,6 +1,9 @@
 // Runs of `track` that are refused, and what stands then: the front of what an independent program gives.
 use crate::files::{HEADER, TRACK, WIDE_HEADER, random_cells, tracked};
-use run_tools::{BASE, Conditions, LAYERED, Made, Ran, SYMBOL, UNMADE, WIDE_SYMBOL, ample, checksum, run_files, text_bytes};
+use run_tools::{
+    BASE, Conditions, LAYERED, Made, Ran, SYMBOL, UNMADE, WIDE_SYMBOL, ample, checksum, run_files,
+    text_bytes,
+};
 use station_core::{Failing, InPort, OutPort};
 use std::process::Abort;
 use std::test::Fail;
@@ -13,11 +16,17 @@ type Found<'a> = (u8, &'a str, usize, u32);
 
 /// The new file of nine symbols of random cells: the sums of its header, of half of that, and of its first symbols.
 const HEADER_SUM: u32 = 4_029_675_199;
+
 const HALF_HEADER: u32 = 2_111_105;
+
 const HALF: u32 = 2_016_796_423;
+
 const ONE: u32 = 805_911_000;
+
 const TWO: u32 = 709_140_472;
+
 const TWO_AND_HALF: u32 = 1_962_133_641;
+
 const WHOLE: u32 = 3_771_601_802;
 
 // Compares what stands. In none of the tables a new file was made and is empty.
@@ -29,7 +38,11 @@ fn stands(rt: &impl Abort, ran: &Ran, found: Found<'_>) {
         cells: found.2 > 0,
         ..UNMADE
     };
-    assert!(rt; is_held && ran.made == made, "the new file beside {}", found.1);
+    assert!(rt;
+        is_held && ran.made == made,
+        "the new file beside {}",
+        found.1
+    );
 }
 
 /// So many whole symbols and bytes after them, and what is found under a limit of nine symbols.
@@ -44,7 +57,7 @@ static LIMITS: [(u32, u32, Found<'static>); 3] = [
 fn limits_of_symbols(rt: HostRuntime) -> Result<(), Fail> {
     let alloc = rt.alloc();
     for (symbols, tail, found) in &LIMITS {
-        let count = symbols.clamp(&1, &10) * SYMBOL as u32 + tail.clamp(&0, &8_524);
+        let count = (*symbols).clamp(1, 10) * SYMBOL as u32 + (*tail).min(8_524);
         let cells = random_cells(alloc, &HEADER, count, 9)?;
         let limited = (BASE, "max_symbols = 9\n");
         let ran = tracked(&rt, alloc, limited, cells, ample(ROOM))?;
@@ -54,7 +67,9 @@ fn limits_of_symbols(rt: HostRuntime) -> Result<(), Fail> {
 }
 
 const READ: &str = "read fault\n";
+
 const WRITE: &str = "write fault\n";
+
 const CLOSED: &str = "symbols 9 tail 0\nwrite fault\n";
 
 /// The closing line, of which the write has failed.

@@ -1,6 +1,11 @@
 // What `track` makes of files of cells: the sums and digests are those of an independent program.
-use crate::files::{HEADER, WIDE_HEADER, disturbed, has_digest, random_cells, still, sum_of, tracked, turned};
-use run_tools::{BASE, Conditions, SUPER_FRAME, SYMBOL, WHOLE_NULLS, WIDE_SYMBOL, ample, null_cells, run_files, text_bytes};
+use crate::files::{
+    HEADER, WIDE_HEADER, disturbed, has_digest, random_cells, still, sum_of, tracked, turned,
+};
+use run_tools::{
+    BASE, Conditions, SUPER_FRAME, SYMBOL, WHOLE_NULLS, WIDE_SYMBOL, ample, null_cells, run_files,
+    text_bytes,
+};
 use std::alloc::{AllocError, Global};
 use std::process::Abort;
 use std::test::Fail;
@@ -32,7 +37,8 @@ fn compare<R: Abort + Threads + Sync>(
     assert_eq!(rt; ran.status, 0, "{}", found.0);
     assert!(rt; ran.report.as_slice() == found.0.as_bytes(), "{}", found.0);
     assert_eq!(rt; sum_of(&ran.cells), found.1, "{}", found.0);
-    assert!(rt; has_digest(alloc, &ran.cells, found.2)?, "{}", found.0);
+    let same = has_digest(alloc, &ran.cells, found.2)?;
+    assert!(rt; same, "{}", found.0);
     Ok(())
 }
 
@@ -53,7 +59,7 @@ fn random_cells_of_few_symbols(rt: HostRuntime) -> Result<(), Fail> {
     let alloc = rt.alloc();
     for most in [u32::MAX, 11] {
         for (symbols, sum, found) in &RANDOM {
-            let count = symbols.clamp(&1, &15) * SYMBOL as u32 + 3;
+            let count = (*symbols).clamp(1, 15) * SYMBOL as u32 + 3;
             let cells = random_cells(alloc, &HEADER, count, *symbols)?;
             assert_eq!(&rt; sum_of(&cells), *sum);
             compare(&rt, alloc, BASE, cells, most, *found)?;
@@ -68,25 +74,32 @@ fn nothing_to_track(rt: HostRuntime) -> Result<(), Fail> {
     let alloc = rt.alloc();
     let header = Vec::from_slice(alloc, HEADER.as_slice())?;
     let none = tracked(&rt, alloc, (BASE, ""), header, ample(ROOM))?;
-    assert!(&rt; none.status == 0 && none.report.as_slice() == b"symbols 0 tail 0\n");
+    assert!(&rt; none.status == 0 && none.report.as_slice() == "symbols 0 tail 0\n".as_bytes());
     assert!(&rt; none.cells.as_slice() == HEADER.as_slice());
     let mut zeros = Vec::from_slice(alloc, HEADER.as_slice())?;
     for place in 0..SYMBOL {
         zeros.push(if place % 5 == 4 { 15 } else { 0 })?;
     }
     let ran = tracked(&rt, alloc, (BASE, ""), zeros, ample(ROOM))?;
-    assert!(&rt; ran.status == 0 && ran.report.as_slice() == b"symbols 1 tail 0\n");
+    assert!(&rt; ran.status == 0 && ran.report.as_slice() == "symbols 1 tail 0\n".as_bytes());
     assert!(&rt; ran.cells.len() == 8 + SYMBOL && sum_of(&ran.cells) == sum_of(&HEADER));
     Ok(())
 }
 
-// Is each cell within 64 of the other's on both axes, and each weight 15?
+// Are two parts of cells within 64 of one another?
+fn is_near(part: [u8; 2], other: [u8; 2]) -> bool {
+    let part = i32::from(i16::from_be_bytes(part));
+    let other = i32::from(i16::from_be_bytes(other));
+    part - other <= 64 && other - part <= 64
+}
+
+// Is each cell near the other, and each weight 15?
 fn are_near(cells: &[u8], others: &[u8]) -> bool {
     let mut near = cells.len() == others.len();
     for (cell, other) in cells.chunks_exact(5).zip(others.chunks_exact(5)) {
-        let re = i16::from_be_bytes([cell[0], cell[1]]).abs_diff(i16::from_be_bytes([other[0], other[1]]));
-        let im = i16::from_be_bytes([cell[2], cell[3]]).abs_diff(i16::from_be_bytes([other[2], other[3]]));
-        near = near && re <= 64 && im <= 64 && cell[4] == 15;
+        let re = is_near([cell[0], cell[1]], [other[0], other[1]]);
+        let im = is_near([cell[2], cell[3]], [other[2], other[3]]);
+        near = near && re && im && cell[4] == 15;
     }
     near
 }
@@ -98,15 +111,24 @@ fn quarter_turn(rt: HostRuntime) -> Result<(), Fail> {
     let sent = null_cells(&rt, alloc, BASE, false)?;
     let cells = turned(alloc, &sent)?;
     let ran = tracked(&rt, alloc, (BASE, ""), cells, ample(SUPER_FRAME))?;
-    assert!(&rt; ran.status == 0 && ran.report.as_slice() == b"symbols 272 tail 0\n");
+    assert!(&rt; ran.status == 0 && ran.report.as_slice() == "symbols 272 tail 0\n".as_bytes());
     assert_eq!(&rt; sum_of(&ran.cells), 232_894_504);
     let digest = "fd8eb29f2e97ec515ff0677ce9a518cdbbf71420227f8d18bfa271fc14595aa6";
-    assert!(&rt; has_digest(alloc, &ran.cells, digest)?);
+    let same = has_digest(alloc, &ran.cells, digest)?;
+    assert!(&rt; same);
     let (first, other) = (ran.cells.len().min(8), sent.len().min(8));
     assert!(&rt; are_near(&ran.cells[first..], &sent[other..]));
     let settings = text_bytes(alloc, BASE, "")?;
     let inputs = (ran.cells, Vec::new(alloc));
-    let back = run_files(&rt, alloc, "receive s a hp", settings, inputs, 1, ample(SUPER_FRAME))?;
+    let back = run_files(
+        &rt,
+        alloc,
+        "receive s a hp",
+        settings,
+        inputs,
+        1,
+        ample(SUPER_FRAME),
+    )?;
     assert!(&rt; back.status == 0 && back.report.as_slice() == WHOLE_NULLS.as_bytes());
     Ok(())
 }
@@ -118,9 +140,18 @@ fn bad_symbols_and_noise(rt: HostRuntime) -> Result<(), Fail> {
     let sent = null_cells(&rt, alloc, BASE, false)?;
     let cells = disturbed(alloc, &sent)?;
     assert_eq!(&rt; sum_of(&cells), 39_552_002);
-    assert!(&rt; has_digest(alloc, &cells, "dadee93be79e4231b1bf688617d2de55fa5ad57cd8543f38068802c2d2941399")?);
+    let given = "dadee93be79e4231b1bf688617d2de55fa5ad57cd8543f38068802c2d2941399";
+    let same = has_digest(alloc, &cells, given)?;
+    assert!(&rt; same);
     let digest = "a9f23d25db35324801f0ed441db763c2e88906ea197ed8ca7cde8a3413bee3f5";
-    compare(&rt, alloc, BASE, cells, u32::MAX, ("symbols 48 tail 0\n", 40_357_773, digest))?;
+    compare(
+        &rt,
+        alloc,
+        BASE,
+        cells,
+        u32::MAX,
+        ("symbols 48 tail 0\n", 40_357_773, digest),
+    )?;
     Ok(())
 }
 
@@ -130,9 +161,18 @@ fn slow_on_a_tie(rt: HostRuntime) -> Result<(), Fail> {
     let alloc = rt.alloc();
     let cells = still(alloc)?;
     assert_eq!(&rt; sum_of(&cells), 21_494_353);
-    assert!(&rt; has_digest(alloc, &cells, "ad7ae21ec3d3750662a5fc2abf107198eb39a8e19f18983d3d023e12ee8e2ea4")?);
+    let given = "ad7ae21ec3d3750662a5fc2abf107198eb39a8e19f18983d3d023e12ee8e2ea4";
+    let same = has_digest(alloc, &cells, given)?;
+    assert!(&rt; same);
     let digest = "3bd6c11841030af796ba2f3682908fee388cbbf1d907571177ebfaf2945868dd";
-    compare(&rt, alloc, BASE, cells, u32::MAX, ("symbols 24 tail 0\n", 21_497_926, digest))?;
+    compare(
+        &rt,
+        alloc,
+        BASE,
+        cells,
+        u32::MAX,
+        ("symbols 24 tail 0\n", 21_497_926, digest),
+    )?;
     Ok(())
 }
 
@@ -142,6 +182,13 @@ fn wide_symbols(rt: HostRuntime) -> Result<(), Fail> {
     let alloc = rt.alloc();
     let digest = "98c5cf2e8f81183f9e55be02582fbcb9a8a6eb6273573bd25b4cd9ca609ebf85";
     let cells = random_cells(alloc, &WIDE_HEADER, 9 * WIDE_SYMBOL as u32 + 5, 9)?;
-    compare(&rt, alloc, WIDE, cells, u32::MAX, ("symbols 9 tail 5\n", 31_726_969, digest))?;
+    compare(
+        &rt,
+        alloc,
+        WIDE,
+        cells,
+        u32::MAX,
+        ("symbols 9 tail 5\n", 31_726_969, digest),
+    )?;
     Ok(())
 }

@@ -31,7 +31,10 @@ fn taken(
     let mut symbol = SymbolIn::<Mode2k>::new(alloc)?;
     symbol.take(bytes);
     room.clear();
-    if symbol.whole() && tracker.take(symbol.cells(), symbol.weights(), room) {
+    if !symbol.whole() {
+        return Ok(None);
+    }
+    if tracker.take(symbol.cells(), symbol.weights(), room) {
         Ok(Some(checksum(room)))
     } else {
         Ok(None)
@@ -68,7 +71,8 @@ fn track_all(
     for m in 0..8usize {
         let symbol = &cells[cells.len().min(m * SYMBOL)..cells.len().min(m * SYMBOL + SYMBOL)];
         let found = taken(alloc, symbol, tracker, room)?;
-        assert!(rt; found == if m == 7 { Some(SUMS[0]) } else { None }, "symbol {m}");
+        let wanted = if m == 7 { Some(SUMS[0]) } else { None };
+        assert!(rt; found == wanted, "symbol {m}");
     }
     assert!(rt; !tracker.ended());
     tracker.end();
