@@ -47,9 +47,9 @@ def words_in(constellation, rate):
 
 def sent(settings, frames, seed):
     """The cells of so many full super-frames, and the bytes that the inner coder gets."""
-    drawn = random.Random(seed)
+    generator = random.Random(seed)
     number = words_in(settings["constellation"], settings["rate_hp"]) * frames
-    pathlib.Path("in.ts").write_bytes(b"".join(b"\x47" + drawn.randbytes(187) for _ in range(number)))
+    pathlib.Path("in.ts").write_bytes(b"".join(b"\x47" + generator.randbytes(187) for _ in range(number)))
     document = "".join(f'{key} = "{value}"\n' for key, value in settings.items())
     pathlib.Path("s.toml").write_text(document)
     air.run(air.DOOR, "modulate", "s.toml", "in.ts", "sent.cells")
