@@ -1,5 +1,5 @@
 -- Carrier after carrier is appended, and the pilot after them.
-use Rattle.std.proofs.Common.{◌≡◌, ℕ, ◌<◌, ◌++◌, refl, ap, ◌∙◌, arith}
+use Rattle.std.proofs.Common.{◌≡◌, ℕ, ◌+◌, ◌<◌, List, ◌++◌, refl, sym, ap, ◌∙◌, arith}
 use Rattle.mode_set.specs.StreamTable.{carriers}
 use Rattle.cell_equal.specs.State.{first_bytes}
 use Rattle.cell_equal.proofs.Bytes.{cell_appended}
