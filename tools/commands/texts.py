@@ -18,8 +18,6 @@ SHORT = {
 }
 
 MONITOR = "all in one: from live cells to packets and figures, on a screen or a page"
-if not {"align", "track", "measure"} <= set(forms.FORMS):
-    MONITOR += " (not usable yet: it needs track and measure)"
 
 FILES = {
     "SETTINGS": "a TOML document of the transmission (docs/use/SETTINGS.md; examples/settings/)",
