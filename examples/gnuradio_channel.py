@@ -8,7 +8,7 @@ noise and a frequency offset, and cuts off the beginning. A short front end find
 the samples to carriers; it estimates nothing of the channel. `dvbt track` corrects the cells by the pilots of neighbouring symbols,
 and `dvbt receive` decodes them. `dvbt equalise` and GNU Radio's own receiver get the same signal. Prints how many packets each of
 them gives. Ends with 0 if those of `track` are packets that were sent, in a row, and no word is bad. Passed over with a message if
-GNU Radio 3.10 or numpy is not installed (Debian: gnuradio, python3-numpy), or if the program lacks `track`. Each part `# %%` is a
+GNU Radio 3.10 or numpy is not installed (Debian: gnuradio, python3-numpy). Each part `# %%` is a
 cell for editors that know them.
 """
 # %% What is needed
