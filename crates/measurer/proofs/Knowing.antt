@@ -1,5 +1,5 @@
 -- The bits known for a symbol, and the bits that its decoders have given.
-use Rattle.std.proofs.Common.{◌≡◌, ℕ, ◌+◌, ◌-◌, ◌*◌, ◌/◌, ◌%◌, ◌<◌, ◌≤◌, Bool, List, ◌++◌, take, drop, length, ◌⊎◌, inl, inr, refl, sym, ap, ◌∙◌, subst, arith}
+use Rattle.std.proofs.Common.{◌≡◌, ℕ, ◌+◌, ◌-◌, ◌*◌, ◌/◌, ◌%◌, ◌<◌, ◌≤◌, Bool, List, ◌++◌, take, drop, length, ◌⊎◌, inl, inr, refl, sym, ap, ◌∙◌, subst, arith, length-append}
 use Rattle.std.proofs.lemmas.Bool.{cases_lt}
 use Rattle.std.proofs.lemmas.List.{take-append-drop, take-append-le, length-take-le, length-drop}
 use Rattle.code_paths.specs.declared.costs.CostPair.{CostPair}
@@ -18,12 +18,18 @@ use Rattle.reception.specs.Costs.{costs}
 use Rattle.reception.specs.Laws.{IsWithin, SameCosts}
 use Rattle.reception.specs.Streams.{memory, start_of, Moment, so_far, at_end, IsDecoded}
 use Rattle.measurement.specs.Known.{first_symbols, IsKnown}
-use Rattle.measurement.proofs.Staying.{more_symbols}
 use Rattle.measurer.specs.Steps.{IsDue}
 
 within_length : (m : Mode) (n len : ℕ) → n ≤ len / (5 * carriers m) → n * (5 * carriers m) ≤ len
 within_length M2k n len l = omega (arith, l)
 within_length M8k n len l = omega (arith, l)
+
+more_count : (m : Mode) (a b : ℕ) → a / (5 * carriers m) ≤ (a + b) / (5 * carriers m)
+more_count M2k a b = omega arith
+more_count M8k a b = omega arith
+
+more_symbols : (s : Settings) (bytes more : List ℕ) → symbols s bytes ≤ symbols s (bytes ++ more)
+more_symbols s bytes more = subst (λ (n : ℕ). symbols s bytes ≤ n / (5 * carriers s.mode)) (sym (length-append bytes more)) (more_count s.mode (length bytes) (length more))
 
 first_stay : (s : Settings) (bytes more : List ℕ) (n : ℕ) → n ≤ symbols s bytes → first_symbols s n (bytes ++ more) ≡ first_symbols s n bytes
 first_stay s bytes more n l = take-append-le (n * symbol_length s) bytes more (within_length s.mode n (length bytes) l)

@@ -1,14 +1,15 @@
 -- Lines that are appended.
-use Rattle.std.proofs.Common.{◌≡◌, ℕ, zero, suc, ◌+◌, ◌<◌, ◌≤◌, Bool, cond, List, [], ◌∷◌, ◌++◌, length, take, refl, sym, ap, ap₂, ◌∙◌, subst, inl, inr, arith, append_assoc}
+use Rattle.std.proofs.Common.{◌≡◌, ℕ, zero, suc, ◌+◌, ◌<◌, ◌≤◌, Bool, cond, List, [], ◌∷◌, ◌++◌, length, take, refl, sym, ap, ap₂, ◌∙◌, subst, inl, inr, arith, append_assoc, append-nil}
 use Rattle.std.specs.Prelude.{Option, Some, None, IfSome, IsNone, ◌↔◌, slice_get, flat_map, nat_le}
 use Rattle.std.specs.List.{concat}
 use Rattle.std.proofs.lemmas.Bool.{cases_lt, le-leb, lt-leb}
 use Rattle.std.proofs.lemmas.List.{take_all}
 use Rattle.arrayvec.specs.ArrayString.{ArrayString}
+use Rattle.std.proofs.lemmas.List.Concat.{flat_map-append}
 use Rattle.spec_words.specs.Words.{numbers}
+use Rattle.spec_words.proofs.Counting.{numbers_end}
 use Rattle.mode_set.specs.declared.settings.Settings.{Settings}
 use Rattle.reception.specs.Cells.{symbols}
-use Rattle.reception.proofs.Numbered.{parts_end, same_parts}
 use Rattle.measure_report.specs.Text.{lines, lp_lines}
 use Rattle.measure_report.specs.declared.sums.StreamSums.{StreamSums}
 use Rattle.rx_report.specs.Text as text
@@ -45,6 +46,20 @@ put_next old now next xs k None e line past some none = none refl ∙ line_past 
 put_next old now next xs k (Some l) e line past some none = some ∙ line_more old now xs k l.bytes e line
 
 -- ---- the lines of super-frames
+
+parts_end : (f : ℕ → List ℕ) (n : ℕ) → flat_map f (numbers (suc n)) ≡ flat_map f (numbers n) ++ f n
+parts_end f n =
+    let next : suc n ≡ n + 1 = omega arith in
+    ap (flat_map f) (ap numbers next ∙ numbers_end n) ∙ flat_map-append f (numbers n) (n ∷ []) ∙ ap (λ (z : List ℕ). flat_map f (numbers n) ++ z) (append-nil (f n))
+
+no_parts : (f : ℕ → List ℕ) → flat_map f (numbers 0) ≡ []
+unfolding numbers
+no_parts f = refl
+
+same_parts : (f g : ℕ → List ℕ) (n : ℕ) → ((k : ℕ) → k < n → f k ≡ g k) → flat_map f (numbers n) ≡ flat_map g (numbers n)
+same_parts f g zero h = no_parts f ∙ sym (no_parts g)
+same_parts f g (suc n) h =
+    parts_end f n ∙ ap₂ (λ (x y : List ℕ). x ++ y) (same_parts f g n (λ k l. h k (omega (arith, l)))) (h n (omega arith)) ∙ sym (parts_end g n)
 
 abbrev with_frame : (ℕ → SuperFrame) → ℕ → SuperFrame → ℕ → SuperFrame
 with_frame frames n f j = cond (nat_le (suc j) n) (frames j) f

@@ -13,7 +13,6 @@ use Rattle.symbol_sums.specs.Comparing.{Comparison, symbol_sums, cells_in, muted
 use Rattle.measure_report.specs.declared.sums.SymbolSums.{SymbolSums}
 use Rattle.measurement.specs.Known.{is_compared, comparison}
 use Rattle.measurement.specs.SuperFrames.{Knowns, over_compared, compared_in}
-use Rattle.measurement.proofs.Lists.{range_same}
 use Rattle.symbol_comparison.specs.Standing.{IsSummed, beside}
 use Rattle.measurer.specs.declared.current.Current.{Current}
 use Rattle.measurer.specs.Standing.{symbol_of}
@@ -21,6 +20,13 @@ use Rattle.measurer.specs.Sums.{first_of, over_first, AreFirstSums, AreSummed, n
 use Rattle.measurer.proofs.Knowing.{known_back}
 
 -- ---- numbers in a row
+
+range_same : (f g : ℕ → ℕ) (a n : ℕ) → ((k : ℕ) → a ≤ k → k < a + n → f k ≡ g k) → sum_by f (range_with_len a n) ≡ sum_by g (range_with_len a n)
+range_same f g a zero h = refl
+range_same f g a (suc n) h =
+    sum_by-cons f a (range_with_len (a + 1) n)
+    ∙ ap₂ (λ (x y : ℕ). x + y) (h a (omega arith) (omega arith)) (range_same f g (a + 1) n (λ k p q. h k (omega (arith, p)) (omega (arith, q))))
+    ∙ sym (sum_by-cons g a (range_with_len (a + 1) n))
 
 sum_suc : (f : ℕ → ℕ) (a n : ℕ) → sum_by f (range_with_len a (suc n)) ≡ sum_by f (range_with_len a n) + f (a + n)
 sum_suc f a zero = let e : a ≡ a + 0 = omega arith in sum_by-cons f a (range_with_len (a + 1) 0) ∙ (let g = ap f e in omega (arith, g))
