@@ -107,7 +107,7 @@ STATUSES = [
 ]
 OF_THE_DOOR = [
     (1, "with --strict: done, but with a verdict, such as no reception"),
-    (64, "nothing was started: a file would be destroyed, a descriptor is not open, an option follows the command, OLD is of version 2, or an output is a terminal"),
+    (64, "nothing was started: {}"),
     (126, "the program could not be built, or its proof failed, or the one that $DVBT_PROGRAM names can't be run"),
     (127, "the program is not built, and the toolchain's command rt is not on the PATH"),
 ]
@@ -156,4 +156,7 @@ def lines_of_statuses(command):
     for number, text, of in STATUSES:
         if command is None or command in of:
             shown.setdefault(number, text)
-    return [f"  {number:3}  {text}" for number, text in sorted([*shown.items(), *OF_THE_DOOR])]
+    causes = ["a file would be destroyed", "a descriptor is not open", "an option follows the command"]
+    causes += ["OLD is of version 2"] * (command in (None, "upgrade")) + ["an output is a terminal"] * (command not in ("measure", "trial"))
+    causes = f"{', '.join(causes[:-1])}, or {causes[-1]}"
+    return [f"  {number:3}  {text.format(causes)}" for number, text in sorted([*shown.items(), *OF_THE_DOOR])]
