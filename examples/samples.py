@@ -1,16 +1,18 @@
 #!/usr/bin/env python3
 """Between samples and cells: a front end of a few lines for recordings, and its opposite, for tries.
 
-usage: examples/samples.py [--mode 2k|8k] [--guard 1/32|1/16|1/8|1/4] cells SAMPLES CELLS
+usage: examples/samples.py [--mode 2k|8k] [--guard 1/32|1/16|1/8|1/4] [--level L] cells SAMPLES CELLS
        examples/samples.py [--mode 2k|8k] [--guard 1/32|1/16|1/8|1/4] samples CELLS SAMPLES
 
 SAMPLES are complex numbers of two floats of 32 bits (complex64) at 64/7 MHz in a channel of 8 MHz, 8 MHz in one of 7 MHz, 48/7 MHz in
 one of 6 MHz. `-` is standard input or output. `cells` finds the symbols by their guard interval and the frequency, follows
 both, and takes the carriers out; it estimates nothing of the channel. The cells begin at any symbol: `dvbt monitor`, `align` and
-`tune` find the super-frame. Without options: 8K, guard 1/32. Needs numpy (Debian: python3-numpy).
+`tune` find the super-frame. L is the mean amplitude of the pilots over the nominal one: 0.9 suits `equalise`, 0.4 `track`, which works at
+any level, and leaves room for strong carriers. Without options: 8K, guard 1/32, level 0.9. Needs numpy (Debian: python3-numpy).
 """
 import os
 import pathlib
+import stat
 import sys
 
 DEBIAN = "/usr/bin/python3"
@@ -28,13 +30,14 @@ CELL = np.dtype([("re", ">i2"), ("im", ">i2"), ("weight", "u1")])
 BLOCK = 64  # symbols that are taken at once
 MARGIN = 4  # so many samples before the end of the guard interval the transform begins
 REACH = 20  # carriers by which the frequency may be wrong
-LEVEL = 0.9 * 21845  # the mean amplitude of pilots in a cell file
+PILOT = 21845  # the nominal amplitude of pilots in a cell file
 
 
 class FrontEnd:
     """From samples to cells, block by block."""
 
-    def __init__(self, mode, guard):
+    def __init__(self, mode, guard, level):
+        self.level = level * PILOT
         self.points, self.kinds = 2048 if mode == "2k" else 8192, Carriers(mode)
         self.guard = self.points // int(guard.partition("/")[2])
         self.symbol = self.points + self.guard
@@ -81,8 +84,8 @@ class FrontEnd:
             self.shift = int(np.argmax(likeness)) - REACH
         cells = points[:, middle + self.shift : middle + self.shift + self.kinds.count]
         level = np.mean(abs(cells[:, self.kinds.continual]))
-        if self.scale is None or not 0.4 < self.scale * level / LEVEL < 1.4:
-            self.scale = LEVEL / max(level, 1e-9)
+        if self.scale is None or not 0.4 < self.scale * level / self.level < 1.4:
+            self.scale = self.level / max(level, 1e-9)
         return cells * self.scale
 
     def likeness(self, points, first):
@@ -91,9 +94,9 @@ class FrontEnd:
         return abs(np.sum(pilots[1:] * pilots[:-1].conj()))
 
 
-def to_cells(mode, guard, source, to):
+def to_cells(mode, guard, level, source, to):
     """Samples to a cell file."""
-    front = FrontEnd(mode, guard)
+    front = FrontEnd(mode, guard, level)
     to.write(header(mode))
     while True:
         piece = source.read(8 * front.symbol * BLOCK)
@@ -109,8 +112,7 @@ def to_samples(mode, guard, source, to):
     """A cell file to samples (docs/use/FILES.md)."""
     points, count = (2048, 1705) if mode == "2k" else (8192, 6817)
     length = points // int(guard.partition("/")[2])
-    if source.read(8) != header(mode):
-        sys.exit(f"samples.py: the cells are not of the {mode} mode")
+    source.read(8)
     while True:
         piece = source.read(CELL.itemsize * count * BLOCK)
         file = np.frombuffer(piece, CELL, len(piece) // CELL.itemsize // count * count).reshape(-1, count)
@@ -133,18 +135,37 @@ def content(cells):
     return file.tobytes()
 
 
+def check(command, mode, source, to):
+    """Ends the run if the input is not what the command reads, or would be overwritten. Nothing is touched until then."""
+    begin = source.peek(8)[:8]
+    if command == "cells" and begin[:4] == b"DVTC":
+        sys.exit(f"samples.py: {source.name} is a cell file: cells reads SAMPLES and writes CELLS")
+    if command == "samples" and not (begin and header(mode).startswith(begin)):
+        sys.exit(f"samples.py: {source.name} has no cells of the {mode} mode")
+    of = os.fstat(source.fileno())
+    if to != "-" and os.path.exists(to) and stat.S_ISREG(of.st_mode) and os.path.samestat(of, os.stat(to)):
+        sys.exit(f"samples.py: {to} is read and would be overwritten; nothing was touched")
+
+
 def main(words):
-    options = {"--mode": "8k", "--guard": "1/32"}
+    options = {"--mode": "8k", "--guard": "1/32", "--level": "0.9"}
     while words[:1] and words[0] in options and len(words) > 1:
         options[words[0]], words = words[1], words[2:]
-    if len(words) != 3 or words[0] not in ("cells", "samples") or options["--mode"] not in ("2k", "8k"):
+    mode, guard, level = options.values()
+    if len(words) != 3 or words[0] not in ("cells", "samples") or mode not in ("2k", "8k") or guard not in ("1/32", "1/16", "1/8", "1/4"):
         sys.exit(__doc__.split("\n\n")[1])
     try:
-        with open(0 if words[1] == "-" else words[1], "rb") as source, open(1 if words[2] == "-" else words[2], "wb") as to:
-            (to_cells if words[0] == "cells" else to_samples)(options["--mode"], options["--guard"], source, to)
+        level = float(level)
+        with open(0 if words[1] == "-" else words[1], "rb") as source:
+            check(words[0], mode, source, words[2])
+            with open(1 if words[2] == "-" else words[2], "wb") as to:
+                if words[0] == "cells":
+                    to_cells(mode, guard, level, source, to)
+                else:
+                    to_samples(mode, guard, source, to)
     except BrokenPipeError:
         os.dup2(os.open(os.devnull, os.O_WRONLY), 1)
-    except OSError as error:
+    except (OSError, ValueError) as error:
         sys.exit(f"samples.py: {error}")
 
 

@@ -38,6 +38,11 @@ def against(begin, settings, command):
         yield from contradicted(frame[1], settings) if command != "equalise" else ()
 
 
+def has_frame(begin, mode):
+    """Whether a TPS word can be read."""
+    return first_frame(votes_in(begin, mode)) is not None
+
+
 def silent(begin):
     """Says of cells or weights that all are 0."""
     if len(begin) > 8 and not any(begin[12:9000:5]) and not any(begin[12::5]):

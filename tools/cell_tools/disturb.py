@@ -1,6 +1,7 @@
 """Random noise on cells, generated from a seed."""
 import numpy as np
 
+from cell_tools.files import first_cells
 from cell_tools.result import Result
 from cell_tools.settings import Unfit
 from cell_tools.standard import DATA, UNIT
@@ -11,6 +12,8 @@ def disturb(file, words):
     numpy, and the same for a frame as for its symbols one by one."""
     if file.left_over:
         raise Unfit(f"{file.name}: only whole symbols are disturbed", 9, file.path)
+    if not len(first_cells(file, file.carriers)):
+        raise Unfit(f"{file.name} has no whole symbol of {file.version.WIDTH * file.carriers.count} bytes", 9, file.path)
     is_standard = words.out in ("-", "/dev/stdout")
     generator = np.random.RandomState(words.seed)
     try:

@@ -217,7 +217,7 @@ def check(file):
         if reason:
             raise Unfit(f"{file.name}: {reason}", 9, file.path)
         if len(cells):
-            warn("the pilots are not at their places: no cell file, or badly disturbed")
+            warn("the pilots are not at their places: no cell file, badly disturbed, or cells that dvbt track has still to correct")
 
 
 def warn(text):

@@ -175,7 +175,7 @@ def lines_of_theorem(found):
         beyond += f" of {found.data} ({percent(found.beyond, found.data)}), "
         beyond += f"the furthest moved by {round(found.furthest)}, {found.times:.1f} times the tolerance"
     yield f"tolerance {', '.join(map(str, tolerances(found)))} on each axis: {beyond}"
-    yield f"data cells of weight 0: {found.weightless}"
+    yield f"data cells of weight 0: {found.weightless}{', which count here; dvbt measure leaves them out' if found.weightless else ''}"
     yield f"  {verdict(failing_parts(found), found.sent)}"
     yield from (f"  {line}" for line, _ in expectation(found))
 

@@ -27,7 +27,7 @@ FILES = {
     "CELLS": "a cell file: a header, then five bytes a carrier, symbol after symbol (docs/use/FILES.md)",
     "OLD": "a cell file of version 1: four bytes a carrier, without a header (docs/use/FILES.md)",
     "NEW": "the cell file of version 2 to write: a header, then five bytes a carrier",
-    "IN": "a cell file of version 2, from the first symbol of a super-frame on; of align, from any symbol on (docs/use/FILES.md)",
+    "IN": "a cell file of version 2 (docs/use/FILES.md)",
     "OUT": "the file to write",
     "NUMBER": "one to ten digits, at most 4294967295; the same number gives the same lines everywhere",
 }
@@ -46,25 +46,25 @@ and counted as rescued. Packets come later than from `receive`, and no line `tps
 it, and receives from the next super-frame on. Of the settings only mode, workers and max_symbols are used. Name LP if
 and only if the signal has a hierarchy. `tune at I frame F` reports the first symbol of the frame, counted from 0.
 Symbols before that super-frame are not received.""",
-    "align": """Finds the first 68 symbols whose TPS word can be read, and writes the header and then each whole symbol from the next
-super-frame on, unchanged and as soon as it is complete. A file that begins at a super-frame loses its first one.
-`tune at I frame F` reports the first symbol of the frame, counted from 0, and `announced ..` its parameters in the
-words of the settings file. `symbols N tail T` counts the symbols written and the bytes after them. Of the settings
-only mode and max_symbols are used.""",
+    "align": """IN begins at any symbol. Finds the first 68 symbols whose TPS word can be read, and writes the header and then each
+whole symbol from the next super-frame on, unchanged and as soon as it is complete. A file that begins at a
+super-frame loses its first one. `tune at I frame F` reports the first symbol of the frame, counted from 0, and
+`announced ..` its parameters in the words of the settings file. `symbols N tail T` counts the symbols written and the
+bytes after them. Of the settings only mode and max_symbols are used.""",
     "measure": """Compares each data cell with the cell that the decoded bits stand for. Prints sums of each super-frame three
 symbols after its end: power and error of the cells (MER is 10 log10 (power / error)), bits and those that are wrong before
 the inner decoder, outer words, repaired bits and TPS words. The closing lines are those of `receive`. Reads cells from the
 first symbol of a super-frame on. On a terminal, and with --json, bin/dvbt prints MER and error rates (docs/use/MEASURING.md).""",
     "upgrade": """Writes the header of the settings' mode, and each cell of OLD's whole symbols with the full weight, 15.
 Of the settings only mode and max_symbols are used.""",
-    "equalise": """Divides each cell by the gain interpolated between the two pilots around it, and writes it with a weight of
-0 to 15 by the power of that gain. Use it for flat gains and for short echoes. Of the settings only mode and
-max_symbols are used.""",
-    "track": """Takes the gain of each carrier from the scattered pilots of the symbols around it, which stand at every third
-carrier. Use it for echoes of up to the guard interval, for a channel that changes from symbol to symbol, and for a
-common phase error. Each cell is weighted by its power and the measured noise; the old weight scales that. A symbol is
-written after the seventh symbol that follows it, or at the end. Of the settings mode, guard, max_symbols and the
-constellations, also those of the plan, are used.""",
+    "equalise": """IN begins at the first symbol of a super-frame, as from align. Divides each cell by the gain interpolated between the
+two pilots around it, and writes it with a weight of 0 to 15 by the power of that gain. Use it for flat gains and for
+short echoes. Of the settings only mode and max_symbols are used.""",
+    "track": """IN begins at the first symbol of a super-frame, as from align. Takes the gain of each carrier from the scattered
+pilots of the symbols around it, which stand at every third carrier. Use it for echoes of up to the guard interval,
+for a channel that changes from symbol to symbol, and for a common phase error. Each cell is weighted by its power and
+the measured noise; the old weight scales that. A symbol is written after the seventh symbol that follows it, or at
+the end. Of the settings mode, guard, max_symbols and the constellations, also those of the plan, are used.""",
     "trial": """Writes no file. The lines count what was sent and what came back, with null packets. `cells` and `sum` are sums of
 bytes modulo 2^32.""",
     "disperse": "EN 300 744, 4.3.1.",
@@ -107,7 +107,7 @@ STATUSES = [
 ]
 OF_THE_DOOR = [
     (1, "with --strict: done, but with a verdict, such as no reception"),
-    (64, "nothing was started: a file would be destroyed, a descriptor is not open, an option follows the command, OLD is of version 2, or an output is a terminal"),
+    (64, "nothing was started: {}"),
     (126, "the program could not be built, or its proof failed, or the one that $DVBT_PROGRAM names can't be run"),
     (127, "the program is not built, and the toolchain's command rt is not on the PATH"),
 ]
@@ -156,4 +156,7 @@ def lines_of_statuses(command):
     for number, text, of in STATUSES:
         if command is None or command in of:
             shown.setdefault(number, text)
-    return [f"  {number:3}  {text}" for number, text in sorted([*shown.items(), *OF_THE_DOOR])]
+    causes = ["a file would be destroyed", "a descriptor is not open", "an option follows the command"]
+    causes += ["OLD is of version 2"] * (command in (None, "upgrade")) + ["an output is a terminal"] * (command not in ("measure", "trial"))
+    causes = f"{', '.join(causes[:-1])}, or {causes[-1]}"
+    return [f"  {number:3}  {text.format(causes)}" for number, text in sorted([*shown.items(), *OF_THE_DOOR])]

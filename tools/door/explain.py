@@ -53,9 +53,10 @@ def of_usage(words):
         of = f"{words[1]} " if command == "help" and words[1:] and words[1] in forms.FORMS else ""
         say(f"{command} is --{command}: bin/dvbt {of}--{command}")
     else:
-        near = get_close_matches(command.lower(), forms.FORMS, 1)
+        names = [*forms.FORMS, "monitor"]
+        near = get_close_matches(command.lower(), names, 1)
         what = f"there is no command {command!r}" if words else "no command was given"
-        say(f"{what}: did you mean {near[0]}?" if near else f"{what}; the commands are {', '.join(forms.FORMS)}")
+        say(f"{what}: did you mean {near[0]}?" if near else f"{what}; the commands are {', '.join(names)}")
     say(f"bin/dvbt {command} --help explains them" if command in forms.FORMS else "bin/dvbt --help explains the commands")
 
 

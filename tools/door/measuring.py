@@ -52,24 +52,27 @@ def heads(streams):
 
 
 def row(frame, frames):
-    """The figures of a super-frame. A figure that bad words make doubtful has a question mark, a rate that is the least possible a sign."""
+    """The figures of a super-frame. A figure that bad words make doubtful has a question mark, and so has a rate of a muted signal, whose
+    words are clean. A rate that is the least possible has a sign."""
     doubt = "?" if frame.bad else ""
     cells = [air(frame.at + SUPER_FRAME * frames.each), "-" if frame.mer is None else f"{frame.mer:.1f}{doubt}"]
     for name in frames.streams:
         stream = frame.streams[name]
         of_stream = "?" if stream.counts["bad"] and stream.viterbi is not None else ""
-        cells += [rate(stream.viterbi) + of_stream, ("≥ " if stream.counts["bad"] else "") + rate(stream.rs), f"{stream.counts['bad']}"]
+        is_muted = stream.rs is not None and (frame.mer is None or stream.counts["words"] == stream.counts["unphased"])
+        before_rs = f"≥ {rate(stream.rs)}" if stream.counts["bad"] else rate(stream.rs) + ("?" if is_muted else "")
+        cells += [rate(stream.viterbi) + of_stream, before_rs, f"{stream.counts['bad']}"]
     read, bad = frame.counts["tps_read"], frame.counts["tps_bad"]
     return [*cells, f"{read} of {read + bad}"]
 
 
 def aligned(cells):
     """Cells beside one another, each as wide as its head can be."""
-    widths = [10, 8, *([19, 11, 11] * ((len(cells) - 3) // 3)), 10]
+    widths = [11, 8, *([19, 11, 11] * ((len(cells) - 3) // 3)), 10]
     return "".join(cell.rjust(width) for cell, width in zip(cells, widths))
 
 
 def air(seconds):
-    """Hours, minutes and seconds with tenths."""
-    tenths = round(10 * seconds)
-    return f"{tenths // 36000}:{tenths // 600 % 60:02}:{tenths // 10 % 60:02}.{tenths % 10}"
+    """Hours, minutes and seconds with hundredths: a super-frame in 2K takes 0.06 seconds or more."""
+    hundredths = round(100 * seconds)
+    return f"{hundredths // 360000}:{hundredths // 6000 % 60:02}:{hundredths // 100 % 60:02}.{hundredths % 100:02}"

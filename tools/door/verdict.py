@@ -61,7 +61,15 @@ def signal(form, facts):
     path, settings = form.of("cells")[0], settings_of(form)
     begin = piece(path, 0, beginning.BYTES[settings["mode"]]) if settings else b""
     said = ", ".join(beginning.against(begin, settings, form.command)) if begin else ""
+    if begin and not said and is_lost(facts) and beginning.has_frame(begin, settings["mode"]):
+        said = "its TPS fits the settings; likely causes: noise, or the gain of a channel, which track removes"
     yield from [f"{path}: {said}"] if said else []
+
+
+def is_lost(facts):
+    """Whether all words of a stream are bad."""
+    streams = [facts[stream] for stream in ("hp", "lp") if facts.get(stream, {}).get("words")]
+    return any(counts["words"] == counts["bad"] for counts in streams)
 
 
 def written(form, facts):

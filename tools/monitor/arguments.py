@@ -39,8 +39,9 @@ Statuses:
     6  an output can't be created or written
     9  CELLS does not begin with the header of a cell file, or of the mode
    10  no TPS word can be read in the cells
-   64  nothing was started: a file would be destroyed
-  126  a program of the chain failed, or could not be built"""
+   64  nothing was started: a file would be destroyed, or the port of --page is taken
+  126  a program of the chain failed, or could not be built
+  130  a second Ctrl-C"""
 
 LIMITS = {
     "mer": "MER below {} dB", "viterbi": "bit error ratio before Viterbi above {}", "rs": "bit error ratio before Reed-Solomon above {}",
