@@ -86,7 +86,7 @@ fn part_bytes(part: i32) -> [u8; 2] {
     (part.clamp(-32_768, 32_767) as i16).to_be_bytes()
 }
 
-/// Row 1's cells, each (x, y) of which is (-y, x). The only error is want of memory.
+/// The cells of a file, each (x, y) as (-y, x). The only error is want of memory.
 pub(crate) fn turned(alloc: Global, file: &[u8]) -> Result<Vec<u8>, AllocError> {
     let mut bytes = Vec::from_slice(alloc, HEADER.as_slice())?;
     for cell in file[file.len().min(8)..].chunks_exact(5) {
@@ -114,8 +114,8 @@ fn added(cell: &[u8; 5], other: &[u8; 5]) -> [u8; 5] {
     let more_im = part_of(other[2], other[3])
         .clamp(-32_768, 32_767)
         .div_euclid(4);
-    let re = part_bytes(re + more_re);
-    let im = part_bytes(im + more_im);
+    let re = part_bytes(re.saturating_add(more_re));
+    let im = part_bytes(im.saturating_add(more_im));
     [re[0], re[1], im[0], im[1], cell[4]]
 }
 

@@ -24,10 +24,10 @@ type Found<'a> = (&'a str, u32, &'a str);
 fn compare<R: Abort + Threads + Sync>(
     rt: &R,
     alloc: Global,
-    settings: &str,
+    settings: &'static str,
     cells: Vec<u8>,
     most: u32,
-    found: Found<'_>,
+    found: Found<'static>,
 ) -> Result<(), AllocError> {
     let conditions = Conditions {
         most: most.max(1),

@@ -4,7 +4,7 @@ use Rattle.tracking_tests.proofs.trackers.track_all.Given as goal
 -- no more symbols were taken than the loop has gone through
 abbrev pub invariant-loop-m : goal.invariant-loop-m
 invariant-loop-m g l = record {
-  count : l.tracker.window.count ≤ l.m;
+  count : l.tracker.window.count ≤ l.m-counter;
   going : l.tracker.ended ≡ false;
   room : 8525 ≤ vec_capacity l.room;
 }
