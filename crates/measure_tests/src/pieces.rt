@@ -18,7 +18,37 @@ fn note(lines: &[Line], text: &mut Vec<u8>) -> Result<(), AllocError> {
     Ok(())
 }
 
-// Feeds the bytes in pieces of this size, by `feed` or through a gate, and ends: the lines in all.
+// Feeds the bytes in pieces of this size, by `feed` or through a gate, and ends; appends the lines.
+fn feed_all<M: Carriers, R: Abort + Threads + Sync>(
+    rt: &R,
+    measurer: &mut Measurer<M>,
+    out: &mut MeasureOut,
+    bytes: &[u8],
+    size: usize,
+    text: &mut Vec<u8>,
+) -> Result<(), AllocError> {
+    let mut begin = 0usize;
+    for turn in 0..bytes.len() {
+        if begin >= bytes.len() {
+            break;
+        }
+        let end = begin + size.min(bytes.len() - begin);
+        assert!(rt; !measurer.ended() && measurer.symbols() < 1_000);
+        let count = if turn % 2 == 0 {
+            measurer.feed(rt, &bytes[begin..end], out)
+        } else {
+            measurer.feed_gated(rt, &OpenGate, &bytes[begin..end], out)
+        };
+        assert!(rt; 0 < count && count <= end - begin);
+        begin += count;
+        note(out.lines(), text)?;
+    }
+    assert!(rt; !measurer.ended());
+    measurer.finish(rt, out);
+    note(out.lines(), text)
+}
+
+// A new measurer that is fed so: the lines in all.
 fn fed<M: Carriers, R: Abort + Threads + Sync>(
     rt: &R,
     alloc: Global,
@@ -29,26 +59,9 @@ fn fed<M: Carriers, R: Abort + Threads + Sync>(
     assert!(rt; settings.mode == M::MODE && 0 < size);
     let mut out = MeasureOut::new(alloc)?;
     let mut text = Vec::new(alloc);
+    // Constructed last: early returns would have to drop it, which is slow to prove.
     let mut measurer = Measurer::<M>::new(alloc, settings)?;
-    let mut begin = 0usize;
-    for turn in 0..bytes.len() {
-        if begin >= bytes.len() {
-            break;
-        }
-        let end = begin + size.min(bytes.len() - begin);
-        assert!(rt; !measurer.ended() && measurer.symbols() < 1_000);
-        let count = if turn % 2 == 0 {
-            measurer.feed(rt, &bytes[begin..end], &mut out)
-        } else {
-            measurer.feed_gated(rt, &OpenGate, &bytes[begin..end], &mut out)
-        };
-        assert!(rt; 0 < count && count <= end - begin);
-        begin += count;
-        note(out.lines(), &mut text)?;
-    }
-    assert!(rt; !measurer.ended());
-    measurer.finish(rt, &mut out);
-    note(out.lines(), &mut text)?;
+    feed_all(rt, &mut measurer, &mut out, bytes, size, &mut text)?;
     let whole = (bytes.len() / (5 * M::K as usize)) as u64;
     assert!(rt; measurer.ended() && measurer.symbols() == whole);
     Ok(text)
