@@ -211,7 +211,7 @@ def stretches(file):
 
 def failing_parts(found):
     """The parts of the premise of the theorem on noise that fail. The premise is `Returns` in
-    crates/receive_run/specs/OwnLaws.antt and `IsWithin` in crates/own_cell_laws/specs/Returned.antt. That `receive` accepts the
+    crates/cmd_receive/specs/OwnLaws.antt and `IsWithin` in crates/law_link/specs/Returned.antt. That `receive` accepts the
     file at all is added here."""
     file, sent, most = found.file, found.sent, found.file.settings["max_symbols"]
     parts = [

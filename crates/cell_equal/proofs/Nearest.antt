@@ -5,7 +5,7 @@ use Rattle.std.specs.Int.{saturate_signed, w16}
 use Rattle.std.specs.Int.RustNames.{FitsSigned}
 use Rattle.std.proofs.lemmas.Int.{ints, clamps}
 use borrow.Author.Differences.{product_is}
-use Rattle.integer_lemmas.proofs.Floors.{IsFloor, floor_is, same_floor}
+use Rattle.spec_words.proofs.Floors.{IsFloor, floor_is, same_floor}
 use Rattle.cell_equal.specs.Equal.{nearest, value_near, IsNearest}
 
 pub nearest_is : (x : ℤ) (n : ℕ) → 0 < n → IsNearest x n (nearest x n)

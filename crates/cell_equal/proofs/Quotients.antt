@@ -10,7 +10,7 @@ use Rattle.qam_map.specs.declared.cell.Cell.{Cell}
 use Rattle.cell_equal.specs.Equal.{blank, power, nearest, value_near, divided, weight_of, corrected}
 use Rattle.cell_equal.specs.declared.gain.Gain.{Gain}
 use Rattle.cell_equal.specs.declared.equalised.Equalised.{Equalised}
-use Rattle.integer_lemmas.proofs.Sizes.{Below, self_below, plus_below, times_below}
+use Rattle.spec_words.proofs.Sizes.{Below, self_below, plus_below, times_below}
 
 pub squares_fit : (m n : ℕ) → m ≤ 393216 → n ≤ 393216 → m * m + n * n ≤ 2 ^ 39
 squares_fit m n h k = omega (arith, mul-le m m 393216 393216 h h, mul-le n n 393216 393216 k k)

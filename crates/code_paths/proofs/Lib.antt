@@ -8,3 +8,7 @@ pub mod Sent
 pub mod Shown
 pub mod TryAll
 pub mod Words
+pub mod Deciding
+pub mod LeastPaths
+pub mod SharedBits
+pub mod CutStreams

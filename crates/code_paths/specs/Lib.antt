@@ -5,3 +5,4 @@ pub mod Streams
 pub mod Favoured
 pub mod Laws
 pub mod Trial
+pub mod Uniqueness

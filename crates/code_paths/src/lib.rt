@@ -16,3 +16,4 @@ pub use laws::{
     reports_grow, reports_once, shared_begins_least,
 };
 pub use trial::{least_path, least_path_to, path_cost};
+pub mod uniqueness;

@@ -1,18 +1,18 @@
 -- The command that the words are. Each command is defined in the crate that runs it.
 use Rattle.std.specs.Prelude.{◌≡◌, ℕ, ⊤, List, [], ◌∷◌, Option, None, Some, false}
-use Rattle.run_clauses.specs.Command.{Command}
-use Rattle.run_clauses.specs.declared.work.Refusal.TheVariants.{Usage}
-use Rattle.packet_runs.specs.Commands.{disperse_command, outer_command, inner_command}
-use Rattle.modulate_run.specs.ModulateCommand.{modulate_command}
-use Rattle.receive_run.specs.ReceiveCommand.{receive_command}
-use Rattle.rescue_run.specs.RescueCommand.{rescue_command}
-use Rattle.trial_run.specs.TrialCommand.{trial_command}
-use Rattle.tune_run.specs.TuneCommand.{tune_command}
-use Rattle.align_run.specs.AlignCommand.{align_command}
-use Rattle.measure_run.specs.MeasureCommand.{measure_command}
-use Rattle.upgrade_run.specs.UpgradeCommand.{upgrade_command}
-use Rattle.equalise_run.specs.EqualiseCommand.{equalise_command}
-use Rattle.track_run.specs.TrackCommand.{track_command}
+use Rattle.cmd_base.specs.Command.{Command}
+use Rattle.cmd_base.specs.declared.work.Refusal.TheVariants.{Usage}
+use Rattle.cmd_packets.specs.Commands.{disperse_command, outer_command, inner_command}
+use Rattle.cmd_modulate.specs.ModulateCommand.{modulate_command}
+use Rattle.cmd_receive.specs.ReceiveCommand.{receive_command}
+use Rattle.cmd_rescue.specs.RescueCommand.{rescue_command}
+use Rattle.cmd_trial.specs.TrialCommand.{trial_command}
+use Rattle.cmd_tune.specs.TuneCommand.{tune_command}
+use Rattle.cmd_align.specs.AlignCommand.{align_command}
+use Rattle.cmd_measure.specs.MeasureCommand.{measure_command}
+use Rattle.cmd_convert.specs.UpgradeCommand.{upgrade_command}
+use Rattle.cmd_convert.specs.EqualiseCommand.{equalise_command}
+use Rattle.cmd_track.specs.TrackCommand.{track_command}
 use Rattle.dvbt_top.specs.Order.{Order, Disperse, Outer, Inner, Code, Modulate, Receive, Rescue, Tune, Align, Measure, Upgrade, Equalise, Track, Trial, order_of}
 
 -- words of no form: they are refused, and no file is asked for

@@ -4,5 +4,5 @@
 mod sums;
 mod text;
 
-pub use report_line::Line;
+pub use rx_report::Line;
 pub use sums::{BitSums, StreamSums, SuperFrame, SymbolSums};

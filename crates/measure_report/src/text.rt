@@ -4,7 +4,7 @@ ghost use Rattle.measure_report.specs.Text.{super_frame_line, stream_line, lines
 
 use crate::{StreamSums, SuperFrame};
 use mode_set::Stream;
-use report_line::{Line, name_of, push_count};
+use rx_report::{Line, name_of, push_count};
 
 fn super_frame_line_of(sums: &SuperFrame) -> Line
     ensures { result.bytes ≡ super_frame_line sums.now }

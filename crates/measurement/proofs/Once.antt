@@ -8,7 +8,7 @@ use Rattle.code_paths.specs.Laws.{GivenOnce, EndedOnce, ReportsOnce}
 use Rattle.mode_set.specs.declared.modes.Stream.{Stream}
 use Rattle.mode_set.specs.declared.modes.Stream.TheVariants.{Hp, Lp}
 use Rattle.mode_set.specs.declared.settings.Settings.{Settings}
-use Rattle.symbol_spans.specs.Spans.{exists_in, words_before}
+use Rattle.symbol_parameters.specs.Spans.{exists_in, words_before}
 use Rattle.forney.specs.Values.{stream_of}
 use Rattle.forney.specs.Interleaving.{deinterleaved}
 use Rattle.forney.proofs.ValueLists.{length-values}

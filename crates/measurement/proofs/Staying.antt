@@ -7,7 +7,7 @@ use Rattle.std.proofs.lemmas.List.Elements.{All-weaker}
 use Rattle.code_paths.specs.declared.costs.CostPair.{CostPair}
 use Rattle.code_paths.specs.Streams.{Given, Reports}
 use Rattle.code_paths.specs.Laws.{ReportsGrow}
-use Rattle.path_laws.specs.Laws.{IsStart, SomeAreReported}
+use Rattle.code_paths.specs.Uniqueness.{IsStart, SomeAreReported}
 use Rattle.mode_set.specs.StreamTable.{carriers}
 use Rattle.mode_set.specs.declared.modes.Mode.{Mode}
 use Rattle.mode_set.specs.declared.modes.Mode.TheVariants.{M2k, M8k}
@@ -16,8 +16,8 @@ use Rattle.mode_set.specs.declared.modes.Start.TheVariants.{Zero, Any}
 use Rattle.mode_set.specs.declared.modes.Stream.{Stream}
 use Rattle.mode_set.specs.declared.modes.Stream.TheVariants.{Hp, Lp}
 use Rattle.mode_set.specs.declared.settings.Settings.{Settings}
-use Rattle.symbol_spans.specs.Spans.{settings_at, steps_before}
-use Rattle.symbol_spans.specs.Laws.{StepsGrow}
+use Rattle.symbol_parameters.specs.Spans.{settings_at, steps_before}
+use Rattle.symbol_parameters.specs.Laws.{StepsGrow}
 use Rattle.outer_chain.specs.Words.{count}
 use Rattle.qam_map.specs.declared.cell.Cell.{Cell}
 use Rattle.reception.specs.Cells.{symbol_length, symbols}

@@ -15,7 +15,7 @@ use Rattle.mode_set.specs.declared.modes.Guard.TheVariants.{G1of32}
 use Rattle.mode_set.specs.declared.modes.Start.{Start}
 use Rattle.mode_set.specs.declared.modes.Start.TheVariants.{Zero, Any}
 use Rattle.mode_set.specs.declared.settings.Settings.{Settings}
-use Rattle.symbol_spans.specs.Spans.{settings_in, steps_before, words_before}
+use Rattle.symbol_parameters.specs.Spans.{settings_in, steps_before, words_before}
 use Rattle.measure_report.specs.Text.{lines}
 use Rattle.measurement.specs.Known.{is_compared}
 use Rattle.measurement.specs.SuperFrames.{bits_apart}

@@ -8,7 +8,7 @@ use Rattle.mode_set.specs.declared.modes.Start.TheVariants.{Zero, Any}
 use Rattle.mode_set.specs.declared.modes.Stream.{Stream}
 use Rattle.mode_set.specs.declared.modes.Stream.TheVariants.{Hp, Lp}
 use Rattle.mode_set.specs.declared.settings.Settings.{Settings}
-use Rattle.symbol_spans.specs.Spans.{settings_at, steps_before}
+use Rattle.symbol_parameters.specs.Spans.{settings_at, steps_before}
 use Rattle.symbol_interleave.specs.Carried.{is_odd}
 use Rattle.inner_chain.specs.Labels.{Paths, from_step, label_bit, coded_bits}
 use Rattle.symbol_sums.specs.Comparing.{Comparison}

@@ -8,7 +8,7 @@ use Rattle.code_paths.specs.Streams.{Reports}
 use Rattle.mode_set.specs.declared.modes.Stream.{Stream}
 use Rattle.mode_set.specs.declared.modes.Stream.TheVariants.{Hp, Lp}
 use Rattle.mode_set.specs.declared.settings.Settings.{Settings}
-use Rattle.symbol_spans.specs.Spans.{exists_in, steps_before, words_before}
+use Rattle.symbol_parameters.specs.Spans.{exists_in, steps_before, words_before}
 use Rattle.outer_chain.specs.Bits.{bytes_of}
 use Rattle.outer_chain.specs.Words.{word_count, word_at, IsNear, phase_before, has, is_clean}
 use Rattle.reception.specs.Cells.{symbols}

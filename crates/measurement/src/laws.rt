@@ -2,8 +2,8 @@
 ghost use Rattle.measurement.specs.Laws.{SumsStay, OneSums, LiveBeginsLive, LiveBeginsFinal};
 
 use code_paths::{ended_once, given_once, reports_grow, reports_once};
-use path_laws::laws::existence;
-use symbol_spans::laws::steps;
+use code_paths::uniqueness::existence;
+use symbol_parameters::laws::steps;
 
 /// More bytes leave the sums of a super-frame once its lines are defined.
 pub fn sums_stay()

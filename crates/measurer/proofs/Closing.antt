@@ -4,7 +4,7 @@ use Rattle.std.specs.Prelude.{Option, Some, None, if◌then◌else◌}
 use Rattle.mode_set.specs.declared.modes.Stream.{Stream}
 use Rattle.mode_set.specs.declared.modes.Stream.TheVariants.{Hp, Lp}
 use Rattle.mode_set.specs.declared.settings.Settings.{Settings}
-use Rattle.symbol_spans.specs.Spans.{exists_in}
+use Rattle.symbol_parameters.specs.Spans.{exists_in}
 use Rattle.outer_chain.specs.Bits.{bytes_of}
 use Rattle.outer_chain.specs.Words.{Packets, Tally, Tallies}
 use Rattle.rx_report.specs.declared.counts.Counts.{Counts}
@@ -13,9 +13,9 @@ use Rattle.reception.specs.Cells.{symbols}
 use Rattle.reception.specs.Frames.{tps_cells}
 use Rattle.reception.specs.Laws.{TailIsUnfinished, unfinished}
 use Rattle.reception.specs.Streams.{at_end, Reception}
-use Rattle.stream_decoders.specs.Framing.{FrameStands}
-use Rattle.stream_decoders.specs.declared.frames.FrameReader.{FrameReader}
-use Rattle.stream_meter.specs.Standing.{AreTotals}
+use Rattle.inner_receiver.specs.Framing.{FrameStands}
+use Rattle.inner_receiver.specs.declared.frames.FrameReader.{FrameReader}
+use Rattle.measure_stream.specs.Standing.{AreTotals}
 use Rattle.measurer.specs.Seen.{MeterState}
 use Rattle.measurer.specs.Standing.{MetersStand}
 use Rattle.measurer.specs.Steps.{AreClosing}

@@ -9,19 +9,19 @@ use Rattle.mode_set.specs.declared.modes.Mode.TheVariants.{M2k, M8k}
 use Rattle.mode_set.specs.declared.modes.Stream.{Stream}
 use Rattle.mode_set.specs.declared.modes.Stream.TheVariants.{Hp, Lp}
 use Rattle.mode_set.specs.declared.settings.Settings.{Settings}
-use Rattle.symbol_spans.specs.Laws.{NoSteps}
+use Rattle.symbol_parameters.specs.Laws.{NoSteps}
 use Rattle.inner_chain.specs.Labels.{register_of}
-use Rattle.known_bits.specs.Seen.{KnownState}
-use Rattle.known_bits.specs.Passing.{HasPassed}
-use Rattle.known_bits.specs.Laws.{StepsAreFew}
+use Rattle.measure_known_bits.specs.Seen.{KnownState}
+use Rattle.measure_known_bits.specs.Passing.{HasPassed}
+use Rattle.measure_known_bits.specs.Laws.{StepsAreFew}
 use Rattle.reception.specs.Cells.{symbols}
 use Rattle.reception.specs.Costs.{costs}
 use Rattle.reception.specs.Laws.{SameCosts}
 use Rattle.reception.specs.Streams.{Moment, so_far, at_end}
-use Rattle.stream_meter.specs.Standing.{Stands}
-use Rattle.stream_meter.specs.declared.stream.StreamMeter.{StreamMeter}
-use Rattle.symbol_comparison.specs.Seen.{SymbolState, ComparerState, known_of}
-use Rattle.symbol_comparison.specs.Standing.{StandsBefore, IsSummed, kept_at}
+use Rattle.measure_stream.specs.Standing.{Stands}
+use Rattle.measure_stream.specs.declared.stream.StreamMeter.{StreamMeter}
+use Rattle.measure_comparison.specs.Seen.{SymbolState, ComparerState, known_of}
+use Rattle.measure_comparison.specs.Standing.{StandsBefore, IsSummed, kept_at}
 use Rattle.symbol_sums.specs.Tables.{AreLittle}
 use Rattle.measure_report.specs.declared.sums.SymbolSums.{SymbolSums}
 use Rattle.measurement.specs.Known.{IsKnown}

@@ -9,8 +9,8 @@ use Rattle.tps_word.specs.Vote.{vote}
 use Rattle.reception.specs.Cells.{symbols}
 use Rattle.reception.specs.Frames.{tps_cells, frame_bits, IsReadable, CountsWords}
 use Rattle.reception.specs.Laws.{TpsCellsStay, BitsOfCells}
-use Rattle.stream_decoders.specs.Framing.{FrameStands}
-use Rattle.stream_decoders.specs.declared.frames.FrameReader.{FrameReader}
+use Rattle.inner_receiver.specs.Framing.{FrameStands}
+use Rattle.inner_receiver.specs.declared.frames.FrameReader.{FrameReader}
 
 same_test : (b c : Bool) → (IsTrue b → IsTrue c) → (IsTrue c → IsTrue b) → b ≡ c
 same_test true c f g = sym (f refl)

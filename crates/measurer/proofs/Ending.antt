@@ -10,9 +10,9 @@ use Rattle.reception.specs.Lines.{closing_lines}
 use Rattle.reception.specs.Streams.{at_end}
 use Rattle.rx_report.specs.Text as text
 use Rattle.rx_report.specs.declared.counts.Counts.{Counts}
-use Rattle.stream_decoders.specs.Framing.{FrameStands}
-use Rattle.stream_decoders.specs.declared.frames.FrameReader.{FrameReader}
-use Rattle.symbol_comparison.specs.Seen.{ComparerState}
+use Rattle.inner_receiver.specs.Framing.{FrameStands}
+use Rattle.inner_receiver.specs.declared.frames.FrameReader.{FrameReader}
+use Rattle.measure_comparison.specs.Seen.{ComparerState}
 use Rattle.symbol_sums.specs.Tables.{AreLittle}
 use Rattle.measurement.specs.Lines.{defined_by, begun_by, lines_of, MeasureFinal}
 use Rattle.measurer.specs.declared.current.Current.{Current}

@@ -11,18 +11,18 @@ use Rattle.mode_set.specs.declared.settings.Settings.{Settings}
 use Rattle.pilots.specs.Carriers.{tps_carriers}
 use Rattle.qam_map.specs.declared.cell.Cell.{Cell}
 use Rattle.qam_map.specs.Cells.{cell_of}
-use Rattle.known_bits.specs.Passing.{IsSettled}
+use Rattle.measure_known_bits.specs.Passing.{IsSettled}
 use Rattle.reception.specs.Cells.{symbols}
 use Rattle.reception.specs.Frames.{tps_cells, frame_bits, CountsWords}
 use Rattle.reception.specs.Laws.{IsWithin, SameSymbols, OneSymbolMore, CellsStay, WeightsStay, TpsCellsStay, BitsOfCells, SameCosts}
 use Rattle.reception.specs.Streams.{so_far}
-use Rattle.stream_decoders.specs.Fed.{HasHad, Fed}
-use Rattle.stream_decoders.specs.Framing.{FrameStands}
-use Rattle.stream_decoders.specs.Seen.{CostsState}
-use Rattle.stream_decoders.specs.declared.frames.FrameReader.{FrameReader}
-use Rattle.stream_meter.specs.Standing.{Stands}
-use Rattle.stream_meter.specs.declared.stream.StreamMeter.{StreamMeter}
-use Rattle.symbol_comparison.specs.Seen.{SymbolState}
+use Rattle.inner_receiver.specs.Fed.{HasHad, Fed}
+use Rattle.inner_receiver.specs.Framing.{FrameStands}
+use Rattle.inner_receiver.specs.Seen.{CostsState}
+use Rattle.inner_receiver.specs.declared.frames.FrameReader.{FrameReader}
+use Rattle.measure_stream.specs.Standing.{Stands}
+use Rattle.measure_stream.specs.declared.stream.StreamMeter.{StreamMeter}
+use Rattle.measure_comparison.specs.Seen.{SymbolState}
 use Rattle.measurement.specs.Laws.{SumsStay}
 use Rattle.measurement.specs.Lines.{defined_by}
 use Rattle.measurer.specs.declared.current.Current.{Current}

@@ -1,24 +1,24 @@
 -- What the meters stand for at the end.
 use Rattle.std.proofs.Common.{◌≡◌, ℕ, ◌+◌, ◌*◌, ◌^◌, ◌≤◌, Bool, List, ◌++◌, length, sym, subst, arith}
 use Rattle.inner_chain.specs.Labels.{register_of}
-use Rattle.known_bits.specs.Passing.{HasPassed}
-use Rattle.known_bits.specs.Seen.{KnownState}
-use Rattle.known_bits.specs.Laws.{StepsAreFew}
+use Rattle.measure_known_bits.specs.Passing.{HasPassed}
+use Rattle.measure_known_bits.specs.Seen.{KnownState}
+use Rattle.measure_known_bits.specs.Laws.{StepsAreFew}
 use Rattle.mode_set.specs.declared.modes.Stream.{Stream}
 use Rattle.mode_set.specs.declared.modes.Stream.TheVariants.{Hp, Lp}
 use Rattle.mode_set.specs.declared.settings.Settings.{Settings}
-use Rattle.symbol_spans.specs.Spans.{steps_before}
-use Rattle.symbol_spans.specs.Laws.{NoSteps}
+use Rattle.symbol_parameters.specs.Spans.{steps_before}
+use Rattle.symbol_parameters.specs.Laws.{NoSteps}
 use Rattle.reception.specs.Cells.{symbols}
 use Rattle.reception.specs.Costs.{costs}
 use Rattle.reception.specs.Laws.{CostsAreSteps}
 use Rattle.reception.specs.Streams.{so_far, at_end}
-use Rattle.stream_meter.specs.declared.stream.StreamMeter.{StreamMeter}
-use Rattle.stream_meter.specs.Standing.{WentOn, IsReady}
-use Rattle.stream_meter.specs.Laws.{CountsAreFew, RoomAtEnd, StandsReady, AreFewOfSteps}
-use Rattle.symbol_comparison.specs.Seen.{ComparerState, known_of}
-use Rattle.symbol_comparison.specs.Standing.{StandsBefore}
-use Rattle.symbol_comparison.specs.Laws.{MoreBitsKnown}
+use Rattle.measure_stream.specs.declared.stream.StreamMeter.{StreamMeter}
+use Rattle.measure_stream.specs.Standing.{WentOn, IsReady}
+use Rattle.measure_stream.specs.Laws.{CountsAreFew, RoomAtEnd, StandsReady, AreFewOfSteps}
+use Rattle.measure_comparison.specs.Seen.{ComparerState, known_of}
+use Rattle.measure_comparison.specs.Standing.{StandsBefore}
+use Rattle.measure_comparison.specs.Laws.{MoreBitsKnown}
 use Rattle.measurer.specs.declared.current.Current.{Current}
 use Rattle.measurer.specs.Seen.{MeterState, meter_of}
 use Rattle.measurer.specs.Standing.{MeterStands, MetersStand, GoOn, KeepsLast}

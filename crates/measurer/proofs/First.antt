@@ -2,8 +2,8 @@
 use Rattle.std.proofs.Common.{◌≡◌, ℕ, ◌+◌, ◌-◌, ◌*◌, ◌/◌, ◌≤◌, inl, List, [], refl, sym, ap, subst, arith}
 use Rattle.conv_code.specs.Coded.{zeros}
 use Rattle.code_paths.specs.declared.costs.CostPair.{CostPair}
-use Rattle.known_bits.specs.Laws.{nothing_known}
-use Rattle.known_bits.specs.Passing.{IsSettled}
+use Rattle.measure_known_bits.specs.Laws.{nothing_known}
+use Rattle.measure_known_bits.specs.Passing.{IsSettled}
 use Rattle.mode_set.specs.StreamTable.{carriers}
 use Rattle.mode_set.specs.declared.modes.Mode.{Mode}
 use Rattle.mode_set.specs.declared.modes.Mode.TheVariants.{M2k, M8k}
@@ -14,11 +14,11 @@ use Rattle.reception.specs.Cells.{symbols}
 use Rattle.reception.specs.Laws.{NoCosts}
 use Rattle.reception.specs.Streams.{so_far}
 use Rattle.symbol_sums.specs.Tables.{AreLittle, no_sums}
-use Rattle.stream_meter.specs.declared.reports.ReportCounts.{ReportCounts}
-use Rattle.stream_meter.specs.Reports.{AreFew, no_reports}
-use Rattle.stream_meter.specs.Standing.{Stands}
-use Rattle.symbol_comparison.specs.Laws.{StandsAtFirst}
-use Rattle.symbol_comparison.specs.Standing.{StandsBefore}
+use Rattle.measure_stream.specs.declared.reports.ReportCounts.{ReportCounts}
+use Rattle.measure_stream.specs.Reports.{AreFew, no_reports}
+use Rattle.measure_stream.specs.Standing.{Stands}
+use Rattle.measure_comparison.specs.Laws.{StandsAtFirst}
+use Rattle.measure_comparison.specs.Standing.{StandsBefore}
 use Rattle.measurer.specs.declared.current.Current.{Current}
 use Rattle.measurer.specs.Seen.{MeterState, meter_of}
 use Rattle.measurer.specs.Standing.{MeterStands, GoOn}

@@ -3,25 +3,25 @@ use Rattle.std.proofs.Common.{◌≡◌, ℕ, suc, ◌+◌, ◌-◌, ◌*◌, �
 use Rattle.std.specs.Prelude.{Option, Some, None}
 use Rattle.code_paths.specs.declared.costs.CostPair.{CostPair}
 use Rattle.code_paths.specs.Laws.{GivenOnce, EndedOnce}
-use Rattle.path_laws.specs.Laws.{SomeAreGiven, SomeAreEnded}
+use Rattle.code_paths.specs.Uniqueness.{SomeAreGiven, SomeAreEnded}
 use Rattle.mode_set.specs.declared.modes.Stream.{Stream}
 use Rattle.mode_set.specs.declared.modes.Stream.TheVariants.{Hp, Lp}
 use Rattle.mode_set.specs.declared.settings.Settings.{Settings}
-use Rattle.symbol_spans.specs.Spans.{exists_in, steps_before, words_before}
-use Rattle.symbol_spans.specs.Laws.{StepsOfOneMore, StepsGrow, NoSteps, SpansHaveWholeWords}
+use Rattle.symbol_parameters.specs.Spans.{exists_in, steps_before, words_before}
+use Rattle.symbol_parameters.specs.Laws.{StepsOfOneMore, StepsGrow, NoSteps, SpansHaveWholeWords}
 use Rattle.outer_chain.specs.Bits.{bytes_of}
 use Rattle.outer_chain.specs.Words.{word_count}
-use Rattle.known_bits.specs.Seen.{KnownState}
-use Rattle.known_bits.specs.Laws.{StepsAreFew}
+use Rattle.measure_known_bits.specs.Seen.{KnownState}
+use Rattle.measure_known_bits.specs.Laws.{StepsAreFew}
 use Rattle.reception.specs.Cells.{symbols}
 use Rattle.reception.specs.Costs.{costs}
 use Rattle.reception.specs.Frames.{tps_cells, frame_bits, CountsWords}
 use Rattle.reception.specs.Laws.{SameCosts, CostsAreSteps}
 use Rattle.reception.specs.Streams.{Moment, so_far, at_end, start_of, IsDecoded}
-use Rattle.stream_decoders.specs.declared.frames.FrameReader.{FrameReader}
-use Rattle.stream_meter.specs.Standing.{Stands}
-use Rattle.stream_meter.specs.declared.stream.StreamMeter.{StreamMeter}
-use Rattle.symbol_comparison.specs.Standing.{StandsBefore}
+use Rattle.inner_receiver.specs.declared.frames.FrameReader.{FrameReader}
+use Rattle.measure_stream.specs.Standing.{Stands}
+use Rattle.measure_stream.specs.declared.stream.StreamMeter.{StreamMeter}
+use Rattle.measure_comparison.specs.Standing.{StandsBefore}
 use Rattle.symbol_sums.specs.Comparing.{bits_in, wrong_in}
 use Rattle.measure_report.specs.declared.sums.BitSums.{BitSums}
 use Rattle.measure_report.specs.declared.sums.StreamSums.{StreamSums}

@@ -4,16 +4,16 @@ use Rattle.std.specs.List.{concat}
 use Rattle.std.proofs.lemmas.Bool.{cases_lt}
 use Rattle.mode_set.specs.declared.modes.Stream.TheVariants.{Hp, Lp}
 use Rattle.mode_set.specs.declared.settings.Settings.{Settings}
-use Rattle.symbol_spans.specs.Spans.{steps_before}
-use Rattle.symbol_spans.specs.Laws.{NoSteps}
-use Rattle.known_bits.specs.Passing.{IsSettled}
+use Rattle.symbol_parameters.specs.Spans.{steps_before}
+use Rattle.symbol_parameters.specs.Laws.{NoSteps}
+use Rattle.measure_known_bits.specs.Passing.{IsSettled}
 use Rattle.reception.specs.Cells.{symbols}
 use Rattle.reception.specs.Frames.{tps_cells, frame_bits, CountsWords}
 use Rattle.reception.specs.Streams.{so_far}
-use Rattle.stream_decoders.specs.declared.frames.FrameReader.{FrameReader}
-use Rattle.stream_meter.specs.declared.reports.ReportCounts.{ReportCounts}
-use Rattle.stream_meter.specs.Reports.{AreFew}
-use Rattle.symbol_comparison.specs.Seen.{ComparerState}
+use Rattle.inner_receiver.specs.declared.frames.FrameReader.{FrameReader}
+use Rattle.measure_stream.specs.declared.reports.ReportCounts.{ReportCounts}
+use Rattle.measure_stream.specs.Reports.{AreFew}
+use Rattle.measure_comparison.specs.Seen.{ComparerState}
 use Rattle.symbol_sums.specs.Tables.{AreLittle}
 use Rattle.measurement.specs.Lines.{defined_by}
 use Rattle.measurer.specs.declared.current.Current.{Current}

@@ -5,7 +5,7 @@ use Rattle.std.proofs.lemmas.List.{take-append-drop, take-append-le, length-take
 use Rattle.code_paths.specs.declared.costs.CostPair.{CostPair}
 use Rattle.code_paths.specs.Streams.{Given}
 use Rattle.code_paths.specs.Laws.{GivenOnce, EndedOnce}
-use Rattle.path_laws.specs.Laws.{IsStart, SomeAreGiven, SomeAreEnded}
+use Rattle.code_paths.specs.Uniqueness.{IsStart, SomeAreGiven, SomeAreEnded}
 use Rattle.mode_set.specs.StreamTable.{carriers}
 use Rattle.mode_set.specs.declared.modes.Mode.{Mode}
 use Rattle.mode_set.specs.declared.modes.Mode.TheVariants.{M2k, M8k}

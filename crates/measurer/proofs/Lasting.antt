@@ -18,8 +18,8 @@ use Rattle.mode_set.specs.declared.modes.Rate.TheVariants.{R1of2, R2of3, R3of4, 
 use Rattle.mode_set.specs.declared.modes.Stream.{Stream}
 use Rattle.mode_set.specs.declared.modes.Stream.TheVariants.{Hp, Lp}
 use Rattle.mode_set.specs.declared.settings.Settings.{Settings}
-use Rattle.symbol_spans.specs.Spans.{settings_at, steps_before}
-use Rattle.symbol_spans.specs.Laws.{StepsOfOneMore, StepsGrow}
+use Rattle.symbol_parameters.specs.Spans.{settings_at, steps_before}
+use Rattle.symbol_parameters.specs.Laws.{StepsOfOneMore, StepsGrow}
 use Rattle.reception.specs.Cells.{symbols}
 use Rattle.reception.specs.Costs.{costs}
 use Rattle.reception.specs.Laws.{CostsAreSteps}

@@ -13,7 +13,7 @@ use Rattle.symbol_sums.specs.Comparing.{Comparison, symbol_sums, cells_in, muted
 use Rattle.measure_report.specs.declared.sums.SymbolSums.{SymbolSums}
 use Rattle.measurement.specs.Known.{is_compared, comparison}
 use Rattle.measurement.specs.SuperFrames.{Knowns, over_compared, compared_in}
-use Rattle.symbol_comparison.specs.Standing.{IsSummed, beside}
+use Rattle.measure_comparison.specs.Standing.{IsSummed, beside}
 use Rattle.measurer.specs.declared.current.Current.{Current}
 use Rattle.measurer.specs.Standing.{symbol_of}
 use Rattle.measurer.specs.Sums.{first_of, over_first, AreFirstSums, AreSummed, nothing_of, with_symbol}

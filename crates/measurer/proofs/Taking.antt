@@ -8,26 +8,26 @@ use Rattle.inner_decoder.specs.Running.{BranchState}
 use Rattle.mode_set.specs.declared.modes.Stream.{Stream}
 use Rattle.mode_set.specs.declared.modes.Stream.TheVariants.{Hp, Lp}
 use Rattle.mode_set.specs.declared.settings.Settings.{Settings}
-use Rattle.symbol_spans.specs.Spans.{steps_before}
-use Rattle.symbol_spans.specs.Laws.{StepsGrow, NoSteps}
+use Rattle.symbol_parameters.specs.Spans.{steps_before}
+use Rattle.symbol_parameters.specs.Laws.{StepsGrow, NoSteps}
 use Rattle.qam_map.specs.declared.cell.Cell.{Cell}
-use Rattle.known_bits.specs.Seen.{KnownState}
-use Rattle.known_bits.specs.Passing.{IsSettled}
-use Rattle.known_bits.specs.Laws as bits_law
+use Rattle.measure_known_bits.specs.Seen.{KnownState}
+use Rattle.measure_known_bits.specs.Passing.{IsSettled}
+use Rattle.measure_known_bits.specs.Laws as bits_law
 use Rattle.reception.specs.Cells.{symbols, symbol_cells, symbol_weights}
 use Rattle.reception.specs.Costs.{costs}
 use Rattle.reception.specs.Laws.{CostsAreSteps, CellsStay, WeightsStay, OneSymbolMore}
 use Rattle.reception.specs.Streams.{so_far}
-use Rattle.stream_decoders.specs.Branches.{HasTaken}
-use Rattle.stream_decoders.specs.Seen.{CostsState}
-use Rattle.stream_meter.specs.Laws.{StandsReady, RunsOn, CountsAreFew, RoomForSymbol}
-use Rattle.stream_meter.specs.Reports.{LieIn, AreFew}
-use Rattle.stream_meter.specs.Standing.{Stands, WentOn, HasRun}
-use Rattle.stream_meter.specs.declared.stream.StreamMeter.{StreamMeter}
-use Rattle.stream_meter.specs.declared.reports.ReportCounts.{ReportCounts}
-use Rattle.symbol_comparison.specs.Laws.{MoreBitsKnown}
-use Rattle.symbol_comparison.specs.Seen.{SymbolState, ComparerState}
-use Rattle.symbol_comparison.specs.Standing.{StandsBefore, kept_at}
+use Rattle.inner_receiver.specs.Branches.{HasTaken}
+use Rattle.inner_receiver.specs.Seen.{CostsState}
+use Rattle.measure_stream.specs.Laws.{StandsReady, RunsOn, CountsAreFew, RoomForSymbol}
+use Rattle.measure_stream.specs.Reports.{LieIn, AreFew}
+use Rattle.measure_stream.specs.Standing.{Stands, WentOn, HasRun}
+use Rattle.measure_stream.specs.declared.stream.StreamMeter.{StreamMeter}
+use Rattle.measure_stream.specs.declared.reports.ReportCounts.{ReportCounts}
+use Rattle.measure_comparison.specs.Laws.{MoreBitsKnown}
+use Rattle.measure_comparison.specs.Seen.{SymbolState, ComparerState}
+use Rattle.measure_comparison.specs.Standing.{StandsBefore, kept_at}
 use Rattle.word_workers.specs.Symbols.{MayRunOver}
 use Rattle.measurement.specs.Lines.{defined_by}
 use Rattle.measurer.specs.Seen.{MeterState, meter_of}

@@ -3,9 +3,9 @@ use Rattle.std.specs.Prelude.{ℕ, Bool, List}
 use Rattle.mode_set.specs.declared.modes.Stream.{Stream}
 use Rattle.mode_set.specs.declared.modes.Stream.TheVariants.{Hp, Lp}
 use Rattle.mode_set.specs.declared.settings.Settings.{Settings}
-use Rattle.stream_decoders.specs.declared.frames.FrameReader.{FrameReader}
-use Rattle.stream_meter.specs.declared.stream.StreamMeter.{StreamMeter}
-use Rattle.symbol_comparison.specs.Seen.{ComparerState}
+use Rattle.inner_receiver.specs.declared.frames.FrameReader.{FrameReader}
+use Rattle.measure_stream.specs.declared.stream.StreamMeter.{StreamMeter}
+use Rattle.measure_comparison.specs.Seen.{ComparerState}
 use Rattle.measurer.specs.declared.current.Current.{Current}
 
 -- what measures the symbols: the comparer, the meter of each stream, and the sums of the super-frame so far

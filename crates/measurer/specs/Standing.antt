@@ -2,18 +2,18 @@
 use Rattle.std.specs.Prelude.{◌≡◌, ℕ, ◌+◌, ◌-◌, ◌*◌, ◌<◌, ◌≤◌, Bool, true, false, List, ⊤}
 use Rattle.mode_set.specs.declared.modes.Stream.{Stream}
 use Rattle.mode_set.specs.declared.settings.Settings.{Settings}
-use Rattle.known_bits.specs.Passing.{IsSettled}
+use Rattle.measure_known_bits.specs.Passing.{IsSettled}
 use Rattle.reception.specs.Cells.{symbols, symbol_cells, symbol_weights}
 use Rattle.reception.specs.Costs.{costs}
 use Rattle.reception.specs.Frames.{tps_cells, frame_bits, CountsWords}
 use Rattle.reception.specs.Laws.{unfinished}
 use Rattle.reception.specs.Streams.{Moment, so_far, at_end}
-use Rattle.stream_decoders.specs.Framing.{FrameStands}
-use Rattle.stream_decoders.specs.declared.frames.FrameReader.{FrameReader}
-use Rattle.stream_meter.specs.Standing.{Stands}
-use Rattle.stream_meter.specs.declared.stream.StreamMeter.{StreamMeter}
-use Rattle.symbol_comparison.specs.Seen.{SymbolState, ComparerState}
-use Rattle.symbol_comparison.specs.Standing.{StandsBefore, kept_at}
+use Rattle.inner_receiver.specs.Framing.{FrameStands}
+use Rattle.inner_receiver.specs.declared.frames.FrameReader.{FrameReader}
+use Rattle.measure_stream.specs.Standing.{Stands}
+use Rattle.measure_stream.specs.declared.stream.StreamMeter.{StreamMeter}
+use Rattle.measure_comparison.specs.Seen.{SymbolState, ComparerState}
+use Rattle.measure_comparison.specs.Standing.{StandsBefore, kept_at}
 use Rattle.measurement.specs.Known.{IsKnown}
 use Rattle.measurement.specs.Lines.{defined_by, MeasureLive, MeasureFinal}
 use Rattle.measurement.specs.SuperFrames.{Knowns, told_before}

@@ -8,13 +8,13 @@ use Rattle.reception.specs.Lines.{counts_of}
 use Rattle.reception.specs.Streams.{Moment, so_far, at_end, Reception, Final}
 use Rattle.rx_report.specs.declared.counts.Counts.{Counts}
 use Rattle.std.specs.List.{concat}
-use Rattle.known_bits.specs.Passing.{IsSettled}
-use Rattle.stream_decoders.specs.Fed.{Ends}
-use Rattle.stream_decoders.specs.Framing.{FrameStands}
-use Rattle.stream_decoders.specs.Seen.{CostsState}
-use Rattle.stream_decoders.specs.declared.frames.FrameReader.{FrameReader}
-use Rattle.stream_meter.specs.Reports.{AreFew}
-use Rattle.symbol_comparison.specs.Standing.{StandsBefore}
+use Rattle.measure_known_bits.specs.Passing.{IsSettled}
+use Rattle.inner_receiver.specs.Fed.{Ends}
+use Rattle.inner_receiver.specs.Framing.{FrameStands}
+use Rattle.inner_receiver.specs.Seen.{CostsState}
+use Rattle.inner_receiver.specs.declared.frames.FrameReader.{FrameReader}
+use Rattle.measure_stream.specs.Reports.{AreFew}
+use Rattle.measure_comparison.specs.Standing.{StandsBefore}
 use Rattle.symbol_sums.specs.Tables.{AreLittle}
 use Rattle.measure_report.specs.declared.sums.SuperFrame.{SuperFrame}
 use Rattle.measurement.specs.Lines.{lines_of, defined_by, begun_by}

@@ -4,7 +4,7 @@ ghost use Rattle.symbol_sums.specs.Tables.{AreLittle, no_sums};
 ghost use Rattle.measurer.specs.Sums.{nothing_of, with_symbol};
 
 use measure_report::{BitSums, SymbolSums};
-use stream_decoders::FrameReader;
+use inner_receiver::FrameReader;
 
 /// The super-frame whose lines come next: the sums of its symbols so far, and the TPS words of the frames before it.
 #[derive(Clone, Copy, Debug, Drop, PartialEq, Eq)]

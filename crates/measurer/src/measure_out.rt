@@ -5,7 +5,7 @@ ghost use Rattle.measure_report.specs.Text.{lines};
 ghost use Rattle.rx_report.specs.Text.{closing_lines};
 
 use measure_report::SuperFrame;
-use report_line::Line;
+use rx_report::Line;
 use rx_report::Counts;
 use std::alloc::{AllocError, Global};
 use std::marker::Model;

@@ -3,10 +3,10 @@ ghost use Rattle.std.specs.Prelude.{◌≡◌, ◌+◌, ◌-◌, ◌*◌, ◌<�
 ghost use Rattle.std.specs.List.{concat};
 ghost use Rattle.reception.specs.Streams.{so_far, at_end};
 ghost use Rattle.mode_set.specs.declared.settings.Settings.{Settings as AnySettings};
-ghost use Rattle.known_bits.specs.Passing.{IsSettled};
+ghost use Rattle.measure_known_bits.specs.Passing.{IsSettled};
 ghost use Rattle.reception.specs.Cells.{symbols};
 ghost use Rattle.reception.specs.Streams.{Moment};
-ghost use Rattle.stream_meter.specs.Reports.{AreFew};
+ghost use Rattle.measure_stream.specs.Reports.{AreFew};
 ghost use Rattle.measurement.specs.Lines.{defined_by};
 ghost use Rattle.measurer.specs.Sums.{nothing_of};
 ghost use Rattle.measurer.specs.Standing.{MetersStand, FramesStand, StandsFor};
@@ -18,7 +18,7 @@ use mode_set::{Carriers, Settings};
 use std::alloc::{AllocError, Global};
 use std::marker::Model;
 use std::thread::Threads;
-use stream_decoders::{FrameReader, SymbolCosts};
+use inner_receiver::{FrameReader, SymbolCosts};
 use word_workers::{Gate, OpenGate};
 
 /// The symbols of a super-frame.
@@ -91,7 +91,7 @@ fn compare_next<M: Carriers>(taken: u64, meter: &mut FrameMeter<M>)
     ensures lp_settled { IsSettled meter.new.lp.known }
     ensures compared { (s : AnySettings) (bytes : List ℕ) → symbols s bytes ≡ taken → MetersStand so_far s bytes meter.old → MetersStand so_far s bytes meter.new }
 {
-    symbol_spans::laws::steps();
+    symbol_parameters::laws::steps();
     if taken > LATER {
         meter.compare();
     }

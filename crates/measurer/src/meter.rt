@@ -1,15 +1,15 @@
 // The measuring of symbols, super-frame after super-frame.
 ghost use Rattle.std.specs.Prelude.{◌≡◌, ◌+◌, ◌-◌, ◌*◌, ◌<◌, ◌≤◌, ◌^◌, ◌++◌, [], ℕ, List, Bool, true, false, IfOk, length};
 ghost use Rattle.mode_set.specs.declared.settings.Settings.{Settings as AnySettings};
-ghost use Rattle.known_bits.specs.Passing.{IsSettled};
+ghost use Rattle.measure_known_bits.specs.Passing.{IsSettled};
 ghost use Rattle.reception.specs.Cells.{symbols};
 ghost use Rattle.reception.specs.Laws.{unfinished};
 ghost use Rattle.reception.specs.Streams.{Moment, so_far, at_end};
 ghost use Rattle.symbol_sums.specs.Tables.{AreLittle};
 ghost use Rattle.reception.specs.Frames.{tps_cells};
-ghost use Rattle.stream_decoders.specs.Framing.{FrameStands};
+ghost use Rattle.inner_receiver.specs.Framing.{FrameStands};
 ghost use Rattle.measurer.specs.Sums.{nothing_of};
-ghost use Rattle.stream_meter.specs.Reports.{AreFew};
+ghost use Rattle.measure_stream.specs.Reports.{AreFew};
 ghost use Rattle.measurement.specs.SuperFrames.{AreSums};
 ghost use Rattle.measurer.specs.Standing.{GoOn, MetersStand, FramesStand};
 ghost use Rattle.measurer.specs.Steps.{AreKept, TakesSymbol, TakesNext, HasBegun, HasStood, HasGone, IsDue, IsDone, CountsOn, AreClosing};
@@ -21,9 +21,9 @@ use rx_report::{Counts, Event};
 use std::alloc::{AllocError, Global};
 use std::marker::Model;
 use std::thread::Threads;
-use stream_decoders::{FrameReader, SymbolCosts, take_symbol};
-use stream_meter::StreamMeter;
-use symbol_comparison::Comparer;
+use inner_receiver::{FrameReader, SymbolCosts, take_symbol};
+use measure_stream::StreamMeter;
+use measure_comparison::Comparer;
 use word_workers::Gate;
 
 /// The symbols of a super-frame.
@@ -64,7 +64,7 @@ impl<M: Carriers> FrameMeter<M> {
         ensures read { IfOk result (λ x. x.current.read_before ≡ 0) }
         ensures bad { IfOk result (λ x. x.current.bad_before ≡ 0) }
     {
-        symbol_comparison::laws::standing();
+        measure_comparison::laws::standing();
         reception::laws::costs();
         let current = Current::first();
         Ok(FrameMeter {
@@ -99,12 +99,12 @@ impl<M: Carriers> FrameMeter<M> {
         ensures current { self.new.current ≡ self.old.current }
         ensures taken { (bytes p : List ℕ) → TakesSymbol self.old cells.now bytes p → MetersStand so_far cells.now.settings (bytes ++ p) self.new }
     {
-        symbol_comparison::laws::standing();
-        stream_meter::laws::ready();
-        stream_meter::laws::few();
-        stream_meter::laws::room();
-        symbol_spans::laws::steps();
-        known_bits::laws::rooms();
+        measure_comparison::laws::standing();
+        measure_stream::laws::ready();
+        measure_stream::laws::few();
+        measure_stream::laws::room();
+        symbol_parameters::laws::steps();
+        measure_known_bits::laws::rooms();
         reception::laws::symbols();
         reception::laws::costs();
         let settings = cells.settings();
@@ -145,8 +145,8 @@ impl<M: Carriers> FrameMeter<M> {
         ensures compared { (moment : Moment) (s : AnySettings) (bytes : List ℕ) → MetersStand moment s bytes self.old → IsDue moment (symbols s bytes) self.old.comparer.next → 272 * self.old.current.number ≤ self.old.comparer.next
             → MetersStand moment s bytes self.new }
     {
-        known_bits::laws::rooms();
-        symbol_spans::laws::steps();
+        measure_known_bits::laws::rooms();
+        symbol_parameters::laws::steps();
         code_paths::given_once();
         code_paths::ended_once();
         reception::laws::costs();
@@ -179,10 +179,10 @@ impl<M: Carriers> FrameMeter<M> {
         ensures sums { (moment : Moment) (bytes : List ℕ) → MetersStand moment cells.now.settings bytes self.now → FramesStand cells.now.settings bytes frames.now self.now.current
             → IsDone moment (symbols cells.now.settings bytes) self.now.comparer.next self.now.current.number → AreSums cells.now.settings bytes self.now.current.number result }
     {
-        path_laws::laws::existence();
+        code_paths::uniqueness::existence();
         code_paths::given_once();
         code_paths::ended_once();
-        symbol_spans::laws::steps();
+        symbol_parameters::laws::steps();
         reception::laws::costs();
         let sums = &self.current.sums;
         let hp = self.hp.sums(&sums.hp);
@@ -213,9 +213,9 @@ impl<M: Carriers> FrameMeter<M> {
         ensures lp_reports { (n : ℕ) → AreFew self.old.lp.reports n → AreFew self.new.lp.reports n }
         ensures advanced { (moment : Moment) (bytes : List ℕ) → MetersStand moment settings.now bytes self.old → IsDone moment (symbols settings.now bytes) self.old.comparer.next self.old.current.number → MetersStand moment settings.now bytes self.new }
     {
-        known_bits::laws::rooms();
-        symbol_spans::laws::steps();
-        symbol_spans::laws::words();
+        measure_known_bits::laws::rooms();
+        symbol_parameters::laws::steps();
+        symbol_parameters::laws::words();
         code_paths::given_once();
         code_paths::ended_once();
         reception::laws::costs();
@@ -234,12 +234,12 @@ impl<M: Carriers> FrameMeter<M> {
         ensures current { self.new.current ≡ self.old.current }
         ensures finished { (bytes : List ℕ) → GoOn settings.now bytes self.old → MetersStand at_end settings.now bytes self.new }
     {
-        known_bits::laws::rooms();
-        symbol_spans::laws::steps();
-        symbol_comparison::laws::standing();
-        stream_meter::laws::ready();
-        stream_meter::laws::few();
-        stream_meter::laws::room();
+        measure_known_bits::laws::rooms();
+        symbol_parameters::laws::steps();
+        measure_comparison::laws::standing();
+        measure_stream::laws::ready();
+        measure_stream::laws::few();
+        measure_stream::laws::room();
         reception::laws::costs();
         self.hp.finish(rt, workers);
         self.lp.finish(rt, workers);

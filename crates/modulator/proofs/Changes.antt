@@ -12,8 +12,8 @@ use Rattle.mode_set.specs.StreamTable.{words_per_super_frame}
 use Rattle.mode_set.specs.declared.entry.Entry.{Entry}
 use Rattle.mode_set.specs.declared.modes.Stream.{Stream}
 use Rattle.mode_set.specs.declared.settings.Settings.{Settings}
-use Rattle.symbol_spans.specs.Spans.{words_in, words_before}
-use Rattle.symbol_spans.specs.Laws.{ParametersChange, WordsGrow, WordsOfOneMore}
+use Rattle.symbol_parameters.specs.Spans.{words_in, words_before}
+use Rattle.symbol_parameters.specs.Laws.{ParametersChange, WordsGrow, WordsOfOneMore}
 use Rattle.transmission.proofs.Rounding.{enough, least}
 use Rattle.modulator.specs.Carrying.{AreLeastFor}
 

@@ -7,8 +7,8 @@ use Rattle.mode_set.specs.Entries.{has_lp}
 use Rattle.mode_set.specs.declared.modes.Stream.{Stream}
 use Rattle.mode_set.specs.declared.modes.Stream.TheVariants.{Hp, Lp}
 use Rattle.mode_set.specs.declared.settings.Settings.{Settings}
-use Rattle.symbol_spans.specs.Spans.{words_before}
-use Rattle.symbol_spans.specs.Laws.{HpExists, LpExists, NoWords, WordsGrow}
+use Rattle.symbol_parameters.specs.Spans.{words_before}
+use Rattle.symbol_parameters.specs.Laws.{HpExists, LpExists, NoWords, WordsGrow}
 use Rattle.transmission.specs.SuperFrames.{AreSuperFrames, IsLength, Suffices}
 use Rattle.modulator.specs.Carrying.{AreLeastFor}
 

@@ -16,8 +16,8 @@ use Rattle.conv_code.specs.Coded.{zeros}
 use Rattle.outer_chain.specs.Sent.{packet_at, outer_byte}
 use Rattle.outer_chain.specs.Sending.{Sender, Sends}
 use Rattle.outer_chain.specs.SendingLaws.{SameBeginning}
-use Rattle.symbol_spans.specs.Spans.{settings_at, steps_before}
-use Rattle.symbol_spans.specs.Laws.{ModeStays, NoSteps, StepsOfOneMore}
+use Rattle.symbol_parameters.specs.Spans.{settings_at, steps_before}
+use Rattle.symbol_parameters.specs.Laws.{ModeStays, NoSteps, StepsOfOneMore}
 use Rattle.inner_chain.specs.Labels.{Paths, TxState, IsBefore, from_step, behind, input_bits, coded_bits, label_bit}
 use Rattle.frame_build.specs.Announcing.{announcing_bytes}
 use Rattle.frame_build.specs.Symbol.{Agree, bits_of}

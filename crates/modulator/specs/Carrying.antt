@@ -2,7 +2,7 @@
 use Rattle.std.specs.Prelude.{ℕ, ◌≤◌, Option, Some, None}
 use Rattle.mode_set.specs.declared.modes.Stream.{Stream}
 use Rattle.mode_set.specs.declared.settings.Settings.{Settings}
-use Rattle.symbol_spans.specs.Spans.{words_before}
+use Rattle.symbol_parameters.specs.Spans.{words_before}
 
 -- the first n super-frames carry so many words, and no fewer super-frames do
 pub record AreLeastFor (s : Settings) (σ : Stream) (wanted n : ℕ) : Type 0 where

@@ -7,7 +7,7 @@ use Rattle.mode_set.specs.declared.modes.Stream.TheVariants.{Hp, Lp}
 use Rattle.mode_set.specs.declared.settings.Settings.{Settings}
 use Rattle.outer_chain.specs.Sent.{packet_at}
 use Rattle.outer_chain.specs.Sending.{Sender}
-use Rattle.symbol_spans.specs.Spans.{steps_before}
+use Rattle.symbol_parameters.specs.Spans.{steps_before}
 use Rattle.inner_chain.specs.Labels.{TxState, IsBefore}
 use Rattle.frame_build.specs.State.{NextSymbol}
 use Rattle.transmission.specs.Transmission.{Inputs, by_stream, paths_at}

@@ -3,7 +3,7 @@ ghost use Rattle.std.specs.Prelude.{◌≡◌, ◌≢◌, ◌+◌, ◌*◌, ◌^
 ghost use Rattle.mode_set.specs.StreamTable.{need};
 ghost use Rattle.mode_set.specs.declared.modes.Stream.TheVariants as streams;
 ghost use Rattle.transmission.specs.Transmission.{Inputs, by_stream, tx_symbol};
-ghost use Rattle.symbol_spans.specs.Spans.{settings_at};
+ghost use Rattle.symbol_parameters.specs.Spans.{settings_at};
 ghost use Rattle.transmission.specs.SuperFrames.{IsLength, super_frames};
 ghost use Rattle.modulator.specs.State.{HasOneMore, HasPut, IsNext, StandsFor, no_packets, wanted, with_packet};
 ghost use Rattle.modulator.specs.Wants.{stream_of};
@@ -19,8 +19,8 @@ use inner_chain::InnerTx;
 use mode_set::{Carriers, Settings, Stream};
 use std::alloc::{AllocError, Global};
 use std::marker::Model;
-use symbol_spans::laws::{settings as super_frame_settings, steps, words};
-use symbol_spans::parameters_of_symbol;
+use symbol_parameters::laws::{settings as super_frame_settings, steps, words};
+use symbol_parameters::parameters_of_symbol;
 use transmission::laws::super_frames as super_frames_are_least;
 use ts_packet::Packet;
 

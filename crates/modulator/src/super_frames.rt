@@ -4,7 +4,7 @@ ghost use Rattle.spec_words.specs.Words.{rounded_up};
 ghost use Rattle.modulator.specs.Carrying.{IsLeastFor};
 
 use mode_set::{Settings, Stream};
-use symbol_spans::laws::{settings as super_frame_settings, words as words_of_super_frames};
+use symbol_parameters::laws::{settings as super_frame_settings, words as words_of_super_frames};
 
 // The least number of super-frames that carry so many words, where each carries `words`; none where they
 // carry nothing.

@@ -23,12 +23,12 @@ use Rattle.reception.specs.Streams.{memory, start_of, Moment, so_far, at_end, Re
 use Rattle.reception.specs.Lines.{event_at, events}
 use Rattle.reception.specs.Feeds.{Output, packets_of, Feeds, Finishes}
 use Rattle.reception.specs.Laws.{IsWithin, unfinished, SameSymbols, OneSymbolMore, TpsCellsStay, BitsOfCells, SameCosts, NextEvents, NoCosts, NothingLive, nothing}
-use Rattle.stream_decoders.specs.Seen.{CostsState}
-use Rattle.stream_decoders.specs.Fed.{HasHad, Ends, Fed}
-use Rattle.stream_decoders.specs.Framing.{FrameStands}
+use Rattle.inner_receiver.specs.Seen.{CostsState}
+use Rattle.inner_receiver.specs.Fed.{HasHad, Ends, Fed}
+use Rattle.inner_receiver.specs.Framing.{FrameStands}
 use Rattle.receiver.specs.Seen.{StreamState, ReceiverState, stream_of}
 use Rattle.receiver.specs.Standing.{is_end, StreamStands, StreamGave, StandsFor}
-use Rattle.stream_decoders.specs.declared.frames.FrameReader.{FrameReader}
+use Rattle.inner_receiver.specs.declared.frames.FrameReader.{FrameReader}
 use Rattle.receiver.proofs.Stepping.{received}
 
 -- a receiver by its parts

@@ -21,7 +21,7 @@ use Rattle.receiver.specs.Words.{Gives, AreFew}
 use Rattle.receiver.specs.Ready.{IsReady, MayGive, IsKeptStream}
 use Rattle.receiver.specs.declared.stream.StreamRx.{StreamRx}
 use Rattle.receiver.proofs.Pending.{few_more}
-use Rattle.stream_decoders.specs.Branches.{HasGiven, HasTaken, HasEnded}
+use Rattle.inner_receiver.specs.Branches.{HasGiven, HasTaken, HasEnded}
 use Rattle.word_workers.specs.Symbols.{MayRunOver}
 use Rattle.receiver.specs.Standing.{StreamStands, StreamGave}
 

@@ -1,7 +1,7 @@
 -- What a receiver keeps.
 use Rattle.std.specs.Prelude.{◌≡◌, ℕ, ◌+◌, ◌^◌, ◌<◌, ◌≤◌, Bool, false}
 use Rattle.receiver.specs.Ready.{IsKeptStream}
-use Rattle.stream_decoders.specs.declared.frames.FrameReader.{FrameReader}
+use Rattle.inner_receiver.specs.declared.frames.FrameReader.{FrameReader}
 use Rattle.receiver.specs.declared.stream.StreamRx.{StreamRx}
 
 -- until the end both streams and the reader of TPS words have had the symbols taken

@@ -6,7 +6,7 @@ use Rattle.mode_set.specs.declared.settings.Settings.{Settings}
 use Rattle.inner_decoder.specs.Running.{BranchState}
 use Rattle.outer_chain.specs.Receiving.{Receiver}
 use Rattle.rx_report.specs.declared.counts.StreamCounts.{StreamCounts}
-use Rattle.stream_decoders.specs.declared.frames.FrameReader.{FrameReader}
+use Rattle.inner_receiver.specs.declared.frames.FrameReader.{FrameReader}
 
 -- of one stream: its decoder, its outer receiver and its counts
 pub record StreamState : Type 0 where

@@ -4,7 +4,7 @@ use Rattle.code_paths.specs.declared.costs.CostPair.{CostPair}
 use Rattle.bit_pack.specs.Queue.{bits_of_bytes}
 use Rattle.mode_set.specs.declared.modes.Stream.{Stream}
 use Rattle.inner_decoder.specs.Running.{BranchState}
-use Rattle.stream_decoders.specs.Branches.{DecoderStands, HasGiven}
+use Rattle.inner_receiver.specs.Branches.{DecoderStands, HasGiven}
 use Rattle.outer_chain.specs.Running.{Finished}
 use Rattle.outer_chain.specs.Words.{Tally, word_count}
 use Rattle.reception.specs.Cells.{symbols}
@@ -13,7 +13,7 @@ use Rattle.reception.specs.Frames.{tps_cells}
 use Rattle.reception.specs.Streams.{start_of, Moment, so_far, at_end, IsDecoded, Reception, Receives}
 use Rattle.reception.specs.Lines.{stream_counts}
 use Rattle.reception.specs.Laws.{unfinished}
-use Rattle.stream_decoders.specs.Framing.{FrameStands}
+use Rattle.inner_receiver.specs.Framing.{FrameStands}
 use Rattle.receiver.specs.Seen.{StreamState, ReceiverState, stream_of}
 
 abbrev pub is_end : Moment → Bool

@@ -1,7 +1,7 @@
 // The receiver.
 ghost use Rattle.std.specs.Prelude.{◌≡◌, ◌+◌, ◌-◌, ◌*◌, ◌<◌, ◌≤◌, ◌^◌, [], ℕ, List, IsTrue, true, false, min, take, length, IfOk};
 ghost use Rattle.mode_set.specs.declared.modes.Stream.TheVariants.{Hp, Lp};
-ghost use Rattle.symbol_spans.specs.Spans.{exists_in};
+ghost use Rattle.symbol_parameters.specs.Spans.{exists_in};
 ghost use Rattle.reception.specs.Streams.{so_far, at_end, start_of, Moment, Reception};
 ghost use Rattle.reception.specs.Lines.{counts_of};
 ghost use Rattle.reception.specs.Laws.{nothing};
@@ -20,7 +20,7 @@ use rx_report::Counts;
 use std::alloc::{AllocError, Global};
 use std::marker::Model;
 use std::thread::Threads;
-use stream_decoders::{FrameReader, SymbolCosts, take_symbol};
+use inner_receiver::{FrameReader, SymbolCosts, take_symbol};
 use survivor_ring::RingSurvivors;
 use word_workers::{Gate, OpenGate};
 

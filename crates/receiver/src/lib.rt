@@ -12,4 +12,4 @@ mod stream;
 mod words;
 
 pub use feed::Receiver;
-pub use stream_decoders::ReceiverOut as RxOut;
+pub use inner_receiver::ReceiverOut as RxOut;

@@ -4,7 +4,7 @@ ghost use Rattle.std.specs.declared.option.Option.{Option};
 ghost use Rattle.code_paths.specs.declared.costs.CostPair.{CostPair as Pair};
 ghost use Rattle.inner_decoder.specs.Events.{ats};
 ghost use Rattle.inner_decoder.specs.Running.{BranchState};
-ghost use Rattle.stream_decoders.specs.Branches.{HasTaken};
+ghost use Rattle.inner_receiver.specs.Branches.{HasTaken};
 ghost use Rattle.outer_chain.specs.Words.{Tally, word_count};
 ghost use Rattle.outer_chain.specs.Running.{Finished, no_words};
 ghost use Rattle.reception.specs.Streams.{so_far, at_end, start_of};
@@ -19,7 +19,7 @@ use outer_chain::{OuterRx, WordSlot};
 use rx_report::StreamCounts;
 use std::alloc::{AllocError, Global};
 use std::thread::Threads;
-use stream_decoders::{StreamBranch, begin, end};
+use inner_receiver::{StreamBranch, begin, end};
 use word_workers::{Gate, OpenGate};
 
 /// The decoder of one stream, and what becomes of the bits that it gives: bytes, words, packets and counts.

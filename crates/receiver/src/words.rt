@@ -10,7 +10,7 @@ use outer_chain::{OuterRx, WordSlot};
 use rs204::Outcome;
 use rx_report::StreamCounts;
 use std::thread::Threads;
-use stream_decoders::StreamBranch;
+use inner_receiver::StreamBranch;
 use ts_packet::Packet;
 use word_workers::{Gate, decode_all};
 

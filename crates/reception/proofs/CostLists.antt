@@ -11,9 +11,9 @@ use Rattle.mode_set.specs.StreamTable.{carriers}
 use Rattle.mode_set.specs.declared.modes.Stream.{Stream}
 use Rattle.mode_set.specs.declared.settings.Settings.{Settings}
 use Rattle.qam_map.specs.declared.cell.Cell.{Cell}
-use Rattle.symbol_spans.specs.Spans.{settings_at, steps_of, steps_before}
-use Rattle.symbol_spans.specs.Laws.{NoSteps, StepsOfOneMore, StepsGrow, StepsAreOfAStream}
-use Rattle.symbol_spans.proofs.Parts.{parts_long, part_is}
+use Rattle.symbol_parameters.specs.Spans.{settings_at, steps_of, steps_before}
+use Rattle.symbol_parameters.specs.Laws.{NoSteps, StepsOfOneMore, StepsGrow, StepsAreOfAStream}
+use Rattle.symbol_parameters.proofs.Parts.{parts_long, part_is}
 use Rattle.inner_chain.specs.PairLists.{pair_of}
 use Rattle.reception.specs.Cells.{symbols, symbol_cells, symbol_weights}
 use Rattle.reception.specs.Costs.{symbol_costs, costs}

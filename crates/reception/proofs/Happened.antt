@@ -8,7 +8,7 @@ use Rattle.code_paths.specs.Laws.{ReportsOnce}
 use Rattle.code_paths.specs.Streams.{Reports}
 use Rattle.mode_set.specs.declared.modes.Stream.{Stream}
 use Rattle.mode_set.specs.declared.modes.Stream.TheVariants.{Hp, Lp}
-use Rattle.symbol_spans.specs.Spans.{steps_before}
+use Rattle.symbol_parameters.specs.Spans.{steps_before}
 use Rattle.reception.specs.Cells.{symbols}
 use Rattle.reception.specs.Costs.{symbol_costs, costs}
 use Rattle.reception.specs.Streams.{memory, start_of}

@@ -8,3 +8,11 @@ pub mod Nothing
 mod Base
 mod Vectors
 mod CostVectors
+pub mod Searching
+pub mod NearWords
+pub mod Fields
+pub mod TpsFrames
+pub mod Whole
+pub mod Beginnings
+pub mod Alike
+pub mod WholeFiles

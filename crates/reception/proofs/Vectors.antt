@@ -14,7 +14,7 @@ use Rattle.tps_bch.specs.Bch.{bit_distance, tps_parity}
 use Rattle.tps_word.specs.Tps.{tps_word, tps_info, sync_word, length_bits, shape_bits, hierarchy_bits, rate_bits, guard_bits, mode_bits, signalled}
 use Rattle.tps_word.specs.Vote.{vote, bits_from}
 use Rattle.frame_build.specs.Symbol.{cell_from, weight_from, weights_from, tps_sign, real}
-use Rattle.symbol_spans.specs.Spans.{settings_in, exists_in, steps_before}
+use Rattle.symbol_parameters.specs.Spans.{settings_in, exists_in, steps_before}
 use Rattle.reception.specs.Cells.{symbols, tail, bytes_of_symbol, symbol_weights}
 use Rattle.reception.specs.Frames.{frame_bits}
 use Rattle.reception.specs.Streams.{Reception}

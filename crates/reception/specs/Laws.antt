@@ -6,7 +6,7 @@ use Rattle.mode_set.specs.declared.modes.Start.{Start}
 use Rattle.mode_set.specs.declared.modes.Stream.{Stream}
 use Rattle.mode_set.specs.declared.modes.Stream.TheVariants.{Hp, Lp}
 use Rattle.mode_set.specs.declared.settings.Settings.{Settings}
-use Rattle.symbol_spans.specs.Spans.{settings_at, exists_in, steps_before, IsStepOf}
+use Rattle.symbol_parameters.specs.Spans.{settings_at, exists_in, steps_before, IsStepOf}
 use Rattle.outer_chain.specs.Words.{Tally}
 use Rattle.inner_chain.specs.PairLists.{pair_of}
 use Rattle.reception.specs.Cells.{symbol_length, symbols, tail, bytes_of_symbol, symbol_cells, symbol_weights}

@@ -5,3 +5,6 @@ pub mod Streams
 pub mod Lines
 pub mod Feeds
 pub mod Laws
+pub mod Moments
+pub mod Alike
+pub mod WholeSymbols

@@ -5,7 +5,7 @@ use Rattle.spec_words.specs.Words.{numbers}
 use Rattle.mode_set.specs.declared.modes.Stream.{Stream}
 use Rattle.mode_set.specs.declared.modes.Stream.TheVariants.{Hp, Lp}
 use Rattle.mode_set.specs.declared.settings.Settings.{Settings}
-use Rattle.symbol_spans.specs.Spans.{exists_in, steps_before}
+use Rattle.symbol_parameters.specs.Spans.{exists_in, steps_before}
 use Rattle.outer_chain.specs.Words.{Tally}
 use Rattle.rx_report.specs.Text.{event_line}
 use Rattle.rx_report.specs.Text as text

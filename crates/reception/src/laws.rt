@@ -4,7 +4,7 @@ ghost use Rattle.reception.specs.Laws.{SameSymbols, OneSymbolMore, TailIsUnfinis
 use code_paths::{
     ended_once, given_begins_ended, given_grows, given_once, reports_grow, reports_once,
 };
-use symbol_spans::laws::steps;
+use symbol_parameters::laws::steps;
 
 /// Bytes end a symbol or do not, and more bytes leave its cells.
 pub fn symbols()

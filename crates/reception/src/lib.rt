@@ -6,3 +6,6 @@
 #![tactic(auto)]
 
 pub mod laws;
+pub mod moments;
+pub mod workers;
+pub mod whole_symbols;

@@ -15,11 +15,11 @@ use Rattle.reception.specs.Feeds.{Output, packets_of}
 use Rattle.reception.specs.Laws.{IsWithin, unfinished, SameSymbols, OneSymbolMore, SameCosts, NextEvents, NoCosts}
 use Rattle.rescue_words.specs.Laws.{AllRescued}
 use Rattle.rescue_words.specs.Rescued.{RescueTally}
-use Rattle.rescue_reception.specs.Known.{AreKnown}
-use Rattle.rescue_reception.specs.Streams.{Rescue, no_words, nothing}
-use Rattle.rescue_reception.specs.Feeds.{Feeds, Finishes}
-use Rattle.stream_decoders.specs.Seen.{CostsState}
-use Rattle.stream_decoders.specs.Fed.{HasHad, Ends, Fed}
+use Rattle.rescue.specs.Known.{AreKnown}
+use Rattle.rescue.specs.Streams.{Rescue, no_words, nothing}
+use Rattle.rescue.specs.Feeds.{Feeds, Finishes}
+use Rattle.inner_receiver.specs.Seen.{CostsState}
+use Rattle.inner_receiver.specs.Fed.{HasHad, Ends, Fed}
 use Rattle.rescue.specs.Seen.{StreamState, RescueState, stream_of}
 use Rattle.rescue.specs.Standing.{is_end, StreamStands, StreamGave, StandsFor}
 use Rattle.rescue.proofs.Rooms.{settled}

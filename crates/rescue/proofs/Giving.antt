@@ -16,11 +16,11 @@ use Rattle.forney.specs.Values.{values}
 use Rattle.bit_margin.specs.Stream as margins
 use Rattle.reception.specs.Streams.{Moment, so_far, at_end}
 use Rattle.rescue_words.specs.Running as words
-use Rattle.rescue_reception.specs.Streams.{no_words}
+use Rattle.rescue.specs.Streams.{no_words}
 use Rattle.rescue_words.specs.ByteMargins.{byte_margins}
 use Rattle.rescue_words.specs.Laws.{AllRescued}
 use Rattle.rescue_words.specs.Rescued.{RescueTally, Rescues}
-use Rattle.stream_decoders.specs.Branches.{HasGiven, HasTaken, HasEnded}
+use Rattle.inner_receiver.specs.Branches.{HasGiven, HasTaken, HasEnded}
 use Rattle.rescue.specs.Seen.{StreamState}
 use Rattle.rescue.specs.Moves.{Passes, Appends, GivesWords, Pushes, EndsMargins}
 use Rattle.rescue.specs.Standing.{MarginsStand, StreamStands, StreamGave}

@@ -2,7 +2,7 @@
 use Rattle.std.proofs.Common.{◌≡◌, ℕ, ◌+◌, ◌*◌, ◌^◌, ◌<◌, ◌≤◌, List, length, ap, arith}
 use Rattle.code_paths.specs.declared.costs.CostPair.{CostPair}
 use Rattle.inner_decoder.specs.Running.{BranchState}
-use Rattle.stream_decoders.specs.Branches.{HasTaken}
+use Rattle.inner_receiver.specs.Branches.{HasTaken}
 use Rattle.word_workers.specs.Symbols.{MayRunOver}
 use Rattle.rescue.specs.Kept.{AreFew, IsReady, IsKeptStream, RanFrom, seen}
 use Rattle.rescue.specs.Seen.{StreamState}

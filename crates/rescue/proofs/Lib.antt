@@ -3,3 +3,10 @@ mod Rooms
 mod Giving
 mod Keeping
 mod Feeding
+mod Vectors
+mod Marks
+mod Received
+mod SomeMargins
+mod SomeWords
+mod Whole
+mod Workers

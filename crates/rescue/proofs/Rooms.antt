@@ -11,7 +11,7 @@ use Rattle.forney.specs.Values.{values, stream_of}
 use Rattle.reception.specs.Streams.{so_far}
 use Rattle.rescue_words.specs.ByteMargins.{byte_margins}
 use Rattle.rescue_words.specs.Rescued.{RescueTally}
-use Rattle.rescue_reception.specs.Known.{settled_blocks, AreSettled}
+use Rattle.rescue.specs.Known.{settled_blocks, AreSettled}
 use Rattle.rescue.specs.Seen.{StreamState}
 use Rattle.rescue.specs.Standing.{IsInStep, StreamStands}
 

@@ -4,7 +4,7 @@ use Rattle.code_paths.specs.declared.costs.CostPair.{CostPair}
 use Rattle.reception.specs.Streams.{so_far}
 use Rattle.rescue_words.specs.Rescued.{RescueTally}
 use Rattle.inner_decoder.specs.Running.{BranchState}
-use Rattle.stream_decoders.specs.Branches.{HasTaken}
+use Rattle.inner_receiver.specs.Branches.{HasTaken}
 use Rattle.rescue.specs.Seen.{StreamState}
 use Rattle.rescue.specs.Standing.{StreamStands}
 use Rattle.rescue.specs.declared.stream.StreamRx.{StreamRx}

@@ -2,3 +2,9 @@ pub mod Seen
 pub mod Moves
 pub mod Standing
 pub mod Kept
+pub mod ReportText
+pub mod Known
+pub mod Streams
+pub mod Lines
+pub mod Feeds
+pub mod Laws

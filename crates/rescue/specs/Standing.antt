@@ -13,8 +13,8 @@ use Rattle.reception.specs.Cells.{symbols}
 use Rattle.reception.specs.Costs.{costs}
 use Rattle.reception.specs.Streams.{start_of, Moment, so_far, at_end}
 use Rattle.reception.specs.Laws.{unfinished}
-use Rattle.stream_decoders.specs.Branches.{HasGiven}
-use Rattle.rescue_reception.specs.Streams.{Rescue, RescuesAt}
+use Rattle.inner_receiver.specs.Branches.{HasGiven}
+use Rattle.rescue.specs.Streams.{Rescue, RescuesAt}
 use Rattle.rescue.specs.Seen.{StreamState, RescueState, stream_of}
 
 abbrev pub is_end : Moment → Bool

@@ -2,21 +2,21 @@
 ghost use Rattle.std.specs.Prelude.{◌≡◌, ◌+◌, ◌-◌, ◌*◌, ◌<◌, ◌≤◌, ◌^◌, ◌↔◌, [], ℕ, List, true, false, min, length, IfOk, IfSome, IsNone, Some, slice_get};
 ghost use Rattle.reception.specs.Cells.{symbols};
 ghost use Rattle.reception.specs.Streams.{so_far, at_end, Moment};
-ghost use Rattle.rescue_reception.specs.Streams.{Rescue as Rescued, nothing};
-ghost use Rattle.rescue_reception.specs.Feeds.{Feeds, Finishes};
-ghost use Rattle.rescue_reception.specs.Lines.{counts_of};
-ghost use Rattle.rescue_report.specs.Text.{closing_lines};
+ghost use Rattle.rescue.specs.Streams.{Rescue as Rescued, nothing};
+ghost use Rattle.rescue.specs.Feeds.{Feeds, Finishes};
+ghost use Rattle.rescue.specs.Lines.{counts_of};
+ghost use Rattle.rescue.specs.ReportText.{closing_lines};
 ghost use Rattle.rescue.specs.Standing.{StandsFor};
 
 use crate::RescueOut;
 use crate::stream::StreamRx;
 use mode_set::{Carriers, Settings, Stream};
-use report_line::Line;
-use rescue_report::Counts;
+use rx_report::Line;
+use crate::Counts;
 use std::alloc::{AllocError, Global};
 use std::marker::Model;
 use std::thread::Threads;
-use stream_decoders::{SymbolCosts, take_symbol};
+use inner_receiver::{SymbolCosts, take_symbol};
 use word_workers::OpenGate;
 
 /// Receives the cells of a transmission, as bytes that are cut anywhere, and gives the packets of its streams as far as they are

@@ -11,4 +11,8 @@ mod queues;
 mod stream;
 
 pub use feed::Rescue;
-pub use stream_decoders::ReceiverOut as RescueOut;
+pub use inner_receiver::ReceiverOut as RescueOut;
+mod counts;
+mod text;
+pub use counts::{Counts, StreamCounts};
+pub mod laws;

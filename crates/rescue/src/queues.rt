@@ -3,7 +3,7 @@ ghost use Rattle.std.specs.Prelude.{◌≡◌, ◌+◌, ◌/◌, ◌<◌, ◌≤
 ghost use Rattle.rescue.specs.Moves.{Passes, FinishesWords, GivesWords};
 
 use rescue_words::RescueWords;
-use stream_decoders::StreamBranch;
+use inner_receiver::StreamBranch;
 
 /// Appends a byte.
 fn push_byte(byte: u8, to: &mut Vec<u8>)

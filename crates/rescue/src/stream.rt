@@ -4,10 +4,10 @@ ghost use Rattle.std.specs.declared.option.Option.{Option};
 ghost use Rattle.code_paths.specs.declared.costs.CostPair.{CostPair as Pair};
 ghost use Rattle.inner_decoder.specs.Events.{ats};
 ghost use Rattle.inner_decoder.specs.Running.{BranchState};
-ghost use Rattle.stream_decoders.specs.Branches.{HasTaken};
+ghost use Rattle.inner_receiver.specs.Branches.{HasTaken};
 ghost use Rattle.reception.specs.Streams.{so_far, at_end, start_of};
 ghost use Rattle.rescue_words.specs.Rescued.{RescueTally};
-ghost use Rattle.rescue_reception.specs.Streams.{no_words};
+ghost use Rattle.rescue.specs.Streams.{no_words};
 ghost use Rattle.rescue.specs.Standing.{StreamStands, StreamGave};
 ghost use Rattle.rescue.specs.Kept.{AreFew, HasRoom, IsReady, RanFrom, seen};
 
@@ -16,10 +16,10 @@ use crate::queues::{give_words, pass_bytes};
 use bit_margin::Margins;
 use conv_code::CostPair;
 use mode_set::Start;
-use rescue_report::StreamCounts;
+use crate::StreamCounts;
 use rescue_words::RescueWords;
 use std::alloc::{AllocError, Global};
-use stream_decoders::{StreamBranch, begin, end, start_state};
+use inner_receiver::{StreamBranch, begin, end, start_state};
 
 /// Room for the bytes of a symbol, and for those that waited.
 const BYTES: usize = 4608;

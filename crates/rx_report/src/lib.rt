@@ -5,4 +5,6 @@ mod counts;
 mod text;
 
 pub use counts::{Counts, Event, StreamCounts};
-pub use report_line::Line;
+pub use crate::Line;
+mod line;
+pub use line::{Line, name_of, push_count};

@@ -4,7 +4,7 @@ ghost use Rattle.rx_report.specs.Text.{symbols_line, tps_line, stream_line, clos
 
 use crate::{Counts, Event, StreamCounts};
 use mode_set::Stream;
-use report_line::{Line, name_of, push_count};
+use crate::{Line, name_of, push_count};
 
 fn symbols_line_of(counts: &Counts) -> Line
     ensures { result.bytes ≡ symbols_line counts.now }

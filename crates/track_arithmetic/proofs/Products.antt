@@ -4,7 +4,7 @@ use Rattle.std.specs.Prelude.{ℤ, ◌+ℤ◌, ◌-ℤ◌, ◌*ℤ◌, nat_abs}
 use Rattle.std.specs.Int.{w64}
 use Rattle.std.proofs.lemmas.Int.{ints}
 use Rattle.std.proofs.lemmas.Nat.{mul-le}
-use Rattle.integer_lemmas.proofs.Sizes.{Below, times_below, less_below, plus_below}
+use Rattle.spec_words.proofs.Sizes.{Below, times_below, less_below, plus_below}
 use Rattle.track_arithmetic.specs.Laws.{IsWithin}
 use Rattle.track_arithmetic.specs.Numbers.{times, scaled}
 use Rattle.track_arithmetic.specs.declared.complex.Complex.{Complex}

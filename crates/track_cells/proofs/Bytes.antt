@@ -7,9 +7,9 @@ use Rattle.spec_words.specs.Words.{numbers}
 use Rattle.spec_words.proofs.Counting.{numbers_end}
 use Rattle.qam_map.specs.Cells.{cell_of}
 use Rattle.qam_map.specs.declared.cell.Cell.{Cell}
-use Rattle.channel_tracking.specs.Correction.{corrected}
-use Rattle.channel_tracking.specs.Tracking.{bytes_of}
-use Rattle.channel_tracking.specs.declared.tracked.Tracked.{Tracked}
+use Rattle.tracking.specs.Correction.{corrected}
+use Rattle.tracking.specs.Tracking.{bytes_of}
+use Rattle.tracking.specs.declared.tracked.Tracked.{Tracked}
 use Rattle.track_arithmetic.specs.declared.complex.Complex.{Complex}
 use Rattle.track_cells.specs.Gains.{gain_of, corrected_bytes}
 

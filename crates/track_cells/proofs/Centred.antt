@@ -6,9 +6,9 @@ use Rattle.spec_words.specs.Words.{numbers}
 use Rattle.spec_words.proofs.Counting.{length-numbers, get_or-numbers}
 use Rattle.mode_set.specs.declared.modes.Guard.{Guard}
 use Rattle.mode_set.specs.declared.modes.Mode.{Mode}
-use Rattle.channel_tracking.specs.Comb.{points}
-use Rattle.channel_tracking.specs.InFrequency.{frequency_row, first_point, slope, centred, interpolated, carrier_gain}
-use Rattle.channel_tracking.proofs.Same.{sum_same}
+use Rattle.tracking.specs.Comb.{points}
+use Rattle.tracking.specs.InFrequency.{frequency_row, first_point, slope, centred, interpolated, carrier_gain}
+use Rattle.tracking.proofs.Same.{sum_same}
 use Rattle.track_arithmetic.specs.Numbers.{times, scaled, near, sum_of, turned_by, nothing}
 use Rattle.track_arithmetic.specs.declared.complex.Complex.{Complex}
 use Rattle.track_cells.specs.Gains.{gain_of, AreCentred}

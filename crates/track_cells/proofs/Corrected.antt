@@ -3,8 +3,8 @@ use Rattle.std.proofs.Common.{◌≡◌, ℕ, ap, sym, ◌∙◌, Bool}
 use Rattle.std.specs.Prelude.{pos, ◌==◌, if◌then◌else◌}
 use Rattle.std.proofs.lemmas.Bool.{ne_eqb, eq-eqb}
 use Rattle.qam_map.specs.declared.cell.Cell.{Cell}
-use Rattle.channel_tracking.specs.Correction.{divided, weight_of, shared_weight, corrected}
-use Rattle.channel_tracking.specs.declared.tracked.Tracked.{Tracked}
+use Rattle.tracking.specs.Correction.{divided, weight_of, shared_weight, corrected}
+use Rattle.tracking.specs.declared.tracked.Tracked.{Tracked}
 use Rattle.track_arithmetic.specs.Numbers.{power}
 use Rattle.track_arithmetic.specs.declared.complex.Complex.{Complex}
 

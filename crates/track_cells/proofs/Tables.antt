@@ -8,8 +8,8 @@ use Rattle.spec_words.specs.Words.{numbers}
 use Rattle.spec_words.proofs.Counting.{length-numbers, get_or-numbers}
 use Rattle.mode_set.specs.declared.modes.Guard.{Guard}
 use Rattle.mode_set.specs.declared.modes.Guard.TheVariants.{G1of32, G1of16, G1of8, G1of4}
-use Rattle.channel_tracking.specs.Coefficients.{frequency_rows}
-use Rattle.channel_tracking.specs.InFrequency.{frequency_row}
+use Rattle.tracking.specs.Coefficients.{frequency_rows}
+use Rattle.tracking.specs.InFrequency.{frequency_row}
 use Rattle.track_arithmetic.specs.Numbers.{cosine}
 use Rattle.track_cells.specs.Sizes.{size_to}
 use Rattle.track_cells.specs.declared.coefficients.TheConstants.{GUARD_1_OF_32, GUARD_1_OF_16, GUARD_1_OF_8, GUARD_1_OF_4}

@@ -5,10 +5,10 @@ use Rattle.mode_set.specs.declared.modes.Guard.{Guard}
 use Rattle.mode_set.specs.declared.modes.Mode.{Mode}
 use Rattle.qam_map.specs.Cells.{cell_of}
 use Rattle.qam_map.specs.declared.cell.Cell.{Cell}
-use Rattle.channel_tracking.specs.Comb.{points}
-use Rattle.channel_tracking.specs.Correction.{corrected}
-use Rattle.channel_tracking.specs.InFrequency.{centred}
-use Rattle.channel_tracking.specs.Tracking.{bytes_of}
+use Rattle.tracking.specs.Comb.{points}
+use Rattle.tracking.specs.Correction.{corrected}
+use Rattle.tracking.specs.InFrequency.{centred}
+use Rattle.tracking.specs.Tracking.{bytes_of}
 use Rattle.track_arithmetic.specs.Laws.{IsWithin}
 use Rattle.track_arithmetic.specs.Numbers.{nothing}
 use Rattle.track_arithmetic.specs.declared.complex.Complex.{Complex}

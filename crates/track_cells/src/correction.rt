@@ -1,11 +1,11 @@
 // The correction of the cells of a symbol.
 ghost use Rattle.std.specs.Prelude.{◌≡◌, ℕ, ◌+◌, ◌*◌, ◌/◌, ◌++◌, ◌<◌, ◌≤◌, ◌^◌, length, min, nat_abs, vec_len, vec_capacity, pos, ◌+ℤ◌, ◌-ℤ◌, ◌*ℤ◌};
-ghost use Rattle.channel_tracking.specs.Correction.{corrected, divided, shared_weight, weight_of};
+ghost use Rattle.tracking.specs.Correction.{corrected, divided, shared_weight, weight_of};
 ghost use Rattle.track_arithmetic.specs.Laws.{IsWithin};
 ghost use Rattle.track_arithmetic.specs.Numbers.{power, value_near};
 ghost use Rattle.track_cells.specs.Gains.{corrected_bytes, AreWithin};
 
-use channel_tracking::Tracked;
+use tracking::Tracked;
 use frame_build::{cell_bytes, push_five};
 use qam_map::Cell;
 use track_arithmetic::{Complex, value_near};

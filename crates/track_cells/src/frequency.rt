@@ -2,8 +2,8 @@
 ghost use Rattle.std.specs.Prelude.{◌≡◌, ℕ, ◌+◌, ◌*◌, ◌-◌, ◌/◌, ◌<◌, ◌≤◌, ◌^◌, length, get_or, pos};
 ghost use Rattle.spec_words.specs.Words.{numbers};
 ghost use Rattle.mode_set.specs.StreamTable.{carriers};
-ghost use Rattle.channel_tracking.specs.Comb.{points};
-ghost use Rattle.channel_tracking.specs.InFrequency.{carrier_gain, first_point, slope};
+ghost use Rattle.tracking.specs.Comb.{points};
+ghost use Rattle.tracking.specs.InFrequency.{carrier_gain, first_point, slope};
 ghost use Rattle.track_arithmetic.specs.Laws.{IsWithin};
 ghost use Rattle.track_arithmetic.specs.Numbers.{near, scaled, sum_of, times, turned_by};
 ghost use Rattle.track_arithmetic.specs.declared.complex.Complex.{Complex as Gain};

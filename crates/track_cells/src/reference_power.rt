@@ -2,7 +2,7 @@
 ghost use Rattle.std.specs.Prelude.{◌≡◌, ℕ, ◌+◌, ◌*◌, ◌/◌, ◌<◌, ◌≤◌, ◌^◌, length, max, sum_by};
 ghost use Rattle.spec_words.specs.Words.{numbers};
 ghost use Rattle.mode_set.specs.StreamTable.{carriers};
-ghost use Rattle.channel_tracking.specs.Correction.{full_power, full_ratio, mean_power};
+ghost use Rattle.tracking.specs.Correction.{full_power, full_ratio, mean_power};
 ghost use Rattle.track_arithmetic.specs.Numbers.{power};
 ghost use Rattle.track_cells.specs.Gains.{gain_of, AreWithin};
 
@@ -25,7 +25,7 @@ fn total_power(gains: &[Complex]) -> u64
 
 /// The mean power of the gain over all carriers of a symbol, rounded down, and 1 at least. No part of a gain
 /// exceeds 2^25.
-#[tactic(auto, unfolding(channel_tracking::specs::Correction::mean_power))]
+#[tactic(auto, unfolding(tracking::specs::Correction::mean_power))]
 pub fn mean_power(mode: Mode, gains: &[Complex]) -> u64
     requires carriers { length gains.now ≡ carriers mode }
     requires gains { AreWithin (2 ^ 25) gains.now }

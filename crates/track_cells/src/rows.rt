@@ -1,7 +1,7 @@
 // The coefficients of the interpolation in frequency.
 ghost use Rattle.std.specs.Prelude.{◌≡◌, ◌<◌, ◌≤◌, ◌^◌, map, get_or, length};
 ghost use Rattle.spec_words.specs.Words.{numbers};
-ghost use Rattle.channel_tracking.specs.InFrequency.{frequency_row};
+ghost use Rattle.tracking.specs.InFrequency.{frequency_row};
 ghost use Rattle.track_cells.specs.Sizes.{size_to};
 
 use crate::coefficients::{GUARD_1_OF_4, GUARD_1_OF_8, GUARD_1_OF_16, GUARD_1_OF_32};

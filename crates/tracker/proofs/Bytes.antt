@@ -7,10 +7,10 @@ use Rattle.mode_set.specs.StreamTable.{carriers}
 use Rattle.mode_set.specs.declared.settings.Settings.{Settings}
 use Rattle.qam_map.specs.Cells.{cell_of}
 use Rattle.qam_map.specs.declared.cell.Cell.{Cell}
-use Rattle.channel_tracking.specs.Correction.{corrected}
-use Rattle.channel_tracking.specs.Tracking.{Symbol, comb, gain, reference_power, tracked, bytes_of, tracked_bytes}
-use Rattle.channel_tracking.proofs.Same.{bytes_same}
-use Rattle.symbol_ring.specs.Ring.{symbol_of}
+use Rattle.tracking.specs.Correction.{corrected}
+use Rattle.tracking.specs.Tracking.{Symbol, comb, gain, reference_power, tracked, bytes_of, tracked_bytes}
+use Rattle.tracking.proofs.Same.{bytes_same}
+use Rattle.track_ring.specs.Ring.{symbol_of}
 use Rattle.track_arithmetic.specs.declared.complex.Complex.{Complex}
 use Rattle.track_cells.specs.Gains.{gain_of, corrected_bytes}
 

@@ -11,15 +11,15 @@ use Rattle.mode_set.specs.StreamTable.{carriers}
 use Rattle.mode_set.specs.declared.modes.Mode.{Mode}
 use Rattle.mode_set.specs.declared.modes.Shape.{Shape}
 use Rattle.mode_set.specs.declared.settings.Settings.{Settings}
-use Rattle.channel_tracking.specs.BadSymbols.{middle}
-use Rattle.channel_tracking.specs.Comb.{Comb, comb_of, continual_points, window, window_end}
-use Rattle.channel_tracking.specs.Correction.{full_power, mean_power}
-use Rattle.channel_tracking.specs.Moving.{mean_residue}
-use Rattle.channel_tracking.specs.Tracking.{Symbol, comb, gain, noise, noise_by, reference_power}
-use Rattle.channel_tracking.specs.declared.motion.Motion.TheVariants.{Slow, Fast}
-use Rattle.channel_tracking.proofs.Same.{total_same}
-use Rattle.pilot_motion.specs.Means.{AreMeans, slow_of, fast_of}
-use Rattle.pilot_motion.specs.declared.residues.Residues.{Residues}
+use Rattle.tracking.specs.BadSymbols.{middle}
+use Rattle.tracking.specs.Comb.{Comb, comb_of, continual_points, window, window_end}
+use Rattle.tracking.specs.Correction.{full_power, mean_power}
+use Rattle.tracking.specs.Moving.{mean_residue}
+use Rattle.tracking.specs.Tracking.{Symbol, comb, gain, noise, noise_by, reference_power}
+use Rattle.tracking.specs.declared.motion.Motion.TheVariants.{Slow, Fast}
+use Rattle.tracking.proofs.Same.{total_same}
+use Rattle.track_motion.specs.Means.{AreMeans, slow_of, fast_of}
+use Rattle.track_motion.specs.declared.residues.Residues.{Residues}
 use Rattle.track_arithmetic.specs.Numbers.{power}
 use Rattle.track_cells.specs.Gains.{gain_of}
 use Rattle.track_arithmetic.specs.declared.complex.Complex.{Complex}

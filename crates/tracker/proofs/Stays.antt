@@ -4,14 +4,14 @@ use Rattle.std.specs.Prelude.{Option}
 use Rattle.std.proofs.lemmas.List.{get_or_append_left, length-map, map-append}
 use Rattle.mode_set.specs.declared.settings.Settings.{Settings}
 use Rattle.qam_map.specs.declared.cell.Cell.{Cell}
-use Rattle.channel_tracking.specs.Comb.{Comb, comb_of, pilot}
-use Rattle.channel_tracking.specs.Moving.{mean_residue}
-use Rattle.channel_tracking.specs.Tracking.{Symbol, comb}
-use Rattle.channel_tracking.specs.declared.motion.Motion.{Motion}
-use Rattle.channel_tracking.specs.declared.motion.Motion.TheVariants.{Slow, Fast}
-use Rattle.channel_tracking.proofs.Live.{Agree, same_mean}
-use Rattle.pilot_motion.specs.Means.{AreMeans}
-use Rattle.pilot_motion.specs.declared.residues.Residues.{Residues}
+use Rattle.tracking.specs.Comb.{Comb, comb_of, pilot}
+use Rattle.tracking.specs.Moving.{mean_residue}
+use Rattle.tracking.specs.Tracking.{Symbol, comb}
+use Rattle.tracking.specs.declared.motion.Motion.{Motion}
+use Rattle.tracking.specs.declared.motion.Motion.TheVariants.{Slow, Fast}
+use Rattle.tracking.proofs.Live.{Agree, same_mean}
+use Rattle.track_motion.specs.Means.{AreMeans}
+use Rattle.track_motion.specs.declared.residues.Residues.{Residues}
 
 pub cells_more : (symbols : List Symbol) (x : Symbol) → map (λ (z : Symbol). z.cells) (symbols ++ x ∷ []) ≡ map (λ (z : Symbol). z.cells) symbols ++ x.cells ∷ []
 cells_more symbols x = map-append (λ (z : Symbol). z.cells) symbols (x ∷ [])

@@ -5,12 +5,12 @@ use Rattle.mode_set.specs.StreamTable.{carriers}
 use Rattle.mode_set.specs.declared.modes.Mode.{Mode}
 use Rattle.mode_set.specs.declared.settings.Settings.{Settings}
 use Rattle.qam_map.specs.declared.cell.Cell.{Cell}
-use Rattle.channel_tracking.specs.Moving.{mean_residue}
-use Rattle.channel_tracking.specs.Tracking.{Symbol, comb}
-use Rattle.pilot_motion.specs.Means.{AreMeans}
-use Rattle.pilot_motion.specs.declared.residues.Residues.{Residues}
-use Rattle.pilot_window.specs.Window.{WindowState, StandsFor}
-use Rattle.symbol_ring.specs.Ring.{RingState, Keeps}
+use Rattle.tracking.specs.Moving.{mean_residue}
+use Rattle.tracking.specs.Tracking.{Symbol, comb}
+use Rattle.track_motion.specs.Means.{AreMeans}
+use Rattle.track_motion.specs.declared.residues.Residues.{Residues}
+use Rattle.track_pilots.specs.Window.{WindowState, StandsFor}
+use Rattle.track_ring.specs.Ring.{RingState, Keeps}
 use Rattle.tracker.specs.Tracks.{TrackerState, Tracks}
 use Rattle.tracker.proofs.Stays.{cells_more, means_stay}
 use Rattle.tracker.proofs.Symbols.{length_of}

@@ -6,15 +6,15 @@ use Rattle.mode_set.specs.declared.modes.Guard.{Guard}
 use Rattle.mode_set.specs.declared.modes.Mode.{Mode}
 use Rattle.mode_set.specs.declared.settings.Settings.{Settings}
 use Rattle.qam_map.specs.declared.cell.Cell.{Cell}
-use Rattle.channel_tracking.specs.BadSymbols.{middle}
-use Rattle.channel_tracking.specs.Comb.{Comb, comb_of}
-use Rattle.channel_tracking.specs.InFrequency.{carrier_gain}
-use Rattle.channel_tracking.specs.InTime.{point_gain}
-use Rattle.channel_tracking.specs.Moving.{mean_residue, motion, motion_of}
-use Rattle.channel_tracking.specs.Tracking.{Symbol, comb, gain}
-use Rattle.channel_tracking.specs.declared.motion.Motion.TheVariants.{Slow}
-use Rattle.pilot_motion.specs.Means.{AreMeans, slow_of, fast_of}
-use Rattle.pilot_motion.specs.declared.residues.Residues.{Residues}
+use Rattle.tracking.specs.BadSymbols.{middle}
+use Rattle.tracking.specs.Comb.{Comb, comb_of}
+use Rattle.tracking.specs.InFrequency.{carrier_gain}
+use Rattle.tracking.specs.InTime.{point_gain}
+use Rattle.tracking.specs.Moving.{mean_residue, motion, motion_of}
+use Rattle.tracking.specs.Tracking.{Symbol, comb, gain}
+use Rattle.tracking.specs.declared.motion.Motion.TheVariants.{Slow}
+use Rattle.track_motion.specs.Means.{AreMeans, slow_of, fast_of}
+use Rattle.track_motion.specs.declared.residues.Residues.{Residues}
 use Rattle.track_arithmetic.specs.declared.complex.Complex.{Complex}
 use Rattle.track_cells.specs.Gains.{gain_of}
 

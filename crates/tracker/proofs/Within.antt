@@ -6,9 +6,9 @@ use Rattle.spec_words.proofs.Counting.{length-numbers, get_or-numbers}
 use Rattle.mode_set.specs.declared.modes.Guard.{Guard}
 use Rattle.mode_set.specs.declared.modes.Mode.{Mode}
 use Rattle.mode_set.specs.declared.modes.Mode.TheVariants.{M2k, M8k}
-use Rattle.channel_tracking.specs.Comb.{points}
-use Rattle.channel_tracking.specs.InFrequency.{frequency_row, first_point, slope, centred, carrier_gain}
-use Rattle.channel_tracking.proofs.Same.{sum_same}
+use Rattle.tracking.specs.Comb.{points}
+use Rattle.tracking.specs.InFrequency.{frequency_row, first_point, slope, centred, carrier_gain}
+use Rattle.tracking.proofs.Same.{sum_same}
 use Rattle.track_arithmetic.specs.Numbers.{times, scaled, near, turned_by}
 use Rattle.track_arithmetic.specs.declared.complex.Complex.{Complex}
 

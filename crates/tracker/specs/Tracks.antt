@@ -3,12 +3,12 @@ use Rattle.std.specs.Prelude.{◌≡◌, ℕ, ◌+◌, ◌-◌, ◌^◌, ◌≤�
 use Rattle.mode_set.specs.StreamTable.{carriers}
 use Rattle.mode_set.specs.declared.modes.Mode.{Mode}
 use Rattle.mode_set.specs.declared.settings.Settings.{Settings}
-use Rattle.channel_tracking.specs.Comb.{points}
-use Rattle.channel_tracking.specs.Tracking.{Symbol, comb}
-use Rattle.pilot_motion.specs.Means.{AreMeans, AreSmall}
-use Rattle.pilot_motion.specs.declared.residues.Residues.{Residues}
-use Rattle.pilot_window.specs.Window.{WindowState, StandsFor}
-use Rattle.symbol_ring.specs.Ring.{RingState, Keeps}
+use Rattle.tracking.specs.Comb.{points}
+use Rattle.tracking.specs.Tracking.{Symbol, comb}
+use Rattle.track_motion.specs.Means.{AreMeans, AreSmall}
+use Rattle.track_motion.specs.declared.residues.Residues.{Residues}
+use Rattle.track_pilots.specs.Window.{WindowState, StandsFor}
+use Rattle.track_ring.specs.Ring.{RingState, Keeps}
 
 -- room for the gains at the comb points, twice, and at all carriers
 pub record HasRoom (m : Mode) (at_points turned at_carriers : ℕ) : Type 0 where

@@ -1,20 +1,20 @@
 // The gains at all carriers of a symbol.
 ghost use Rattle.std.specs.Prelude.{◌≡◌, ℕ, ◌+◌, ◌<◌, ◌≤◌, ◌^◌, List, length};
 ghost use Rattle.mode_set.specs.StreamTable.{carriers};
-ghost use Rattle.channel_tracking.specs.Comb.{comb_of, points};
-ghost use Rattle.channel_tracking.specs.InFrequency.{carrier_gain};
-ghost use Rattle.channel_tracking.specs.InTime.{point_gain};
-ghost use Rattle.channel_tracking.specs.Moving.{motion as motion_at};
-ghost use Rattle.pilot_motion.specs.Around.{IsAround, IsLook};
-ghost use Rattle.pilot_window.specs.Window.{StandsFor};
+ghost use Rattle.tracking.specs.Comb.{comb_of, points};
+ghost use Rattle.tracking.specs.InFrequency.{carrier_gain};
+ghost use Rattle.tracking.specs.InTime.{point_gain};
+ghost use Rattle.tracking.specs.Moving.{motion as motion_at};
+ghost use Rattle.track_motion.specs.Around.{IsAround, IsLook};
+ghost use Rattle.track_pilots.specs.Window.{StandsFor};
 ghost use Rattle.qam_map.specs.declared.cell.Cell.{Cell};
 ghost use Rattle.track_cells.specs.Gains.{gain_of, AreWithin};
 
-use channel_tracking::Motion;
-use comb_gains::point_gains;
+use tracking::Motion;
+use track_comb_gains::point_gains;
 use mode_set::{Carriers, Guard};
-use pilot_motion::Surroundings;
-use pilot_window::PilotWindow;
+use track_motion::Surroundings;
+use track_pilots::PilotWindow;
 use std::alloc::{AllocError, Global};
 use std::marker::{Model, PhantomData};
 use track_arithmetic::Complex;

@@ -1,19 +1,19 @@
 // The correction of a symbol.
 ghost use Rattle.std.specs.Prelude.{◌≡◌, ℕ, ◌+◌, ◌-◌, ◌*◌, ◌++◌, ◌<◌, ◌≤◌, ◌^◌, List, length, map, vec_len, vec_capacity};
 ghost use Rattle.mode_set.specs.StreamTable.{carriers};
-ghost use Rattle.channel_tracking.specs.BadSymbols.{middle as middle_of};
-ghost use Rattle.channel_tracking.specs.Tracking.{comb, gain, reference_power, tracked_bytes, Symbol};
-ghost use Rattle.pilot_motion.specs.Means.{AreMeans, AreSmall};
-ghost use Rattle.pilot_window.specs.Window.{StandsFor};
-ghost use Rattle.symbol_ring.specs.Ring.{Keeps};
+ghost use Rattle.tracking.specs.BadSymbols.{middle as middle_of};
+ghost use Rattle.tracking.specs.Tracking.{comb, gain, reference_power, tracked_bytes, Symbol};
+ghost use Rattle.track_motion.specs.Means.{AreMeans, AreSmall};
+ghost use Rattle.track_pilots.specs.Window.{StandsFor};
+ghost use Rattle.track_ring.specs.Ring.{Keeps};
 ghost use Rattle.track_cells.specs.Gains.{gain_of, AreWithin};
 
 use crate::gains::GainRoom;
 use mode_set::{Carriers, Settings};
-use pilot_motion::{Residues, follow, look, motion, noise};
-use pilot_window::PilotWindow;
-use symbol_ring::SymbolRing;
-use symbol_turns::continual_points;
+use track_motion::{Residues, follow, look, motion, noise};
+use track_pilots::PilotWindow;
+use track_ring::SymbolRing;
+use track_turns::continual_points;
 use track_arithmetic::Complex;
 use track_cells::{full_power, mean_power, push_corrected};
 

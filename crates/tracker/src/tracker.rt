@@ -1,17 +1,17 @@
 // The tracker.
 ghost use Rattle.std.specs.Prelude.{◌≡◌, ◌↔◌, ℕ, ◌+◌, ◌-◌, ◌*◌, ◌∷◌, ◌++◌, ◌<◌, ◌≤◌, ◌^◌, [], List, IfOk, IsTrue, false, true, if◌then◌else◌, length, vec_len, vec_capacity};
-ghost use Rattle.channel_tracking.specs.Tracking.{tracked_bytes, Symbol};
+ghost use Rattle.tracking.specs.Tracking.{tracked_bytes, Symbol};
 ghost use Rattle.tracker.specs.Tracks.{Tracks};
 
 use crate::gains::GainRoom;
 use crate::symbol::push_symbol;
 use mode_set::{Carriers, Settings};
-use pilot_motion::Residues;
-use pilot_window::PilotWindow;
+use track_motion::Residues;
+use track_pilots::PilotWindow;
 use qam_map::Cell;
 use std::alloc::{AllocError, Global};
 use std::marker::Model;
-use symbol_ring::SymbolRing;
+use track_ring::SymbolRing;
 
 /// Corrects the symbols of a file, each by the scattered pilots of the symbols from seven before it to seven after
 /// it, and weighs their cells.

@@ -26,8 +26,8 @@ use Rattle.outer_chain.specs.Sent.{packet_at, outer_byte}
 use Rattle.inner_chain.specs.Labels.{number_at, label_bit}
 use Rattle.frame_build.specs.Announcing.{announcing_bytes}
 use Rattle.frame_build.specs.Symbol.{Agree}
-use Rattle.symbol_spans.specs.Spans.{settings_at, steps_of, steps_before}
-use Rattle.symbol_spans.specs.Laws.{ModeStays, StepsOfOneMore}
+use Rattle.symbol_parameters.specs.Spans.{settings_at, steps_of, steps_before}
+use Rattle.symbol_parameters.specs.Laws.{ModeStays, StepsOfOneMore}
 use Rattle.transmission.specs.Transmission.{Inputs, announced_at, paths_at, tx_label, tx_symbol}
 use Rattle.transmission.specs.SuperFrames.{packets_for}
 use Rattle.transmission.specs.Laws.{SameBeginning}

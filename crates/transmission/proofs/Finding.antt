@@ -14,8 +14,8 @@ use Rattle.mode_set.specs.declared.entry.Entry.{Entry}
 use Rattle.mode_set.specs.declared.modes.Stream.{Stream}
 use Rattle.mode_set.specs.declared.modes.Stream.TheVariants.{Hp, Lp}
 use Rattle.mode_set.specs.declared.settings.Settings.{Settings}
-use Rattle.symbol_spans.specs.Spans.{exists_in, settings_in, words_before}
-use Rattle.symbol_spans.specs.Laws.{WordsOfOneMore}
+use Rattle.symbol_parameters.specs.Spans.{exists_in, settings_in, words_before}
+use Rattle.symbol_parameters.specs.Laws.{WordsOfOneMore}
 use Rattle.transmission.specs.SuperFrames.{Suffices, IsLength, carries, is_enough, last_change, most_frames, found_below, super_frames}
 use Rattle.transmission.specs.Laws.{TheNumberIsFound}
 

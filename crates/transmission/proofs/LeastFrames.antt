@@ -19,8 +19,8 @@ use Rattle.mode_set.specs.declared.modes.Rate.TheVariants.{R1of2, R2of3, R3of4, 
 use Rattle.mode_set.specs.declared.modes.Stream.{Stream}
 use Rattle.mode_set.specs.declared.modes.Stream.TheVariants.{Hp, Lp}
 use Rattle.mode_set.specs.declared.settings.Settings.{Settings}
-use Rattle.symbol_spans.specs.Spans.{exists_in, words_before}
-use Rattle.symbol_spans.specs.Laws.{WordsGrow}
+use Rattle.symbol_parameters.specs.Spans.{exists_in, words_before}
+use Rattle.symbol_parameters.specs.Laws.{WordsGrow}
 use Rattle.transmission.specs.SuperFrames.{Suffices, AreSuperFrames, IsLength, frames_by_formula, frames_by_formula_for, super_frames}
 use Rattle.transmission.specs.Laws.{TheNumberIsFound, OneLength, TooFew, Enough, ConstantFrames}
 use Rattle.transmission.proofs.Rounding.{enough, least}

@@ -5,8 +5,8 @@ use Rattle.std.specs.Prelude.{◌⊎◌}
 use Rattle.std.proofs.Common.{inl, inr}
 use Rattle.spec_words.specs.Words.{rounded_up}
 use Rattle.mode_set.specs.declared.modes.Stream.{Stream}
-use Rattle.symbol_spans.specs.Spans.{steps_before, words_before}
-use Rattle.symbol_spans.specs.Laws.{NoSteps, StepsGrow, SpansHaveWholeWords}
+use Rattle.symbol_parameters.specs.Spans.{steps_before, words_before}
+use Rattle.symbol_parameters.specs.Laws.{NoSteps, StepsGrow, SpansHaveWholeWords}
 use Rattle.transmission.specs.SuperFrames.{packets_for}
 use Rattle.transmission.specs.Laws.{ThePacketsAreLeast, NoPackets, PacketsGrow, PacketsOfSuperFrames}
 use Rattle.transmission.specs.AgendaLaws.{SentAtFault}

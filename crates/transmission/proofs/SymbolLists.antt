@@ -10,8 +10,8 @@ use Rattle.spec_words.proofs.Counting.{numbers_end}
 use Rattle.mode_set.specs.StreamTable.{carriers}
 use Rattle.mode_set.specs.declared.modes.Mode.{Mode}
 use Rattle.mode_set.specs.declared.settings.Settings.{Settings}
-use Rattle.symbol_spans.specs.Spans.{settings_at}
-use Rattle.symbol_spans.specs.Laws.{ModeStays}
+use Rattle.symbol_parameters.specs.Spans.{settings_at}
+use Rattle.symbol_parameters.specs.Laws.{ModeStays}
 use Rattle.qam_map.specs.declared.cell.Cell.{Cell}
 use Rattle.frame_build.specs.Announcing.{announcing_bytes, announcing_cell}
 use Rattle.frame_build.specs.Symbol.{cell_bytes, sent_bytes}

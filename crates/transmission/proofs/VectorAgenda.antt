@@ -6,7 +6,7 @@ use Rattle.mode_set.specs.declared.modes.Mode.TheVariants.{M2k}
 use Rattle.mode_set.specs.declared.modes.Shape.TheVariants.{Qpsk}
 use Rattle.mode_set.specs.declared.modes.Rate.TheVariants.{R1of2}
 use Rattle.mode_set.specs.declared.modes.Stream.TheVariants.{Hp, Lp}
-use Rattle.symbol_spans.specs.Spans.{exists_in, settings_in, steps_before, words_before}
+use Rattle.symbol_parameters.specs.Spans.{exists_in, settings_in, steps_before, words_before}
 use Rattle.transmission.specs.Transmission.{Inputs, by_stream}
 use Rattle.transmission.specs.SuperFrames.{super_frames, symbols_of}
 use Rattle.transmission.specs.Agenda.{ask_limit, take_packet, send_symbol, items_of, agenda, packet_refusal, Limit, NotSync, first_refusal, done, symbols_sent}

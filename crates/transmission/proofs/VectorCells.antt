@@ -19,7 +19,7 @@ use Rattle.pilots.specs.Carriers.{kind, is_continual, is_scattered, is_tps, is_p
 use Rattle.tps_word.specs.Tps.{tps_word, tps_info, sync_word}
 use Rattle.frame_build.specs.Announcing.{announcing_cell}
 use Rattle.frame_build.specs.Symbol.{cell_of_kind, cell_bytes, sent_bytes, tps_sign}
-use Rattle.symbol_spans.specs.Spans.{settings_in, steps_before}
+use Rattle.symbol_parameters.specs.Spans.{settings_in, steps_before}
 use Rattle.transmission.specs.Transmission.{Inputs, by_stream, tx_label, tx_cell}
 use Rattle.transmission.proofs.VectorSettings.{flat}
 

@@ -10,7 +10,7 @@ use Rattle.mode_set.specs.declared.modes.Rate.{Rate}
 use Rattle.mode_set.specs.declared.modes.Rate.TheVariants.{R1of2, R2of3, R3of4, R5of6, R7of8}
 use Rattle.mode_set.specs.declared.modes.Stream.TheVariants.{Hp, Lp}
 use Rattle.spec_words.specs.Words.{numbers}
-use Rattle.symbol_spans.specs.Spans.{exists_in, settings_in, steps_before, words_before}
+use Rattle.symbol_parameters.specs.Spans.{exists_in, settings_in, steps_before, words_before}
 use Rattle.transmission.specs.Transmission.{by_stream}
 use Rattle.transmission.specs.SuperFrames.{super_frames, packets_for}
 use Rattle.transmission.proofs.VectorSettings.{flat, two_16, two_64}

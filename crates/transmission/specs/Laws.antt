@@ -7,7 +7,7 @@ use Rattle.mode_set.specs.declared.modes.Stream.{Stream}
 use Rattle.mode_set.specs.declared.settings.Settings.{Settings}
 use Rattle.outer_chain.specs.Sent.{packet_at}
 use Rattle.frame_build.specs.Symbol.{sent_bytes}
-use Rattle.symbol_spans.specs.Spans.{exists_in, words_before}
+use Rattle.symbol_parameters.specs.Spans.{exists_in, words_before}
 use Rattle.transmission.specs.Transmission.{Inputs, tx_cell, tx_symbol, first_symbols}
 use Rattle.transmission.specs.SuperFrames.{Suffices, IsLength, super_frames, frames_by_formula, packets_for, ArePacketsFor}
 

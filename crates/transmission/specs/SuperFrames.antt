@@ -7,7 +7,7 @@ use Rattle.mode_set.specs.StreamTable.{words_per_super_frame}
 use Rattle.mode_set.specs.declared.modes.Stream.{Stream}
 use Rattle.mode_set.specs.declared.modes.Stream.TheVariants.{Hp, Lp}
 use Rattle.mode_set.specs.declared.settings.Settings.{Settings}
-use Rattle.symbol_spans.specs.Spans.{exists_in, steps_before, words_before}
+use Rattle.symbol_parameters.specs.Spans.{exists_in, steps_before, words_before}
 use Rattle.transmission.specs.Transmission.{Inputs, first_symbols}
 
 -- the first n super-frames carry so many packets of each stream that exists, and the eleven words of a receiver's start-up

@@ -10,7 +10,7 @@ use Rattle.outer_chain.specs.Sent.{outer_byte}
 use Rattle.inner_chain.specs.Labels.{Paths, from_step, label_bit, coded_bits}
 use Rattle.qam_map.specs.declared.cell.Cell.{Cell}
 use Rattle.frame_build.specs.Announcing.{announcing_cell, announcing_bytes}
-use Rattle.symbol_spans.specs.Spans.{settings_in, settings_at, steps_before}
+use Rattle.symbol_parameters.specs.Spans.{settings_in, settings_at, steps_before}
 
 -- the packets of each stream, which null packets follow without end
 abbrev pub Inputs : Type 0

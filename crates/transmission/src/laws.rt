@@ -8,7 +8,7 @@ use mode_set::Settings;
 use outer_chain::laws::sending;
 use puncture::sent_bits_have_steps;
 use symbol_interleave::laws::{h_is_a_permutation, places_and_words_agree};
-use symbol_spans::laws::{settings as super_frame_settings, steps, words};
+use symbol_parameters::laws::{settings as super_frame_settings, steps, words};
 
 /// Symbols are the bytes of their cells, five a carrier, one symbol after another.
 pub fn symbols()

@@ -22,14 +22,14 @@ use Rattle.mode_set.specs.declared.settings.Settings.{Settings}
 use Rattle.ts_packet.specs.Packet.{null_packet}
 use Rattle.rand_pcg.specs.Lcg.{Lcg}
 use Rattle.load_gen.specs.Draws.{after, generator, count_of, packet_of, packet_words}
-use Rattle.symbol_spans.specs.Spans.{exists_in, words_before}
-use Rattle.symbol_spans.specs.Laws.{HpExists}
+use Rattle.symbol_parameters.specs.Spans.{exists_in, words_before}
+use Rattle.symbol_parameters.specs.Laws.{HpExists}
 use Rattle.transmission.specs.Transmission.{by_stream}
 use Rattle.transmission.specs.SuperFrames.{AreSuperFrames, IsLength, packets_for, counts_of, super_frames, symbols_of, Suffices}
 use Rattle.transmission.specs.Laws.{TheNumberIsFound, Enough, NoPackets, PacketsGrow, PacketsOfSuperFrames}
 use Rattle.trial.specs.Drawn.{drawn, drawn_count, drawn_before, drawn_for, packets_from, packets_of_symbol, trial_frames, trial_symbols}
 use Rattle.trial.specs.Laws.{OneSuperFrame, FramesOfDrawn, SymbolsOfDrawn, AllAreDrawn, DrawnInOrder, NullsBehind}
-use Rattle.symbol_spans.proofs.Parts.{parts_long, part_is}
+use Rattle.symbol_parameters.proofs.Parts.{parts_long, part_is}
 
 -- ---- a super-frame carries at least 252 words of a stream
 half_needed : (r : Rate) (c : ℕ) → 3024 ≤ c → 1512 ≤ c * steps_in_period r / sent_in_period r

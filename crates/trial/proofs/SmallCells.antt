@@ -25,7 +25,7 @@ use Rattle.qam_map.specs.declared.cell.Cell.{Cell}
 use Rattle.qam_map.specs.Points.{value_of, real_bits, imaginary_bits}
 use Rattle.frame_build.specs.Announcing.{announcing_cell, settings_for}
 use Rattle.frame_build.specs.Symbol.{real, cell_of_kind, cell_bytes, sent_bytes, cell_from}
-use Rattle.symbol_spans.specs.Spans.{settings_at}
+use Rattle.symbol_parameters.specs.Spans.{settings_at}
 use Rattle.transmission.specs.Transmission.{Inputs, announced_at, tx_label, tx_cell, tx_symbol}
 use Rattle.transmission.specs.Laws.{SymbolsAreCells}
 use Rattle.trial.specs.Fed.{fed_cell, fed_symbol}

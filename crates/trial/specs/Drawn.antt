@@ -8,7 +8,7 @@ use Rattle.mode_set.specs.declared.modes.Stream.TheVariants.{Hp, Lp}
 use Rattle.mode_set.specs.declared.settings.Settings.{Settings}
 use Rattle.rand_pcg.specs.Lcg.{Lcg}
 use Rattle.load_gen.specs.Draws.{generator, after, count_of, length_of, packet_of, packet_words}
-use Rattle.symbol_spans.specs.Spans.{exists_in}
+use Rattle.symbol_parameters.specs.Spans.{exists_in}
 use Rattle.transmission.specs.Transmission.{Inputs, by_stream}
 use Rattle.transmission.specs.SuperFrames.{packets_for, super_frames}
 use Rattle.reception.specs.Cells.{symbol_length}

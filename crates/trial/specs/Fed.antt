@@ -10,7 +10,7 @@ use Rattle.qam_map.specs.declared.cell.Cell.{Cell}
 use Rattle.qam_map.specs.Points.{tolerance}
 use Rattle.frame_build.specs.Symbol.{sent_bytes}
 use Rattle.load_gen.specs.Draws.{after, shift_of}
-use Rattle.symbol_spans.specs.Spans.{settings_at}
+use Rattle.symbol_parameters.specs.Spans.{settings_at}
 use Rattle.transmission.specs.Transmission.{tx_cell}
 use Rattle.trial.specs.Drawn.{before, drawn, shifts_from, trial_symbols}
 

@@ -2,3 +2,9 @@ pub mod Drawn
 pub mod Fed
 pub mod Outcome
 pub mod Laws
+pub mod TrialsAlike
+pub mod Putting
+pub mod Disturbing
+pub mod Feeding
+pub mod Counting
+pub mod State

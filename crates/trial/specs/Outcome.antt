@@ -4,7 +4,7 @@ use Rattle.mode_set.specs.declared.modes.Start.TheVariants.{Zero}
 use Rattle.mode_set.specs.declared.modes.Stream.{Stream}
 use Rattle.mode_set.specs.declared.modes.Stream.TheVariants.{Hp, Lp}
 use Rattle.mode_set.specs.declared.settings.Settings.{Settings}
-use Rattle.symbol_spans.specs.Spans.{exists_in}
+use Rattle.symbol_parameters.specs.Spans.{exists_in}
 use Rattle.reception.specs.Streams.{Reception, Final}
 use Rattle.trial.specs.declared.counts.StreamReturn.{StreamReturn}
 use Rattle.trial.specs.declared.counts.TrialCounts.{TrialCounts}

@@ -12,8 +12,8 @@ pub fn packets()
     ensures order { DrawnInOrder }
     ensures nulls { NullsBehind }
 {
-    symbol_spans::laws::settings();
-    symbol_spans::laws::words();
+    symbol_parameters::laws::settings();
+    symbol_parameters::laws::words();
     transmission::laws::packets();
     transmission::laws::super_frames();
 }

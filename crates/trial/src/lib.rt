@@ -8,3 +8,11 @@ mod counts;
 pub mod laws;
 
 pub use counts::{StreamReturn, TrialCounts};
+pub mod workers;
+mod disturbing;
+mod draws;
+mod feeding;
+mod sums;
+mod whole;
+mod work;
+pub use whole::Trial;

@@ -1,7 +1,7 @@
 use Rattle.std.proofs.Common.{ℕ, map, refl, subst, arith, Global}
 use Rattle.std.specs.Prelude.{string_bytes}
 use Rattle.station_core.specs.Meaning.{Meaning}
-use Rattle.run_clauses.specs.Run.{Run}
+use Rattle.cmd_base.specs.Run.{Run}
 use Rattle.dvbt_top.specs.Commands.{command_of}
 use Rattle.dvbt_top.proofs.top.run.Goals as goal
 

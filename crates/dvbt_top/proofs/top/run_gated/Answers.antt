@@ -1,10 +1,10 @@
 -- Each form of the words is run as the command that it is.
 use Rattle.std.proofs.Common.{ℕ, refl, ◌∙◌, sym, ap, subst, Option, Some}
 use Rattle.station_core.specs.Meaning.{Meaning}
-use Rattle.run_clauses.specs.Run.{Run}
-use Rattle.run_clauses.specs.declared.work.Refusal.TheVariants.{Usage}
-use Rattle.run_steps.proofs.Early.{unstarted_ended}
-use Rattle.run_steps.proofs.Whole.{run_refused}
+use Rattle.cmd_base.specs.Run.{Run}
+use Rattle.cmd_base.specs.declared.work.Refusal.TheVariants.{Usage}
+use Rattle.cmd_base.proofs.Early.{unstarted_ended}
+use Rattle.cmd_base.proofs.Whole.{run_refused}
 use Rattle.dvbt_top.specs.declared.form.Form.{Form}
 use Rattle.dvbt_top.specs.Form.{order}
 use Rattle.dvbt_top.specs.Order.{Order}

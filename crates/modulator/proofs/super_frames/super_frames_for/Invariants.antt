@@ -1,7 +1,7 @@
 -- The words up to the last change seen are too few, and the entries before it have begun there, the others have not.
 use Rattle.std.proofs.Common.{◌≡◌, ◌<◌}
 use Rattle.mode_set.specs.Plans.{entries_of}
-use Rattle.symbol_spans.specs.Spans.{words_before}
+use Rattle.symbol_parameters.specs.Spans.{words_before}
 use Rattle.modulator.proofs.Changes.{IsBetween}
 use Rattle.modulator.proofs.super_frames.super_frames_for.Given as goal
 

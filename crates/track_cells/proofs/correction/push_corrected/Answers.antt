@@ -1,6 +1,6 @@
 -- Carrier after carrier is appended.
 use Rattle.std.proofs.Common.{◌≡◌, ℕ, ◌+◌, ◌<◌, List, ◌++◌, length, refl, ap, ◌∙◌, arith}
-use Rattle.channel_tracking.specs.Tracking.{bytes_of}
+use Rattle.tracking.specs.Tracking.{bytes_of}
 use Rattle.track_cells.specs.Gains.{corrected_bytes}
 use Rattle.track_cells.proofs.Bytes.{none_appended, appended}
 use Rattle.track_cells.proofs.correction.push_corrected.Goals as goal

@@ -1,8 +1,8 @@
 -- Twelve points, weighted and turned back.
 use Rattle.std.proofs.Common.{◌≡◌, ℕ, ◌+◌, ◌-◌, ◌*◌, ◌^◌, ◌<◌, ◌≤◌, List, take, drop, ap, ◌∙◌, arith}
 use Rattle.std.specs.Prelude.{ℤ}
-use Rattle.channel_tracking.specs.Comb.{points}
-use Rattle.channel_tracking.specs.InFrequency.{first_point, frequency_row, slope, interpolated}
+use Rattle.tracking.specs.Comb.{points}
+use Rattle.tracking.specs.InFrequency.{first_point, frequency_row, slope, interpolated}
 use Rattle.track_cells.specs.Gains.{gain_of}
 use Rattle.track_cells.proofs.Centred.{sum_is, gain_is, of_part}
 use Rattle.track_cells.proofs.frequency.carrier_gain.Goals as goal

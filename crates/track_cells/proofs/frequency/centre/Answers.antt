@@ -3,7 +3,7 @@ use Rattle.std.proofs.Common.{◌≡◌, ℕ, ◌+◌, ◌*◌, ◌^◌, ◌<◌
 use Rattle.std.proofs.lemmas.Bool.{cases_lt}
 use Rattle.std.proofs.lemmas.Grind.{get_or-set_at}
 use Rattle.std.proofs.lemmas.List.{get_or-set_other, length-set}
-use Rattle.channel_tracking.specs.InFrequency.{slope}
+use Rattle.tracking.specs.InFrequency.{slope}
 use Rattle.track_arithmetic.specs.Laws.{IsWithin}
 use Rattle.track_arithmetic.specs.Numbers.{near, nothing, times, turned_by}
 use Rattle.track_arithmetic.specs.declared.complex.Complex.{Complex}

@@ -1,6 +1,6 @@
 -- The points so far are turned.
 use Rattle.std.proofs.Common.{◌≡◌, ℕ, ◌*◌, ◌<◌, ◌^◌, length}
-use Rattle.channel_tracking.specs.InFrequency.{slope}
+use Rattle.tracking.specs.InFrequency.{slope}
 use Rattle.track_arithmetic.specs.Laws.{IsWithin}
 use Rattle.track_arithmetic.specs.Numbers.{near, times, turned_by}
 use Rattle.track_cells.specs.Gains.{gain_of}

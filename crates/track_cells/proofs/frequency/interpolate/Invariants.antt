@@ -1,6 +1,6 @@
 -- The carriers so far have their gains.
 use Rattle.std.proofs.Common.{◌≡◌, ℕ, ◌<◌, ◌^◌, length}
-use Rattle.channel_tracking.specs.InFrequency.{carrier_gain}
+use Rattle.tracking.specs.InFrequency.{carrier_gain}
 use Rattle.track_arithmetic.specs.Laws.{IsWithin}
 use Rattle.track_cells.specs.Gains.{gain_of}
 use Rattle.track_cells.proofs.frequency.interpolate.Given as goal

@@ -1,7 +1,7 @@
 -- The entry of the table, and its size.
 use Rattle.std.proofs.Common.{◌≡◌, ℕ, ◌≤◌, ◌<◌, List, [], get_or, ap, sym, ◌∙◌, subst}
 use Rattle.std.specs.Prelude.{ℤ}
-use Rattle.channel_tracking.specs.InFrequency.{frequency_row}
+use Rattle.tracking.specs.InFrequency.{frequency_row}
 use Rattle.track_cells.specs.Sizes.{size_to}
 use Rattle.track_cells.proofs.Tables.{entry, row_is_small}
 use Rattle.track_cells.proofs.rows.row.Goals as goal

@@ -2,7 +2,7 @@
 use Rattle.std.proofs.Common.{map, ap, sym, ◌∙◌}
 use Rattle.spec_words.specs.Words.{numbers}
 use Rattle.mode_set.specs.declared.modes.Guard.{Guard}
-use Rattle.channel_tracking.specs.InFrequency.{frequency_row}
+use Rattle.tracking.specs.InFrequency.{frequency_row}
 use Rattle.track_cells.proofs.Tables.{rows_of_32, rows_of_16, rows_of_8, rows_of_4}
 use Rattle.track_cells.proofs.rows.rows.Goals as goal
 

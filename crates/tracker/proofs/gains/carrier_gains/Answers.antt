@@ -2,9 +2,9 @@
 use Rattle.std.proofs.Common.{◌<◌, ap, sym, ◌∙◌, subst}
 use Rattle.mode_set.specs.StreamTable.{carriers}
 use Rattle.mode_set.specs.declared.modes.Mode.{Mode}
-use Rattle.channel_tracking.specs.Comb.{comb_of, points}
-use Rattle.channel_tracking.specs.InFrequency.{carrier_gain}
-use Rattle.channel_tracking.specs.InTime.{point_gain}
+use Rattle.tracking.specs.Comb.{comb_of, points}
+use Rattle.tracking.specs.InFrequency.{carrier_gain}
+use Rattle.tracking.specs.InTime.{point_gain}
 use Rattle.track_cells.specs.Gains.{gain_of}
 use Rattle.tracker.proofs.Within.{same_carrier}
 use Rattle.tracker.proofs.gains.carrier_gains.Goals as goal

@@ -2,9 +2,9 @@
 use Rattle.std.proofs.Common.{ℕ, ◌-◌, ◌++◌, ◌<◌, List, length, map, ap, sym, ◌∙◌, subst, arith}
 use Rattle.mode_set.specs.StreamTable.{carriers}
 use Rattle.mode_set.specs.declared.modes.Mode.{Mode}
-use Rattle.channel_tracking.specs.Comb.{comb_of}
-use Rattle.channel_tracking.specs.Tracking.{Symbol}
-use Rattle.pilot_motion.specs.Means.{AreMeans}
+use Rattle.tracking.specs.Comb.{comb_of}
+use Rattle.tracking.specs.Tracking.{Symbol}
+use Rattle.track_motion.specs.Means.{AreMeans}
 use Rattle.tracker.proofs.Bytes.{all_bytes}
 use Rattle.tracker.proofs.Symbols.{motion_is, gain_is, length_of, middle_in}
 use Rattle.tracker.proofs.symbol.push_symbol.Goals as goal

@@ -2,8 +2,8 @@
 use Rattle.std.proofs.Common.{◌≡◌, length, ap, sym, ◌∙◌, arith}
 use Rattle.mode_set.specs.StreamTable.{carriers}
 use Rattle.mode_set.specs.declared.entry.Entry.{Entry}
-use Rattle.channel_tracking.specs.Comb.{continual_points}
-use Rattle.channel_tracking.specs.Tracking.{comb}
+use Rattle.tracking.specs.Comb.{continual_points}
+use Rattle.tracking.specs.Tracking.{comb}
 use Rattle.tracker.proofs.Powers.{count_is, of_one, of_more, mean_of}
 use Rattle.tracker.proofs.symbol.reference_power.Goals as goal
 

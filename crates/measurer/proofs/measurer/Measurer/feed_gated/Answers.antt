@@ -5,7 +5,7 @@ use Rattle.pilots.specs.Carriers.{tps_carriers}
 use Rattle.qam_map.specs.declared.cell.Cell.{Cell}
 use Rattle.qam_map.specs.Cells.{cell_of}
 use Rattle.reception.specs.Streams.{so_far}
-use Rattle.stream_decoders.specs.Framing.{FrameStands}
+use Rattle.inner_receiver.specs.Framing.{FrameStands}
 use Rattle.measurement.specs.Lines.{defined_by}
 use Rattle.measurer.specs.Kept.{HasMeasured}
 use Rattle.measurer.specs.Seen.{MeasurerState}

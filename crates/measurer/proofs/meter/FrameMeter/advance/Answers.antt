@@ -1,6 +1,6 @@
 use Rattle.std.proofs.Common.{◌+◌, ◌^◌, ◌<◌, refl, sym, subst}
 use Rattle.reception.specs.Cells.{symbols}
-use Rattle.stream_meter.specs.Reports.{AreFew}
+use Rattle.measure_stream.specs.Reports.{AreFew}
 use Rattle.measurer.specs.declared.current.Current.{Current}
 use Rattle.measurer.specs.Seen.{MeterState}
 use Rattle.measurer.specs.Standing.{MetersStand}

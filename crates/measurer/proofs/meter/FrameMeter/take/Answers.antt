@@ -3,8 +3,8 @@ use Rattle.std.specs.Prelude.{nat_le}
 use Rattle.code_paths.specs.declared.costs.CostPair.{CostPair}
 use Rattle.qam_map.specs.declared.cell.Cell.{Cell}
 use Rattle.reception.specs.Streams.{so_far}
-use Rattle.stream_decoders.specs.Branches.{HasTaken}
-use Rattle.symbol_comparison.specs.Seen.{SymbolState}
+use Rattle.inner_receiver.specs.Branches.{HasTaken}
+use Rattle.measure_comparison.specs.Seen.{SymbolState}
 use Rattle.measurer.specs.Seen.{MeterState}
 use Rattle.measurer.specs.Standing.{MetersStand}
 use Rattle.measurer.specs.Steps.{AreKept, TakesSymbol, TakesNext}

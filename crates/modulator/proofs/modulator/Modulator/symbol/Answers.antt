@@ -6,7 +6,7 @@ use Rattle.mode_set.specs.StreamTable.{need}
 use Rattle.mode_set.specs.declared.modes.Stream.TheVariants.{Hp, Lp}
 use Rattle.mode_set.specs.declared.entry.Entry.{Entry}
 use Rattle.mode_set.specs.declared.settings.Settings.{Settings}
-use Rattle.symbol_spans.specs.Spans.{settings_in, settings_at}
+use Rattle.symbol_parameters.specs.Spans.{settings_in, settings_at}
 use Rattle.frame_build.specs.Announcing.{announcing_bytes}
 use Rattle.frame_build.specs.Symbol.{bits_of}
 use Rattle.transmission.specs.Transmission.{announced_at, tx_symbol}

@@ -8,11 +8,11 @@ use Rattle.rx_report.specs.declared.counts.Event.{Event}
 use Rattle.pilots.specs.Carriers.{tps_carriers}
 use Rattle.qam_map.specs.declared.cell.Cell.{Cell}
 use Rattle.qam_map.specs.Cells.{cell_of}
-use Rattle.stream_decoders.specs.Framing.{FrameStands}
+use Rattle.inner_receiver.specs.Framing.{FrameStands}
 use Rattle.reception.specs.Lines.{event_at}
 use Rattle.reception.specs.Feeds.{Output, Feeds}
 use Rattle.reception.specs.Streams.{so_far}
-use Rattle.stream_decoders.specs.Branches.{HasTaken}
+use Rattle.inner_receiver.specs.Branches.{HasTaken}
 use Rattle.receiver.specs.Ready.{seen, IsKeptStream}
 use Rattle.receiver.specs.Seen.{ReceiverState}
 use Rattle.receiver.specs.Standing.{StreamGave, StandsFor}

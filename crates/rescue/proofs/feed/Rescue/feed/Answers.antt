@@ -6,7 +6,7 @@ use Rattle.inner_decoder.specs.Running.{BranchState}
 use Rattle.rx_report.specs.declared.counts.Event.{Event}
 use Rattle.reception.specs.Lines.{event_at}
 use Rattle.reception.specs.Feeds.{Output}
-use Rattle.rescue_reception.specs.Feeds.{Feeds}
+use Rattle.rescue.specs.Feeds.{Feeds}
 use Rattle.reception.specs.Streams.{so_far}
 use Rattle.rescue.specs.Kept.{seen, IsKeptStream}
 use Rattle.rescue.specs.Seen.{RescueState}

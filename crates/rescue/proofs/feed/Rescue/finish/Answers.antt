@@ -1,7 +1,7 @@
 use Rattle.std.proofs.Common.{ℕ, ◌*◌, ◌^◌, true, List, ap, ◌∙◌, subst, arith}
 use Rattle.reception.specs.Feeds.{Output}
 use Rattle.reception.specs.Streams.{so_far, at_end}
-use Rattle.rescue_reception.specs.Feeds.{Finishes}
+use Rattle.rescue.specs.Feeds.{Finishes}
 use Rattle.rescue.specs.Kept.{seen}
 use Rattle.rescue.specs.Seen.{RescueState}
 use Rattle.rescue.specs.Standing.{StreamGave, StandsFor}

@@ -1,6 +1,6 @@
 use Rattle.std.proofs.Common.{[], refl, arith}
 use Rattle.reception.specs.Streams.{start_of}
-use Rattle.rescue_reception.specs.Streams.{no_words}
+use Rattle.rescue.specs.Streams.{no_words}
 use Rattle.rescue.proofs.Giving.{nothing_stands}
 use Rattle.rescue.proofs.stream.StreamRx.new.Goals as goal
 

@@ -1,7 +1,7 @@
 -- The next symbol is given.
 use Rattle.std.proofs.Common.{◌++◌, ap, sym, ◌∙◌, subst}
 use Rattle.mode_set.specs.declared.modes.Mode.{Mode}
-use Rattle.channel_tracking.specs.Tracking.{tracked_bytes}
+use Rattle.tracking.specs.Tracking.{tracked_bytes}
 use Rattle.tracker.specs.Tracks.{TrackerState, Tracks}
 use Rattle.tracker.proofs.Steps.{made, to_window, to_ring, gives}
 use Rattle.tracker.proofs.tracker.Tracker.rest.Goals as goal

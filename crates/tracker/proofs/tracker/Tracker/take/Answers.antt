@@ -1,7 +1,7 @@
 -- The symbol is kept, and the one seven before it is given.
 use Rattle.std.proofs.Common.{◌≡◌, ℕ, ◌-◌, ◌++◌, ◌∷◌, [], length, ap, sym, ◌∙◌, subst}
 use Rattle.mode_set.specs.declared.modes.Mode.{Mode}
-use Rattle.channel_tracking.specs.Tracking.{Symbol, tracked_bytes}
+use Rattle.tracking.specs.Tracking.{Symbol, tracked_bytes}
 use Rattle.tracker.specs.Tracks.{TrackerState, Tracks}
 use Rattle.tracker.proofs.Steps.{made, to_window, to_ring, waits, gives, count_of}
 use Rattle.tracker.proofs.tracker.Tracker.take.Goals as goal

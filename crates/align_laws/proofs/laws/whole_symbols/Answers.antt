@@ -1,5 +1,0 @@
-use Rattle.align_laws.proofs.Whole.{whole_symbols_alike}
-use Rattle.align_laws.proofs.laws.whole_symbols.Goals as goal
-
-pub returns : goal.returns
-returns c = whole_symbols_alike c.symbols.ensures.same c.costs.ensures.same c.symbols.ensures.tail c.symbols.ensures.tps c.symbols.ensures.bits

@@ -1,4 +1,0 @@
-pub mod Files
-pub mod Calls
-pub mod Commands
-pub mod WholeRun

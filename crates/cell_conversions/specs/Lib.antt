@@ -1,4 +1,0 @@
-pub mod Conversion
-pub mod ConversionCommand
-pub mod Working
-pub mod Runs

@@ -1,0 +1,115 @@
+// The work of `align` on the symbols of a file of cells.
+ghost use Rattle.std.specs.Prelude.{◌≡◌, ◌≤◌, ◌<◌, ◌^◌, ◌-◌, ◌+◌, true, false, None, Some, IsTrue};
+ghost use Rattle.cmd_cells.specs.Outputs.{IsWriting};
+ghost use Rattle.cmd_cells.specs.Stops.{HasCause};
+ghost use Rattle.tps_word.specs.Tps.{IsValid};
+ghost use Rattle.tune_in.specs.Places.{begin as begin_of};
+ghost use Rattle.cmd_align.specs.Announcement.{found_lines};
+ghost use Rattle.cmd_align.specs.Working.{Appends, ReportOnly};
+
+use crate::announcement::announced_line;
+use crate::copying::Copying;
+use frame_build::header;
+use mode_set::Settings;
+use tune_search::{PlaceSearch, place_line};
+use cmd_base::{CellsRefusal, Refusal};
+use station_core::{OutPort, Station};
+use cmd_cells::{Stop, SymbolWork, write_some};
+use tune_in::{Found, begin};
+
+// Writes the lines of a place, each by one write.
+fn write_found<'a, S: Station<'a>>(found: &Found, station: &mut S) -> Result<(), Stop>
+    requires created { (S.meaning station.old).report.created ≡ true }
+    requires open { (S.meaning station.old).report.closed ≡ false }
+    ensures kind { IsWriting result }
+    ensures cause { HasCause (S.meaning station.old) (S.meaning station.new) result }
+    ensures later_report { (S.meaning station.old).report_faults ≤ (S.meaning station.new).report_faults }
+    ensures others { ReportOnly (S.meaning station.old) (S.meaning station.new) }
+    ensures written { IsTrue (S.meaning station.old).tells → Appends (found_lines found.now) (S.meaning station.old).report.written (S.meaning station.new).report.written result }
+{
+    let place = place_line(found);
+    let announced = announced_line(&found.word);
+    write_some(OutPort::Report, place.as_str().as_bytes(), station)?;
+    write_some(OutPort::Report, announced.as_str().as_bytes(), station)
+}
+
+// What there is to be done behind a place: the symbols before the next super-frame are passed over.
+fn copying_from(found: &Found) -> Copying
+    requires place { found.now.place < 2 ^ 32 }
+    requires valid { IsValid found.now.word }
+    ensures skip { result.skip + (found.now.place + 68) ≡ begin_of found.now }
+    ensures symbols { result.symbols ≡ 0 }
+    ensures tail { result.tail ≡ 0 }
+{
+    Copying {
+        skip: begin(found) - (found.place + 68),
+        symbols: 0,
+        tail: 0,
+    }
+}
+
+/// A search for a place, and behind it what is handed on.
+#[derive(Drop)]
+pub(crate) struct AligningWork<T> {
+    /// The settings of the command.
+    pub settings: Settings,
+    /// The search.
+    pub search: T,
+    /// What is handed on, once a place is found.
+    pub copying: Option<Copying>,
+}
+
+impl<'a, S: Station<'a>, T: PlaceSearch> SymbolWork<'a, S> for AligningWork<T> {
+    ghost use Rattle.std.specs.Prelude.{⊤, []};
+    ghost use Rattle.mode_set.specs.declared.settings.Settings.{Settings};
+    ghost use Rattle.cmd_convert.specs.Working.{writes_at};
+    ghost use Rattle.cmd_align.specs.Working.{AligningStands, aligning_work};
+
+    ghost Setup = { Settings };
+
+    ghost setup = { λ x. x.settings };
+
+    ghost work = { λ s. aligning_work s };
+
+    ghost outputs = { λ s. writes_at };
+
+    ghost able = { ⊤ };
+
+    ghost is_new = { λ x. (x.copying ≡ None) × T.stands x.search x.settings [] × (x.settings.mode ≡ T.mode) };
+
+    ghost stands = { λ x bytes given. (x.settings.mode ≡ T.mode) × AligningStands (T.stands x.search) x.settings x.copying bytes given };
+
+    fn begin(&mut self, station: &mut S) -> Result<(), Stop> {
+        write_some(OutPort::Cells, &header(self.settings.mode), station)
+    }
+
+    fn take(&mut self, piece: &[u8], station: &mut S) -> Result<(), Stop> {
+        tune_in::more_bytes();
+        let size = 5 * self.settings.mode.carriers() as usize;
+        if let Some(copying) = &mut self.copying {
+            return copying.take(size, piece, station);
+        }
+        match self.search.take(piece) {
+            Some(found) => {
+                self.copying = Some(copying_from(&found));
+                write_found(&found, station)
+            }
+            None => Ok(()),
+        }
+    }
+
+    fn finish(&mut self, station: &mut S) -> Result<(), Stop> {
+        match &self.copying {
+            Some(copying) => {
+                let line = copying.line();
+                write_some(OutPort::Report, line.as_str().as_bytes(), station)
+            }
+            None => Err(Stop::Work(Refusal::Cells(CellsRefusal::NoPlace))),
+        }
+    }
+
+    fn law(&self) {
+        reception::laws::symbols();
+        tune_in::more_bytes();
+    }
+}

@@ -1,0 +1,132 @@
+// The command.
+ghost use Rattle.std.specs.Prelude.{◌≡◌, [], length, Some};
+ghost use Rattle.frame_build.specs.CellFile.{header as header_of};
+ghost use Rattle.reception.specs.Cells.{symbol_length};
+ghost use Rattle.station_core.specs.Meaning.{IsFresh};
+ghost use Rattle.cmd_base.specs.Run.{Run};
+ghost use Rattle.cmd_base.specs.Ports.{cell_names};
+ghost use Rattle.cmd_cells.specs.Runs.{IsReady, RunsCells};
+ghost use Rattle.cmd_align.specs.AlignCommand.{align_command};
+ghost use Rattle.cmd_align.specs.Working.{RunsOrLacks, aligning_work};
+
+use crate::aligning_work::AligningWork;
+use crate::copying::Copying;
+use frame_build::{SymbolIn, header};
+use mode_set::{Carriers, Mode, Mode2k, Mode8k, Settings};
+use tune_search::{PlaceSearch, Search};
+use cmd_base::{Limits, Refusal};
+use cmd_base::{read_settings, refuse};
+use station_core::Station;
+use std::alloc::Global;
+use cmd_cells::{CellFile, run_cells};
+use tune_in::Tuner;
+
+// Runs the work by a search that has had no byte. `symbol` has the size of a symbol.
+fn align_by<'a, T: PlaceSearch + Drop, S: Station<'a>>(
+    search: T,
+    settings: &Settings,
+    symbol: &mut [u8],
+    old_cells: &'a str,
+    new_cells: &'a str,
+    station: &mut S,
+) -> u8
+    requires search { T.stands search settings.now [] }
+    requires mode { settings.now.mode ≡ T.mode }
+    requires size { length symbol.old ≡ symbol_length settings.now }
+    requires ready { IsReady (cell_names new_cells.now) (S.meaning station.old) }
+    ensures { RunsCells (aligning_work settings.now) settings.now.max_symbols old_cells.now (Some (header_of settings.now.mode)) (cell_names new_cells.now) (S.meaning station.old) (S.meaning station.new) result }
+{
+    let mut work = AligningWork {
+        settings: *settings,
+        search,
+        copying: None::<Copying>,
+    };
+    let files = CellFile { name: new_cells };
+    run_cells(
+        settings.max_symbols,
+        old_cells,
+        Some(header(settings.mode)),
+        &files,
+        &mut work,
+        symbol,
+        station,
+    )
+}
+
+// Takes the memory of a mode's search and of one symbol, and runs the work.
+fn align_in<'a, M: Carriers, S: Station<'a>>(
+    alloc: Global,
+    settings: &Settings,
+    old_cells: &'a str,
+    new_cells: &'a str,
+    station: &mut S,
+) -> u8
+    requires mode { settings.now.mode ≡ M.MODE }
+    requires ready { IsReady (cell_names new_cells.now) (S.meaning station.old) }
+    ensures { RunsOrLacks settings.now old_cells.now new_cells.now (S.meaning station.old) (S.meaning station.new) result }
+{
+    let Ok(mut symbol) = vec![in alloc; 0u8; 5 * M::K as usize] else {
+        return refuse(&Refusal::Memory, station);
+    };
+    let Ok(room) = SymbolIn::<M>::new(alloc) else {
+        return refuse(&Refusal::Memory, station);
+    };
+    // Constructed last: early returns would have to drop it, which is slow to prove.
+    let Ok(tuner) = Tuner::<M>::new(alloc) else {
+        return refuse(&Refusal::Memory, station);
+    };
+    let search = Search {
+        tuner,
+        symbol: room,
+    };
+    align_by(search, settings, &mut symbol, old_cells, new_cells, station)
+}
+
+// The same in the mode that is set.
+fn align_accepted<'a, S: Station<'a>>(
+    alloc: Global,
+    settings: &Settings,
+    old_cells: &'a str,
+    new_cells: &'a str,
+    station: &mut S,
+) -> u8
+    requires ready { IsReady (cell_names new_cells.now) (S.meaning station.old) }
+    ensures { RunsOrLacks settings.now old_cells.now new_cells.now (S.meaning station.old) (S.meaning station.new) result }
+{
+    match settings.mode {
+        Mode::M2k => align_in::<Mode2k, S>(alloc, settings, old_cells, new_cells, station),
+        Mode::M8k => align_in::<Mode8k, S>(alloc, settings, old_cells, new_cells, station),
+    }
+}
+
+/// Runs `align SETTINGS IN OUT` and gives its status: from the super-frame after the first readable frame on,
+/// the whole symbols of IN are handed on to OUT, byte for byte. Both are cell files of version 2, and IN begins
+/// at any symbol.
+///
+/// What it promises is `Run` of its definition, `align_command`. The settings are read and checked, of which
+/// the mode and the limit of symbols have an effect, and then all memory is taken, before another port is asked.
+/// IN is opened, and its header is read, before OUT is made. If IN holds no place the status is 10, and OUT
+/// holds the header alone. The limits of packets have no effect.
+///
+/// Its own laws: the place is the least one, and by the settings that it announces a receiver has of OUT what
+/// it has of IN from the next super-frame on.
+pub fn align<'a, S: Station<'a>>(
+    alloc: Global,
+    settings: &'a str,
+    old_cells: &'a str,
+    new_cells: &'a str,
+    limits: &Limits,
+    station: &mut S,
+) -> u8
+    requires fresh { IsFresh (S.meaning station.old) }
+    ensures { Run (align_command settings.now old_cells.now new_cells.now) limits.now.packets (S.meaning station.old) (S.meaning station.new) result }
+{
+    reception::laws::symbols();
+    tune_in::more_bytes();
+    tune_search::laws::least_place();
+    reception::whole_symbols::whole_symbols();
+    match read_settings(alloc, settings, station) {
+        Ok(accepted) => align_accepted(alloc, &accepted, old_cells, new_cells, station),
+        Err(refusal) => refuse(&refusal, station),
+    }
+}

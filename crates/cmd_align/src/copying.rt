@@ -1,0 +1,73 @@
+// The symbols behind a place, which are handed on.
+ghost use Rattle.std.specs.Prelude.{◌≡◌, ◌≤◌, ◌<◌, ◌^◌, ◌++◌, ℕ, List, length, Some};
+ghost use Rattle.mode_set.specs.declared.settings.Settings.{Settings as AnySettings};
+ghost use Rattle.reception.specs.Cells.{symbol_length, tail};
+ghost use Rattle.cmd_cells.specs.Outputs.{IsWriting};
+ghost use Rattle.cmd_cells.specs.Stops.{HasCause};
+ghost use Rattle.cmd_cells.specs.Work.{AreOpen, Does, WritesOnly, Written};
+ghost use Rattle.cmd_convert.specs.Conversion.{counts_line};
+ghost use Rattle.cmd_convert.specs.Working.{writes_at};
+ghost use Rattle.tune_in.specs.declared.frame.Found.{Found as AnyFound};
+ghost use Rattle.cmd_align.specs.Working.{GivesAt, IsCopying};
+
+use rx_report::{Line, push_count};
+use station_core::{OutPort, Station};
+use cmd_cells::{Stop, write_some};
+
+/// What was counted of the symbols behind a place.
+#[derive(Clone, Copy, Debug)]
+pub(crate) struct Copying {
+    /// The symbols that are still to be passed over.
+    pub skip: u64,
+    /// The whole symbols that were handed on.
+    pub symbols: u64,
+    /// The bytes after them.
+    pub tail: u64,
+}
+
+impl Copying {
+    /// Takes the next symbol of `size` bytes, or what there is of it. It is passed over before the next
+    /// super-frame; from there on it is handed on if it is whole.
+    pub(crate) fn take<'a, S: Station<'a>>(
+        &mut self,
+        size: usize,
+        piece: &[u8],
+        station: &mut S,
+    ) -> Result<(), Stop>
+        requires open { AreOpen writes_at (S.meaning station.old) }
+        requires few { self.old.symbols < 2 ^ 32 }
+        ensures kind { IsWriting result }
+        ensures others { WritesOnly (S.meaning station.old) (S.meaning station.new) }
+        ensures cause { HasCause (S.meaning station.old) (S.meaning station.new) result }
+        ensures later_report { (S.meaning station.old).report_faults ≤ (S.meaning station.new).report_faults }
+        ensures takes { (s : AnySettings) (found : AnyFound) (bytes : List ℕ) (given : Written) → size ≡ symbol_length s
+            → IsCopying s found bytes self.old → GivesAt s bytes (Some found) given
+            → tail s bytes ≡ 0 → length piece.now ≤ size
+            → Does (λ after. IsCopying s found (bytes ++ piece.now) self.new) (GivesAt s (bytes ++ piece.now) (Some found)) (λ r. ⊥) given (S.meaning station.old) (S.meaning station.new) result }
+    {
+        reception::laws::symbols();
+        if self.skip > 0 {
+            if piece.len() == size {
+                self.skip -= 1;
+            }
+            return Ok(());
+        }
+        if piece.len() != size {
+            self.tail = piece.len() as u64;
+            return Ok(());
+        }
+        self.symbols += 1;
+        write_some(OutPort::Cells, piece, station)
+    }
+
+    /// The closing line.
+    pub(crate) fn line(&self) -> Line
+        ensures { result.bytes ≡ counts_line self.now.symbols self.now.tail }
+    {
+        let mut line = Line::new();
+        push_count(&mut line, "symbols ", self.symbols);
+        push_count(&mut line, " tail ", self.tail);
+        line.push_str("\n");
+        line
+    }
+}

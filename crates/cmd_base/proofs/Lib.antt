@@ -1,0 +1,13 @@
+pub mod Accepting
+pub mod FilePackets
+pub mod Stated
+pub mod Pieces
+pub mod Station_laws
+pub mod SettingsAnswer
+pub mod ReportLines
+pub mod Fitting
+pub mod Whole
+pub mod Early
+pub mod Taken
+pub mod HandedOn
+pub mod EndCauses

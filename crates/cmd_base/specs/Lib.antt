@@ -1,0 +1,16 @@
+pub mod Packets
+pub mod SettingsFile
+pub mod StatedSettings
+pub mod StreamForm
+pub mod Text
+pub mod Header
+pub mod Command
+pub mod Ports
+pub mod Run
+pub mod Causes
+pub mod Lines
+pub mod Reading
+pub mod Report
+pub mod SettingsStep
+pub mod FittingStep
+pub mod Ended

@@ -1,0 +1,25 @@
+-- What a settings file comes to, from its bytes alone.
+use Rattle.std.specs.Prelude.{ℕ, List, length, nat_lt, if◌then◌else◌, Option, Some, option_map}
+use Rattle.mode_set.specs.declared.error.SettingsError.{SettingsError}
+use Rattle.mode_set.specs.declared.error.SettingsError.TheVariants as error
+use Rattle.mode_set.specs.Document.{refusal}
+use Rattle.cmd_base.specs.declared.work.SettingsRefusal.TheVariants.{TooLong, NotToml, Unknown, Missing, Value, Clash}
+use Rattle.cmd_base.specs.declared.work.Refusal.{Refusal}
+use Rattle.cmd_base.specs.declared.work.Refusal.TheVariants.{Settings, Memory}
+
+-- the most bytes that a settings file may have
+abbrev pub most_settings : ℕ
+most_settings = 65536
+
+-- how a run is refused for the settings' own reason
+abbrev pub refused_as : SettingsError → Refusal
+refused_as error.NotToml = Settings NotToml
+refused_as (error.Unknown place) = Settings (Unknown place)
+refused_as (error.Missing key) = Settings (Missing key)
+refused_as (error.Value key) = Settings (Value key)
+refused_as (error.Clash key) = Settings (Clash key)
+refused_as error.Memory = Memory
+
+-- the refusal of a settings file, if it is refused: too long before what its document says
+abbrev pub settings_refusal : List ℕ → Option Refusal
+settings_refusal bytes = if nat_lt most_settings (length bytes) then Some (Settings TooLong) else option_map refused_as (refusal bytes)

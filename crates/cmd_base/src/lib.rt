@@ -1,0 +1,24 @@
+//! What a run of a command promises, whatever the command is.
+//!
+//! `specs/Command.antt` says what a command is: the files that it reads and writes, and what they come to.
+//! `specs/Run.antt` is the promise of a run of any command, in one record. Here are the values that they
+//! speak of: why a run stops ([`Refusal`]), what it counts in a transport file ([`Counts`]), its
+//! [`Limits`], and the lines of its report that commands share.
+#![tactic(auto)]
+
+mod text;
+mod work;
+
+pub use rx_report::Line;
+pub use text::{closing_line_of, packets_line_of, text_of};
+pub use work::{CellsRefusal, Counts, Limits, Refusal, SettingsRefusal};
+mod fitting_step;
+mod lines;
+mod read;
+mod refusing;
+mod settings_step;
+pub use fitting_step::read_fitting;
+pub use lines::write_line;
+pub use read::fill;
+pub use refusing::{refuse, settle};
+pub use settings_step::read_settings;

@@ -1,0 +1,157 @@
+// The loop over the symbols of a file of cells.
+ghost use Rattle.std.specs.Prelude.{◌≡◌, ◌≤◌, ◌<◌, ◌+◌, ◌*◌, ℕ, List, [], true, IsTrue, length};
+ghost use Rattle.cmd_cells.specs.Stops.{HasCause};
+ghost use Rattle.cmd_cells.specs.Symbols.{symbols};
+ghost use Rattle.cmd_cells.specs.Work.{AreOpen, GoesOn, HasReason, Written};
+ghost use Rattle.station_core.specs.Meaning.{Meaning};
+ghost use Rattle.cmd_cells.specs.Cells.{IsWorking, KeepsOthers, Next, TakesAll, TakesAtMost, Works};
+
+use crate::stop::Stop;
+use crate::work::SymbolWork;
+use cmd_base::fill;
+use station_core::{Failed, InPort, Station};
+
+// Hands in the symbol of this number, or the bytes that are left of the cells; whether the symbol was whole.
+// Each read asks for the bytes that the symbol lacks.
+fn take_next<'a, X: SymbolWork<'a, S>, S: Station<'a>>(
+    number: u32,
+    work: &mut X,
+    symbol: &mut [u8],
+    station: &mut S,
+) -> Result<bool, Stop>
+    requires able { X.able }
+    requires attached { (S.meaning station.old).cells.attached ≡ true }
+    requires open { AreOpen (X.outputs (X.setup work.old)) (S.meaning station.old) }
+    requires size { length symbol.old ≡ (X.work (X.setup work.old)).size }
+    requires some { 0 < length symbol.old }
+    requires going { GoesOn (X.work (X.setup work.old)) (X.stands work.old) }
+    ensures size { length symbol.new ≡ length symbol.old }
+    ensures setup { X.setup work.new ≡ X.setup work.old }
+    ensures others { KeepsOthers (S.meaning station.old) (S.meaning station.new) }
+    ensures cause { HasCause (S.meaning station.old) (S.meaning station.new) result }
+    ensures reason { HasReason (X.work (X.setup work.old)) result }
+    ensures later_report { (S.meaning station.old).report_faults ≤ (S.meaning station.new).report_faults }
+    ensures taken { TakesAtMost (X.work (X.setup work.old)).size (S.meaning station.old) (S.meaning station.new) }
+    ensures next { (most : ℕ) (file bytes : List ℕ) (given : Written) (start : Meaning) → number < most → length bytes ≡ number * (X.work (X.setup work.old)).size
+        → IsWorking (X.work (X.setup work.old)) (X.stands work.old) file start (S.meaning station.old) bytes given
+        → Next (X.work (X.setup work.old)) (X.stands work.new) most file number start (S.meaning station.new) result }
+{
+    work.law();
+    let filled = match fill(station, InPort::Cells, symbol) {
+        Ok(filled) => filled,
+        Err(_) => return Err(Stop::ReadFault),
+    };
+    work.take(&symbol[..filled], station)?;
+    Ok(filled == symbol.len())
+}
+
+// Behind as many symbols as the limit: hands in the bytes that are left of the cells, where they are no whole
+// symbol.
+fn take_rest<'a, X: SymbolWork<'a, S>, S: Station<'a>>(
+    max_symbols: u32,
+    work: &mut X,
+    symbol: &mut [u8],
+    station: &mut S,
+) -> Result<(), Stop>
+    requires able { X.able }
+    requires attached { (S.meaning station.old).cells.attached ≡ true }
+    requires open { AreOpen (X.outputs (X.setup work.old)) (S.meaning station.old) }
+    requires size { length symbol.old ≡ (X.work (X.setup work.old)).size }
+    requires some { 0 < length symbol.old }
+    requires going { GoesOn (X.work (X.setup work.old)) (X.stands work.old) }
+    ensures setup { X.setup work.new ≡ X.setup work.old }
+    ensures others { KeepsOthers (S.meaning station.old) (S.meaning station.new) }
+    ensures cause { HasCause (S.meaning station.old) (S.meaning station.new) result }
+    ensures reason { HasReason (X.work (X.setup work.old)) result }
+    ensures later_report { (S.meaning station.old).report_faults ≤ (S.meaning station.new).report_faults }
+    ensures taken { TakesAtMost (X.work (X.setup work.old)).size (S.meaning station.old) (S.meaning station.new) }
+    ensures rest { (file bytes : List ℕ) (given : Written) (start : Meaning) → length bytes ≡ max_symbols * (X.work (X.setup work.old)).size
+        → IsWorking (X.work (X.setup work.old)) (X.stands work.old) file start (S.meaning station.old) bytes given
+        → TakesAll (X.work (X.setup work.old)) (X.stands work.new) max_symbols file start (S.meaning station.new) result }
+{
+    work.law();
+    let filled = match fill(station, InPort::Cells, symbol) {
+        Ok(filled) => filled,
+        Err(Failed) => return Err(Stop::ReadFault),
+    };
+    if filled == symbol.len() {
+        return Err(Stop::Limit);
+    }
+    let rest = &symbol[..filled];
+    work.take(rest, station)
+}
+
+// Begins the work and hands in the cells to their end. It refuses one more whole symbol than the limit.
+fn take_all<'a, X: SymbolWork<'a, S>, S: Station<'a>>(
+    max_symbols: u32,
+    work: &mut X,
+    symbol: &mut [u8],
+    station: &mut S,
+) -> Result<(), Stop>
+    requires able { X.able }
+    requires attached { (S.meaning station.old).cells.attached ≡ true }
+    requires open { AreOpen (X.outputs (X.setup work.old)) (S.meaning station.old) }
+    requires size { length symbol.old ≡ (X.work (X.setup work.old)).size }
+    requires some { 0 < length symbol.old }
+    requires new { X.is_new work.old }
+    ensures setup { X.setup work.new ≡ X.setup work.old }
+    ensures others { KeepsOthers (S.meaning station.old) (S.meaning station.new) }
+    ensures cause { HasCause (S.meaning station.old) (S.meaning station.new) result }
+    ensures reason { HasReason (X.work (X.setup work.old)) result }
+    ensures later_report { (S.meaning station.old).report_faults ≤ (S.meaning station.new).report_faults }
+    ensures taken { TakesAtMost ((max_symbols + 1) * (X.work (X.setup work.old)).size) (S.meaning station.old) (S.meaning station.new) }
+    ensures all { TakesAll (X.work (X.setup work.old)) (X.stands work.new) max_symbols (S.meaning station.old).cells.left (S.meaning station.old) (S.meaning station.new) result }
+{
+    work.begin(station)?;
+    for number in 0..max_symbols {
+        let goes_on = take_next(number, work, symbol, station)?;
+        if !goes_on {
+            return Ok(());
+        }
+    }
+    take_rest(max_symbols, work, symbol, station)
+}
+
+// Ends the work behind the cells that were taken.
+fn end<'a, X: SymbolWork<'a, S>, S: Station<'a>>(work: &mut X, station: &mut S) -> Result<(), Stop>
+    requires able { X.able }
+    requires open { AreOpen (X.outputs (X.setup work.old)) (S.meaning station.old) }
+    requires going { GoesOn (X.work (X.setup work.old)) (X.stands work.old) }
+    ensures others { KeepsOthers (S.meaning station.old) (S.meaning station.new) }
+    ensures cause { HasCause (S.meaning station.old) (S.meaning station.new) result }
+    ensures reason { HasReason (X.work (X.setup work.old)) result }
+    ensures later_report { (S.meaning station.old).report_faults ≤ (S.meaning station.new).report_faults }
+    ensures left { (S.meaning station.new).cells.left ≡ (S.meaning station.old).cells.left }
+    ensures ends { (most : ℕ) (file bytes : List ℕ) (given : Written) (start : Meaning) → symbols (X.work (X.setup work.old)).size bytes ≤ most
+        → (IsTrue (S.meaning station.old).tells → (S.meaning station.old).cells.left ≡ [])
+        → IsWorking (X.work (X.setup work.old)) (X.stands work.old) file start (S.meaning station.old) bytes given
+        → Works (X.work (X.setup work.old)) most file start (S.meaning station.new) result }
+{
+    work.finish(station)
+}
+
+/// Does the work on the cells, from their first symbol to their end, and ends it.
+///
+/// It stops at one more whole symbol than the limit, at a fault, and where the work refuses the cells.
+pub(crate) fn work_on_cells<'a, X: SymbolWork<'a, S>, S: Station<'a>>(
+    max_symbols: u32,
+    work: &mut X,
+    symbol: &mut [u8],
+    station: &mut S,
+) -> Result<(), Stop>
+    requires able { X.able }
+    requires attached { (S.meaning station.old).cells.attached ≡ true }
+    requires open { AreOpen (X.outputs (X.setup work.old)) (S.meaning station.old) }
+    requires size { length symbol.old ≡ (X.work (X.setup work.old)).size }
+    requires some { 0 < length symbol.old }
+    requires new { X.is_new work.old }
+    ensures others { KeepsOthers (S.meaning station.old) (S.meaning station.new) }
+    ensures cause { HasCause (S.meaning station.old) (S.meaning station.new) result }
+    ensures reason { HasReason (X.work (X.setup work.old)) result }
+    ensures later_report { (S.meaning station.old).report_faults ≤ (S.meaning station.new).report_faults }
+    ensures taken { TakesAtMost ((max_symbols + 1) * (X.work (X.setup work.old)).size) (S.meaning station.old) (S.meaning station.new) }
+    ensures works { Works (X.work (X.setup work.old)) max_symbols (S.meaning station.old).cells.left (S.meaning station.old) (S.meaning station.new) result }
+{
+    take_all(max_symbols, work, symbol, station)?;
+    end(work, station)
+}

@@ -1,0 +1,32 @@
+// Why the work on cells stops before its end.
+ghost use Rattle.std.specs.Prelude.{◌≡◌};
+ghost use Rattle.cmd_cells.specs.Stops.{stop_refusal};
+
+use cmd_base::Refusal;
+
+/// Why the work on cells has stopped before its end.
+#[derive(Clone, Copy, Debug, PartialEq, Eq)]
+pub enum Stop {
+    /// The cells could not be opened or read.
+    ReadFault,
+    /// An output could not be made, written or closed, or a write to the report failed.
+    WriteFault,
+    /// The cells hold one more whole symbol than the limit.
+    Limit,
+    /// The work itself refuses the cells, for this reason.
+    Work(Refusal),
+}
+
+impl Stop {
+    /// The refusal of a run that has stopped so, where this many symbols are the limit.
+    pub fn refusal(self, max_symbols: u32) -> Refusal
+        ensures { result ≡ stop_refusal max_symbols self }
+    {
+        match self {
+            Stop::ReadFault => Refusal::ReadFault,
+            Stop::WriteFault => Refusal::WriteFault,
+            Stop::Limit => Refusal::Limit(u64::from(max_symbols)),
+            Stop::Work(refusal) => refusal,
+        }
+    }
+}

@@ -1,0 +1,12 @@
+pub mod Files
+pub mod Calls
+pub mod Commands
+pub mod WholeRun
+pub mod OldCells
+pub mod UpgradeJoined
+pub mod UpgradeSound
+pub mod UpgradeLaws
+pub mod UpgradeWorked
+pub mod EqualiseSound
+pub mod EqualiseTaking
+pub mod EqualiseLaws

@@ -1,0 +1,27 @@
+use Rattle.station_core.specs.Meaning.{Meaning}
+use Rattle.cmd_base.specs.Command.{Files}
+use Rattle.cmd_base.specs.StatedSettings.{settings_of}
+use Rattle.cmd_convert.proofs.WholeRun.{refused, run}
+use Rattle.cmd_convert.specs.Upgrading.{upgrading}
+use Rattle.cmd_convert.specs.UpgradeCommand.{laws, statuses}
+use Rattle.cmd_convert.proofs.UpgradeLaws.{own_laws}
+use Rattle.cmd_convert.proofs.UpgradeSound.{sound}
+use Rattle.cmd_convert.proofs.upgrade_command.upgrade.Goals as goal
+
+pub returns-in-Ok : goal.returns-in-Ok
+returns-in-Ok g c =
+    let old : Meaning = g.S.Station.meaning c.args.station.now in
+    let mid : Meaning = g.S.Station.meaning c.read_settings.new.station in
+    let new : Meaning = g.S.Station.meaning c.upgrade_accepted.new.station in
+    let own = λ (file : Files). own_laws c.upgraded_costs.ensures.plain (settings_of (file c.args.settings.now)) (file c.args.old_cells.now) in
+    run upgrading statuses sound (laws c.args.settings.now c.args.old_cells.now) c.args.limits.now.packets c.args.settings.now c.args.old_cells.now c.args.new_cells.now old mid new own c.requires.fresh c.in-Ok.ensures.asks c.in-Ok.accepted c.in-Ok.ensures.reads
+    c.upgrade_accepted.result c.upgrade_accepted.ensures
+
+pub returns-in-Err : goal.returns-in-Err
+returns-in-Err g c =
+    let old : Meaning = g.S.Station.meaning c.args.station.now in
+    let mid : Meaning = g.S.Station.meaning c.read_settings.new.station in
+    let new : Meaning = g.S.Station.meaning c.refuse.new.station in
+    let own = λ (file : Files). own_laws c.upgraded_costs.ensures.plain (settings_of (file c.args.settings.now)) (file c.args.old_cells.now) in
+    refused upgrading statuses sound (laws c.args.settings.now c.args.old_cells.now) c.args.limits.now.packets c.args.settings.now c.args.old_cells.now c.args.new_cells.now old mid new own c.requires.fresh c.in-Err.ensures.asks c.in-Err.refusal c.in-Err.ensures.reads
+    c.refuse.result c.refuse.ensures.status c.refuse.ensures.text

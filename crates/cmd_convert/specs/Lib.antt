@@ -1,0 +1,10 @@
+pub mod Conversion
+pub mod ConversionCommand
+pub mod Working
+pub mod Runs
+pub mod Upgrading
+pub mod UpgradeLaws
+pub mod UpgradeCommand
+pub mod Equalising
+pub mod EqualiseLaws
+pub mod EqualiseCommand

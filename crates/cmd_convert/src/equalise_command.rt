@@ -1,0 +1,96 @@
+// The command.
+ghost use Rattle.std.specs.Prelude.{◌≡◌};
+ghost use Rattle.station_core.specs.Meaning.{IsFresh};
+ghost use Rattle.cmd_base.specs.Run.{Run};
+ghost use Rattle.cmd_cells.specs.Outputs.{cell_names};
+ghost use Rattle.cmd_cells.specs.Runs.{IsReady};
+ghost use Rattle.cmd_convert.specs.Runs.{RunsOrLacks};
+ghost use Rattle.cmd_convert.specs.Equalising.{equalisation};
+ghost use Rattle.cmd_convert.specs.EqualiseCommand.{equalise_command};
+
+use crate::equaliser::Equaliser;
+use crate::run_conversion;
+use frame_build::{SymbolIn, header};
+use mode_set::{Carriers, Mode, Mode2k, Mode8k, Settings};
+use cmd_base::{Limits, Refusal};
+use cmd_base::{read_settings, refuse};
+use station_core::Station;
+use std::alloc::Global;
+
+// Takes the memory of a symbol as bytes, as cells and corrected, and corrects the cells.
+fn equalise_in<'a, M: Carriers, S: Station<'a>>(
+    alloc: Global,
+    settings: &Settings,
+    old_cells: &'a str,
+    new_cells: &'a str,
+    station: &mut S,
+) -> u8
+    requires mode { settings.now.mode ≡ M.MODE }
+    requires ready { IsReady (cell_names new_cells.now) (S.meaning station.old) }
+    ensures { RunsOrLacks (equalisation M.MODE) settings.now.max_symbols old_cells.now new_cells.now (S.meaning station.old) (S.meaning station.new) result }
+{
+    let size = 5 * M::K as usize;
+    let Ok(mut bytes) = vec![in alloc; 0u8; size] else {
+        return refuse(&Refusal::Memory, station);
+    };
+    let Ok(symbol) = SymbolIn::<M>::new(alloc) else {
+        return refuse(&Refusal::Memory, station);
+    };
+    let Ok(room) = Vec::with_capacity(alloc, size) else {
+        return refuse(&Refusal::Memory, station);
+    };
+    run_conversion(
+        settings.max_symbols,
+        Some(header(M::MODE)),
+        Equaliser::<M> { symbol, room },
+        &mut bytes,
+        old_cells,
+        new_cells,
+        station,
+    )
+}
+
+// The same in the mode that is set.
+fn equalise_accepted<'a, S: Station<'a>>(
+    alloc: Global,
+    settings: &Settings,
+    old_cells: &'a str,
+    new_cells: &'a str,
+    station: &mut S,
+) -> u8
+    requires ready { IsReady (cell_names new_cells.now) (S.meaning station.old) }
+    ensures { RunsOrLacks (equalisation settings.now.mode) settings.now.max_symbols old_cells.now new_cells.now (S.meaning station.old) (S.meaning station.new) result }
+{
+    match settings.mode {
+        Mode::M2k => equalise_in::<Mode2k, S>(alloc, settings, old_cells, new_cells, station),
+        Mode::M8k => equalise_in::<Mode8k, S>(alloc, settings, old_cells, new_cells, station),
+    }
+}
+
+/// Runs `equalise SETTINGS IN OUT` and gives its status: the cells of IN are corrected by the pilots of their
+/// own symbols (EN 300 744, 4.5), and written to OUT. Both are cell files of version 2, and IN begins at the
+/// first symbol of a super-frame.
+///
+/// What it promises is `Run` of its definition, `equalise_command`. The settings are read and checked, of which
+/// the mode and the limit of symbols have an effect, and then all memory is taken, before another port is asked.
+/// IN is opened, and its header is read, before OUT is made. The limits of packets do not bound a correction.
+///
+/// Its own law: where the cells of IN are those of a transmission that came through a channel of one gain, each
+/// cell of OUT is near to the one that was sent, and what a receiver gives of OUT are the packets.
+pub fn equalise<'a, S: Station<'a>>(
+    alloc: Global,
+    settings: &'a str,
+    old_cells: &'a str,
+    new_cells: &'a str,
+    limits: &Limits,
+    station: &mut S,
+) -> u8
+    requires fresh { IsFresh (S.meaning station.old) }
+    ensures { Run (equalise_command settings.now old_cells.now new_cells.now) limits.now.packets (S.meaning station.old) (S.meaning station.new) result }
+{
+    law_link::flat_gain::files_come_back();
+    match read_settings(alloc, settings, station) {
+        Ok(accepted) => equalise_accepted(alloc, &accepted, old_cells, new_cells, station),
+        Err(refusal) => refuse(&refusal, station),
+    }
+}

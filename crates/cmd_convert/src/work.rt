@@ -1,0 +1,71 @@
+// The work of a conversion on the symbols of the old file.
+ghost use Rattle.std.specs.Prelude.{◌≡◌};
+ghost use Rattle.cmd_convert.specs.Conversion.{counts_line};
+
+use crate::converter::Converter;
+use rx_report::{Line, push_count};
+use station_core::{OutPort, Station};
+use cmd_cells::{Stop, SymbolWork, write_some};
+
+/// A converter, with what was counted of the old cells.
+#[derive(Drop)]
+pub(crate) struct ConversionWork<C> {
+    /// What converts a symbol.
+    pub converter: C,
+    /// The whole symbols that were taken.
+    pub symbols: u64,
+    /// The bytes that were taken behind them.
+    pub tail: u64,
+}
+
+// The closing line.
+fn line_of(symbols: u64, tail: u64) -> Line
+    ensures { result.bytes ≡ counts_line symbols tail }
+{
+    let mut line = Line::new();
+    push_count(&mut line, "symbols ", symbols);
+    push_count(&mut line, " tail ", tail);
+    line.push_str("\n");
+    line
+}
+
+impl<'a, S: Station<'a>, C: Converter> SymbolWork<'a, S> for ConversionWork<C> {
+    ghost use Rattle.std.specs.Prelude.{⊤};
+    ghost use Rattle.cmd_convert.specs.Conversion.{Conversion};
+    ghost use Rattle.cmd_convert.specs.Working.{Counts, CountsNone, conversion_work, writes_at};
+
+    ghost Setup = { Conversion };
+
+    ghost setup = { λ x. C.conversion x.converter };
+
+    ghost work = { λ c. conversion_work c };
+
+    ghost outputs = { λ c. writes_at };
+
+    ghost able = { ⊤ };
+
+    ghost is_new = { λ x. C.is_ready x.converter × CountsNone (C.conversion x.converter) x.symbols x.tail };
+
+    ghost stands = { λ x bytes given. C.is_ready x.converter × Counts (C.conversion x.converter) x.symbols x.tail bytes given };
+
+    fn begin(&mut self, station: &mut S) -> Result<(), Stop> {
+        write_some(OutPort::Cells, &self.converter.header(), station)
+    }
+
+    fn take(&mut self, piece: &[u8], station: &mut S) -> Result<(), Stop> {
+        if piece.len() != self.converter.size() {
+            self.tail = piece.len() as u64;
+            return Ok(());
+        }
+        self.converter.convert(self.symbols, piece);
+        self.symbols += 1;
+        write_some(OutPort::Cells, self.converter.bytes(), station)
+    }
+
+    fn finish(&mut self, station: &mut S) -> Result<(), Stop> {
+        let line = line_of(self.symbols, self.tail);
+        write_some(OutPort::Report, line.as_str().as_bytes(), station)
+    }
+
+    fn law(&self) {}
+}

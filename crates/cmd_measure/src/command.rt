@@ -1,0 +1,161 @@
+// The command.
+ghost use Rattle.std.specs.Prelude.{◌≡◌, ◌<◌, ◌*◌, ◌^◌, false, [], length, Some};
+ghost use Rattle.std.specs.Thread.{IsSync};
+ghost use Rattle.frame_build.specs.CellFile.{header as header_of};
+ghost use Rattle.reception.specs.Cells.{symbol_length};
+ghost use Rattle.reception.specs.Streams.{so_far};
+ghost use Rattle.station_core.specs.Meaning.{IsFresh};
+ghost use Rattle.cmd_base.specs.Run.{Run};
+ghost use Rattle.cmd_cells.specs.Runs.{IsReady, RunsCells};
+ghost use Rattle.measurer.specs.Standing.{StandsFor};
+ghost use Rattle.cmd_measure.specs.Feeder.{IsFed, IsFeeder};
+ghost use Rattle.cmd_measure.specs.MeasureCommand.{measure_command, no_names};
+ghost use Rattle.cmd_measure.specs.Working.{RunsOrLacks, measuring_work};
+
+use crate::measurers::{MeasurerWithLines, ModeMeasurer};
+use crate::measuring_work::MeasuringWork;
+use crate::no_files::NoFiles;
+use frame_build::header;
+use measurer::{MeasureOut, Measurer};
+use mode_set::{Carriers, Mode, Mode2k, Mode8k, Settings};
+use cmd_base::{Limits, Refusal};
+use cmd_base::{read_settings, refuse};
+use station_core::Station;
+use std::alloc::Global;
+use std::thread::Threads;
+use cmd_cells::run_cells;
+use word_workers::Gate;
+
+// Runs the work by a measurer that has had no byte and is fed so. `symbol` has the size of a symbol.
+fn measure_by<
+    'a,
+    R: Threads + Sync,
+    F: Fn(&mut T, &[u8], &mut MeasureOut) -> usize,
+    T: ModeMeasurer + Drop,
+    S: Station<'a>,
+>(
+    rt: &R,
+    feeder: &F,
+    measurer: T,
+    out: MeasureOut,
+    settings: &Settings,
+    symbol: &mut [u8],
+    cells: &'a str,
+    station: &mut S,
+) -> u8
+    requires feeder { IsFeeder T.size T.state F.Fn feeder.now }
+    requires fits { symbol_length settings.now ≡ T.size }
+    requires start { StandsFor so_far (T.state measurer) [] [] }
+    requires settings { (T.state measurer).settings ≡ settings.now }
+    requires size { length symbol.old ≡ symbol_length settings.now }
+    requires ready { IsReady no_names (S.meaning station.old) }
+    ensures { RunsCells (measuring_work settings.now) settings.now.max_symbols cells.now (Some (header_of settings.now.mode)) no_names (S.meaning station.old) (S.meaning station.new) result }
+{
+    let measurer = MeasurerWithLines {
+        rt,
+        feeder,
+        measurer,
+        out,
+    };
+    let mut work = MeasuringWork { measurer };
+    run_cells(
+        settings.max_symbols,
+        cells,
+        Some(header(settings.mode)),
+        &NoFiles,
+        &mut work,
+        symbol,
+        station,
+    )
+}
+
+// Takes the memory of a mode's measurer and of one symbol, and runs the work through this gate.
+fn measure_in<'a, M: Carriers, R: Threads + Sync, G: Gate, S: Station<'a>>(
+    rt: &R,
+    gate: &G,
+    alloc: Global,
+    settings: &Settings,
+    cells: &'a str,
+    station: &mut S,
+) -> u8
+    requires mode { settings.now.mode ≡ M.MODE }
+    requires ready { IsReady no_names (S.meaning station.old) }
+    ensures { RunsOrLacks settings.now cells.now (S.meaning station.old) (S.meaning station.new) result }
+{
+    let Ok(out) = MeasureOut::new(alloc) else {
+        return refuse(&Refusal::Memory, station);
+    };
+    let Ok(mut symbol) = vec![in alloc; 0u8; 5 * M::K as usize] else {
+        return refuse(&Refusal::Memory, station);
+    };
+    // Constructed last: early returns would have to drop it, which is slow to prove.
+    let Ok(measurer) = Measurer::<M>::new(alloc, settings) else {
+        return refuse(&Refusal::Memory, station);
+    };
+    let feeder = |measurer: &mut Measurer<M>, piece: &[u8], out: &mut MeasureOut| -> usize
+        requires { IsSync R.row × (measurer.now.ended ≡ false) × (measurer.now.taken < 2 ^ 32) }
+        ensures { IsFed (5 * M.K) measurer.entry.now piece.entry.now measurer.exit.now out.exit.now result }
+    { measurer.feed_gated(rt, gate, piece, out) };
+    measure_by(
+        rt,
+        &feeder,
+        measurer,
+        out,
+        settings,
+        &mut symbol,
+        cells,
+        station,
+    )
+}
+
+// The same in the mode that is set.
+fn measure_accepted<'a, R: Threads + Sync, G: Gate, S: Station<'a>>(
+    rt: &R,
+    gate: &G,
+    alloc: Global,
+    settings: &Settings,
+    cells: &'a str,
+    station: &mut S,
+) -> u8
+    requires ready { IsReady no_names (S.meaning station.old) }
+    ensures { RunsOrLacks settings.now cells.now (S.meaning station.old) (S.meaning station.new) result }
+{
+    match settings.mode {
+        Mode::M2k => measure_in::<Mode2k, R, G, S>(rt, gate, alloc, settings, cells, station),
+        Mode::M8k => measure_in::<Mode8k, R, G, S>(rt, gate, alloc, settings, cells, station),
+    }
+}
+
+/// Runs `measure SETTINGS CELLS` and gives its status: the sums of each super-frame are reported with the symbol that defines
+/// them, and at the end those that are left and the closing lines of `receive`. CELLS is a cell file of version 2 that begins
+/// at the first symbol of a super-frame. The measurements are those of ETSI TR 101 290, 9.15 to 9.18.
+///
+/// What it promises is `Run` of its definition, `measure_command`. The settings are read and checked, and then all memory is
+/// taken, before CELLS is opened. There is no output but the report. The measurer is fed through the gate; no clause depends on
+/// it.
+pub fn measure<'a, R: Threads + Sync, G: Gate, S: Station<'a>>(
+    rt: &R,
+    alloc: Global,
+    gate: &G,
+    settings: &'a str,
+    cells: &'a str,
+    limits: &Limits,
+    station: &mut S,
+) -> u8
+    requires fresh { IsFresh (S.meaning station.old) }
+    ensures { Run (measure_command settings.now cells.now) limits.now.packets (S.meaning station.old) (S.meaning station.new) result }
+{
+    reception::laws::symbols();
+    reception::laws::receptions();
+    reception::moments::existence();
+    measurement::laws::sums_stay();
+    measurement::laws::one_sums();
+    measurement::laws::beginnings();
+    law_measurement::laws::lines_add_up();
+    law_measurement::laws::decided_cells_are_sent();
+    law_measurement::laws::transmissions_are_measured();
+    match read_settings(alloc, settings, station) {
+        Ok(accepted) => measure_accepted(rt, gate, alloc, &accepted, cells, station),
+        Err(refusal) => refuse(&refusal, station),
+    }
+}

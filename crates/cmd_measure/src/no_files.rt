@@ -1,0 +1,22 @@
+// The outputs of a command that writes nothing but its report.
+
+use station_core::Station;
+use cmd_cells::{OutputFiles, Stop};
+
+/// No file.
+#[derive(Clone, Copy)]
+pub(crate) struct NoFiles;
+
+impl<'a, S: Station<'a>> OutputFiles<'a, S> for NoFiles {
+    ghost use Rattle.cmd_measure.specs.MeasureCommand.{no_names};
+
+    ghost names = { λ x. no_names };
+
+    fn create(&self, _station: &mut S) -> Result<(), Stop> {
+        Ok(())
+    }
+
+    fn close(&self, _station: &mut S) -> Result<(), Stop> {
+        Ok(())
+    }
+}

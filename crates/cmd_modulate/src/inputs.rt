@@ -1,0 +1,119 @@
+// The transport files of both streams.
+ghost use Rattle.std.specs.Prelude.{◌≡◌, ◌<◌, ℕ, List, Some, None, IsTrue, OnOk, OnErr};
+ghost use Rattle.mode_set.specs.declared.modes.Stream.{Stream as AnyStream};
+ghost use Rattle.cmd_base.specs.Causes.{HasCause};
+ghost use Rattle.cmd_modulate.specs.Seen.{Seen, wanted, with_one};
+ghost use Rattle.cmd_modulate.specs.Steps.{first_inputs};
+ghost use Rattle.cmd_modulate.specs.Work.{AreOpen, AreWithin, BothRead, CountsAt, GivesOf, GoesOn, IsAtWork, IsDue, KeepsOutputs};
+
+use crate::counts::TransmissionCounts;
+use crate::input::PacketInput;
+use crate::transmitter::Transmitter;
+use mode_set::{Settings, Stream};
+use cmd_base::{Counts, Refusal};
+use station_core::Station;
+use transmission::laws::work;
+use ts_packet::Packet;
+
+/// How far the inputs were read: that of the high priority stream, and that of the low priority stream,
+/// which has nothing where the stream does not exist.
+#[derive(Clone, Copy, Debug, PartialEq, Eq)]
+pub(crate) struct PacketInputs {
+    pub hp: PacketInput,
+    pub lp: PacketInput,
+}
+
+impl PacketInputs {
+    /// Before the first packets, of both streams or of HP alone.
+    pub fn first(two: bool) -> PacketInputs
+        ensures { result ≡ first_inputs two }
+    {
+        PacketInputs {
+            hp: PacketInput::start(),
+            lp: if two {
+                PacketInput::start()
+            } else {
+                PacketInput::none()
+            },
+        }
+    }
+
+    // The next packet of a stream.
+    fn next_packet<'a, S: Station<'a>>(
+        &mut self,
+        stream: Stream,
+        limit: u64,
+        station: &mut S,
+    ) -> Result<Packet, Refusal>
+        requires open { AreOpen self.old (S.meaning station.old) }
+        requires within { AreWithin limit self.old }
+        ensures open { AreOpen self.new (S.meaning station.new) }
+        ensures within { AreWithin limit self.new }
+        ensures met { self.new.lp.tail ≡ None → self.old.lp.tail ≡ None }
+        ensures others { KeepsOutputs (S.meaning station.old) (S.meaning station.new) }
+        ensures cause { HasCause (S.meaning station.old) (S.meaning station.new) result }
+        ensures gives { IsTrue (S.meaning station.old).tells → (files : AnyStream → List ℕ) (t : Seen) → BothRead files (S.meaning station.old) self.old t
+            → GivesOf limit files stream t (S.meaning station.new) self.new result }
+    {
+        match stream {
+            Stream::Hp => self.hp.next(Stream::Hp, limit, station),
+            Stream::Lp => self.lp.next(Stream::Lp, limit, station),
+        }
+    }
+
+    /// Reads the next packet of the stream that is wanted, and puts it.
+    pub fn put_next<'a, T: Transmitter, S: Station<'a>>(
+        &mut self,
+        stream: Stream,
+        limit: u64,
+        tx: &mut T,
+        station: &mut S,
+    ) -> Result<(), Refusal>
+        requires open { AreOpen self.old (S.meaning station.old) }
+        requires within { AreWithin limit self.old }
+        requires wanted { wanted (T.seen tx.old) ≡ Some stream }
+        ensures open { AreOpen self.new (S.meaning station.new) }
+        ensures within { AreWithin limit self.new }
+        ensures met { self.new.lp.tail ≡ None → self.old.lp.tail ≡ None }
+        ensures others { KeepsOutputs (S.meaning station.old) (S.meaning station.new) }
+        ensures cause { HasCause (S.meaning station.old) (S.meaning station.new) result }
+        ensures seen { OnOk result (T.seen tx.new ≡ with_one stream (T.seen tx.old)) }
+        ensures kept { OnErr result (T.seen tx.new ≡ T.seen tx.old) }
+        ensures works { IsTrue (S.meaning station.old).tells → (files : AnyStream → List ℕ) → IsDue files (T.seen tx.old)
+            → IsAtWork limit files (S.meaning station.old) self.old (T.seen tx.old) (T.stands tx.old)
+            → GoesOn limit files (S.meaning station.new) self.new (T.seen tx.new) (T.stands tx.new) result }
+    {
+        work();
+        let packet = self.next_packet(stream, limit, station)?;
+        tx.put(&packet);
+        Ok(())
+    }
+
+    /// What was counted, once all inputs have ended and just the super-frames were sent that carry them.
+    pub fn counts_at<T: Transmitter>(
+        &self,
+        settings: &Settings,
+        symbols: u64,
+    ) -> Option<TransmissionCounts>
+        requires few { AreWithin 100000000 self.now }
+        ensures { CountsAt settings.now self.now symbols result }
+    {
+        let hp_tail = self.hp.tail?;
+        let lp_tail = self.lp.tail?;
+        let super_frames = T::super_frames(settings, self.hp.taken, self.lp.taken)?;
+        if symbols % 272 != 0 || symbols / 272 != super_frames {
+            return None;
+        }
+        Some(TransmissionCounts {
+            hp: Counts {
+                packets: self.hp.taken,
+                tail: hp_tail,
+            },
+            lp: Counts {
+                packets: self.lp.taken,
+                tail: lp_tail,
+            },
+            super_frames,
+        })
+    }
+}

@@ -1,0 +1,93 @@
+// A whole run behind its settings.
+ghost use Rattle.std.specs.Prelude.{◌≡◌, ◌≤◌, ◌<◌, true, length};
+ghost use Rattle.std.specs.Option.{option_copied};
+ghost use Rattle.transmission.specs.Transmission.{Inputs};
+ghost use Rattle.cmd_base.specs.StreamForm.{fits_form};
+ghost use Rattle.cmd_base.specs.Causes.{HasEndCause};
+ghost use Rattle.cmd_modulate.specs.ModulateCommand.{files_of};
+ghost use Rattle.cmd_modulate.specs.Steps.{IsAccepted, IsNew, IsReady, Ran, RunsModulation};
+
+use crate::counts::TransmissionCounts;
+use crate::inputs::PacketInputs;
+use crate::steps::{close_refused, finish, open};
+use crate::symbols::send_file;
+use crate::transmitter::Transmitter;
+use mode_set::Settings;
+use cmd_base::{Limits, Refusal};
+use cmd_base::refuse;
+use station_core::Station;
+use transmission::laws::{symbols, work};
+
+/// The names of the files of a modulation.
+#[derive(Clone, Copy)]
+pub(crate) struct Names<'a> {
+    /// The transport file of high priority, or the only one.
+    pub hp: &'a str,
+    /// The transport file of low priority, if there is one.
+    pub lp: Option<&'a str>,
+    /// The cells that are written.
+    pub cells: &'a str,
+}
+
+// From the opening of the ports to their closing.
+fn modulate_all<'a, T: Transmitter, S: Station<'a>>(
+    names: Names<'a>,
+    limits: &Limits,
+    settings: &Settings,
+    tx: &mut T,
+    bytes: &mut [u8],
+    station: &mut S,
+) -> Result<TransmissionCounts, Refusal>
+    requires ready { IsReady (S.meaning station.old) }
+    requires few { limits.now.packets ≤ 100000000 }
+    requires same { (T.seen tx.old).settings ≡ settings.now }
+    requires form { fits_form (T.seen tx.old).settings (option_copied names.lp) ≡ true }
+    requires new { IsNew (T.seen tx.old) }
+    requires stands { (inputs : Inputs) → T.stands tx.old inputs }
+    requires long { length bytes.old ≡ T.symbol_len }
+    requires some { 0 < T.symbol_len }
+    ensures cause { HasEndCause ((S.meaning station.old).tells ≡ true → IsAccepted (T.seen tx.old).settings limits.now.packets (files_of (S.meaning station.old).file names.entry.hp.now (option_copied names.entry.lp))) (S.meaning station.old) (S.meaning station.new) result }
+    ensures ran { Ran (T.seen tx.old).settings limits.now.packets names.entry.hp.now (option_copied names.entry.lp) names.entry.cells.now (S.meaning station.old) (S.meaning station.new) result }
+{
+    work();
+    symbols();
+    open(names.hp, names.lp, names.cells, station)?;
+    let two = names.lp.is_some();
+    match send_file(
+        limits,
+        settings,
+        PacketInputs::first(two),
+        tx,
+        bytes,
+        station,
+    ) {
+        Ok(counts) => finish(two, counts, station),
+        Err(refusal) => Err(close_refused(refusal, station)),
+    }
+}
+
+/// Runs a modulation by this transmitter, which has had no packet, and gives its status. `bytes`
+/// has the length of a symbol.
+pub(crate) fn run_modulation<'a, T: Transmitter, S: Station<'a>>(
+    names: Names<'a>,
+    limits: &Limits,
+    settings: &Settings,
+    tx: &mut T,
+    bytes: &mut [u8],
+    station: &mut S,
+) -> u8
+    requires ready { IsReady (S.meaning station.old) }
+    requires few { limits.now.packets ≤ 100000000 }
+    requires same { (T.seen tx.old).settings ≡ settings.now }
+    requires form { fits_form (T.seen tx.old).settings (option_copied names.lp) ≡ true }
+    requires new { IsNew (T.seen tx.old) }
+    requires stands { (inputs : Inputs) → T.stands tx.old inputs }
+    requires long { length bytes.old ≡ T.symbol_len }
+    requires some { 0 < T.symbol_len }
+    ensures runs { RunsModulation (T.seen tx.old).settings limits.now.packets names.entry.hp.now (option_copied names.entry.lp) names.entry.cells.now (S.meaning station.old) (S.meaning station.new) result }
+{
+    match modulate_all(names, limits, settings, tx, bytes, station) {
+        Ok(_) => 0,
+        Err(refusal) => refuse(&refusal, station),
+    }
+}

@@ -1,0 +1,196 @@
+// The work: symbol after symbol.
+ghost use Rattle.std.specs.Prelude.{◌≡◌, ◌≤◌, ◌<◌, ◌+◌, ◌^◌, ℕ, List, [], Some, None, true, false, IsTrue, OnOk, length};
+ghost use Rattle.mode_set.specs.declared.modes.Stream.TheVariants.{Lp};
+ghost use Rattle.mode_set.specs.declared.modes.Stream.{Stream as AnyStream};
+ghost use Rattle.frame_build.specs.CellFile.{header as header_of};
+ghost use Rattle.symbol_parameters.specs.Spans.{exists_in};
+ghost use Rattle.transmission.specs.Transmission.{Inputs, tx_symbol};
+ghost use Rattle.cmd_base.specs.Causes.{HasCause};
+ghost use Rattle.cmd_modulate.specs.Seen.{wanted};
+ghost use Rattle.cmd_modulate.specs.Work.{AreOpen, AreWithin, GoesOn, IsAtWork, IsDue, IsWritten, KeepsOthers, KeepsOutputs, Modulates, Sends, WritesCells, WritesBytes};
+
+use crate::counts::TransmissionCounts;
+use crate::inputs::PacketInputs;
+use crate::transmitter::Transmitter;
+use frame_build::header;
+use mode_set::{Mode, Settings};
+use cmd_base::{Limits, Refusal};
+use station_core::{OutPort, Station};
+use transmission::laws::{packets, super_frames, symbols, work};
+
+// Writes the header of the cell file.
+fn write_header<'a, S: Station<'a>>(mode: Mode, station: &mut S) -> Result<(), Refusal>
+    requires created { (S.meaning station.old).cells_out.created ≡ true }
+    requires open { (S.meaning station.old).cells_out.closed ≡ false }
+    ensures cause { HasCause (S.meaning station.old) (S.meaning station.new) result }
+    ensures others { WritesCells (S.meaning station.old) (S.meaning station.new) }
+    ensures written { IsTrue (S.meaning station.old).tells → WritesBytes (header_of mode) (S.meaning station.old) (S.meaning station.new) result }
+{
+    match station.write(OutPort::Cells, &header(mode)) {
+        Ok(()) => Ok(()),
+        Err(_) => Err(Refusal::WriteFault),
+    }
+}
+
+// Puts packets until they suffice for the next symbol.
+fn put_wanted<'a, T: Transmitter, S: Station<'a>>(
+    limit: u64,
+    inputs: &mut PacketInputs,
+    tx: &mut T,
+    station: &mut S,
+) -> Result<(), Refusal>
+    requires open { AreOpen inputs.old (S.meaning station.old) }
+    requires within { AreWithin limit inputs.old }
+    ensures open { AreOpen inputs.new (S.meaning station.new) }
+    ensures within { AreWithin limit inputs.new }
+    ensures met { inputs.new.lp.tail ≡ None → inputs.old.lp.tail ≡ None }
+    ensures others { KeepsOutputs (S.meaning station.old) (S.meaning station.new) }
+    ensures cause { HasCause (S.meaning station.old) (S.meaning station.new) result }
+    ensures settings { (T.seen tx.new).settings ≡ (T.seen tx.old).settings }
+    ensures made { (T.seen tx.new).made ≡ (T.seen tx.old).made }
+    ensures suffices { OnOk result (wanted (T.seen tx.new) ≡ None) }
+    ensures works { IsTrue (S.meaning station.old).tells → (files : AnyStream → List ℕ) → IsDue files (T.seen tx.old)
+        → IsAtWork limit files (S.meaning station.old) inputs.old (T.seen tx.old) (T.stands tx.old)
+        → GoesOn limit files (S.meaning station.new) inputs.new (T.seen tx.new) (T.stands tx.new) result }
+{
+    while let Some(stream) = tx.wants() {
+        inputs.put_next(stream, limit, tx, station)?;
+    }
+    Ok(())
+}
+
+// Makes the next symbol in the place of what stands in `bytes`, and writes it.
+fn send_symbol<'a, T: Transmitter, S: Station<'a>>(
+    tx: &mut T,
+    bytes: &mut [u8],
+    station: &mut S,
+) -> Result<(), Refusal>
+    requires suffices { wanted (T.seen tx.old) ≡ None }
+    requires few { (T.seen tx.old).made < 2 ^ 32 }
+    requires long { length bytes.old ≡ T.symbol_len }
+    requires some { 0 < T.symbol_len }
+    requires created { (S.meaning station.old).cells_out.created ≡ true }
+    requires open { (S.meaning station.old).cells_out.closed ≡ false }
+    ensures long { length bytes.new ≡ length bytes.old }
+    ensures seen { T.seen tx.new ≡ record (T.seen tx.old) { made = (T.seen tx.old).made + 1 } }
+    ensures cause { HasCause (S.meaning station.old) (S.meaning station.new) result }
+    ensures others { WritesCells (S.meaning station.old) (S.meaning station.new) }
+    ensures stands { (inputs : Inputs) → T.stands tx.old inputs → T.stands tx.new inputs }
+    ensures written { IsTrue (S.meaning station.old).tells → (inputs : Inputs) → T.stands tx.old inputs
+        → WritesBytes (tx_symbol (T.seen tx.old).settings inputs (T.seen tx.old).made) (S.meaning station.old) (S.meaning station.new) result }
+{
+    tx.symbol(bytes);
+    match station.write(OutPort::Cells, bytes) {
+        Ok(()) => Ok(()),
+        Err(_) => Err(Refusal::WriteFault),
+    }
+}
+
+// Puts the packets of the next symbol, and sends it.
+fn next_symbol<'a, T: Transmitter, S: Station<'a>>(
+    limit: u64,
+    inputs: &mut PacketInputs,
+    tx: &mut T,
+    bytes: &mut [u8],
+    station: &mut S,
+) -> Result<(), Refusal>
+    requires few { (T.seen tx.old).made < 2 ^ 32 }
+    requires long { length bytes.old ≡ T.symbol_len }
+    requires some { 0 < T.symbol_len }
+    requires created { (S.meaning station.old).cells_out.created ≡ true }
+    requires open { (S.meaning station.old).cells_out.closed ≡ false }
+    requires inputs_open { AreOpen inputs.old (S.meaning station.old) }
+    requires within { AreWithin limit inputs.old }
+    ensures long { length bytes.new ≡ length bytes.old }
+    ensures inputs_open { AreOpen inputs.new (S.meaning station.new) }
+    ensures within { AreWithin limit inputs.new }
+    ensures met { inputs.new.lp.tail ≡ None → inputs.old.lp.tail ≡ None }
+    ensures settings { (T.seen tx.new).settings ≡ (T.seen tx.old).settings }
+    ensures made { OnOk result ((T.seen tx.new).made ≡ (T.seen tx.old).made + 1) }
+    ensures others { KeepsOthers (S.meaning station.old) (S.meaning station.new) }
+    ensures cause { HasCause (S.meaning station.old) (S.meaning station.new) result }
+    ensures sends { IsTrue (S.meaning station.old).tells → (files : AnyStream → List ℕ) → IsDue files (T.seen tx.old)
+        → IsWritten limit files (S.meaning station.old) inputs.old (T.seen tx.old) (T.stands tx.old)
+        → Sends limit files (S.meaning station.new) inputs.new (T.seen tx.new) (T.stands tx.new) result }
+{
+    work();
+    symbols();
+    put_wanted(limit, inputs, tx, station)?;
+    send_symbol(tx, bytes, station)
+}
+
+// Sends all symbols of the transmission: it ends with the first super-frame at whose end all inputs
+// have ended and their packets, and eleven words more, were carried. Where there is no such super-frame
+// it goes on up to the limit.
+fn send_all<'a, T: Transmitter, S: Station<'a>>(
+    limits: &Limits,
+    settings: &Settings,
+    mut inputs: PacketInputs,
+    tx: &mut T,
+    bytes: &mut [u8],
+    station: &mut S,
+) -> Result<TransmissionCounts, Refusal>
+    requires few { limits.now.packets ≤ 100000000 }
+    requires same { (T.seen tx.old).settings ≡ settings.now }
+    requires two { inputs.lp.tail ≡ None → IsTrue (exists_in (T.seen tx.old).settings Lp) }
+    requires none_made { (T.seen tx.old).made ≡ 0 }
+    requires long { length bytes.old ≡ T.symbol_len }
+    requires some { 0 < T.symbol_len }
+    requires created { (S.meaning station.old).cells_out.created ≡ true }
+    requires open { (S.meaning station.old).cells_out.closed ≡ false }
+    requires inputs_open { AreOpen inputs (S.meaning station.old) }
+    requires within { AreWithin limits.now.packets inputs }
+    ensures others { KeepsOthers (S.meaning station.old) (S.meaning station.new) }
+    ensures cause { HasCause (S.meaning station.old) (S.meaning station.new) result }
+    ensures modulates { IsTrue (S.meaning station.old).tells → (files : AnyStream → List ℕ)
+        → IsWritten limits.now.packets files (S.meaning station.old) inputs (T.seen tx.old) (T.stands tx.old)
+        → Modulates (T.seen tx.old).settings limits.now.packets files (S.meaning station.new) result }
+{
+    symbol_parameters::laws::settings();
+    work();
+    packets();
+    super_frames();
+    for symbol in 0..settings.max_symbols {
+        next_symbol(limits.packets, &mut inputs, tx, bytes, station)?;
+        match inputs.counts_at::<T>(settings, symbol as u64 + 1) {
+            Some(counts) => return Ok(counts),
+            None => {}
+        }
+    }
+    Err(Refusal::Limit(settings.max_symbols as u64))
+}
+
+/// Sends the cell file: its header, and then all symbols of the transmission. It ends with the first
+/// super-frame at whose end all inputs have ended and their packets, and eleven words more, were carried.
+///
+/// It answers what was counted, or the first refusal: one more symbol than the limit, one more packet
+/// than the limit, a packet without its sync byte, a fault.
+pub(crate) fn send_file<'a, T: Transmitter, S: Station<'a>>(
+    limits: &Limits,
+    settings: &Settings,
+    inputs: PacketInputs,
+    tx: &mut T,
+    bytes: &mut [u8],
+    station: &mut S,
+) -> Result<TransmissionCounts, Refusal>
+    requires few { limits.now.packets ≤ 100000000 }
+    requires same { (T.seen tx.old).settings ≡ settings.now }
+    requires two { inputs.lp.tail ≡ None → IsTrue (exists_in (T.seen tx.old).settings Lp) }
+    requires none_made { (T.seen tx.old).made ≡ 0 }
+    requires long { length bytes.old ≡ T.symbol_len }
+    requires some { 0 < T.symbol_len }
+    requires created { (S.meaning station.old).cells_out.created ≡ true }
+    requires open { (S.meaning station.old).cells_out.closed ≡ false }
+    requires inputs_open { AreOpen inputs (S.meaning station.old) }
+    requires within { AreWithin limits.now.packets inputs }
+    ensures others { KeepsOthers (S.meaning station.old) (S.meaning station.new) }
+    ensures cause { HasCause (S.meaning station.old) (S.meaning station.new) result }
+    ensures modulates { IsTrue (S.meaning station.old).tells → (files : AnyStream → List ℕ)
+        → IsAtWork limits.now.packets files (S.meaning station.old) inputs (T.seen tx.old) (T.stands tx.old)
+        → (S.meaning station.old).cells_out.written ≡ []
+        → Modulates (T.seen tx.old).settings limits.now.packets files (S.meaning station.new) result }
+{
+    symbols();
+    write_header(settings.mode, station)?;
+    send_all(limits, settings, inputs, tx, bytes, station)
+}

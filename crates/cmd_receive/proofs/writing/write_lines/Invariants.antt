@@ -1,0 +1,14 @@
+use Rattle.std.proofs.Common.{◌≡◌, ◌++◌, true, take}
+use Rattle.std.specs.List.{concat}
+use Rattle.cmd_receive.specs.Writing.{IsPrinting, ReportOnly}
+use Rattle.cmd_receive.proofs.writing.write_lines.Given as goal
+
+-- as many lines as the loop has gone through were written
+abbrev pub invariant-loop-number : goal.invariant-loop-number
+invariant-loop-number g l = record {
+  printing : IsPrinting (g.S.Station.meaning l.station);
+  others : ReportOnly (g.S.Station.meaning l.initial.station) (g.S.Station.meaning l.station);
+  write_faults : (g.S.Station.meaning l.station).write_faults ≡ (g.S.Station.meaning l.initial.station).write_faults;
+  report_faults : (g.S.Station.meaning l.station).report_faults ≡ (g.S.Station.meaning l.initial.station).report_faults;
+  written : (g.S.Station.meaning l.initial.station).tells ≡ true → (g.S.Station.meaning l.station).report.written ≡ (g.S.Station.meaning l.initial.station).report.written ++ concat (take l.number (g.C.ClosingLines.lines l.counts));
+}

@@ -1,0 +1,43 @@
+-- The work of `receive` on cells, by settings s; `two` says that there are two streams.
+use Rattle.std.specs.Prelude.{ℕ, ◌^◌, ◌<◌, Bool, List, ◌++◌}
+use Rattle.mode_set.specs.declared.settings.Settings.{Settings}
+use Rattle.reception.specs.Cells.{symbols}
+use Rattle.reception.specs.Streams.{Reception, Live, Final}
+use Rattle.reception.specs.Lines.{event_lines, closing_lines}
+use Rattle.reception.specs.Feeds.{Output}
+use Rattle.cmd_cells.specs.Work.{Work, Written}
+pub use Rattle.cmd_receive.specs.Kinds.{written_at, writes_at}
+use Rattle.cmd_receive.specs.Kinds.{Gives, Kind, StandsAs, TakesAs, work_of}
+
+-- bytes of cells give their live output, and in the end the final one
+abbrev pub LiveGives : Settings → Bool → List ℕ → Written → Type 0
+LiveGives s two bytes = Gives (Live s bytes) (λ r. r.packets) (event_lines s bytes) two
+
+abbrev pub FinalGives : Settings → Bool → List ℕ → Written → Type 0
+FinalGives s two bytes = Gives (Final s bytes) (λ r. r.packets) (λ r. event_lines s bytes r ++ closing_lines s bytes r) two
+
+-- the plain kind
+abbrev pub plain : Kind
+plain = record { Received = Reception; Live = Live; Final = Final; packets = λ r. r.packets; reports = λ r. r.reports; closing = closing_lines }
+
+abbrev pub reception_work : Settings → Bool → Work
+reception_work = work_of plain
+
+abbrev pub live_at : Settings → Bool → List ℕ → Reception → Written
+live_at s two bytes r = written_at two r.packets (event_lines s bytes r)
+
+abbrev pub final_at : Settings → Bool → List ℕ → Reception → Written
+final_at s two bytes r = written_at two r.packets (event_lines s bytes r ++ closing_lines s bytes r)
+
+-- a receiver that may take another piece: it has had fewer than 2^32 symbols
+pub record GoesOn (s : Settings) (standing : List ℕ → Reception → Type 0) : Type 0 where
+  pub bytes : List ℕ
+  pub given : Reception
+  pub stands : standing bytes given
+  pub few : symbols s bytes < 2 ^ 32
+
+abbrev pub Takes : (List ℕ → Reception → Type 0) → Settings → List ℕ → List ℕ → Reception → Output → Type 0
+Takes = TakesAs plain
+
+abbrev pub ReceiverStands : (List ℕ → Reception → Type 0) → Settings → Bool → List ℕ → Written → Type 0
+ReceiverStands = StandsAs plain

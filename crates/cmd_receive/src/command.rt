@@ -1,0 +1,162 @@
+// The command.
+ghost use Rattle.std.specs.Prelude.{◌≡◌, ◌<◌, ◌^◌, false, [], length};
+ghost use Rattle.reception.specs.Cells.{symbol_length};
+ghost use Rattle.reception.specs.Streams.{so_far};
+ghost use Rattle.reception.specs.Laws.{nothing};
+ghost use Rattle.receiver.specs.Standing.{StandsFor};
+ghost use Rattle.std.specs.Option.{option_copied};
+ghost use Rattle.station_core.specs.Meaning.{IsFresh};
+ghost use Rattle.cmd_base.specs.Run.{Run};
+ghost use Rattle.std.specs.Thread.{IsSync};
+ghost use Rattle.cmd_receive.specs.Feeder.{IsFed, IsFeeder};
+ghost use Rattle.cmd_cells.specs.Runs.{IsReady};
+ghost use Rattle.cmd_cells.specs.Outputs.{stream_names};
+ghost use Rattle.cmd_receive.specs.Runs.{RunsOrLacks, RunsReceiving};
+ghost use Rattle.cmd_receive.specs.Working.{reception_work};
+ghost use Rattle.cmd_receive.specs.ReceiveCommand.{receive_command};
+
+use crate::receivers::{ModeReceiver, ReceiverWithOutput};
+use crate::reception_work::ReceptionWork;
+use crate::running::ReceptionFiles;
+use code_paths::shared_begins_least;
+use mode_set::{Carriers, Mode, Mode2k, Mode8k, Settings};
+use receiver::{Receiver, RxOut};
+use cmd_base::{Limits, Refusal};
+use cmd_base::{read_fitting, refuse};
+use station_core::Station;
+use std::alloc::Global;
+use std::thread::Threads;
+use word_workers::Gate;
+
+// Runs the reception by a receiver that has had no byte and is fed so. `symbol` has the size of a symbol.
+fn receive_by<
+    'a,
+    R: Threads + Sync,
+    F: Fn(&mut T, &[u8], &mut RxOut) -> usize,
+    T: ModeReceiver + Drop,
+    S: Station<'a>,
+>(
+    rt: &R,
+    feeder: &F,
+    receiver: T,
+    out: RxOut,
+    settings: &Settings,
+    symbol: &mut [u8],
+    files: ReceptionFiles<'a>,
+    station: &mut S,
+) -> u8
+    requires feeder { IsFeeder T.state F.Fn feeder.now }
+    requires start { StandsFor so_far (T.state receiver) [] nothing }
+    requires settings { (T.state receiver).settings ≡ settings.now }
+    requires size { length symbol.old ≡ symbol_length settings.now }
+    requires ready { IsReady (stream_names files.hp.now (option_copied files.lp)) (S.meaning station.old) }
+    ensures { RunsReceiving reception_work settings.now files.entry.cells.now files.entry.hp.now (option_copied files.entry.lp) (S.meaning station.old) (S.meaning station.new) result }
+{
+    let receiver = ReceiverWithOutput {
+        rt,
+        feeder,
+        receiver,
+        out,
+    };
+    let two = files.lp.is_some();
+    let mut work = ReceptionWork { receiver, two };
+    files.run_work(settings, &mut work, symbol, station)
+}
+
+// Takes the memory of a mode's receiver and of one symbol, and runs the reception through this gate.
+fn receive_in<'a, M: Carriers, R: Threads + Sync, G: Gate, S: Station<'a>>(
+    rt: &R,
+    gate: &G,
+    alloc: Global,
+    settings: &Settings,
+    files: ReceptionFiles<'a>,
+    station: &mut S,
+) -> u8
+    requires mode { settings.now.mode ≡ M.MODE }
+    requires ready { IsReady (stream_names files.hp.now (option_copied files.lp)) (S.meaning station.old) }
+    ensures { RunsOrLacks reception_work settings.now files.entry.cells.now files.entry.hp.now (option_copied files.entry.lp) (S.meaning station.old) (S.meaning station.new) result }
+{
+    let Ok(out) = RxOut::new(alloc) else {
+        return refuse(&Refusal::Memory, station);
+    };
+    let Ok(mut symbol) = vec![in alloc; 0u8; 5 * M::K as usize] else {
+        return refuse(&Refusal::Memory, station);
+    };
+    // It comes last: a value of so many parts is dear to prove on each path that lets it go.
+    let Ok(receiver) = Receiver::<M>::new(alloc, settings) else {
+        return refuse(&Refusal::Memory, station);
+    };
+    let feeder = |receiver: &mut Receiver<M>, piece: &[u8], out: &mut RxOut| -> usize
+        requires { IsSync R.row × (receiver.now.ended ≡ false) × (receiver.now.taken < 2 ^ 32) }
+        ensures { IsFed receiver.entry.now piece.entry.now receiver.exit.now out.exit.now result }
+    { receiver.feed_gated(rt, gate, piece, out) };
+    receive_by(
+        rt,
+        &feeder,
+        receiver,
+        out,
+        settings,
+        &mut symbol,
+        files,
+        station,
+    )
+}
+
+// The same in the mode that is set.
+fn receive_accepted<'a, R: Threads + Sync, G: Gate, S: Station<'a>>(
+    rt: &R,
+    gate: &G,
+    alloc: Global,
+    settings: &Settings,
+    files: ReceptionFiles<'a>,
+    station: &mut S,
+) -> u8
+    requires ready { IsReady (stream_names files.hp.now (option_copied files.lp)) (S.meaning station.old) }
+    ensures { RunsOrLacks reception_work settings.now files.entry.cells.now files.entry.hp.now (option_copied files.entry.lp) (S.meaning station.old) (S.meaning station.new) result }
+{
+    match settings.mode {
+        Mode::M2k => receive_in::<Mode2k, R, G, S>(rt, gate, alloc, settings, files, station),
+        Mode::M8k => receive_in::<Mode8k, R, G, S>(rt, gate, alloc, settings, files, station),
+    }
+}
+
+/// Runs `receive SETTINGS CELLS HP` or, with a file of LP, `receive SETTINGS CELLS HP LP`, and gives its
+/// status.
+///
+/// What it promises is `Run` of its definition, `receive_command`. The settings are read and checked, and
+/// then all memory is taken, before another port is asked; the cells are opened, and their header is read,
+/// before an output is made. The receiver is fed through the gate, of which no clause speaks: they hold for
+/// every one. What its end decodes passes no gate.
+pub fn receive<'a, R: Threads + Sync, G: Gate, S: Station<'a>>(
+    rt: &R,
+    alloc: Global,
+    gate: &G,
+    settings: &'a str,
+    cells: &'a str,
+    hp: &'a str,
+    lp: Option<&'a str>,
+    limits: &Limits,
+    station: &mut S,
+) -> u8
+    requires fresh { IsFresh (S.meaning station.old) }
+    ensures { Run (receive_command settings.now cells.now hp.now (option_copied lp.entry)) limits.now.packets (S.meaning station.old) (S.meaning station.new) result }
+{
+    reception::workers::workers();
+    law_link::laws::noise();
+    reception::laws::symbols();
+    reception::laws::events();
+    reception::laws::nothing();
+    reception::laws::receptions();
+    reception::moments::existence();
+    reception::moments::beginnings();
+    law_link::laws::own_cells();
+    law_link::laws::packets_then_nulls();
+    shared_begins_least();
+    match read_fitting(alloc, settings, lp, station) {
+        Ok(accepted) => {
+            let files = ReceptionFiles { cells, hp, lp };
+            receive_accepted(rt, gate, alloc, &accepted, files, station)
+        }
+        Err(refusal) => refuse(&refusal, station),
+    }
+}

@@ -1,0 +1,56 @@
+// The receiver of the work.
+ghost use Rattle.std.specs.Prelude.{◌≡◌, ◌<◌, ◌^◌, ℕ, List, false};
+ghost use Rattle.std.specs.Thread.{IsSync};
+ghost use Rattle.reception.specs.Streams.{Moment, so_far, at_end};
+ghost use Rattle.rescue.specs.Streams.{Rescue as Rescued};
+ghost use Rattle.rescue.specs.Feeds.{Feeds, Finishes};
+ghost use Rattle.rescue.specs.Lines.{counts_of};
+ghost use Rattle.rescue.specs.Seen.{RescueState};
+ghost use Rattle.rescue.specs.Standing.{StandsFor};
+
+use mode_set::Carriers;
+use rescue::{Rescue, RescueOut};
+use rescue::Counts;
+use std::thread::Threads;
+
+/// The receiver of a mode that rescues words.
+pub(crate) trait ModeRescue {
+    ghost state: { Self → RescueState };
+
+    /// Takes bytes from the front of the piece, as many as it has or the current symbol wants, and answers how many.
+    fn feed<R: Threads + Sync>(&mut self, rt: &R, piece: &[u8], out: &mut RescueOut) -> usize
+        requires threads { IsSync R.row }
+        requires going { (state self.old).ended ≡ false }
+        requires few { (state self.old).taken < 2 ^ 32 }
+        ensures settings { (state self.new).settings ≡ (state self.old).settings }
+        ensures fed { (bytes : List ℕ) (r : Rescued) → StandsFor so_far (state self.old) bytes r
+            → Feeds (StandsFor so_far (state self.new)) (state self.old).settings bytes piece.now r result out.new };
+
+    /// Ends the reception.
+    fn finish(&mut self, out: &mut RescueOut)
+        requires going { (state self.old).ended ≡ false }
+        ensures settings { (state self.new).settings ≡ (state self.old).settings }
+        ensures finished { (bytes : List ℕ) (r : Rescued) → StandsFor so_far (state self.old) bytes r
+            → Finishes (StandsFor at_end (state self.new)) (state self.old).settings bytes r out.new };
+
+    /// The counts so far, or at the end.
+    fn counts(&self) -> Counts
+        ensures { (moment : Moment) (bytes : List ℕ) (r : Rescued) → StandsFor moment (state self.now) bytes r
+            → result ≡ counts_of (state self.now).settings bytes r };
+}
+
+impl<M: Carriers> ModeRescue for Rescue<M> {
+    ghost state = { λ x. x };
+
+    fn feed<R: Threads + Sync>(&mut self, rt: &R, piece: &[u8], out: &mut RescueOut) -> usize {
+        Rescue::<M>::feed(self, rt, piece, out)
+    }
+
+    fn finish(&mut self, out: &mut RescueOut) {
+        Rescue::<M>::finish(self, out);
+    }
+
+    fn counts(&self) -> Counts {
+        Rescue::<M>::counts(self)
+    }
+}

@@ -1,0 +1,93 @@
+// The work of `rescue` on the symbols of a file of cells.
+ghost use Rattle.rescue.specs.ReportText.{closing_lines};
+ghost use Rattle.cmd_rescue.specs.Closing.{few_lines};
+
+use crate::mode_rescue::ModeRescue;
+use cmd_receive::{ClosingLines, write_lines, write_out};
+use rx_report::Line;
+use rescue::RescueOut;
+use rescue::Counts;
+use station_core::Station;
+use std::thread::Threads;
+use cmd_cells::{Stop, SymbolWork};
+
+/// The counts at the end of a reception.
+#[derive(Drop)]
+pub(crate) struct LastCounts {
+    /// The counts.
+    pub counts: Counts,
+}
+
+impl ClosingLines for LastCounts {
+    ghost lines = { λ x. closing_lines x.counts };
+
+    ghost few = { λ x. few_lines x.counts };
+
+    fn line(&self, number: u8) -> Option<Line> {
+        self.counts.line(number)
+    }
+}
+
+/// A receiver that rescues words, whose packets and lines are written, with what its last call gave, the
+/// runtime whose threads it may use, and a flag that there are two streams.
+#[derive(Drop)]
+pub(crate) struct RescueWork<'r, R, T> {
+    /// The runtime.
+    pub rt: &'r R,
+    /// The receiver.
+    pub receiver: T,
+    /// What its last call gave.
+    pub out: RescueOut,
+    /// Whether LP is written too.
+    pub two: bool,
+}
+
+impl<'a, 'r, S: Station<'a>, R: Threads + Sync, T: ModeRescue> SymbolWork<'a, S>
+    for RescueWork<'r, R, T> {
+    ghost use Rattle.std.specs.Prelude.{[], Bool};
+    ghost use Rattle.std.specs.Thread.{IsSync};
+    ghost use Rattle.mode_set.specs.declared.settings.Settings.{Settings};
+    ghost use Rattle.reception.specs.Streams.{so_far};
+    ghost use Rattle.rescue.specs.Streams.{nothing};
+    ghost use Rattle.rescue.specs.Standing.{StandsFor};
+    ghost use Rattle.cmd_receive.specs.Kinds.{writes_at};
+    ghost use Rattle.cmd_rescue.specs.Working.{RescueStands, rescue_work};
+
+    ghost Setup = { Settings × Bool };
+
+    ghost setup = { λ x. ((T.state x.receiver).settings, x.two) };
+
+    ghost work = { λ p. rescue_work p.0 p.1 };
+
+    ghost outputs = { λ p. writes_at p.1 };
+
+    ghost able = { IsSync R.row };
+
+    ghost is_new = { λ x. StandsFor so_far (T.state x.receiver) [] nothing };
+
+    ghost stands = { λ x. RescueStands (StandsFor so_far (T.state x.receiver)) (T.state x.receiver).settings x.two };
+
+    fn begin(&mut self, _station: &mut S) -> Result<(), Stop> {
+        rescue::laws::nothing();
+        reception::laws::events();
+        Ok(())
+    }
+
+    fn take(&mut self, piece: &[u8], station: &mut S) -> Result<(), Stop> {
+        self.receiver.feed(self.rt, piece, &mut self.out);
+        write_out(self.two, &self.out, station)
+    }
+
+    fn finish(&mut self, station: &mut S) -> Result<(), Stop> {
+        rescue::laws::receptions();
+        self.receiver.finish(&mut self.out);
+        write_out(self.two, &self.out, station)?;
+        let counts = self.receiver.counts();
+        write_lines(&LastCounts { counts }, station)
+    }
+
+    fn law(&self) {
+        reception::laws::symbols();
+        reception::laws::costs();
+    }
+}

@@ -1,0 +1,114 @@
+// The work of `track` on the symbols of a file of cells.
+ghost use Rattle.std.specs.Prelude.{◌≡◌, ◌+◌, ◌-◌, ◌*◌, ◌<◌, ◌≤◌, ◌^◌, ◌++◌, ◌∷◌, [], ℕ, List, true, false, length, vec_capacity};
+ghost use Rattle.tracking.specs.Tracking.{Symbol};
+ghost use Rattle.cmd_convert.specs.Conversion.{counts_line};
+ghost use Rattle.tracker.specs.Tracks.{Tracks};
+ghost use Rattle.cmd_track.specs.Working.{next_given, symbol_in};
+
+use crate::rest::write_rest;
+use frame_build::{SymbolIn, header};
+use mode_set::Carriers;
+use rx_report::{Line, push_count};
+use station_core::{OutPort, Station};
+use cmd_cells::{Stop, SymbolWork, write_some};
+use tracker::Tracker;
+
+// The closing line.
+fn closing_line(symbols: u64, tail: u64) -> Line
+    ensures { result.bytes ≡ counts_line symbols tail }
+{
+    let mut line = Line::new();
+    push_count(&mut line, "symbols ", symbols);
+    push_count(&mut line, " tail ", tail);
+    line.push_str("\n");
+    line
+}
+
+// Takes the next whole symbol. The room has the symbol seven before it then, corrected, if there is one.
+fn take_symbol<M: Carriers>(
+    tracker: &mut Tracker<M>,
+    symbol: &mut SymbolIn<M>,
+    bytes: &[u8],
+    room: &mut Vec<u8>,
+)
+    requires whole { length bytes.now ≡ 5 * M.K }
+    requires empty { symbol.old ≡ [] }
+    requires few { tracker.old.window.count < 2 ^ 32 }
+    requires going { tracker.old.ended ≡ false }
+    requires room { 5 * M.K ≤ vec_capacity room.old }
+    ensures settings { tracker.new.settings ≡ tracker.old.settings }
+    ensures going { tracker.new.ended ≡ false }
+    ensures empty { symbol.new ≡ [] }
+    ensures capacity { vec_capacity room.new ≡ vec_capacity room.old }
+    ensures tracks { (symbols : List Symbol) → Tracks tracker.old symbols → Tracks tracker.new (symbols ++ symbol_in bytes.now M.K ∷ []) }
+    ensures gives { (symbols : List Symbol) → Tracks tracker.old symbols → room.new.items ≡ next_given tracker.old.settings symbols (symbol_in bytes.now M.K) }
+{
+    symbol.take(bytes);
+    room.clear();
+    tracker.take(symbol.cells(), symbol.weights(), room);
+    symbol.next();
+}
+
+/// A tracker, with the symbol that it takes, room for one that it gives, and what was counted.
+#[derive(Drop)]
+pub(crate) struct TrackingWork<M: Carriers> {
+    /// What corrects the symbols.
+    pub tracker: Tracker<M>,
+    /// The bytes of a symbol as cells and weights.
+    pub symbol: SymbolIn<M>,
+    /// Room for a corrected symbol.
+    pub room: Vec<u8>,
+    /// The whole symbols that were taken.
+    pub symbols: u64,
+    /// The bytes that were taken after them.
+    pub tail: u64,
+}
+
+impl<'a, S: Station<'a>, M: Carriers> SymbolWork<'a, S> for TrackingWork<M> {
+    ghost use Rattle.std.specs.Prelude.{⊤, vec_capacity};
+    ghost use Rattle.mode_set.specs.declared.settings.Settings.{Settings};
+    ghost use Rattle.cmd_convert.specs.Working.{writes_at};
+    ghost use Rattle.cmd_track.specs.Working.{IsNew, Stands, tracking_work};
+
+    ghost Setup = { Settings };
+
+    ghost setup = { λ x. x.tracker.settings };
+
+    ghost work = { λ s. tracking_work s };
+
+    ghost outputs = { λ s. writes_at };
+
+    ghost able = { ⊤ };
+
+    ghost is_new = { λ x. IsNew M.MODE x.tracker x.symbol (vec_capacity x.room) x.symbols x.tail };
+
+    ghost stands = { λ x bytes given. Stands M.MODE x.tracker x.symbol (vec_capacity x.room) x.symbols x.tail bytes given };
+
+    fn begin(&mut self, station: &mut S) -> Result<(), Stop> {
+        write_some(OutPort::Cells, &header(M::MODE), station)
+    }
+
+    fn take(&mut self, piece: &[u8], station: &mut S) -> Result<(), Stop> {
+        reception::laws::symbols();
+        tracking::laws::live_symbols_stay();
+        if piece.len() != 5 * M::K as usize {
+            self.tail = piece.len() as u64;
+            return Ok(());
+        }
+        take_symbol(&mut self.tracker, &mut self.symbol, piece, &mut self.room);
+        self.symbols += 1;
+        write_some(OutPort::Cells, &self.room, station)
+    }
+
+    fn finish(&mut self, station: &mut S) -> Result<(), Stop> {
+        self.tracker.end();
+        write_rest(&mut self.tracker, &mut self.room, station)?;
+        let line = closing_line(self.symbols, self.tail);
+        write_some(OutPort::Report, line.as_str().as_bytes(), station)
+    }
+
+    fn law(&self) {
+        reception::laws::symbols();
+        tracking::laws::live_symbols_stay();
+    }
+}

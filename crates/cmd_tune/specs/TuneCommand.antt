@@ -1,0 +1,81 @@
+-- The command `tune`: the files that it reads and writes, and what it comes to, from its settings and the file of cells alone. Of the settings only the mode, the workers and the limit are used.
+use Rattle.std.specs.Prelude.{◌≡◌, ℕ, ◌+◌, ◌≤◌, true, List, [], ◌∷◌, ◌++◌, Option, None, Some, is_some, option_and_then}
+use Rattle.station_core.specs.declared.ports.InPort.TheVariants as ins
+use Rattle.station_core.specs.declared.ports.OutPort.{OutPort}
+use Rattle.station_core.specs.declared.ports.OutPort.TheVariants as outs
+use Rattle.mode_set.specs.declared.settings.Settings.{Settings}
+use Rattle.reception.specs.Cells.{symbols}
+use Rattle.cmd_base.specs.Command.{Command}
+use Rattle.cmd_base.specs.Ports.{by_input, stream_names}
+use Rattle.cmd_base.specs.SettingsFile.{most_settings, settings_refusal}
+use Rattle.cmd_base.specs.StatedSettings.{settings_of}
+use Rattle.cmd_cells.specs.Work.{Written}
+use Rattle.reception.specs.Alike.{DifferInWorkers}
+use Rattle.cmd_receive.specs.OneOutput.{IsOneOutput}
+use Rattle.cmd_receive.specs.Received.{cells_in}
+use Rattle.cmd_receive.specs.ReceiveCommand.{header_by, most_cells}
+use Rattle.tune_in.specs.LeastPlace.{Searches}
+use Rattle.tune_in.specs.OfBytes.{IsFoundIn}
+use Rattle.tune_in.specs.declared.frame.Found.{Found}
+use Rattle.cmd_tune.specs.Tuned.{ComesTo, GivesLive, fits, tune_refusal}
+
+-- at a port a run comes to this
+abbrev pub PortComes : Settings → Option (List ℕ) → List ℕ → OutPort → List ℕ → Type 0
+PortComes s lp bytes port output = (given : Written) × ComesTo s (is_some lp) bytes given × (output ≡ given port)
+
+-- After a failed read the bytes taken of the file give this behind the header, as if more might follow. They are at most as many whole symbols as the limit.
+pub record IsSoFar (s : Settings) (lp : Option (List ℕ)) (file left : List ℕ) (given : Written) : Type 0 where
+  pub taken : List ℕ
+  pub are : file ≡ taken ++ left
+  pub within : symbols s (cells_in taken) ≤ s.max_symbols
+  pub gives : GivesLive s (is_some lp) (cells_in taken) given
+
+abbrev pub PortSoFar : Settings → Option (List ℕ) → List ℕ → List ℕ → OutPort → List ℕ → Type 0
+PortSoFar s lp file left port output = (given : Written) × IsSoFar s lp file left given × (output ≡ given port)
+
+-- the lines of the report then; where no settings are stated there are none
+abbrev pub LinesSoFar : Option Settings → Option (List ℕ) → List ℕ → List ℕ → List ℕ → Type 0
+LinesSoFar None lp file left lines = lines ≡ []
+LinesSoFar (Some s) lp file left lines = PortSoFar s lp file left outs.Report lines
+
+-- The bytes taken of the file hold behind the header a place of this form. They are at most as many whole symbols as the limit.
+pub record TakesPlace (s : Settings) (lp : Option (List ℕ)) (file left : List ℕ) : Type 0 where
+  pub taken : List ℕ
+  pub are : file ≡ taken ++ left
+  pub within : symbols s (cells_in taken) ≤ s.max_symbols
+  pub found : Found
+  pub is_found : IsFoundIn s (cells_in taken) found
+  pub fits_form : fits (is_some lp) found ≡ true
+
+-- What the file of cells comes to by settings s it comes to by settings t: at each port, the lines of Report among them, and likewise so far as a failed read.
+pub record AreAlike (s t : Settings) (lp : Option (List ℕ)) (file : List ℕ) : Type 0 where
+  pub comes : (port : OutPort) (output : List ℕ) → PortComes s lp (cells_in file) port output → PortComes t lp (cells_in file) port output
+  pub so_far : (left : List ℕ) (port : OutPort) (output : List ℕ) → PortSoFar s lp file left port output → PortSoFar t lp file left port output
+
+-- its laws, by the settings that are stated, if any are, the file of LP, if one is written, and the file of cells
+pub record TuneLaws (stated : Option Settings) (lp : Option (List ℕ)) (file : List ℕ) : Type 0 where
+  -- At each port, the lines of Report among them, it comes to one list of bytes.
+  pub one : (s : Settings) → stated ≡ Some s → IsOneOutput (PortComes s lp (cells_in file)) (PortComes s lp (cells_in file) outs.Report) (PortSoFar s lp file) (LinesSoFar (Some s) lp file)
+  -- What decides the refusal is the least place of the definition.
+  pub searches : (s : Settings) → stated ≡ Some s → Searches s (cells_in file)
+  -- By settings that differ from the stated ones in the number of workers alone, all is the same.
+  pub alike : (s t : Settings) → stated ≡ Some s → DifferInWorkers s t → AreAlike s t lp file
+
+-- tune SETTINGS CELLS HP, or tune SETTINGS CELLS HP LP
+abbrev pub tune_command : List ℕ → List ℕ → List ℕ → Option (List ℕ) → Command
+tune_command settings cells hp lp = record {
+  reads = by_input (Some settings) None None (Some cells);
+  writes = stream_names hp lp;
+  statuses = 0 ∷ 3 ∷ 5 ∷ 6 ∷ 7 ∷ 8 ∷ 9 ∷ 10 ∷ 11 ∷ [];
+  memory_at_work = true;
+  LacksAtWork = λ limit file unread. (s : Settings) × (settings_of (file settings) ≡ Some s) × TakesPlace s lp (file cells) (unread ins.Cells);
+  early_refusal = λ file. settings_refusal (file settings);
+  header = λ file. header_by (settings_of (file settings));
+  work_refusal = λ limit file. option_and_then (λ s. tune_refusal s (is_some lp) (cells_in (file cells))) (settings_of (file settings));
+  most_taken = λ limit file. by_input (most_settings + 1) 0 0 (most_cells (settings_of (file settings)));
+  Comes = λ limit file port output. (s : Settings) × (settings_of (file settings) ≡ Some s) × PortComes s lp (cells_in (file cells)) port output;
+  Prints = λ limit file lines. (s : Settings) × (settings_of (file settings) ≡ Some s) × PortComes s lp (cells_in (file cells)) outs.Report lines;
+  ComesSoFar = λ limit file unread port output. (s : Settings) × (settings_of (file settings) ≡ Some s) × PortSoFar s lp (file cells) (unread ins.Cells) port output;
+  PrintsSoFar = λ limit file unread lines. LinesSoFar (settings_of (file settings)) lp (file cells) (unread ins.Cells) lines;
+  Own = λ limit file. TuneLaws (settings_of (file settings)) lp (file cells);
+}

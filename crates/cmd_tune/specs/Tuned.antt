@@ -1,0 +1,70 @@
+-- What is received of cells that begin at any symbol. `bytes` are those behind the header of the file, `two` says that a file of LP is written too.
+use Rattle.std.specs.Prelude.{◌≡◌, ◌⊎◌, ℕ, ◌<◌, ◌≤◌, Bool, true, false, not, List, [], ◌++◌, codes, decimal, Option, Some, None, if◌then◌else◌}
+use Rattle.std.specs.Bool.{beq}
+use Rattle.std.specs.Option.{option_or}
+use Rattle.station_core.specs.declared.ports.OutPort.{OutPort}
+use Rattle.station_core.specs.declared.ports.OutPort.TheVariants as outs
+use Rattle.mode_set.specs.Kept.{is_flat}
+use Rattle.mode_set.specs.declared.settings.Settings.{Settings}
+use Rattle.reception.specs.Cells.{symbols}
+use Rattle.cmd_base.specs.declared.work.Refusal.{Refusal}
+use Rattle.cmd_base.specs.declared.work.Refusal.TheVariants.{Cells}
+use Rattle.cmd_base.specs.declared.work.CellsRefusal.TheVariants.{NoPlace, AnnouncedForm}
+use Rattle.cmd_cells.specs.Work.{Written}
+use Rattle.cmd_receive.specs.Received.{reception_refusal, within_limit}
+use Rattle.cmd_receive.specs.Working.{LiveGives, FinalGives}
+use Rattle.tune_in.specs.Announced.{IsAnnounced}
+use Rattle.tune_in.specs.OfBytes.{HasNoPlace, IsFoundIn, rest}
+use Rattle.tune_in.specs.declared.frame.Found.{Found}
+use Rattle.tune_in.specs.LeastPlace.{HoldsNone, HoldsPlace, place_of}
+
+-- the line of a place: the number of its first symbol, and that of the frame
+abbrev pub place_line : Found → List ℕ
+place_line found = codes "tune at " ++ decimal found.place ++ codes " frame " ++ decimal found.word.frame ++ codes "\n"
+
+-- the form of the words has LP exactly where a hierarchy is announced
+abbrev pub fits : Bool → Found → Bool
+fits two found = beq two (not (is_flat found.word.hierarchy))
+
+-- what is written at the place: its line
+abbrev pub at_place : Found → Written
+at_place found outs.Report = place_line found
+at_place found port = []
+
+-- The line of a place, and then what the bytes from the next super-frame on give by the settings that the place announces.
+pub record Tuned (Received : Settings → List ℕ → Written → Type 0) (s : Settings) (two : Bool) (bytes : List ℕ) (found : Found) (given : Written) : Type 0 where
+  pub fits_form : fits two found ≡ true
+  pub announced : Settings
+  pub is_announced : IsAnnounced found.word s announced
+  pub behind : Written
+  pub received : Received announced (rest s bytes found) behind
+  pub is : (port : OutPort) → given port ≡ at_place found port ++ behind port
+
+-- nothing was given
+abbrev pub IsNothing : Written → Type 0
+IsNothing given = (port : OutPort) → given port ≡ []
+
+-- What first bytes give, as if more might follow: nothing where they hold no place.
+abbrev pub GivesLive : Settings → Bool → List ℕ → Written → Type 0
+GivesLive s two bytes given = (HasNoPlace s bytes × IsNothing given) ⊎ ((found : Found) × IsFoundIn s bytes found × Tuned (λ a. LiveGives a two) s two bytes found given)
+
+-- What all bytes give in the end: they hold a place.
+abbrev pub GivesFinal : Settings → Bool → List ℕ → Written → Type 0
+GivesFinal s two bytes given = (found : Found) × IsFoundIn s bytes found × Tuned (λ a. FinalGives a two) s two bytes found given
+
+-- What a run comes to. The symbols within the limit hold no place, or one of another form: nothing. They hold one of the form: what all bytes give from it on or, where they are more than the limit, what those within it give.
+abbrev pub ComesTo : Settings → Bool → List ℕ → Written → Type 0
+ComesTo s two bytes given =
+    (HoldsNone s bytes × IsNothing given)
+    ⊎ ((found : Found) × HoldsPlace s bytes found × (
+    ((fits two found ≡ false) × IsNothing given)
+    ⊎ ((symbols s bytes ≤ s.max_symbols) × Tuned (λ a. FinalGives a two) s two bytes found given)
+    ⊎ ((s.max_symbols < symbols s bytes) × Tuned (λ a. LiveGives a two) s two (within_limit s bytes) found given)))
+
+-- why it is refused, if it is: by the place within the limit, if there is one, and by the limit
+abbrev pub refusal_at : Bool → Option Refusal → Option Found → Option Refusal
+refusal_at two limit None = option_or limit (Some (Cells NoPlace))
+refusal_at two limit (Some found) = if fits two found then limit else Some (Cells AnnouncedForm)
+
+abbrev pub tune_refusal : Settings → Bool → List ℕ → Option Refusal
+tune_refusal s two bytes = refusal_at two (reception_refusal s bytes) (place_of s bytes)

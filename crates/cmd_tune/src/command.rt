@@ -1,0 +1,161 @@
+// The command.
+ghost use Rattle.std.specs.Prelude.{◌≡◌, ◌<◌, ◌^◌, false, [], length};
+ghost use Rattle.reception.specs.Cells.{symbol_length};
+ghost use Rattle.std.specs.Option.{option_copied};
+ghost use Rattle.std.specs.Thread.{IsSync};
+ghost use Rattle.station_core.specs.Meaning.{IsFresh};
+ghost use Rattle.cmd_base.specs.Run.{Run};
+ghost use Rattle.cmd_receive.specs.Feeder.{IsFed};
+ghost use Rattle.cmd_cells.specs.Runs.{IsReady};
+ghost use Rattle.cmd_base.specs.Ports.{stream_names};
+ghost use Rattle.cmd_receive.specs.Runs.{RunsOrLacks, RunsReceiving};
+ghost use Rattle.cmd_tune.specs.Working.{tuning_work};
+ghost use Rattle.cmd_tune.specs.TuneCommand.{tune_command};
+
+use crate::reception_at_place::{ModeMaker, ReceiverMaker};
+use crate::search::{PlaceSearch, Search};
+use crate::tuning_work::TuningWork;
+use frame_build::SymbolIn;
+use mode_set::{Carriers, Mode, Mode2k, Mode8k, Settings};
+use cmd_receive::{CellReceiver, ReceptionFiles};
+use receiver::{Receiver, RxOut};
+use cmd_base::{Limits, Refusal};
+use cmd_base::{read_settings, refuse};
+use station_core::Station;
+use std::alloc::Global;
+use std::marker::PhantomData;
+use std::thread::Threads;
+use tune_in::Tuner;
+use word_workers::Gate;
+
+// Runs the tuning by a search that has had no byte. `symbol` has the size of a symbol.
+fn tune_by<
+    'a,
+    T: PlaceSearch + Drop,
+    X: CellReceiver + Drop,
+    P: ReceiverMaker<X> + Drop,
+    S: Station<'a>,
+>(
+    search: T,
+    maker: P,
+    settings: &Settings,
+    symbol: &mut [u8],
+    files: ReceptionFiles<'a>,
+    station: &mut S,
+) -> u8
+    requires threads { X.has_threads }
+    requires search { T.stands search settings.now [] }
+    requires mode { settings.now.mode ≡ T.mode }
+    requires one_mode { P.mode ≡ T.mode }
+    requires able { P.able maker }
+    requires size { length symbol.old ≡ symbol_length settings.now }
+    requires ready { IsReady (stream_names files.hp.now (option_copied files.lp)) (S.meaning station.old) }
+    ensures { RunsReceiving tuning_work settings.now files.entry.cells.now files.entry.hp.now (option_copied files.entry.lp) (S.meaning station.old) (S.meaning station.new) result }
+{
+    let mut work = TuningWork {
+        settings: *settings,
+        two: files.lp.is_some(),
+        search,
+        maker,
+        behind: None::<crate::reception_at_place::Behind<X>>,
+    };
+    files.run_work(settings, &mut work, symbol, station)
+}
+
+// Takes the memory of a mode's search and of one symbol, and runs the tuning through this gate.
+fn tune_in_mode<'a, M: Carriers, R: Threads + Sync, G: Gate, S: Station<'a>>(
+    rt: &R,
+    gate: &G,
+    alloc: Global,
+    settings: &Settings,
+    files: ReceptionFiles<'a>,
+    station: &mut S,
+) -> u8
+    requires mode { settings.now.mode ≡ M.MODE }
+    requires ready { IsReady (stream_names files.hp.now (option_copied files.lp)) (S.meaning station.old) }
+    ensures { RunsOrLacks tuning_work settings.now files.entry.cells.now files.entry.hp.now (option_copied files.entry.lp) (S.meaning station.old) (S.meaning station.new) result }
+{
+    let Ok(mut symbol) = vec![in alloc; 0u8; 5 * M::K as usize] else {
+        return refuse(&Refusal::Memory, station);
+    };
+    let Ok(room) = SymbolIn::<M>::new(alloc) else {
+        return refuse(&Refusal::Memory, station);
+    };
+    // It comes last: a value of so many parts is dear to prove on each path that lets it go.
+    let Ok(tuner) = Tuner::<M>::new(alloc) else {
+        return refuse(&Refusal::Memory, station);
+    };
+    let feeder = |receiver: &mut Receiver<M>, piece: &[u8], out: &mut RxOut| -> usize
+        requires { IsSync R.row × (receiver.now.ended ≡ false) × (receiver.now.taken < 2 ^ 32) }
+        ensures { IsFed receiver.entry.now piece.entry.now receiver.exit.now out.exit.now result }
+    { receiver.feed_gated(rt, gate, piece, out) };
+    let maker = ModeMaker::<R, _, Receiver<M>> {
+        rt,
+        feeder: &feeder,
+        alloc,
+        of: PhantomData,
+    };
+    let search = Search {
+        tuner,
+        symbol: room,
+    };
+    tune_by(search, maker, settings, &mut symbol, files, station)
+}
+
+// The same in the mode that is set.
+fn tune_accepted<'a, R: Threads + Sync, G: Gate, S: Station<'a>>(
+    rt: &R,
+    gate: &G,
+    alloc: Global,
+    settings: &Settings,
+    files: ReceptionFiles<'a>,
+    station: &mut S,
+) -> u8
+    requires ready { IsReady (stream_names files.hp.now (option_copied files.lp)) (S.meaning station.old) }
+    ensures { RunsOrLacks tuning_work settings.now files.entry.cells.now files.entry.hp.now (option_copied files.entry.lp) (S.meaning station.old) (S.meaning station.new) result }
+{
+    match settings.mode {
+        Mode::M2k => tune_in_mode::<Mode2k, R, G, S>(rt, gate, alloc, settings, files, station),
+        Mode::M8k => tune_in_mode::<Mode8k, R, G, S>(rt, gate, alloc, settings, files, station),
+    }
+}
+
+/// Runs `tune SETTINGS CELLS HP` or, with a file of LP, `tune SETTINGS CELLS HP LP`, and gives its status.
+///
+/// What it promises is `Run` of its definition, `tune_command`. The cells begin at any symbol; of the
+/// settings only the mode, the workers and the limit are used, and all else is what the first readable
+/// frame announces. The settings are read, and then the memory of the search is taken, before another
+/// port is asked; the receiver takes its memory at the place. The receiver is fed through the gate, of
+/// which no clause speaks: they hold for every one. What its end decodes passes no gate.
+pub fn tune<'a, R: Threads + Sync, G: Gate, S: Station<'a>>(
+    rt: &R,
+    alloc: Global,
+    gate: &G,
+    settings: &'a str,
+    cells: &'a str,
+    hp: &'a str,
+    lp: Option<&'a str>,
+    limits: &Limits,
+    station: &mut S,
+) -> u8
+    requires fresh { IsFresh (S.meaning station.old) }
+    ensures { Run (tune_command settings.now cells.now hp.now (option_copied lp.entry)) limits.now.packets (S.meaning station.old) (S.meaning station.new) result }
+{
+    reception::laws::symbols();
+    reception::laws::events();
+    reception::laws::nothing();
+    reception::laws::receptions();
+    reception::moments::existence();
+    reception::moments::beginnings();
+    tune_in::one_found();
+    tune_in::found_stays();
+    tune_in::more_bytes();
+    reception::workers::workers();
+    match read_settings(alloc, settings, station) {
+        Ok(accepted) => {
+            let files = ReceptionFiles { cells, hp, lp };
+            tune_accepted(rt, gate, alloc, &accepted, files, station)
+        }
+        Err(refusal) => refuse(&refusal, station),
+    }
+}

@@ -1,3 +1,0 @@
-pub mod Equalising
-pub mod OwnLaws
-pub mod EqualiseCommand

@@ -1,5 +1,0 @@
-use Rattle.std.proofs.Common.{◌≡◌, ◌++◌, take, drop}
-use Rattle.known_bits.proofs.moving.move_single_bits.Given as goal
-
-abbrev pub invariant-loop-k : goal.invariant-loop-k
-invariant-loop-k l = (l.from ≡ drop (l._k) l.initial.from) × (l.to ≡ l.initial.to ++ take (l._k) l.initial.from)

@@ -1,0 +1,9 @@
+pub mod Counted
+pub mod Returned
+pub mod Laws
+pub mod Flat
+pub mod Symbols
+pub mod FlatFiles
+pub mod OldCells
+pub mod Plain
+pub mod UpgradedCells

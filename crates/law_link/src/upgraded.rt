@@ -1,0 +1,16 @@
+// The laws of upgraded cells, as contracts of functions that do nothing.
+ghost use Rattle.law_link.specs.UpgradedCells.{UpgradedAreWhole, UpgradedCellsAreOld, UpgradedCostsArePlain};
+
+use reception::laws::costs;
+use soft_metric::laws::whole_weight_changes_nothing;
+
+/// Upgraded cells are as many whole symbols as the old ones, with the same parts, and they cost a receiver
+/// what the old cells cost without weights.
+pub fn upgraded_costs()
+    ensures whole { UpgradedAreWhole }
+    ensures cells { UpgradedCellsAreOld }
+    ensures plain { UpgradedCostsArePlain }
+{
+    whole_weight_changes_nothing();
+    costs();
+}

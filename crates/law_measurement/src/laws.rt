@@ -1,0 +1,125 @@
+// The laws of a measurement over its definitions, as contracts of functions that do nothing.
+ghost use Rattle.std.specs.Prelude.{ℕ};
+ghost use Rattle.law_link.specs.Counted.{AreCounted};
+ghost use Rattle.law_measurement.specs.Totals.{LinesAddUp, ClosingIsReceived};
+ghost use Rattle.law_measurement.specs.Remade.{RemadeAreSent, ErrorIsFromSent};
+ghost use Rattle.law_measurement.specs.Own.{NearPointsAreDecided, SymbolsAreCompared, NoiseIsMeasured, OwnIsMeasured, FramesAreNear, FramesAreExact};
+
+use bit_interleave::laws::each_bit_is_found;
+use code_paths::{
+    ended_once, given_begins_ended, given_grows, given_once, keeps_sent, reports_once,
+};
+use mode_set::{Mode, symbols_have_whole_periods};
+use outer_chain::laws::bits;
+use law_link::laws::own_cells;
+use code_paths::uniqueness::existence;
+use pilots::{payload_carriers_are_numbered, symbols_have_as_many_payload_carriers};
+use puncture::{lists_are_paths, sent_bits_have_steps, steps_are_numbered, steps_send_in_order};
+use reception::laws::costs;
+use soft_metric::laws::{near_points_favour_their_bits, weights_tell_apart};
+use symbol_interleave::laws::{h_is_a_permutation, places_and_words_agree};
+use symbol_parameters::laws::{settings, steps, words};
+
+fn counted_at(mode: Mode, l: u8)
+    ensures { AreCounted mode l }
+{
+    symbols_have_as_many_payload_carriers(mode, l);
+    payload_carriers_are_numbered(mode, l);
+}
+
+// What holds of four symbols holds of all: the kinds of carriers repeat.
+fn counted(mode: Mode)
+    ensures { (l : ℕ) → AreCounted mode l }
+{
+    counted_at(mode, 0);
+    counted_at(mode, 1);
+    counted_at(mode, 2);
+    counted_at(mode, 3);
+}
+
+/// The counts of words and frames in the lines of all super-frames add up to those of the closing lines,
+/// which are those of a reception of the same bytes.
+pub fn lines_add_up()
+    ensures sums { LinesAddUp }
+    ensures closing { ClosingIsReceived }
+{
+    existence();
+    given_once();
+    given_grows();
+    given_begins_ended();
+    ended_once();
+    reports_once();
+    steps();
+    words();
+    costs();
+    reception::laws::events();
+    reception::laws::receptions();
+    bits();
+    outer_chain::laws::growth();
+}
+
+/// If the known bits of a compared symbol are those that were sent, the remade cells are the cells that were
+/// sent, from either start. If this holds of all compared symbols of a super-frame, its error is the error
+/// against what was sent, whatever was received.
+pub fn decided_cells_are_sent()
+    ensures cells { RemadeAreSent }
+    ensures error { ErrorIsFromSent }
+{
+    counted(Mode::M2k);
+    counted(Mode::M8k);
+    settings();
+    steps();
+    each_bit_is_found();
+    h_is_a_permutation();
+    places_and_words_agree();
+    sent_bits_have_steps();
+}
+
+/// Hard decisions of a cell within the tolerance of a point are the bits of the point's label.
+pub fn near_points_are_decided()
+    ensures { NearPointsAreDecided }
+{}
+
+/// From start zero all symbols of whole super-frames are compared, but for two before LP pauses.
+pub fn symbols_are_compared()
+    ensures { SymbolsAreCompared }
+{
+    steps();
+    costs();
+}
+
+/// Cells within the tolerance of a transmission are measured without a fault: nothing is wrong, muted, corrected,
+/// bad, unphased or repaired. The error is at most twice the squared tolerance for each cell. A transmission's own
+/// cells have no error.
+pub fn transmissions_are_measured()
+    ensures noise { NoiseIsMeasured }
+    ensures own { OwnIsMeasured }
+    ensures near_lines { FramesAreNear }
+    ensures own_lines { FramesAreExact }
+{
+    counted(Mode::M2k);
+    counted(Mode::M8k);
+    existence();
+    given_once();
+    given_grows();
+    given_begins_ended();
+    ended_once();
+    keeps_sent();
+    settings();
+    steps();
+    costs();
+    bits();
+    each_bit_is_found();
+    h_is_a_permutation();
+    places_and_words_agree();
+    sent_bits_have_steps();
+    near_points_favour_their_bits();
+    weights_tell_apart();
+    steps_send_in_order();
+    steps_are_numbered();
+    lists_are_paths();
+    symbols_have_whole_periods();
+    near_points_are_decided();
+    symbols_are_compared();
+    own_cells();
+}

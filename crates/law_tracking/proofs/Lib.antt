@@ -1,0 +1,15 @@
+pub mod Forward
+pub mod Received
+pub mod Weighted
+pub mod Time
+pub mod Rows
+pub mod Frequency
+pub mod Cell
+pub mod Symbols
+pub mod Sent
+pub mod Files
+pub mod Counting
+pub mod Taps
+pub mod Sizes
+pub mod Pilots
+pub mod Steady

@@ -1,8 +1,0 @@
-pub mod Cells
-pub mod Places
-pub mod Steps
-pub mod Favoured
-pub mod Received
-pub mod ReadBack
-pub mod Joined
-mod Vectors

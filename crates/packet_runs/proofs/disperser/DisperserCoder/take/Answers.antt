@@ -1,9 +1,0 @@
-use Rattle.std.proofs.Common.{ℕ, List, ◌++◌, sym, ◌∙◌, ap}
-use Rattle.packet_runs.specs.DispersedPackets.{dispersed_packets}
-use Rattle.packet_runs.proofs.DispersedPackets.{dispersed_more}
-use Rattle.packet_runs.proofs.disperser.DisperserCoder.take.Goals as goal
-
-pub returns-clause-gives : goal.returns-clause-gives
-returns-clause-gives c = λ packets took.
-    dispersed_more c.args.self.now.dispersal packets c.args.packet.now took
-    ∙ ap (λ (l : List ℕ). dispersed_packets packets ++ l) (sym c.apply-self.ensures.word)

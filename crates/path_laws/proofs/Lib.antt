@@ -1,4 +1,0 @@
-pub mod Deciding
-pub mod LeastPaths
-pub mod SharedBits
-pub mod CutStreams

@@ -1,0 +1,25 @@
+// The laws, as contracts of functions that do nothing.
+ghost use Rattle.reception.specs.Moments.{SomeLive, SomeFinal, LiveBeginsLive, LiveBeginsFinal, WholeSymbolsGive};
+
+/// Bytes have a live and a final output.
+pub fn existence()
+    ensures live { SomeLive }
+    ensures last { SomeFinal }
+{
+    code_paths::uniqueness::existence();
+    rs204::laws::codewords();
+}
+
+/// The live output of first bytes begins both outputs of more, and bytes within a symbol leave it.
+pub fn beginnings()
+    ensures live { LiveBeginsLive }
+    ensures last { LiveBeginsFinal }
+    ensures whole { WholeSymbolsGive }
+{
+    existence();
+    symbol_parameters::laws::steps();
+    crate::laws::symbols();
+    crate::laws::costs();
+    crate::laws::events();
+    crate::laws::receptions();
+}

@@ -1,0 +1,20 @@
+-- Worked values of the definitions.
+use Rattle.std.proofs.Common.{◌≡◌, refl}
+use Rattle.rescue.specs.Known.{settled_blocks}
+
+-- a block is settled with the 256th step behind it
+none : settled_blocks 1279 ≡ 0
+none = refl
+
+one : settled_blocks 1280 ≡ 1
+one = refl
+
+still_one : settled_blocks 2303 ≡ 1
+still_one = refl
+
+two : settled_blocks 2304 ≡ 2
+two = refl
+
+-- fewer steps than stand behind a block
+few : settled_blocks 100 ≡ 0
+few = refl

@@ -1,0 +1,74 @@
+-- Bytes have one rescue output at each moment, and what first bytes give begins what more give.
+use Rattle.std.specs.Prelude.{◌≡◌, ℕ, List, [], ◌++◌}
+use Rattle.mode_set.specs.declared.modes.Stream.{Stream}
+use Rattle.mode_set.specs.declared.settings.Settings.{Settings}
+use Rattle.reception.specs.Laws.{IsWithin}
+use Rattle.rescue.specs.Streams.{Rescue, RescuesSoFar, RescuesAtEnd, nothing}
+use Rattle.rescue.specs.Lines.{closing_lines, event_lines}
+use Rattle.reception.specs.Alike.{DifferInWorkers}
+
+-- ---- one output
+
+-- two rescue outputs are the same in all that is rescued
+pub record AreSame (r q : Rescue) : Type 0 where
+  pub packets : (σ : Stream) → r.packets σ ≡ q.packets σ
+  pub reports : (σ : Stream) → r.reports σ ≡ q.reports σ
+  pub tally : (σ : Stream) → r.tally σ ≡ q.tally σ
+
+-- bytes have one output so far, and one at the end
+abbrev pub OneSoFar : Type 0
+OneSoFar = (s : Settings) (bytes : List ℕ) (r q : Rescue) → RescuesSoFar s bytes r → RescuesSoFar s bytes q → AreSame r q
+
+abbrev pub OneAtEnd : Type 0
+OneAtEnd = (s : Settings) (bytes : List ℕ) (r q : Rescue) → RescuesAtEnd s bytes r → RescuesAtEnd s bytes q → AreSame r q
+
+-- no bytes give nothing
+abbrev pub NothingSoFar : Type 0
+NothingSoFar = (s : Settings) → RescuesSoFar s [] nothing
+
+-- bytes have an output so far, and one at the end
+abbrev pub SomeSoFar : Type 0
+SomeSoFar = (s : Settings) (bytes : List ℕ) → (r : Rescue) × RescuesSoFar s bytes r
+
+abbrev pub SomeAtEnd : Type 0
+SomeAtEnd = (s : Settings) (bytes : List ℕ) → (r : Rescue) × RescuesAtEnd s bytes r
+
+-- ---- beginnings
+
+-- the output at the end begins with the one so far, and has its reports
+pub record Ends (r q : Rescue) : Type 0 where
+  pub packets : (σ : Stream) → (rest : List ℕ) × (q.packets σ ≡ r.packets σ ++ rest)
+  pub reports : (σ : Stream) → q.reports σ ≡ r.reports σ
+
+abbrev pub AtEndEndsSoFar : Type 0
+AtEndEndsSoFar = (s : Settings) (bytes : List ℕ) (r q : Rescue) → RescuesSoFar s bytes r → RescuesAtEnd s bytes q → Ends r q
+
+-- what longer bytes give begins with what these give: the packets and the reports of each stream, and the event lines
+pub record Begins (s : Settings) (bytes longer : List ℕ) (r q : Rescue) : Type 0 where
+  pub packets : (σ : Stream) → (rest : List ℕ) × (q.packets σ ≡ r.packets σ ++ rest)
+  pub reports : (σ : Stream) → (rest : List ℕ) × (q.reports σ ≡ r.reports σ ++ rest)
+  pub lines : (rest : List ℕ) × (event_lines s longer q ≡ event_lines s bytes r ++ rest)
+
+abbrev pub SoFarBeginsSoFar : Type 0
+SoFarBeginsSoFar = (s : Settings) (bytes more : List ℕ) (r q : Rescue) → RescuesSoFar s bytes r → RescuesSoFar s (bytes ++ more) q → Begins s bytes (bytes ++ more) r q
+
+abbrev pub SoFarBeginsAtEnd : Type 0
+SoFarBeginsAtEnd = (s : Settings) (bytes more : List ℕ) (r q : Rescue) → RescuesSoFar s bytes r → RescuesAtEnd s (bytes ++ more) q → Begins s bytes (bytes ++ more) r q
+
+-- bytes that do not end a symbol give nothing
+abbrev pub WholeSymbolsGive : Type 0
+WholeSymbolsGive = (s : Settings) (bytes more : List ℕ) (r : Rescue) → IsWithin s bytes more → RescuesSoFar s (bytes ++ more) r → RescuesSoFar s bytes r
+
+-- ---- workers
+
+-- by settings that differ in the number of workers alone bytes have the same output so far and at the end ..
+abbrev pub SameSoFar : Type 0
+SameSoFar = (s t : Settings) (bytes : List ℕ) (r : Rescue) → DifferInWorkers s t → RescuesSoFar s bytes r → RescuesSoFar t bytes r
+
+abbrev pub SameAtEnd : Type 0
+SameAtEnd = (s t : Settings) (bytes : List ℕ) (r : Rescue) → DifferInWorkers s t → RescuesAtEnd s bytes r → RescuesAtEnd t bytes r
+
+-- .. and the report has the same lines
+abbrev pub SameLines : Type 0
+SameLines = (s t : Settings) (bytes : List ℕ) (r : Rescue) → DifferInWorkers s t
+    → (event_lines t bytes r ≡ event_lines s bytes r) × (closing_lines t bytes r ≡ closing_lines s bytes r)

@@ -1,6 +1,0 @@
-mod Marks
-mod Received
-mod SomeMargins
-mod SomeWords
-mod Whole
-mod Workers

@@ -1,5 +1,0 @@
-use Rattle.rescue_laws.proofs.Received.{nothing_so_far}
-use Rattle.rescue_laws.proofs.laws.nothing.Goals as goal
-
-pub returns : goal.returns
-returns c = record { so_far = nothing_so_far c.nothing.ensures.given c.costs.ensures.none }

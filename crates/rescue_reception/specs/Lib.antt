@@ -1,4 +1,0 @@
-pub mod Known
-pub mod Streams
-pub mod Lines
-pub mod Feeds

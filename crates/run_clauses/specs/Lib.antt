@@ -1,9 +1,0 @@
-pub mod Packets
-pub mod SettingsFile
-pub mod StatedSettings
-pub mod StreamForm
-pub mod Text
-pub mod Header
-pub mod Command
-pub mod Ports
-pub mod Run

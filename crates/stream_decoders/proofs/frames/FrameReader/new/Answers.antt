@@ -1,6 +1,0 @@
-use Rattle.std.proofs.Common.{refl}
-use Rattle.stream_decoders.proofs.Voting.{no_frames}
-use Rattle.stream_decoders.proofs.frames.FrameReader.new.Goals as goal
-
-pub returns-clause-none : goal.returns-clause-none
-returns-clause-none c = λ mode cells. no_frames mode _ cells refl refl refl

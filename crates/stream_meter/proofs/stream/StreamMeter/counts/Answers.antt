@@ -1,5 +1,0 @@
-use Rattle.stream_meter.proofs.Meters.{totals}
-use Rattle.stream_meter.proofs.stream.StreamMeter.counts.Goals as goal
-
-pub returns : goal.returns
-returns c = record { totals = λ moment s σ j from k bits reports h. totals c.bits.ensures.byte moment c.args.self.now s σ j from k bits reports c.all-words.result c.all-words.ensures.all h }

@@ -1,7 +1,0 @@
-use Rattle.std.proofs.Common.{◌≡◌, length}
-use Rattle.std.specs.Prelude.{All}
-use Rattle.symbol_comparison.specs.Kept.{IsWhole}
-use Rattle.symbol_comparison.proofs.comparer.room_for_symbols.Given as goal
-
-abbrev pub invariant-loop-k : goal.invariant-loop-k
-invariant-loop-k l = (length l.kept.items ≡ l._k) × All (IsWhole l.carriers) l.kept.items

@@ -1,5 +1,0 @@
-use Rattle.symbol_comparison.proofs.Standing.{more_known}
-use Rattle.symbol_comparison.proofs.laws.standing.Goals as goal
-
-pub returns-clause-more : goal.returns-clause-more
-returns-clause-more c = more_known c.passing.ensures.more

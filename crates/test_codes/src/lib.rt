@@ -1,0 +1,36 @@
+//! The outer code: transport packets, elements of the field, words of the Reed-Solomon code, words with erased bytes, the
+//! interleavers, and the words of a stream.
+//!
+//! The crate has tests alone.
+#![tactic(auto)]
+
+#[cfg(test)]
+mod elements;
+#[cfg(test)]
+mod erasures;
+#[cfg(test)]
+mod interleavers;
+#[cfg(test)]
+mod packets;
+#[cfg(test)]
+mod streams;
+#[cfg(test)]
+mod words;
+#[cfg(test)]
+mod decoding;
+#[cfg(test)]
+mod encoding;
+#[cfg(test)]
+mod forced;
+#[cfg(test)]
+mod lying_pairs;
+#[cfg(test)]
+mod margins;
+#[cfg(test)]
+mod paths;
+#[cfg(test)]
+mod short_runs;
+#[cfg(test)]
+mod decoders;
+#[cfg(test)]
+mod rescued_words;

@@ -1,0 +1,143 @@
+// A run without a fault, and the runs of which one call fails.
+use test_runs::{Conditions, Ran, ample, checksum, run_files, text_bytes};
+use station_core::Failing;
+use std::alloc::{AllocError, Global};
+use std::process::Abort;
+use std::thread::Threads;
+
+/// The room of each output: a super-frame of cells.
+const ROOM: u32 = 2_400_000;
+
+/// What is to stand where a call fails: the status, how many bytes of the closing lines stand before the text
+/// of the status, and how many bytes of the whole first output and of the whole output of LP.
+pub(crate) type Stands = (u8, usize, (usize, usize));
+
+/// A command: its words, the settings, the two inputs, and the closing lines of its whole run.
+#[derive(Drop)]
+pub(crate) struct Work<'a> {
+    /// The words.
+    pub text: &'a str,
+    /// The settings.
+    pub settings: &'a str,
+    /// The files `a` and `b`.
+    pub inputs: (Vec<u8>, Vec<u8>),
+    /// The closing lines.
+    pub lines: &'a str,
+}
+
+// Runs a command where this call fails.
+fn run<R: Threads + Sync>(
+    rt: &R,
+    alloc: Global,
+    work: &Work<'_>,
+    failing: Option<Failing>,
+) -> Result<Ran, AllocError> {
+    let settings = text_bytes(alloc, work.settings, "")?;
+    let first = Vec::from_slice(alloc, &work.inputs.0)?;
+    let second = Vec::from_slice(alloc, &work.inputs.1)?;
+    let conditions = Conditions {
+        failing,
+        ..ample(ROOM)
+    };
+    run_files(
+        rt,
+        alloc,
+        work.text,
+        settings,
+        (first, second),
+        100,
+        conditions,
+    )
+}
+
+/// Runs a command without a fault. Its first output and that of LP have these lengths and sums, which are an
+/// independent program's.
+pub(crate) fn whole<R: Abort + Threads + Sync>(
+    rt: &R,
+    alloc: Global,
+    work: &Work<'_>,
+    sums: [(usize, u32); 2],
+) -> Result<Ran, AllocError> {
+    let ran = run(rt, alloc, work, None)?;
+    assert_eq!(rt; ran.status, 0, "{}", work.text);
+    assert!(rt;
+        ran.report.as_slice() == work.lines.as_bytes(),
+        "{}",
+        work.lines
+    );
+    let first = first_output(&ran);
+    assert_eq!(rt; (first.len(), checksum(first)), sums[0], "{}", work.text);
+    assert_eq!(rt; (ran.lp.len(), checksum(&ran.lp)), sums[1], "{}", work.text);
+    Ok(ran)
+}
+
+// The output that is not LP's. A command has one.
+fn first_output(ran: &Ran) -> &[u8] {
+    if !ran.bytes.is_empty() {
+        &ran.bytes
+    } else if !ran.cells.is_empty() {
+        &ran.cells
+    } else {
+        &ran.hp
+    }
+}
+
+// Is this the front of so many bytes, or all where there are fewer?
+fn is_front(part: &[u8], whole: &[u8], count: usize) -> bool {
+    let most = whole.len().min(count);
+    part == &whole[..most]
+}
+
+// The text of a status of faults, or of a limit of 32 symbols.
+fn text_of(status: u8) -> &'static str {
+    if status == 5 {
+        "read fault\n"
+    } else if status == 6 {
+        "write fault\n"
+    } else {
+        "limit 32\n"
+    }
+}
+
+// Does the report hold so many bytes of the lines, and behind them this text?
+fn is_told(report: &[u8], lines: &[u8], count: usize, text: &str) -> bool {
+    let most = report.len().min(count);
+    is_front(&report[..most], lines, count) && &report[most..] == text.as_bytes()
+}
+
+/// Runs a command of which one call fails, and compares the status, the report and each output with what its
+/// whole run left.
+pub(crate) fn fails<R: Abort + Threads + Sync>(
+    rt: &R,
+    alloc: Global,
+    work: &Work<'_>,
+    whole: &Ran,
+    call: Failing,
+    stands: Stands,
+) -> Result<(), AllocError> {
+    let ran = run(rt, alloc, work, Some(call))?;
+    let (status, lines, (first, lp)) = stands;
+    assert_eq!(rt; ran.status, status, "{}: {call:?}", work.text);
+    let told = is_told(&ran.report, work.lines.as_bytes(), lines, text_of(status));
+    assert!(rt; told, "{}: the report at {call:?}", work.text);
+    let left = is_front(&ran.bytes, &whole.bytes, first)
+        && is_front(&ran.cells, &whole.cells, first)
+        && is_front(&ran.hp, &whole.hp, first)
+        && is_front(&ran.lp, &whole.lp, lp);
+    assert!(rt; left, "{}: the outputs at {call:?}", work.text);
+    Ok(())
+}
+
+/// The same for each call of a table.
+pub(crate) fn each_fails<R: Abort + Threads + Sync>(
+    rt: &R,
+    alloc: Global,
+    work: &Work<'_>,
+    whole: &Ran,
+    cases: &[(Failing, Stands)],
+) -> Result<(), AllocError> {
+    for (call, stands) in cases {
+        fails(rt, alloc, work, whole, *call, *stands)?;
+    }
+    Ok(())
+}

@@ -1,0 +1,219 @@
+// Receptions, and what they gave.
+ghost use Rattle.std.specs.Prelude.{◌≡◌, ◌<◌, ◌^◌, false};
+
+use crate::cut::Cut;
+use load_gen::Load;
+use mode_set::{Carriers, Settings, Stream};
+use receiver::{Receiver, RxOut};
+use rx_report::{Counts, Event};
+use std::alloc::{AllocError, Global};
+use std::thread::Threads;
+use word_workers::Gate;
+
+/// What a call gave: packets of HP and of LP, and reports.
+#[derive(Drop, PartialEq)]
+pub struct Given {
+    /// The packets of HP.
+    pub hp: Vec<u8>,
+    /// The packets of LP.
+    pub lp: Vec<u8>,
+    /// The reports.
+    pub events: Vec<Event>,
+}
+
+/// What a reception gave in all.
+#[derive(Drop, PartialEq)]
+pub struct Received {
+    /// What was given after each symbol, and at the end.
+    pub given: Vec<Given>,
+    /// Whether nothing was given between two symbols.
+    pub quiet: bool,
+    /// How many bytes were taken.
+    pub taken: usize,
+    /// The counts at the end.
+    pub counts: Counts,
+}
+
+/// A receiver of a mode, and what its last call gave.
+#[derive(Drop)]
+pub struct Reception<M: Carriers> {
+    receiver: Receiver<M>,
+    out: RxOut,
+}
+
+impl<M: Carriers> Reception<M> {
+    /// A receiver that has had no byte.
+    pub fn begin(alloc: Global, settings: &Settings) -> Result<Reception<M>, AllocError>
+        requires { settings.now.mode ≡ M.MODE }
+    {
+        let receiver = Receiver::<M>::new(alloc, settings)?;
+        let out = RxOut::new(alloc)?;
+        Ok(Reception { receiver, out })
+    }
+
+    /// Feeds a piece, and answers how many bytes of it were taken: none where the receiver may not be fed.
+    pub fn feed<R: Threads + Sync>(&mut self, rt: &R, piece: &[u8]) -> usize {
+        if self.receiver.ended() || self.receiver.symbols() >= 4294967296 {
+            return 0;
+        }
+        take_piece(rt, &mut self.receiver, piece, &mut self.out)
+    }
+
+    /// The same through a gate.
+    pub fn feed_gated<R: Threads + Sync, G: Gate>(
+        &mut self,
+        rt: &R,
+        gate: &G,
+        piece: &[u8],
+    ) -> usize {
+        if self.receiver.ended() || self.receiver.symbols() >= 4294967296 {
+            return 0;
+        }
+        take_gated(rt, gate, &mut self.receiver, piece, &mut self.out)
+    }
+
+    /// Ends the reception, if it has not ended.
+    pub fn finish<R: Threads + Sync>(&mut self, rt: &R) {
+        if !self.receiver.ended() {
+            take_end(rt, &mut self.receiver, &mut self.out);
+        }
+    }
+
+    /// The symbols so far, and how many bytes of packets and how many reports the last call gave.
+    pub fn stands(&self) -> (u64, usize, usize) {
+        let hp = self.out.hp().len();
+        let bytes = hp.saturating_add(self.out.lp().len());
+        (self.receiver.symbols(), bytes, self.out.events().len())
+    }
+
+    /// What the last call gave.
+    pub fn given(&self, alloc: Global) -> Result<Given, AllocError> {
+        Ok(Given {
+            hp: Vec::from_slice(alloc, self.out.hp())?,
+            lp: Vec::from_slice(alloc, self.out.lp())?,
+            events: Vec::from_slice(alloc, self.out.events())?,
+        })
+    }
+
+    /// The counts so far, or at the end.
+    pub fn counts(&self) -> Counts {
+        self.receiver.counts()
+    }
+
+    /// How many steps the decoder of HP has loaded, and whether it has ended.
+    pub fn decoder(&self) -> (u32, bool) {
+        symbol_parameters::laws::settings();
+        let branch = self.receiver.branch(Stream::Hp);
+        (branch.loaded(), branch.ended())
+    }
+}
+
+// Feeds a piece, and tells nothing of what is received.
+fn take_piece<M: Carriers, R: Threads + Sync>(
+    rt: &R,
+    receiver: &mut Receiver<M>,
+    piece: &[u8],
+    out: &mut RxOut,
+) -> usize
+    requires going { receiver.old.ended ≡ false }
+    requires few { receiver.old.taken < 2 ^ 32 }
+{
+    receiver.feed(rt, piece, out)
+}
+
+// The same through a gate.
+fn take_gated<M: Carriers, R: Threads + Sync, G: Gate>(
+    rt: &R,
+    gate: &G,
+    receiver: &mut Receiver<M>,
+    piece: &[u8],
+    out: &mut RxOut,
+) -> usize
+    requires going { receiver.old.ended ≡ false }
+    requires few { receiver.old.taken < 2 ^ 32 }
+{
+    receiver.feed_gated(rt, gate, piece, out)
+}
+
+// Ends the reception, and tells nothing of it.
+fn take_end<M: Carriers, R: Threads + Sync>(rt: &R, receiver: &mut Receiver<M>, out: &mut RxOut)
+    requires { receiver.old.ended ≡ false }
+{
+    receiver.finish(rt, out);
+}
+
+// Notes what the last call gave, if a symbol came to its end, and else whether nothing was given.
+fn note<M: Carriers>(
+    alloc: Global,
+    before: u64,
+    reception: &Reception<M>,
+    given: &mut Vec<Given>,
+    quiet: &mut bool,
+) -> Result<(), AllocError> {
+    let (symbols, bytes, reports) = reception.stands();
+    if symbols != before {
+        given.push(reception.given(alloc)?)?;
+    } else if bytes != 0 || reports != 0 {
+        *quiet = false;
+    }
+    Ok(())
+}
+
+impl Received {
+    /// The reception of these bytes by these settings, whose mode is `M`.
+    pub fn of<M: Carriers, R: Threads + Sync>(
+        rt: &R,
+        alloc: Global,
+        settings: &Settings,
+        bytes: &[u8],
+        cut: Cut,
+    ) -> Result<Received, AllocError>
+        requires { settings.now.mode ≡ M.MODE }
+    {
+        let mut reception = Reception::<M>::begin(alloc, settings)?;
+        let mut given = Vec::new(alloc);
+        let mut quiet = true;
+        let taken = feed_all(
+            rt,
+            alloc,
+            &mut reception,
+            bytes,
+            cut,
+            &mut given,
+            &mut quiet,
+        )?;
+        reception.finish(rt);
+        given.push(reception.given(alloc)?)?;
+        let counts = reception.counts();
+        Ok(Received {
+            given,
+            quiet,
+            taken,
+            counts,
+        })
+    }
+}
+
+// Feeds the bytes piece by piece, notes what was given, and answers how many bytes were taken.
+fn feed_all<M: Carriers, R: Threads + Sync>(
+    rt: &R,
+    alloc: Global,
+    reception: &mut Reception<M>,
+    bytes: &[u8],
+    cut: Cut,
+    given: &mut Vec<Given>,
+    quiet: &mut bool,
+) -> Result<usize, AllocError> {
+    let mut load = Load::start(29);
+    let mut taken = 0usize;
+    for _ in 0..bytes.len() {
+        let rest = &bytes[taken.min(bytes.len())..];
+        if !rest.is_empty() {
+            let before = reception.stands().0;
+            let count = reception.feed(rt, cut.piece(rest, &mut load));
+            taken = taken.saturating_add(count);
+            note(alloc, before, reception, given, quiet)?;
+        }
+    }
+    Ok(taken)
+}

@@ -1,0 +1,123 @@
+// `tune` among super-frames whose parameters change. The expected reports, lengths and sums are those of an independent
+// program.
+use test_runs::{
+    BASE, EMPTY, File, Found, Held, LAYERED, SUPER_FRAME, SYMBOL, ample, run_files, stands,
+    text_bytes,
+};
+use std::alloc::{AllocError, Global};
+use std::test::Fail;
+use std::thread::Threads;
+
+// A transmission: its settings, its plan, and its packets of HP and of LP.
+type Sent<'a> = (&'a str, &'a str, (u32, Option<u32>));
+
+const LP_COMES: &str =
+    "plan = [{ after = 1, constellation = \"16qam\", hierarchy = \"4\", rate_hp = \"1/2\", rate_lp = \"3/4\" }]\n";
+
+const LP_GOES: &str = "plan = [{ after = 1, constellation = \"qpsk\", rate_hp = \"1/2\" }]\n";
+
+const DENSER: &str = "plan = [{ after = 2, constellation = \"16qam\", rate_hp = \"2/3\" }]\n";
+
+/// Both streams of the super-frame that begins with the parameters that were announced.
+const BOTH: &str =
+    "tune at 41 frame 4\nsymbols 24 tail 0\ntps read 0 bad 0\nhp words 11 clean 11 corrected 0 bad 0 unphased 4 unmerged 0\nlp words 22 clean 22 corrected 0 bad 0 unphased 0 unmerged 0\n";
+
+/// HP alone.
+const ALONE: &str =
+    "tune at 41 frame 4\nsymbols 24 tail 0\ntps read 0 bad 0\nhp words 11 clean 11 corrected 0 bad 0 unphased 4 unmerged 0\n";
+
+/// A super-frame with the parameters that were announced, and the first symbols of one that has others.
+const CHANGED_BEHIND: &str =
+    "tune at 41 frame 4\nsymbols 296 tail 0\ntps read 4 bad 0\nhp words 263 clean 241 corrected 0 bad 22 unphased 4 unmerged 0\n";
+
+const HP: Held = Some((1_316, 50_597_823));
+
+// The header of the transmission's cells, and behind it its symbols from number 163 on, as far as this one.
+fn heard<R: Threads + Sync>(
+    rt: &R,
+    alloc: Global,
+    sent: Sent<'_>,
+    end: usize,
+) -> Result<Vec<u8>, AllocError> {
+    let hp = File::Counted(sent.2.0, 0).bytes(alloc)?;
+    let (words, lp) = match sent.2.1 {
+        Some(count) => (
+            "modulate s a b cells",
+            File::Counted(count, 0).bytes(alloc)?,
+        ),
+        None => ("modulate s a cells", Vec::new(alloc)),
+    };
+    let settings = text_bytes(alloc, sent.0, sent.1)?;
+    let ran = run_files(
+        rt,
+        alloc,
+        words,
+        settings,
+        (hp, lp),
+        1000,
+        ample(3 * SUPER_FRAME),
+    )?;
+    let mut bytes = Vec::new(alloc);
+    let end = (8 + end.min(600) * SYMBOL).min(ran.cells.len());
+    let begin = (8 + 163 * SYMBOL).min(end);
+    bytes.extend_from_slice(&ran.cells[..8.min(begin)])?;
+    bytes.extend_from_slice(&ran.cells[begin..end])?;
+    Ok(bytes)
+}
+
+// Tunes in to this file by settings without a plan.
+fn is_found<R: Threads + Sync>(
+    rt: &R,
+    alloc: Global,
+    cells: &[u8],
+    words: &str,
+    found: Found<'_>,
+) -> Result<bool, AllocError> {
+    let settings = text_bytes(alloc, BASE, "")?;
+    let inputs = (Vec::from_slice(alloc, cells)?, Vec::new(alloc));
+    let ran = run_files(rt, alloc, words, settings, inputs, 1, ample(SUPER_FRAME))?;
+    Ok(stands(&ran, found))
+}
+
+// The parameters change at the super-frame that is waited for: those that are announced for it are taken, LP that comes or goes
+// among them. They change once more behind it: what follows is received by the parameters that were announced, and is bad.
+#[test]
+fn parameters_change_while_tuning(rt: HostRuntime) -> Result<(), Fail> {
+    let alloc = rt.alloc();
+    let form = (11, "tune form\n", EMPTY, None);
+    let form_of_two = (11, "tune form\n", EMPTY, EMPTY);
+    let both = (0, BOTH, HP, Some((4_136, 1_511_112_651)));
+    let changed = (0, CHANGED_BEHIND, Some((48_692, 125_840_467)), None);
+    let cases = [
+        (
+            (BASE, LP_COMES, (300, Some(100))),
+            296,
+            "tune s a hp lp",
+            both,
+        ),
+        ((BASE, LP_COMES, (300, Some(100))), 296, "tune s a hp", form),
+        (
+            (LAYERED, LP_GOES, (300, Some(100))),
+            296,
+            "tune s a hp",
+            (0, ALONE, HP, None),
+        ),
+        (
+            (LAYERED, LP_GOES, (300, Some(100))),
+            296,
+            "tune s a hp lp",
+            form_of_two,
+        ),
+        ((BASE, DENSER, (600, None)), 568, "tune s a hp", changed),
+    ];
+    for (sent, end, words, found) in cases {
+        let cells = heard(&rt, alloc, sent, end)?;
+        assert!(rt;
+            is_found(&rt, alloc, &cells, words, found)?,
+            "{} {}",
+            words,
+            sent.1
+        );
+    }
+    Ok(())
+}

@@ -1,4 +1,0 @@
-pub mod PacketSteps
-pub mod CellSteps
-pub mod PieceSteps
-pub mod SymbolSteps

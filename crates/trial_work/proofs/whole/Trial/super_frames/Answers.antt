@@ -1,7 +1,0 @@
-use Rattle.std.proofs.Common.{◌∙◌, ap}
-use Rattle.trial.specs.Drawn.{trial_frames}
-use Rattle.trial_work.specs.State.{TrialOf}
-use Rattle.trial_work.proofs.whole.Trial.super_frames.Goals as goal
-
-pub returns : goal.returns
-returns g c = c.super_frames.ensures ∙ ap (λ (t : TrialOf). trial_frames t.settings t.number) c.self.view_is

@@ -1,5 +1,0 @@
-pub mod Putting
-pub mod Disturbing
-pub mod Feeding
-pub mod Counting
-pub mod State

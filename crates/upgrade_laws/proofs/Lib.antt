@@ -1,3 +1,0 @@
-mod Upgraded
-mod Plain
-mod Vectors

@@ -1,3 +1,0 @@
-pub mod OldCells
-pub mod Plain
-pub mod Laws

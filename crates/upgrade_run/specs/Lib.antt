@@ -1,3 +1,0 @@
-pub mod Upgrading
-pub mod OwnLaws
-pub mod UpgradeCommand

@@ -1,8 +1,0 @@
-//! The command `upgrade` over a station in memory: the super-frame of null packets, files that end within a
-//! symbol, limits, refusals and faults with what stands after them.
-//!
-//! The crate has tests alone.
-#![tactic(auto)]
-
-#[cfg(test)]
-mod upgraded;
