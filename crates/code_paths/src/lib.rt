@@ -3,12 +3,14 @@
 //! The inner code is the rate 1/2 mother code 171/133 of EN 300 744, 4.3.3. The definitions speak of all lists of
 //! bits: a path is a register of six bits and the input bits, its total is the sum of the costs of its coded bits, and
 //! what a receiver may give out is what the least paths to all ends share. They know no decoder. The laws of these
-//! definitions stand as contracts of the functions below, which do nothing.
+//! definitions stand as contracts of the functions below, which do nothing; [`uniqueness`] has the laws that there is
+//! one of each thing that a stream of costs defines: bits given, bits at the end, reports.
 #![tactic(auto)]
 
 mod costs;
 mod laws;
 mod trial;
+pub mod uniqueness;
 
 pub use costs::CostPair;
 pub use laws::{
@@ -16,4 +18,3 @@ pub use laws::{
     reports_grow, reports_once, shared_begins_least,
 };
 pub use trial::{least_path, least_path_to, path_cost};
-pub mod uniqueness;

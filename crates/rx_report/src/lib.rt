@@ -1,10 +1,11 @@
 //! What a reception counts, and the text of its report.
+//!
+//! A [`Line`] of a report has room for 256 bytes; [`push_count`] adds a text and a number, [`name_of`] names a stream.
 #![tactic(auto)]
 
 mod counts;
+mod line;
 mod text;
 
 pub use counts::{Counts, Event, StreamCounts};
-pub use crate::Line;
-mod line;
 pub use line::{Line, name_of, push_count};

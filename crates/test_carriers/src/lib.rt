@@ -1,5 +1,5 @@
-//! The carriers of a symbol, layer by layer: places of bits and words, points and costs, what carriers are for, and the
-//! bytes of symbols.
+//! The carriers of a symbol, layer by layer: places of bits and words, points and costs, what carriers are for, the bytes of
+//! symbols, labels and costs of whole symbols, TPS, corrected cells, and the search for a frame.
 //!
 //! The crate has tests alone.
 #![tactic(auto)]
@@ -7,7 +7,13 @@
 #[cfg(test)]
 mod bit_places;
 #[cfg(test)]
+mod chain_symbols;
+#[cfg(test)]
+mod equalising;
+#[cfg(test)]
 mod kinds;
+#[cfg(test)]
+mod kinds_by_rule;
 #[cfg(test)]
 mod metrics;
 #[cfg(test)]
@@ -15,24 +21,18 @@ mod permutations;
 #[cfg(test)]
 mod points;
 #[cfg(test)]
-mod symbols;
-#[cfg(test)]
-mod equalising;
-#[cfg(test)]
-mod tuning;
-#[cfg(test)]
-mod kinds_by_rule;
-#[cfg(test)]
-mod symbol_cells;
-#[cfg(test)]
 mod rates;
 #[cfg(test)]
 mod receiving;
 #[cfg(test)]
 mod sending;
 #[cfg(test)]
-mod chain_symbols;
+mod symbol_cells;
+#[cfg(test)]
+mod symbols;
 #[cfg(test)]
 mod tps;
 #[cfg(test)]
 mod tps_words;
+#[cfg(test)]
+mod tuning;

@@ -1,36 +1,36 @@
 //! The outer code: transport packets, elements of the field, words of the Reed-Solomon code, words with erased bytes, the
-//! interleavers, and the words of a stream.
+//! interleavers, and the words of a stream. The inner decoder: steps in lanes beside plain ones, survivors, margins. Rescued words.
 //!
 //! The crate has tests alone.
 #![tactic(auto)]
 
 #[cfg(test)]
-mod elements;
-#[cfg(test)]
-mod erasures;
-#[cfg(test)]
-mod interleavers;
-#[cfg(test)]
-mod packets;
-#[cfg(test)]
-mod streams;
-#[cfg(test)]
-mod words;
+mod decoders;
 #[cfg(test)]
 mod decoding;
 #[cfg(test)]
+mod elements;
+#[cfg(test)]
 mod encoding;
 #[cfg(test)]
+mod erasures;
+#[cfg(test)]
 mod forced;
+#[cfg(test)]
+mod interleavers;
 #[cfg(test)]
 mod lying_pairs;
 #[cfg(test)]
 mod margins;
 #[cfg(test)]
+mod packets;
+#[cfg(test)]
 mod paths;
+#[cfg(test)]
+mod rescued_words;
 #[cfg(test)]
 mod short_runs;
 #[cfg(test)]
-mod decoders;
+mod streams;
 #[cfg(test)]
-mod rescued_words;
+mod words;

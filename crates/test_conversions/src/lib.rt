@@ -1,28 +1,28 @@
-//! The command `upgrade` over a station in memory: the super-frame of null packets, files that end within a
-//! symbol, limits, refusals and faults with what stands after them.
+//! The commands `upgrade`, `equalise`, `align` and `track` over a station in memory: whole files, files that end within a
+//! symbol, limits, refusals and faults with what stands after them; and a `Tracker` called directly.
 //!
 //! The crate has tests alone.
 #![tactic(auto)]
 
 #[cfg(test)]
-mod upgraded;
-#[cfg(test)]
-mod equalised;
-#[cfg(test)]
-mod aligned;
-#[cfg(test)]
 mod align_refused;
 #[cfg(test)]
 mod align_running;
+#[cfg(test)]
+mod aligned;
 #[cfg(test)]
 mod arithmetic;
 #[cfg(test)]
 mod corrected_cells;
 #[cfg(test)]
-mod tracking_files;
+mod equalised;
 #[cfg(test)]
 mod track_refused;
 #[cfg(test)]
 mod tracked;
 #[cfg(test)]
 mod trackers;
+#[cfg(test)]
+mod tracking_files;
+#[cfg(test)]
+mod upgraded;

@@ -1,4 +1,5 @@
-//! The command `tune`: transmissions found from any symbol on, beside an independent program.
+//! The commands `tune`, `measure` and `rescue` over a station in memory, beside an independent program; and a `Measurer` that is
+//! fed pieces.
 //!
 //! The crate has tests alone.
 #![tactic(auto)]
@@ -6,7 +7,9 @@
 #[cfg(test)]
 mod changing;
 #[cfg(test)]
-mod tuned;
+mod measure_refused;
+#[cfg(test)]
+mod measure_running;
 #[cfg(test)]
 mod measured;
 #[cfg(test)]
@@ -14,8 +17,6 @@ mod measured_pieces;
 #[cfg(test)]
 mod measured_plans;
 #[cfg(test)]
-mod measure_refused;
-#[cfg(test)]
-mod measure_running;
-#[cfg(test)]
 mod rescued;
+#[cfg(test)]
+mod tuned;

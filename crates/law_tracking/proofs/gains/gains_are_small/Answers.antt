@@ -1,7 +1,7 @@
 -- From the table of the taps.
 use Rattle.law_tracking.proofs.Taps.{few}
 use Rattle.law_tracking.proofs.Sizes.{turns, gains}
-use Rattle.law_tracking.proofs.track_comb_gains.gains_are_small.Goals as goal
+use Rattle.law_tracking.proofs.gains.gains_are_small.Goals as goal
 
 pub returns-clause-turns : goal.returns-clause-turns
 returns-clause-turns c = turns
