@@ -3,7 +3,7 @@
 
 A channel multiplies every cell by (a + b i) / 16384 and rounds each axis to within 1. The correction by the pilots of the
 symbol (crates/cell_equal) brings each part of each cell back to within 64 of what was sent, and the proof even to within
-17 (crates/gain_laws). This draws gains, mostly on the edge of the least amplitude, and cells and pilots that came as far
+17 (crates/law_link). This draws gains, mostly on the edge of the least amplitude, and cells and pilots that came as far
 off as they may, corrects them by the definition, and prints the greatest deviation and the least weight that were seen.
 
 usage: gain_search.py [DRAWS [SEED]]
