@@ -68,7 +68,7 @@ fn rescue_in<'a, M: Carriers, R: Threads + Sync, S: Station<'a>>(
     let Ok(mut symbol) = vec![in alloc; 0u8; 5 * M::K as usize] else {
         return refuse(&Refusal::Memory, station);
     };
-    // It comes last: a value of so many parts is dear to prove on each path that lets it go.
+    // Constructed last: early returns would have to drop it, which is slow to prove.
     let Ok(receiver) = Rescue::<M>::new(alloc, settings) else {
         return refuse(&Refusal::Memory, station);
     };
@@ -93,7 +93,7 @@ fn rescue_accepted<'a, R: Threads + Sync, S: Station<'a>>(
 }
 
 /// Runs `rescue SETTINGS CELLS HP` or, with a file of LP, `rescue SETTINGS CELLS HP LP`, and gives its
-/// status.
+/// status. `files` are all but the settings.
 ///
 /// What it promises is `Run` of its definition, `rescue_command`. The settings are read and checked, and
 /// then all memory is taken, before another port is asked; the cells are opened, and their header is read,
@@ -102,14 +102,12 @@ pub fn rescue<'a, R: Threads + Sync, S: Station<'a>>(
     rt: &R,
     alloc: Global,
     settings: &'a str,
-    cells: &'a str,
-    hp: &'a str,
-    lp: Option<&'a str>,
+    files: ReceptionFiles<'a>,
     limits: &Limits,
     station: &mut S,
 ) -> u8
     requires fresh { IsFresh (S.meaning station.old) }
-    ensures { Run (rescue_command settings.now cells.now hp.now (option_copied lp.entry)) limits.now.packets (S.meaning station.old) (S.meaning station.new) result }
+    ensures { Run (rescue_command settings.now files.entry.cells.now files.entry.hp.now (option_copied files.entry.lp)) limits.now.packets (S.meaning station.old) (S.meaning station.new) result }
 {
     reception::laws::symbols();
     reception::laws::events();
@@ -118,11 +116,8 @@ pub fn rescue<'a, R: Threads + Sync, S: Station<'a>>(
     rescue::laws::existence();
     rescue::laws::beginnings();
     rescue::laws::workers();
-    match read_fitting(alloc, settings, lp, station) {
-        Ok(accepted) => {
-            let files = ReceptionFiles { cells, hp, lp };
-            rescue_accepted(rt, alloc, &accepted, files, station)
-        }
+    match read_fitting(alloc, settings, files.lp, station) {
+        Ok(accepted) => rescue_accepted(rt, alloc, &accepted, files, station),
         Err(refusal) => refuse(&refusal, station),
     }
 }
