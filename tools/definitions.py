@@ -23,7 +23,7 @@ class File:
     """A file of definitions: its first sentences, its definitions, and where its imported names come from."""
 
     def __init__(self, place, crates):
-        self.head, self.lines_of, self.from_file, self.called = 0, {}, {}, {}
+        self.head, self.lines_of, self.from_file, self.called = [], {}, {}, {}
         for paragraph in (TOP / path_of(place)).read_text().split("\n\n"):
             lines = paragraph.strip("\n").splitlines()
             imports = [line for line in lines if re.match(r"(pub )?use ", line)]
@@ -32,7 +32,7 @@ class File:
             lines = [line for line in lines if line not in imports]
             defined = [m.group(1) for line in lines if (m := DEFINED.match(line) or IN_MODULE.match(line))]
             if not defined:
-                self.head += len(lines)
+                self.head += lines
             for each in defined:
                 self.lines_of[each] = lines
 
