@@ -1,4 +1,5 @@
 pub mod Counting
 pub mod Summing
 pub mod Placing
+mod Sending
 mod Vectors

@@ -14,7 +14,7 @@ loop-q-preserved c =
     let x = symbol_of c.args.settings.now c.args.cells.now c.args.weights.now c.args.l c.args.labels.now in
     let k = c.carrier-k.result in
     let zero_cell : Cell = record { re = pos 0; im = pos 0 } in
-    let place = place_is c.args.settings.now c.args.cells.now c.args.weights.now c.args.l c.args.labels.now c.loop-q.q (get_or c.args.weights.now k 0) (get_or c.args.cells.now k zero_cell) c.new-constellation.result c.new-constellation.ensures
+    let place = place_is c.args.settings.now c.args.cells.now c.args.weights.now c.args.l c.args.labels.now c.loop-q.q (get_or c.args.weights.now k 0) (get_or c.args.cells.now k zero_cell) c.new-table.result c.new-table.ensures
     (ap (λ (z : ℕ). get_or c.args.cells.now z zero_cell) (sym c.carrier-k.ensures.listed))
     (ap (λ (z : ℕ). nat_lt 0 (min 15 (get_or c.args.weights.now z 15))) (sym c.carrier-k.ensures.listed) ∙ weight_counts c.args.weights.now k (omega (arith, c.carrier-k.ensures.within, c.requires.weights))) in
     record {
