@@ -14,10 +14,10 @@ use Rattle.bit_interleave.specs.Place.{stream_at}
 use Rattle.qam_map.specs.Points.{distance, map_cell}
 use Rattle.qam_map.specs.declared.cell.Cell.{Cell}
 use Rattle.hard_decision.specs.Hard.{hard_bit}
-use Rattle.measure_report.specs.declared.sums.SymbolSums.{SymbolSums}
 use Rattle.symbol_sums.specs.Comparing.{is_same, squared_distance}
 use Rattle.symbol_sums.specs.Tables.{bits_of_label, counted_bits, counted_sums}
-use Rattle.symbol_sums.specs.Quick.{AreSent, IsPointTable, IsSafe, sent_for}
+use Rattle.symbol_sums.specs.Parts.{all}
+use Rattle.symbol_sums.specs.Quick.{AreSent, IsPointTable, IsSafe, right_sums, sent_for}
 use Rattle.symbol_sums.specs.declared.sent.Sent.{Sent}
 use Rattle.symbol_sums.proofs.Counting.{count_none}
 
@@ -93,25 +93,17 @@ none_wrong s h safe label c σ is near =
     sym (count_none (λ e. is_same (stream_at h e) σ && not (beq (hard_bit s h c e) (is_set label e))) (label_bits s)
     (λ k l. no_difference (is_same (stream_at h k) σ) (hard_bit s h c k) (is_set label k) (is label k c near l)))
 
-abbrev right : ℕ → ℕ → ℕ → ℕ → ℕ → ℕ → SymbolSums
-right p e hb hw lb lw = record { cells = 1; muted = 0; power = p; error = e; hp = record { bits = hb; wrong = hw }; lp = record { bits = lb; wrong = lw } }
-
-right_same : (p e hb hw lb lw p1 e1 hb1 hw1 lb1 lw1 : ℕ) → p ≡ p1 → e ≡ e1 → hb ≡ hb1 → hw ≡ hw1 → lb ≡ lb1 → lw ≡ lw1 → right p e hb hw lb lw ≡ right p1 e1 hb1 hw1 lb1 lw1
+right_same : (p e hb hw lb lw p1 e1 hb1 hw1 lb1 lw1 : ℕ) → p ≡ p1 → e ≡ e1 → hb ≡ hb1 → hw ≡ hw1 → lb ≡ lb1 → lw ≡ lw1 → all 1 0 p e hb hw lb lw ≡ all 1 0 p1 e1 hb1 hw1 lb1 lw1
 right_same p e hb hw lb lw p1 e1 hb1 hw1 lb1 lw1 a b c d f g = cc
 
-module _ (v : Shape × Hierarchy) (all : List Sent) (hb lb safe label : ℕ) (d : Sent) (t : IsPointTable v.0 v.1 all hb lb safe) (l : label < 2 ^ label_bits v.0) where
-  -- the sums of a cell that is near to the point of its label
-  near_here : (error : ℕ) (c : Cell) → error ≡ squared_distance c (get_or all label d).point → error < safe → right (get_or all label d).power error hb 0 lb 0 ≡ counted_sums v.0 v.1 label c
-  near_here error c e near =
-      let sent : get_or all label d ≡ sent_for v.0 v.1 label = t.sent_are.at label d l in
-      let apart : error ≡ squared_distance c (map_cell v.0 v.1 (is_set label)) = e ∙ ap (λ (z : Sent). squared_distance c z.point) sent in
-      let close : squared_distance c (map_cell v.0 v.1 (is_set label)) < safe = subst (λ (z : ℕ). z < safe) apart near in
-      right_same _ _ _ _ _ _ _ _ _ _ _ _ (ap (λ (z : Sent). z.power) sent) apart t.hp_are (none_wrong v.0 v.1 safe label c Hp t.safe_is close) t.lp_are (none_wrong v.0 v.1 safe label c Lp t.safe_is close)
-
-pub near_is : (v w : Shape × Hierarchy) (all : List Sent) (hb lb safe label error : ℕ) (c : Cell) (d : Sent) → v ≡ w → IsPointTable v.0 v.1 all hb lb safe → label < 2 ^ label_bits w.0
-    → error ≡ squared_distance c (get_or all label d).point → error < safe → right (get_or all label d).power error hb 0 lb 0 ≡ counted_sums w.0 w.1 label c
-near_is v w all hb lb safe label error c d ev t l e near =
-    near_here w all hb lb safe label d (subst (λ (z : Shape × Hierarchy). IsPointTable z.0 z.1 all hb lb safe) ev t) l error c e near
+-- the sums of a cell that is near to the point of its label
+pub near_is : (s : Shape) (h : Hierarchy) (sent : List Sent) (hb lb safe label error : ℕ) (c : Cell) (d : Sent) → IsPointTable s h sent hb lb safe → label < 2 ^ label_bits s
+    → error ≡ squared_distance c (get_or sent label d).point → error < safe → right_sums s h (get_or sent label d).power error ≡ counted_sums s h label c
+near_is s h sent hb lb safe label error c d t l e near =
+    let here : get_or sent label d ≡ sent_for s h label = t.sent_are.at label d l in
+    let apart : error ≡ squared_distance c (map_cell s h (is_set label)) = e ∙ ap (λ (z : Sent). squared_distance c z.point) here in
+    let close : squared_distance c (map_cell s h (is_set label)) < safe = subst (λ (z : ℕ). z < safe) apart near in
+    right_same _ _ _ _ _ _ _ _ _ _ _ _ (ap (λ (z : Sent). z.power) here) apart refl (none_wrong s h safe label c Hp t.safe_is close) refl (none_wrong s h safe label c Lp t.safe_is close)
 
 -- what the parts of a new table are, seen as what its constellation is seen as
 pub table_is : (s : Shape) (h : Hierarchy) (v : Shape × Hierarchy) (all : List Sent) (hb lb safe : ℕ) → v ≡ (s, h) → AreSent s h (2 ^ label_bits s) all → hb ≡ bits_of_label s h Hp → hb ≤ 6 → lb ≡ bits_of_label s h Lp → lb ≤ 6 → IsSafe s h safe

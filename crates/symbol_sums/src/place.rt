@@ -153,7 +153,7 @@ impl Model for Constellation {
 }
 
 // The sums of a place whose cell has the weight 0.
-pub(crate) fn muted() -> SymbolSums
+fn muted() -> SymbolSums
     ensures is { result ≡ muted_sums }
     ensures little { AreLittle result 1 }
 {

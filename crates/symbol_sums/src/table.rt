@@ -1,14 +1,15 @@
 // Payload places by the distance of the received cell from the point of the label.
-ghost use Rattle.std.specs.Prelude.{◌≡◌, ◌<◌, ◌≤◌, ◌^◌};
+ghost use Rattle.std.specs.Prelude.{◌≡◌, ◌+◌, ◌<◌, ◌≤◌, ◌^◌, ℕ};
 ghost use Rattle.mode_set.specs.StreamTable.{label_bits};
-ghost use Rattle.symbol_sums.specs.Quick.{IsSafe};
-ghost use Rattle.symbol_sums.specs.Tables.{AreLittle, counted_sums, place_adds};
+ghost use Rattle.symbol_sums.specs.Quick.{IsSafe, right_sums};
+ghost use Rattle.symbol_sums.specs.Tables.{AreLittle, counted_sums, muted_sums, place_adds, plus};
 
-use crate::place::{Constellation, bits_of, error, muted};
+use crate::place::{Constellation, bits_of, error};
 use crate::sent::Sent;
+use crate::sums::add;
 use crate::tables::sent_of;
 use hard_decision::HardDecision;
-use measure_report::{BitSums, SymbolSums};
+use measure_report::SymbolSums;
 use mode_set::{Hierarchy, Shape, Stream};
 use qam_map::Cell;
 use std::marker::Model;
@@ -47,6 +48,15 @@ fn safe_of(shape: Shape, hierarchy: Hierarchy) -> u64
     distance * distance
 }
 
+// Adds a cell of the weight 0.
+fn add_muted(sums: &mut SymbolSums)
+    requires few { AreLittle sums.old 65536 }
+    ensures is { sums.new ≡ plus sums.old muted_sums }
+    ensures little { (n : ℕ) → AreLittle sums.old n → AreLittle sums.new (n + 1) }
+{
+    sums.muted += 1;
+}
+
 impl PointTable {
     pub(crate) fn new(shape: Shape, hierarchy: Hierarchy) -> PointTable
         ensures { result ≡ (shape, hierarchy) }
@@ -60,43 +70,48 @@ impl PointTable {
         }
     }
 
-    // The sums of a place whose cell counts.
-    fn counted(&self, label: u8, received: Cell) -> SymbolSums
-        requires { label < 2 ^ label_bits self.now.0 }
-        ensures is { result ≡ counted_sums self.now.0 self.now.1 label received }
-        ensures little { AreLittle result 1 }
+    // Adds a cell without a wrong bit, by the power of its point and by its squared distance from this.
+    fn add_right(&self, power: u64, error: u64, sums: &mut SymbolSums)
+        requires power { power ≤ 2 ^ 31 }
+        requires error { error ≤ 2 ^ 33 }
+        requires few { AreLittle sums.old 65536 }
+        ensures is { sums.new ≡ plus sums.old (right_sums self.now.0 self.now.1 power error) }
+        ensures little { (n : ℕ) → AreLittle sums.old n → AreLittle sums.new (n + 1) }
+    {
+        sums.cells += 1;
+        sums.power += power;
+        sums.error += error;
+        sums.hp.bits += self.hp_bits;
+        sums.lp.bits += self.lp_bits;
+    }
+
+    // Adds a place whose cell counts.
+    fn add_counted(&self, label: u8, received: Cell, sums: &mut SymbolSums)
+        requires label { label < 2 ^ label_bits self.now.0 }
+        requires few { AreLittle sums.old 65536 }
+        ensures is { sums.new ≡ plus sums.old (counted_sums self.now.0 self.now.1 label received) }
+        ensures little { (n : ℕ) → AreLittle sums.old n → AreLittle sums.new (n + 1) }
     {
         let sent = self.sent[label as usize];
         let error = error(received, sent.point);
-        if error >= self.safe {
-            return self.constellation.counted(label, received);
-        }
-        SymbolSums {
-            cells: 1,
-            muted: 0,
-            power: sent.power,
-            error,
-            hp: BitSums {
-                bits: self.hp_bits,
-                wrong: 0,
-            },
-            lp: BitSums {
-                bits: self.lp_bits,
-                wrong: 0,
-            },
+        if error < self.safe {
+            self.add_right(sent.power, error, sums);
+        } else {
+            add(sums, &self.constellation.counted(label, received));
         }
     }
 
-    /// What a payload place adds to the sums, by its label, the received cell and the weight of this.
-    pub(crate) fn place(&self, label: u8, received: Cell, weight: u8) -> SymbolSums
-        requires { label < 2 ^ label_bits self.now.0 }
-        ensures is { result ≡ place_adds self.now.0 self.now.1 label received weight }
-        ensures little { AreLittle result 1 }
+    /// Adds a payload place, by its label, the received cell and the weight of this.
+    pub(crate) fn add(&self, label: u8, received: Cell, weight: u8, sums: &mut SymbolSums)
+        requires label { label < 2 ^ label_bits self.now.0 }
+        requires few { AreLittle sums.old 65536 }
+        ensures is { sums.new ≡ plus sums.old (place_adds self.now.0 self.now.1 label received weight) }
+        ensures little { (n : ℕ) → AreLittle sums.old n → AreLittle sums.new (n + 1) }
     {
         if weight == 0 {
-            muted()
+            add_muted(sums);
         } else {
-            self.counted(label, received)
+            self.add_counted(label, received, sums);
         }
     }
 }

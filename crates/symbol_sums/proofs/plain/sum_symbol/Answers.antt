@@ -3,7 +3,8 @@ use Rattle.std.proofs.Common.{◌≡◌, ◌∙◌, ℕ, min, get_or, sym, ap, a
 use Rattle.std.specs.Prelude.{nat_lt, pos}
 use Rattle.qam_map.specs.declared.cell.Cell.{Cell}
 use Rattle.mode_set.specs.StreamTable.{payload}
-use Rattle.symbol_sums.proofs.Summing.{none_summed, sums_more, place_is, sums_to, symbol_of, weight_counts}
+use Rattle.symbol_sums.specs.Parts.{sums_to, symbol_of}
+use Rattle.symbol_sums.proofs.Summing.{none_summed, sums_more, place_is, weight_counts}
 use Rattle.symbol_sums.proofs.plain.sum_symbol.Goals as goal
 
 pub loop-q-init : goal.loop-q-init

@@ -1,7 +1,7 @@
 -- The places so far.
 use Rattle.std.proofs.Common.{◌≡◌}
 use Rattle.symbol_sums.specs.Tables.{AreLittle}
-use Rattle.symbol_sums.proofs.Summing.{sums_to, symbol_of}
+use Rattle.symbol_sums.specs.Parts.{sums_to, symbol_of}
 use Rattle.symbol_sums.proofs.plain.sum_symbol.Given as goal
 
 abbrev pub invariant-loop-q : goal.invariant-loop-q
