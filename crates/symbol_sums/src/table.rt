@@ -85,6 +85,16 @@ impl PointTable {
         sums.lp.bits += self.lp_bits;
     }
 
+    // Adds a cell by the hard decisions. It stands apart, since most cells do not need its result in memory.
+    fn add_far(&self, label: u8, received: Cell, sums: &mut SymbolSums)
+        requires label { label < 2 ^ label_bits self.now.0 }
+        requires few { AreLittle sums.old 65536 }
+        ensures is { sums.new ≡ plus sums.old (counted_sums self.now.0 self.now.1 label received) }
+        ensures little { (n : ℕ) → AreLittle sums.old n → AreLittle sums.new (n + 1) }
+    {
+        add(sums, &self.constellation.counted(label, received));
+    }
+
     // Adds a place whose cell counts.
     fn add_counted(&self, label: u8, received: Cell, sums: &mut SymbolSums)
         requires label { label < 2 ^ label_bits self.now.0 }
@@ -97,7 +107,7 @@ impl PointTable {
         if error < self.safe {
             self.add_right(sent.power, error, sums);
         } else {
-            add(sums, &self.constellation.counted(label, received));
+            self.add_far(label, received, sums);
         }
     }
 

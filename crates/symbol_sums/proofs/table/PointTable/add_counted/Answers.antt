@@ -1,9 +1,9 @@
--- A cell that is near to the point of its label has no wrong bit, and the others are those of the constellation.
+-- A cell that is near to the point of its label has no wrong bit.
 use Rattle.std.proofs.Common.{◌∙◌, ap, subst}
 use Rattle.mode_set.specs.declared.modes.Shape.{Shape}
 use Rattle.mode_set.specs.declared.modes.Hierarchy.{Hierarchy}
 use Rattle.symbol_sums.specs.Quick.{IsPointTable}
-use Rattle.symbol_sums.specs.Tables.{counted_sums, plus}
+use Rattle.symbol_sums.specs.Tables.{plus}
 use Rattle.symbol_sums.proofs.Sending.{near_is}
 use Rattle.symbol_sums.proofs.table.PointTable.add_counted.Goals as goal
 
@@ -15,7 +15,3 @@ returns-then-error-self-clause-is c =
     c.add_right.ensures.is
     ∙ ap (plus c.args.sums.now)
     (near_is v.0 v.1 c.self.inside.sent c.self.inside.hp_bits c.self.inside.lp_bits c.self.inside.safe c.args.label c.error-error.result c.args.received _ kept c.requires.label c.error-error.ensures.is c.if-error-self.true)
-
-pub returns-else-error-self-clause-is : goal.returns-else-error-self-clause-is
-returns-else-error-self-clause-is c =
-    c.add.ensures.is ∙ ap (plus c.args.sums.now) (c.counted.ensures.is ∙ ap (λ (z : Shape × Hierarchy). counted_sums z.0 z.1 c.args.label c.args.received) c.self.view_is)
