@@ -8,7 +8,7 @@ use qam_map::{Cell, map};
 use std::process::Abort;
 use std::rt::HostRuntime;
 use symbol_sums::{plain, sum_symbol};
-use test_tools::{flat, next_number};
+use test_tools::{flat, hierarchical, next_number};
 
 const CASES: [(Shape, Hierarchy); 9] = [
     (Shape::Qpsk, Hierarchy::Flat),
@@ -21,6 +21,23 @@ const CASES: [(Shape, Hierarchy); 9] = [
     (Shape::Qam64, Hierarchy::Alpha2),
     (Shape::Qam64, Hierarchy::Alpha4),
 ];
+
+// Settings with this constellation.
+fn settings(shape: Shape, hierarchy: Hierarchy) -> Settings
+    ensures mode { result.mode ≡ M2k }
+{
+    let rate = Rate::R2of3;
+    match shape {
+        Shape::Qpsk => flat(Mode::M2k, shape, rate),
+        Shape::Qam16 | Shape::Qam64 => {
+            if hierarchy.is_flat() {
+                flat(Mode::M2k, shape, rate)
+            } else {
+                hierarchical(Mode::M2k, shape, hierarchy, rate, rate)
+            }
+        }
+    }
+}
 
 // One label on all payload carriers.
 fn labels(shape: Shape, label: u8) -> [u8; 1512]
@@ -78,16 +95,21 @@ fn are_summed_alike(rt: &impl Abort, settings: &Settings, symbol: u8, label: u8,
     assert!(rt; quick.muted > 0 && quick.error > quick.power);
 }
 
+// Both bodies on a symbol of each label.
+fn labels_are_summed_alike(rt: &impl Abort, settings: &Settings, state: &mut u32)
+    requires mode { settings.now.mode ≡ M2k }
+{
+    for label in 0..64u8 {
+        if label < 1 << settings.shape.label_bits() {
+            are_summed_alike(rt, settings, label % 4, label, state);
+        }
+    }
+}
+
 #[test]
 fn sums_by_both_bodies(rt: HostRuntime) {
     let mut state = 30;
     for (shape, hierarchy) in CASES {
-        let mut settings = flat(Mode::M2k, shape, Rate::R2of3);
-        settings.hierarchy = hierarchy;
-        for label in 0..64u8 {
-            if label < 1 << shape.label_bits() {
-                are_summed_alike(&rt, &settings, label % 4, label, &mut state);
-            }
-        }
+        labels_are_summed_alike(&rt, &settings(shape, hierarchy), &mut state);
     }
 }
