@@ -6,6 +6,8 @@
 #[cfg(test)]
 mod arithmetic;
 #[cfg(test)]
+mod both_bodies;
+#[cfg(test)]
 mod corrected_cells;
 #[cfg(test)]
 mod files;
