@@ -241,7 +241,7 @@ encode_eight w e x first n i waiting register xs byte waiting' register' xs' inp
             let step : i + (0 + j) ≡ i + j = omega arith in
             ap (read_bit xs') place ∙ high (2 * j + k) (omega (arith, less, two))
             ∙ step_is path (inputs / 16 % 1024) 0 i j k
-                (λ q m. let at : i + q ≡ i + (0 + q) = omega arith in window_first inputs q m ∙ input_at path a q (omega (arith, m)) ∙ ap path at) less two
+            (λ q m. let at : i + q ≡ i + (0 + q) = omega arith in window_first inputs q m ∙ input_at path a q (omega (arith, m)) ∙ ap path at) less two
             ∙ ap (parity_at k path) step
         go (inr past) =
             let u : ℕ = j - 4 in
@@ -249,5 +249,5 @@ encode_eight w e x first n i waiting register xs byte waiting' register' xs' inp
             let step : i + (4 + u) ≡ i + j = omega (arith, past) in
             ap (read_bit xs') place ∙ low (2 * u + k) (omega (arith, past, l, two))
             ∙ step_is path (inputs % 1024) 4 i u k
-                (λ q m. window_second inputs q m ∙ input_at path a (4 + q) (omega (arith, m))) (omega (arith, past, l)) two
+            (λ q m. window_second inputs q m ∙ input_at path a (4 + q) (omega (arith, m))) (omega (arith, past, l)) two
             ∙ ap (parity_at k path) step

@@ -32,7 +32,10 @@ fn gathered<const COUNT: u8>(bits: &[bool], entries: &[u16], first: usize) -> u8
 {
     let mut label = 0;
     for e in 0..COUNT {
-        label = with_bit(label, entered(bits, entries, first + (COUNT - 1 - e) as usize));
+        label = with_bit(
+            label,
+            entered(bits, entries, first + (COUNT - 1 - e) as usize),
+        );
     }
     label
 }

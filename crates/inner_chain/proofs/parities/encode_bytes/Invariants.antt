@@ -1,4 +1,4 @@
-use Rattle.std.proofs.Common.{◌≡◌, ◌+◌, ◌*◌, ◌≤◌, ◌++◌, ℕ, Bool, List, length, drop}
+use Rattle.std.proofs.Common.{◌+◌, ◌*◌, ◌≤◌, ◌++◌, ℕ, Bool, List, length, drop}
 use Rattle.bit_pack.specs.Queue.{bits_of_bytes}
 use Rattle.inner_chain.specs.Tables.{IsEncoded}
 use Rattle.inner_chain.proofs.parities.encode_bytes.Given as goal

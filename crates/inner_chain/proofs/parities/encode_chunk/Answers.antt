@@ -1,5 +1,4 @@
-use Rattle.std.proofs.Common.{◌≡◌, ◌+◌, ◌*◌, ◌++◌, ℕ, Bool, List, length, ap, subst, arith}
-use Rattle.bit_pack.specs.Queue.{bits_of_bytes}
+use Rattle.std.proofs.Common.{◌≡◌, ◌+◌, ◌*◌, ℕ, Bool, List, length, subst, arith}
 use Rattle.inner_chain.specs.Tables.{IsEncoded}
 use Rattle.inner_chain.proofs.parities.encode_chunk.Goals as goal
 
