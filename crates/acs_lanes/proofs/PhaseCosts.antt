@@ -1,15 +1,14 @@
 -- The costs of the steps in each phase.
-use Rattle.std.proofs.Common.{◌≡◌, ℕ, ◌+◌, ◌*◌, ◌%◌, ◌^◌, ◌<◌, ◌≤◌, Bool, true, false, List, [], ◌∷◌, ◌++◌, map, length, get_or, refl, sym, ap, ap₂, ◌∙◌, subst, arith, eqb, lit<}
+use Rattle.std.proofs.Common.{◌≡◌, ℕ, ◌+◌, ◌%◌, ◌<◌, Bool, true, false, List, [], ◌∷◌, ◌++◌, map, length, get_or, refl, sym, ap, ◌∙◌, subst, arith, eqb, lit<}
 use Rattle.std.specs.Simd.Lanes.{zip2}
 use Rattle.std.specs.List.{range_with_len}
-use Rattle.std.specs.Prelude.{slice_index}
 use Rattle.code_paths.specs.declared.costs.CostPair.{CostPair}
 use Rattle.code_paths.specs.Paths.{parity_x, parity_y}
 use Rattle.code_paths.proofs.Registers.{all_below}
 use Rattle.acs_lanes.specs.Lanes.{AreSteps, four}
 use Rattle.acs_lanes.specs.Lanes16.{repeated}
 use Rattle.acs_lanes.specs.Phases.{AreCostsIn, all_sums, way_in}
-use Rattle.acs_lanes.proofs.Costs16.{code_at, codes_small, lanes_of, sums_are, sums_of}
+use Rattle.acs_lanes.proofs.Costs16.{code_at, codes_small, lanes_of, sums_are}
 use Rattle.acs_lanes.proofs.LaneLaws.{at_map, bits_at, four_at, four_small}
 use Rattle.acs_lanes.proofs.Laid.{same_below}
 use Rattle.acs_lanes.proofs.PhaseTables.{way_in_small}

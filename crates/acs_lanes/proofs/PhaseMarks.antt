@@ -1,5 +1,5 @@
 -- A word of the lanes that have no mark, in each phase.
-use Rattle.std.proofs.Common.{◌≡◌, ℕ, ◌+◌, ◌-◌, ◌*◌, ◌/◌, ◌%◌, ◌^◌, ◌<◌, Bool, true, false, cond, not, ◌&&◌, ◌||◌, List, ◌++◌, map, length, get_or, replicate, refl, sym, ap, ap₂, ◌∙◌, subst, arith, bit_and, bit_or, eqb, ltb, true≢false, w8, mod-lt}
+use Rattle.std.proofs.Common.{◌≡◌, ℕ, ◌+◌, ◌-◌, ◌*◌, ◌/◌, ◌%◌, ◌^◌, ◌<◌, Bool, true, false, cond, not, ◌&&◌, ◌||◌, List, ◌++◌, map, get_or, replicate, refl, sym, ap, ap₂, ◌∙◌, subst, arith, bit_and, bit_or, eqb, ltb, true≢false, w8, mod-lt}
 use Rattle.std.proofs.lemmas.Bool.{eqb-true}
 use Rattle.std.proofs.lemmas.List.{get_or_append_left}
 use Rattle.std.proofs.lemmas.Nat.Bits.{bit_at_cat_high}
@@ -16,7 +16,7 @@ use Rattle.acs_lanes.specs.Phases.{byte_of, exchanged, ordered, way_in}
 use Rattle.acs_lanes.proofs.LaneLaws.{set_low_word, set_high_word}
 use Rattle.acs_lanes.proofs.Laid.{at_range}
 use Rattle.acs_lanes.proofs.Marks.{below_half, byte_at, bytes, digits_long, holds_at, one}
-use Rattle.acs_lanes.proofs.PhaseTables.{by_phase, exchanged_high, exchanged_small, exchanged_twice, way_in_small}
+use Rattle.acs_lanes.proofs.PhaseTables.{exchanged_high, exchanged_small, exchanged_twice, way_in_small}
 
 -- ---- the word of two vectors
 

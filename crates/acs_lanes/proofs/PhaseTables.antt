@@ -1,5 +1,5 @@
 -- Where the lanes hold the costs of the states in each phase.
-use Rattle.std.proofs.Common.{◌≡◌, ℕ, zero, suc, ◌+◌, ◌*◌, ◌/◌, ◌%◌, ◌^◌, ◌<◌, List, map, length, get_or, true, refl, sym, ap, ap₂, ◌∙◌, arith, eqb}
+use Rattle.std.proofs.Common.{◌≡◌, ℕ, zero, suc, ◌+◌, ◌*◌, ◌/◌, ◌%◌, ◌^◌, ◌<◌, List, get_or, true, refl, ap, ap₂, ◌∙◌, arith, eqb}
 use Rattle.std.specs.Prelude.{slice_index}
 use Rattle.acs_plain.specs.Spread.{IsSpread}
 use Rattle.acs_lanes.specs.Lanes16.{AreClose, AreLowered, all_with, joined}
