@@ -16,31 +16,16 @@ use mode_set::{Hierarchy, Shape};
 use qam_map::Cell;
 use std::simd::u16x16;
 
-// The values of sixteen cells in a row on both axes, modulo 2^16. Both are read at once, so that the cells are
-// loaded in lanes.
-fn both_values_from(cells: &[Cell], first: usize) -> ([u16; 16], [u16; 16])
+// The values of sixteen cells in a row on the axis of a place, modulo 2^16.
+fn values_from(cells: &[Cell], first: usize, place: u8) -> [u16; 16]
     requires { first + 16 ≤ length cells.now }
-    ensures real { (j : ℕ) (d : AnyCell) → j < 16 → lane_value (slice_index result.0 j) ≡ on_axis (slice_index_or cells.now (first + j) d) 0 }
-    ensures imaginary { (j : ℕ) (d : AnyCell) → j < 16 → lane_value (slice_index result.1 j) ≡ on_axis (slice_index_or cells.now (first + j) d) 1 }
+    ensures { (j : ℕ) (d : AnyCell) → j < 16 → lane_value (slice_index result j) ≡ on_axis (slice_index_or cells.now (first + j) d) place }
 {
-    let mut real = [0; 16];
-    let mut imaginary = [0; 16];
+    let mut values = [0; 16];
     for k in 0..16 {
-        let cell = cells[first + k];
-        real[k] = value_of(cell, 0);
-        imaginary[k] = value_of(cell, 1);
+        values[k] = value_of(cells[first + k], place);
     }
-    (real, imaginary)
-}
-
-// Those on the axis of `side`, 0 or 1.
-fn values_from(cells: &[Cell], first: usize, side: u8) -> [u16; 16]
-    requires within { first + 16 ≤ length cells.now }
-    requires side { side < 2 }
-    ensures { (j : ℕ) (d : AnyCell) → j < 16 → lane_value (slice_index result j) ≡ on_axis (slice_index_or cells.now (first + j) d) side }
-{
-    let (real, imaginary) = both_values_from(cells, first);
-    if side == 0 { real } else { imaginary }
+    values
 }
 
 // The weights of sixteen cells in a row.
