@@ -32,13 +32,7 @@ fn bit_entry(settings: &Settings, stream: Stream, bit: u32) -> u16
 
 // Appends the entries of X and Y of a step whose first sent bit has the number `bit`, and answers
 // the number of the next step's first.
-fn push_step(
-    settings: &Settings,
-    stream: Stream,
-    sent: Sent,
-    bit: u32,
-    to: &mut Vec<u16>,
-) -> u32
+fn push_step(settings: &Settings, stream: Stream, sent: Sent, bit: u32, to: &mut Vec<u16>) -> u32
     requires spare { vec_len to.old + 2 ≤ vec_capacity to.old }
     requires within { bit + count_of (has_x sent) + count_of (has_y sent) ≤ coded settings.now stream }
     ensures next { result ≡ bit + count_of (has_x sent) + count_of (has_y sent) }
