@@ -3,9 +3,11 @@ import fcntl
 import os
 import subprocess
 import threading
+import time
 
 PIPE = {"2k": 1 << 18, "8k": 1 << 20}  # bytes that a pipe holds, if the system allows so many: some thirty symbols
 F_SETPIPE_SZ = 1031
+GATHER = 0.01  # seconds in which packets are gathered: receive writes a few KB at a time
 EQUALISERS = {"track": "track", "symbol": "equalise"}
 KEYS = ("constellation", "hierarchy", "rate_hp", "rate_lp", "guard")
 UNKNOWN = {"constellation": "qpsk", "rate_hp": "1/2", "guard": "1/32"}  # for align, which uses the mode alone
@@ -14,11 +16,16 @@ UNKNOWN = {"constellation": "qpsk", "rate_hp": "1/2", "guard": "1/32"}  # for al
 def pipe(size):
     """Both ends of a pipe."""
     read, write = os.pipe()
+    widen(write, size)
+    return read, write
+
+
+def widen(file, size):
+    """Lets a pipe hold so many bytes, if it is one and the system allows it."""
     try:
-        fcntl.fcntl(write, F_SETPIPE_SZ, size)
+        fcntl.fcntl(file, F_SETPIPE_SZ, size)
     except OSError:
         pass
-    return read, write
 
 
 def put(to, data):
@@ -134,6 +141,7 @@ class Chain:
             if is_well and file is not None and not put(file, piece):
                 is_well = False
                 self.tell("output", file)
+            time.sleep(GATHER)
         os.close(source)
 
     def leave(self):
