@@ -205,9 +205,8 @@ class Monitor:
     def search(self):
         """Begins at align."""
         after = self.chain.outputs if self.chain else ()
-        watch = self.page.corrected if self.page else None
         self.signal, self.silent, self.place = None, 0, {}
-        self.chain = Chain(self.program, self.arguments, self.source.mode, self.settings, self.tell, watch, after)
+        self.chain = Chain(self.program, self.arguments, self.source.mode, self.settings, self.tell, self.page, after)
         self.running.add((self.chain, "align"))
         self.feeder.turn_to(self.chain)
 

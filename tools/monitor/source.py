@@ -2,7 +2,7 @@
 import os
 import threading
 
-from monitor.chain import PIPE, widen
+from monitor.pipes import PIPE, widen
 
 HEADERS = {b"DVTC\x02\0\0\0": "2k", b"DVTC\x02\1\0\0": "8k"}
 SYMBOL = {"2k": 5 * 1705, "8k": 5 * 6817}  # bytes
