@@ -151,7 +151,7 @@ def of_minute(minute, figures):
     streams = "; ".join(
         f"{name.upper()} BER before Viterbi {rate(it.viterbi)}, before RS {rate(it.rs)}, words {it.counts['words']}, bad {it.counts['bad']}"
         for name, it in figures.streams.items())
-    return f"{clock(60 * minute)} minute: MER {decibels(figures.mer)}; {streams}"
+    return f"{clock(60 * minute)} minute: MER {decibels(figures.mer)}, least {decibels(figures.least)}; {streams}"
 
 
 def summary(state):
@@ -160,10 +160,10 @@ def summary(state):
     lines = [f"{clock(state.at)} of signal, super-frames measured {state.frames}; found {state.found}, lost {state.lost}; alarms {state.alarms.count}"]
     if seconds.least:
         lines.append(f"MER {decibels(seconds.whole.mer)}, least {decibels(seconds.least[0])} at {clock(seconds.least[1])}")
-    for name, (worst, minute, _) in seconds.worst_minute().items():
+    for name, (minute, worst) in seconds.worst_minute().items():
         counts = seconds.whole.streams[name].counts
         lines.append(f"{name.upper()} words {counts['words']}, bad {counts['bad']}; BER before Viterbi {rate(seconds.whole.streams[name].viterbi)}, before RS "
-                     f"{rate(seconds.whole.streams[name].rs)}; the worst minute from {clock(60 * minute)}, before RS {rate(worst)}")
+                     f"{rate(seconds.whole.streams[name].rs)}; the worst minute from {clock(60 * minute)}, before RS {rate(worst.rs)}")
     return lines
 
 
