@@ -4,15 +4,15 @@ import collections
 from monitor.arguments import LIMITS
 from monitor.figures import Figures, clock
 
-KEPT = 4 * 3600  # seconds that a page can show
+KEPT = {"screen": 600, "page": 4 * 3600}  # seconds that each can show
 CLEAR = 10  # seconds without its cause until an alarm is cleared
 
 
 class Seconds:
-    """The figures second by second of the signal: `done` are those that are over. `whole` and `minutes` sum all."""
+    """The figures second by second of the signal: `done` are the last of those that are over. `whole` and `minutes` sum all."""
 
-    def __init__(self):
-        self.done, self.now = collections.deque(maxlen=KEPT), None
+    def __init__(self, kept):
+        self.done, self.now = collections.deque(maxlen=kept), None
         self.whole, self.minutes, self.least = Figures(), {}, None
         self.last_bad, self.recent = None, collections.deque()
 

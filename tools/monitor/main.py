@@ -12,7 +12,7 @@ from door import explain, names
 from monitor import arguments, screen
 from monitor.chain import Chain
 from monitor.figures import SUPER_FRAME, Clock, Reader, SuperFrame
-from monitor.history import Alarms, Seconds
+from monitor.history import KEPT, Alarms, Seconds
 from monitor.sample import Sample
 from monitor.source import Feeder, NoHeader, Source
 
@@ -88,7 +88,7 @@ class Monitor:
     def __init__(self, program, found, source, outputs, log, to, folder):
         self.program, self.arguments, self.source, self.outputs, self.folder = program, found, source, outputs, folder
         self.log, self.name, self.queue = log, found.cells, queue.SimpleQueue()
-        self.clock, self.seconds = Clock(source.mode, found.channel), Seconds()
+        self.clock, self.seconds = Clock(source.mode, found.channel), Seconds(KEPT["page" if found.page else "screen"])
         self.alarms = Alarms(found.limits, self.event)
         self.signal = self.last = self.chain = self.speed = None
         self.at = self.since = self.heard = 0.0
