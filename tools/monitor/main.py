@@ -103,9 +103,7 @@ class Monitor:
             explain.say(f"the page is at http://127.0.0.1:{found.page}/")
         self.tps = Sample(source.size, FRAMES * FRAME, FRAME)
         self.feeder = Feeder(source, self.tell, self.passes)
-        is_screen = os.isatty(to) and not found.json and os.environ.get("TERM") != "dumb"
-        self.shown = screen.Screen(to, self) if is_screen else screen.Json(to) if found.json else screen.Lines(to)
-        self.to = to
+        self.to, self.shown = to, screen.shown(to, self, found.json)
 
     def passes(self, piece, first, chain):
         """Sees the cells as they came, in the thread that hands them on: the first two frames of each reception, and the page."""
@@ -311,9 +309,9 @@ class Monitor:
         self.shown.event({"event": "end", "at": round(self.at, 3), "superframes": self.frames, "found": self.found, "lost": self.lost, "mer": whole.mer,
                           "alarms": self.alarms.count, **{name: it.described() for name, it in whole.streams.items()}})
         lines = screen.summary(self)
-        if not self.arguments.json:
-            for line in lines:
-                screen.write_line(self.to, line)
+        for line in lines:
+            for to in self.shown.summaries:
+                screen.write_line(to, line)
         if self.log:
             self.log.minutes(self.seconds)
             for line in lines:
