@@ -74,12 +74,12 @@ class Figures:
         self.streams, self.least = {}, None
 
     def add(self, other):
-        """Adds a super-frame."""
+        """Adds the figures of a super-frame, or of several."""
         for name, value in other.counts.items():
             self.counts[name] += value
-        mer = other.mer
-        if mer is not None and (self.least is None or mer < self.least):
-            self.least = mer
+        least = other.mer if other.least is None else other.least
+        if least is not None and (self.least is None or least < self.least):
+            self.least = least
         for name, stream in other.streams.items():
             self.streams.setdefault(name, Stream()).add(stream)
 

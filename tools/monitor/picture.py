@@ -80,9 +80,9 @@ def times(end):
 
 
 def spans_of(report):
-    """The spans of the picture by the second at which they begin, and how long each is: by second from the JSON, by minute from a log."""
-    if report.seconds:
-        return report.seconds, 1
+    """The spans of the picture by the second at which they begin, and how long each is: the parts from the JSON, or the minutes of a log."""
+    if report.parts:
+        return report.parts, report.step
     return {60 * minute: it for minute, it in report.minutes.items()}, 60
 
 

@@ -6,7 +6,7 @@ import sys
 from monitor.figures import Figures, Stream, SuperFrame, clock, decibels, rate, seconds_of
 from monitor.history import said, tenths
 
-BINS = 960  # points of a picture at most
+MOST = 1920  # parts of the time that a picture shows at most
 STAMP = re.compile(r"(\d{4}-\d\d-\d\dT\S+Z) (.*)$")
 HEARD = re.compile(r".* nothing received since ([0-9:.]+):")
 LINE = re.compile(r"(\d+:\d\d:\d\d(?:\.\d)?) ((\w+).*)$")
@@ -15,14 +15,14 @@ STREAM = re.compile(r"(HP|LP) BER before Viterbi (\S+), before RS (\S+), words (
 
 
 class Span:
-    """The figures of a second or a minute, from the JSON or as a log has them."""
+    """The figures of a part of the time, from the JSON or as a log has them."""
 
     def __init__(self, mer, least, streams, stamp):
         self.mer, self.least, self.streams, self.stamp = mer, least, streams, stamp
 
 
 class Report:
-    """One run: what happened, the figures by minute, and for the picture by `step` seconds. A file of several runs gives the last one."""
+    """One run: what happened, the figures by minute, and from JSON those by parts of `step` seconds. A file of several runs gives the last one."""
 
     def __init__(self):
         self.runs = 0
@@ -30,7 +30,7 @@ class Report:
 
     def clear(self):
         self.runs, self.at, self.is_over = self.runs + 1, 0.0, False
-        self.events, self.minutes, self.seconds, self.gaps, self.gone, self.changes = [], {}, {}, [], None, []
+        self.events, self.minutes, self.parts, self.step, self.gaps, self.gone, self.changes = [], {}, {}, 1, [], None, []
 
     def read(self, lines):
         """Takes the lines of a file; what is no line of the monitor is passed over."""
@@ -43,7 +43,7 @@ class Report:
 
     def turn_to(self, at):
         """Begins anew if this is of another run: after the end of one, or earlier than what came."""
-        if self.is_over or at < self.at - 60:
+        if self.is_over or at < self.at - 1:
             self.clear()
         self.at = max(self.at, at)
 
@@ -56,8 +56,7 @@ class Report:
         at, rest, kind = seconds_of(found[1]), found[2], found[3]
         if rest.startswith("of signal"):
             self.at, self.is_over = max(self.at, at), True
-        elif kind == "minute":
-            self.turn_to(at)
+        elif kind == "minute":  # comes after later events
             self.take_minute(int(at // 60), rest, stamp)
         else:
             self.turn_to(at)
@@ -91,9 +90,18 @@ class Report:
         counts = {**found, "tps_read": found["tps"]["read"], "tps_bad": found["tps"]["bad"]}
         frame = SuperFrame(counts, found["superframe"], found["symbol"], found["at"])
         frame.streams = {name: Stream(found[name]) for name in ("hp", "lp") if name in found}
-        for kept, at in ((self.minutes, int(frame.at // 60)), (self.seconds, int(frame.at))):
-            kept.setdefault(at, Figures()).add(frame)
-            kept[at].stamp = found["time"]
+        minute = int(frame.at // 60)
+        self.minutes.setdefault(minute, Figures()).add(frame)
+        self.minutes[minute].stamp = found["time"]
+        self.parts.setdefault(int(frame.at // self.step), Figures()).add(frame)
+        if len(self.parts) > MOST:
+            self.join()
+
+    def join(self):
+        """Makes the parts twice as long."""
+        before, self.parts, self.step = self.parts, {}, 2 * self.step
+        for at, figures in before.items():
+            self.parts.setdefault(at // 2, Figures()).add(figures)
 
     # What it comes to
 
@@ -111,11 +119,11 @@ class Report:
                 self.gaps.pop()  # it was found meanwhile, and nothing was received
 
     def close(self):
-        """Ends the reading: minutes and seconds become spans, a gap at the end is one."""
+        """Ends the reading: the figures become spans, a gap at the end is one."""
         if self.gone is not None:
             self.gaps.append((self.gone, max(self.at, self.gone)))
         self.minutes = {at: spanned(it) for at, it in self.minutes.items()}
-        self.seconds = {at: spanned(it) for at, it in self.seconds.items()}
+        self.parts = {at * self.step: spanned(it) for at, it in self.parts.items()}
 
     def worst(self, name):
         """The minute of the worst ratio before RS, and of those before Viterbi, of a stream: minute and span, or None."""
@@ -128,7 +136,8 @@ class Report:
         yield f"{over}{clock(self.at)} of signal"
         yield from self.events
         gone = sum(end - begin for begin, end in self.gaps)
-        yield f"without reception: {gone:.1f} s, {', '.join(f'{tenths(begin)} to {tenths(end)}' for begin, end in self.gaps)}" if gone else "received without a gap"
+        gaps = ", ".join(f"{tenths(begin)} to {tenths(end)}" for begin, end in self.gaps)
+        yield f"without reception: {gone:.1f} s, {gaps}" if gone else "received without a gap"
         least = min(((it.least, minute) for minute, it in self.minutes.items() if it.least is not None), default=None)
         if least:
             yield f"MER least {decibels(least[0])}, in the minute from {clock(60 * least[1])}"
@@ -153,7 +162,7 @@ def spanned(figures):
     if isinstance(figures, Span):
         return figures
     streams = {name: [it.viterbi, it.rs, it.counts["words"], it.counts["bad"]] for name, it in figures.streams.items()}
-    return Span(figures.mer, figures.least, streams, figures.stamp)
+    return Span(figures.mer, figures.least, streams, getattr(figures, "stamp", None))
 
 
 def report_of(path):
