@@ -34,6 +34,7 @@ MARGIN = 4  # so many samples before the end of the guard interval the transform
 REACH = 20  # carriers by which the frequency may be wrong
 PARTS = 256  # of a sample, for the place of a symbol
 SLOW = 16  # blocks that tell the place and the drift
+LEAST, STRANGE = 0.1, 4  # how alike guard intervals are at least, of 1; blocks in a row until a signal elsewhere is followed
 MOST = 50e-6  # a clock may be wrong by this part
 KINDS = {"c64": ("<f4", 1.0), "i16": ("<i2", 6000), "i8": ("i1", 24)}  # type of a part, and the value of the mean amplitude
 PILOT = 21845  # the nominal amplitude of pilots in a cell file
@@ -49,7 +50,7 @@ class FrontEnd:
         self.points, self.kinds = 2048 if mode == "2k" else 8192, Carriers(mode)
         self.guard = self.points // int(guard.partition("/")[2])
         self.symbol = self.points + self.guard
-        self.held, self.start, self.drift, self.blocks = np.zeros(0, np.complex64), None, 0.0, 0
+        self.held, self.start, self.drift, self.blocks, self.strange = np.zeros(0, np.complex64), None, 0.0, 0, 0
         self.fraction, self.phase, self.shift, self.scale = 0.0, 0.0, None, None
         carriers = np.arange(self.kinds.count) - (self.kinds.count - 1) // 2
         parts = np.arange(-PARTS // 2, PARTS // 2 + 1) / PARTS
@@ -77,17 +78,22 @@ class FrontEnd:
         self.held = self.held[over:]
         return cells
 
-    def follow(self, start, fraction):
-        """Where the first symbol of a block begins, and where the block ends, by the place of its middle symbol and the frequency."""
-        self.blocks = min(self.blocks + 1, SLOW)
-        if self.start is None:
-            self.start, self.fraction = float(start), fraction
-            return self.start, self.start + BLOCK * self.symbol
-        began, size = self.start, self.blocks * (self.blocks + 1)
+    def follow(self, start, fraction, likeness):
+        """Where the first symbol of a block begins, and where the block ends, by the place of its middle symbol, the frequency, and how alike
+        the guard intervals are. While there is no signal, it goes on as before. A signal that is elsewhere is a new one."""
+        if self.start is None or self.strange == STRANGE:
+            self.start, self.fraction, self.shift, self.scale, self.blocks, self.strange = float(start), fraction, None, None, 1, 0
+            return self.start, self.start + BLOCK * (self.symbol + self.drift)
+        began = self.start
         moved = start - began - self.drift * (BLOCK - 1) / 2
         moved = (moved + self.symbol / 2) % self.symbol - self.symbol / 2
-        if abs(moved) > self.guard / 2:  # noise, or no signal
-            moved = 0
+        if likeness < LEAST:
+            return began, began + BLOCK * (self.symbol + self.drift)
+        self.strange = self.strange + 1 if abs(moved) > self.guard / 2 else 0
+        if self.strange:
+            return began, began + BLOCK * (self.symbol + self.drift)
+        self.blocks = min(self.blocks + 1, SLOW)
+        size = self.blocks * (self.blocks + 1)
         end = began + BLOCK * (self.symbol + self.drift) + moved * ((4 * self.blocks - 2) + 3) / size
         self.drift = float(np.clip(self.drift + moved * 6 / size / BLOCK, -MOST * self.symbol, MOST * self.symbol))
         self.fraction += 0.1 * ((fraction - self.fraction + 0.5) % 1 - 0.5)
@@ -100,7 +106,8 @@ class FrontEnd:
         sums = np.resize(likeness[: BLOCK * self.symbol], (BLOCK - 1, self.symbol)).sum(axis=0)
         sums = np.convolve(np.concatenate([sums, sums[: self.guard]]), np.ones(self.guard), "valid")[: self.symbol]
         start = int(np.argmax(abs(sums)))
-        return start, np.angle(sums[start]) / (2 * np.pi)
+        power = self.guard * (BLOCK - 1) * np.mean(abs(samples) ** 2)
+        return start, np.angle(sums[start]) / (2 * np.pi), abs(sums[start]) / max(power, 1e-30)
 
     def carriers(self, symbols, parts):
         """The cells of symbols, with the parts of a sample by which they begin later turned back, the frequency corrected by whole carriers and
