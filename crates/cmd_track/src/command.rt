@@ -105,7 +105,7 @@ pub fn track<'a, S: Station<'a>>(
     reception::laws::symbols();
     tracking::laws::live_symbols_stay();
     tracking::laws::greater_powers_weigh_more();
-    law_tracking::track_comb_gains::steady_gains_are_exact();
+    law_tracking::gains::steady_gains_are_exact();
     law_tracking::laws::flat_gain_is_tracked();
     match read_settings(alloc, settings, station) {
         Ok(accepted) => track_accepted(alloc, &accepted, old_cells, new_cells, station),

@@ -3,4 +3,4 @@
 #![tactic(auto)]
 
 pub mod laws;
-pub mod track_comb_gains;
+pub mod gains;

@@ -1,5 +1,5 @@
-//! The carriers of a symbol, layer by layer: places of bits and words, points and costs, what carriers are for, and the
-//! bytes of symbols.
+//! The carriers of a symbol, layer by layer: places of bits and words, points and costs, what carriers are for, the bytes
+//! of symbols and their sums.
 //!
 //! The crate has tests alone.
 #![tactic(auto)]
@@ -14,6 +14,8 @@ mod metrics;
 mod permutations;
 #[cfg(test)]
 mod points;
+#[cfg(test)]
+mod sums;
 #[cfg(test)]
 mod symbols;
 #[cfg(test)]

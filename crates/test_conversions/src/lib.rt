@@ -17,6 +17,8 @@ mod align_running;
 #[cfg(test)]
 mod arithmetic;
 #[cfg(test)]
+mod both_bodies;
+#[cfg(test)]
 mod corrected_cells;
 #[cfg(test)]
 mod tracking_files;
