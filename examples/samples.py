@@ -1,14 +1,16 @@
 #!/usr/bin/env python3
 """Between samples and cells: a front end of a few lines for recordings, and its opposite, for tries.
 
-usage: examples/samples.py [--mode 2k|8k] [--guard 1/32|1/16|1/8|1/4] [--level L] cells SAMPLES CELLS
-       examples/samples.py [--mode 2k|8k] [--guard 1/32|1/16|1/8|1/4] samples CELLS SAMPLES
+usage: examples/samples.py [--mode 2k|8k] [--guard 1/32|1/16|1/8|1/4] [--kind c64|i16|i8] [--level L] cells SAMPLES CELLS
+       examples/samples.py [--mode 2k|8k] [--guard 1/32|1/16|1/8|1/4] [--kind c64|i16|i8] [--clock PPM] samples CELLS SAMPLES
 
-SAMPLES are complex numbers of two floats of 32 bits (complex64) at 64/7 MHz in a channel of 8 MHz, 8 MHz in one of 7 MHz, 48/7 MHz in
-one of 6 MHz. `-` is standard input or output. `cells` finds the symbols by their guard interval and the frequency, follows
-both, and takes the carriers out; it estimates nothing of the channel. The cells begin at any symbol: `dvbt monitor`, `align` and
-`tune` find the super-frame. L is the mean amplitude of the pilots over the nominal one: 0.9 suits `equalise`, 0.4 `track`, which works at
-any level, and leaves room for strong carriers. Without options: 8K, guard 1/32, level 0.9. Needs numpy (Debian: python3-numpy).
+SAMPLES are complex numbers of two floats of 32 bits (c64), or of two whole numbers of 16 or 8 bits with a sign (i16, i8), least byte first, at
+64/7 MHz in a channel of 8 MHz, 8 MHz in one of 7 MHz, 48/7 MHz in one of 6 MHz. `-` is standard input or output. `cells` finds the
+symbols by their guard interval and the frequency, follows both and the clock of the receiver, and takes the carriers out; it estimates
+nothing of the channel. The cells begin at any symbol: `dvbt monitor`, `align` and `tune` find the super-frame. L is the mean amplitude
+of the pilots over the nominal one: 0.9 suits `equalise`, 0.4 `track`, which works at any level, and leaves room for strong
+carriers. `samples` makes the samples of a receiver whose clock is slow by PPM parts in a million. Without options: 8K, guard 1/32, c64,
+level 0.9, a right clock. Needs numpy (Debian: python3-numpy).
 """
 import os
 import pathlib
@@ -30,18 +32,29 @@ CELL = np.dtype([("re", ">i2"), ("im", ">i2"), ("weight", "u1")])
 BLOCK = 64  # symbols that are taken at once
 MARGIN = 4  # so many samples before the end of the guard interval the transform begins
 REACH = 20  # carriers by which the frequency may be wrong
+PARTS = 256  # of a sample, for the place of a symbol
+SLOW = 16  # blocks that tell the place and the drift
+LEAST, STRANGE = 0.1, 4  # how alike guard intervals are at least, of 1; blocks in a row until a signal elsewhere is followed
+MOST = 50e-6  # a clock may be wrong by this part
+KINDS = {"c64": ("<f4", 1.0), "i16": ("<i2", 6000), "i8": ("i1", 24)}  # type of a part, and the value of the mean amplitude
 PILOT = 21845  # the nominal amplitude of pilots in a cell file
 
 
 class FrontEnd:
-    """From samples to cells, block by block."""
+    """From samples to cells, block by block. `start` is where the next symbol begins in the samples that are held, `drift` by how many
+    samples a symbol is longer than it should be. Both are the line through the last blocks, and the place moves steadily: cells that
+    jump in phase would disturb an equaliser that looks at several symbols."""
 
     def __init__(self, mode, guard, level):
         self.level = level * PILOT
         self.points, self.kinds = 2048 if mode == "2k" else 8192, Carriers(mode)
         self.guard = self.points // int(guard.partition("/")[2])
         self.symbol = self.points + self.guard
-        self.held, self.at, self.first, self.fraction, self.shift, self.scale = np.zeros(0, np.complex64), 0, None, 0.0, None, None
+        self.held, self.start, self.drift, self.blocks, self.strange = np.zeros(0, np.complex64), None, 0.0, 0, 0
+        self.fraction, self.phase, self.shift, self.scale = 0.0, 0.0, None, None
+        carriers = np.arange(self.kinds.count) - (self.kinds.count - 1) // 2
+        parts = np.arange(-PARTS // 2, PARTS // 2 + 1) / PARTS
+        self.turns = np.exp(2j * np.pi / self.points * np.outer(parts, carriers)).astype(np.complex64)
 
     def take(self, samples):
         """Takes samples; gives the cells of each block of symbols that is whole."""
@@ -51,20 +64,40 @@ class FrontEnd:
 
     def block(self):
         """The cells of a block, from the held samples, which move on by it."""
-        start, fraction = self.timing(self.held[: (BLOCK + 1) * self.symbol])
-        if self.first is None:
-            self.first, self.fraction = start, fraction
-        else:  # slowly after it, by a sample at most
-            moved = (start - self.first + self.symbol // 2) % self.symbol - self.symbol // 2
-            self.first += int(np.clip(moved, -1, 1)) if abs(moved) < self.guard // 2 else 0
-            self.fraction += 0.1 * ((fraction - self.fraction + 0.5) % 1 - 0.5)
-        self.first = max(0, self.first)
-        samples = self.held[self.first : self.first + BLOCK * self.symbol]
-        turn = np.exp(-2j * np.pi * self.fraction / self.points * (self.at + self.first + np.arange(len(samples))))
-        cells = self.carriers((samples * turn).reshape(BLOCK, self.symbol))
-        self.at += BLOCK * self.symbol
-        self.held = self.held[BLOCK * self.symbol :]
+        began, end = self.follow(*self.timing(self.held[: (BLOCK + 1) * self.symbol]))
+        places = began + (end - began) / BLOCK * np.arange(BLOCK)
+        first = np.rint(places).astype(int)
+        samples = self.held[first[:, None] + np.arange(self.guard - MARGIN, self.symbol - MARGIN)]
+        each = -2j * np.pi * self.fraction / self.points
+        samples *= np.exp(each * (first[:, None] - first[0]) - 1j * self.phase).astype(np.complex64)
+        samples *= np.exp(each * np.arange(self.points)).astype(np.complex64)
+        cells = self.carriers(samples, np.rint(PARTS * (places - first)).astype(int) + PARTS // 2)
+        over = int(end) - self.symbol // 2
+        self.start = end - over
+        self.phase = (self.phase + 2 * np.pi * self.fraction / self.points * (round(end) - first[0])) % (2 * np.pi)
+        self.held = self.held[over:]
         return cells
+
+    def follow(self, start, fraction, likeness):
+        """Where the first symbol of a block begins, and where the block ends, by the place of its middle symbol, the frequency, and how alike
+        the guard intervals are. While there is no signal, it goes on as before. A signal that is elsewhere is a new one."""
+        if self.start is None or self.strange == STRANGE:
+            self.start, self.fraction, self.shift, self.scale, self.blocks, self.strange = float(start), fraction, None, None, 1, 0
+            return self.start, self.start + BLOCK * (self.symbol + self.drift)
+        began = self.start
+        moved = start - began - self.drift * (BLOCK - 1) / 2
+        moved = (moved + self.symbol / 2) % self.symbol - self.symbol / 2
+        if likeness < LEAST:
+            return began, began + BLOCK * (self.symbol + self.drift)
+        self.strange = self.strange + 1 if abs(moved) > self.guard / 2 else 0
+        if self.strange:
+            return began, began + BLOCK * (self.symbol + self.drift)
+        self.blocks = min(self.blocks + 1, SLOW)
+        size = self.blocks * (self.blocks + 1)
+        end = began + BLOCK * (self.symbol + self.drift) + moved * ((4 * self.blocks - 2) + 3) / size
+        self.drift = float(np.clip(self.drift + moved * 6 / size / BLOCK, -MOST * self.symbol, MOST * self.symbol))
+        self.fraction += 0.1 * ((fraction - self.fraction + 0.5) % 1 - 0.5)
+        return began, end
 
     def timing(self, samples):
         """Where a symbol begins, and the wrong frequency in parts of a carrier: a guard interval is like the end of its symbol, but for
@@ -73,16 +106,18 @@ class FrontEnd:
         sums = np.resize(likeness[: BLOCK * self.symbol], (BLOCK - 1, self.symbol)).sum(axis=0)
         sums = np.convolve(np.concatenate([sums, sums[: self.guard]]), np.ones(self.guard), "valid")[: self.symbol]
         start = int(np.argmax(abs(sums)))
-        return start, np.angle(sums[start]) / (2 * np.pi)
+        power = self.guard * (BLOCK - 1) * np.mean(abs(samples) ** 2)
+        return start, np.angle(sums[start]) / (2 * np.pi), abs(sums[start]) / max(power, 1e-30)
 
-    def carriers(self, symbols):
-        """The cells of symbols, with the frequency corrected by whole carriers and the level set, both as the first block has them."""
-        points = np.fft.fftshift(np.fft.fft(symbols[:, self.guard - MARGIN : self.symbol - MARGIN]), axes=1)
+    def carriers(self, symbols, parts):
+        """The cells of symbols, with the parts of a sample by which they begin later turned back, the frequency corrected by whole carriers and
+        the level set, both as the first block has them."""
+        points = np.fft.fftshift(np.fft.fft(symbols), axes=1)
         middle = (self.points - self.kinds.count + 1) // 2
         if self.shift is None:
             likeness = [self.likeness(points, middle + shift) for shift in range(-REACH, REACH + 1)]
             self.shift = int(np.argmax(likeness)) - REACH
-        cells = points[:, middle + self.shift : middle + self.shift + self.kinds.count]
+        cells = points[:, middle + self.shift : middle + self.shift + self.kinds.count] * self.turns[parts]
         level = np.mean(abs(cells[:, self.kinds.continual]))
         if self.scale is None or not 0.4 < self.scale * level / self.level < 1.4:
             self.scale = self.level / max(level, 1e-9)
@@ -94,13 +129,13 @@ class FrontEnd:
         return abs(np.sum(pilots[1:] * pilots[:-1].conj()))
 
 
-def to_cells(mode, guard, level, source, to):
+def to_cells(mode, guard, level, kind, source, to):
     """Samples to a cell file."""
-    front = FrontEnd(mode, guard, level)
+    front, part = FrontEnd(mode, guard, level), np.dtype(KINDS[kind][0])
     to.write(header(mode))
     while True:
-        piece = source.read(8 * front.symbol * BLOCK)
-        samples = np.frombuffer(piece, np.complex64, len(piece) // 8)
+        piece = source.read(2 * part.itemsize * front.symbol * BLOCK)
+        samples = np.frombuffer(piece, part, len(piece) // part.itemsize // 2 * 2).astype(np.float32).view(np.complex64)
         for cells in front.take(samples):
             to.write(content(cells))
             to.flush()
@@ -108,20 +143,34 @@ def to_cells(mode, guard, level, source, to):
             return
 
 
-def to_samples(mode, guard, source, to):
-    """A cell file to samples (docs/use/FILES.md)."""
+def to_samples(mode, guard, clock, kind, source, to):
+    """A cell file to samples (docs/use/FILES.md). By a slow clock a symbol is shorter: each begins a part of a sample earlier, and guard intervals
+    lack a sample now and then."""
     points, count = (2048, 1705) if mode == "2k" else (8192, 6817)
     length = points // int(guard.partition("/")[2])
+    carriers, early = np.arange(count) - (count - 1) // 2, 0.0
     source.read(8)
     while True:
         piece = source.read(CELL.itemsize * count * BLOCK)
         file = np.frombuffer(piece, CELL, len(piece) // CELL.itemsize // count * count).reshape(-1, count)
+        parts = early + clock * 1e-6 * (points + length) * np.arange(1, len(file) + 1)
+        steps = np.floor(parts)
+        turned = np.exp(2j * np.pi / points * np.outer(parts - steps, carriers)) if clock else 1
         spectrum = np.zeros((len(file), points), complex)
-        spectrum[:, (np.arange(count) - (count - 1) // 2) % points] = (file["re"] + 1j * file["im"]) / 16384
+        spectrum[:, carriers % points] = (file["re"] + 1j * file["im"]) / 16384 * turned
         body = np.fft.ifft(spectrum) * points / count**0.5
-        to.write(np.concatenate([body[:, -length:], body], axis=1).astype(np.complex64).tobytes())
+        for symbol, step in zip(body, np.diff(steps, prepend=0).astype(int)):
+            to.write(sampled(np.concatenate([symbol[step - length :], symbol]), kind))
         if not piece:
             return
+        early = parts[-1] - steps[-1] if len(file) else early
+
+
+def sampled(samples, kind):
+    """The bytes of samples."""
+    part, amplitude = KINDS[kind]
+    values = (samples * amplitude).astype(np.complex64).view(np.float32)
+    return (values if kind == "c64" else np.rint(values.clip(-(most := np.iinfo(part).max), most))).astype(part).tobytes()
 
 
 def header(mode):
@@ -148,21 +197,22 @@ def check(command, mode, source, to):
 
 
 def main(words):
-    options = {"--mode": "8k", "--guard": "1/32", "--level": "0.9"}
+    options = {"--mode": "8k", "--guard": "1/32", "--kind": "c64", "--level": "0.9", "--clock": "0"}
     while words[:1] and words[0] in options and len(words) > 1:
         options[words[0]], words = words[1], words[2:]
-    mode, guard, level = options.values()
-    if len(words) != 3 or words[0] not in ("cells", "samples") or mode not in ("2k", "8k") or guard not in ("1/32", "1/16", "1/8", "1/4"):
+    mode, guard, kind, level, clock = options.values()
+    choices = (mode, ("2k", "8k")), (guard, ("1/32", "1/16", "1/8", "1/4")), (kind, KINDS)
+    if len(words) != 3 or words[0] not in ("cells", "samples") or not all(it in some for it, some in choices):
         sys.exit(__doc__.split("\n\n")[1])
     try:
-        level = float(level)
+        level, clock = float(level), float(clock)
         with open(0 if words[1] == "-" else words[1], "rb") as source:
             check(words[0], mode, source, words[2])
             with open(1 if words[2] == "-" else words[2], "wb") as to:
                 if words[0] == "cells":
-                    to_cells(mode, guard, level, source, to)
+                    to_cells(mode, guard, level, kind, source, to)
                 else:
-                    to_samples(mode, guard, source, to)
+                    to_samples(mode, guard, clock, kind, source, to)
     except BrokenPipeError:
         os.dup2(os.open(os.devnull, os.O_WRONLY), 1)
     except (OSError, ValueError) as error:

@@ -6,6 +6,7 @@ HELP = """dvbt monitor: cells, live or recorded, to packets and figures: align, 
   dvbt monitor [OPTIONS] CELLS
   dvbt monitor [OPTIONS] CELLS HP
   dvbt monitor [OPTIONS] CELLS HP LP
+  dvbt monitor --report LOG [PICTURE]
 
   CELLS  a cell file of version 2, a FIFO, or - for standard input; it may begin at any symbol
   HP     the packets received: the only stream, or the more robust of two; without it there are figures alone
@@ -25,20 +26,24 @@ Options:
   --alarm LIMITS                   mer=DB viterbi=RATE rs=RATE bad=COUNT lock, with commas between
   --page PORT                      a page at http://127.0.0.1:PORT/; after the end of CELLS it stays until Ctrl-C
 
+--report reads what --log or --json wrote, LOG, and prints the events, the gaps in reception and the worst minute of each stream. PICTURE is
+an SVG file of MER and bit error ratio over time; by second from the lines of --json, by minute from a log.
+
 LIMITS: an alarm is raised if the MER is below DB, the bit error ratio before Viterbi or before Reed-Solomon is above RATE, there
 are more than COUNT bad words a minute, or lock is lost. Each alarm prints a line, and the exit status is then 1.
 
 Example:
-  bin/dvbt monitor --alarm mer=20,rs=2e-4,lock received.cells back.ts
+  bin/dvbt monitor --alarm mer=20,rs=2e-4,lock --log LOG received.cells back.ts
+  bin/dvbt monitor --report LOG mer.svg
 
 Statuses:
     0  the cells ended, or Ctrl-C, and no alarm was raised
     1  an alarm was raised
     2  invalid command line
-    5  CELLS can't be opened or read
+    5  CELLS or LOG can't be opened or read
     6  an output can't be created or written
     9  CELLS does not begin with the header of a cell file, or of the mode
-   10  no TPS word can be read in the cells
+   10  no TPS word can be read in the cells; LOG has no line of the monitor
    64  nothing was started: a file would be destroyed, or the port of --page is taken
   126  a program of the chain failed, or could not be built
   130  a second Ctrl-C"""
@@ -47,7 +52,7 @@ LIMITS = {
     "mer": "MER below {} dB", "viterbi": "bit error ratio before Viterbi above {}", "rs": "bit error ratio before Reed-Solomon above {}",
     "bad": "more than {} bad words a minute", "lock": "lock lost",
 }
-OPTIONS = ["mode=", "equaliser=", "rescue", "lost=", "channel=", "json", "log=", "alarm=", "page="]
+OPTIONS = ["mode=", "equaliser=", "rescue", "lost=", "channel=", "json", "log=", "alarm=", "page=", "report="]
 VALUES = {"mode": ("2k", "8k"), "equaliser": ("track", "symbol", "none"), "channel": ("6", "7", "8")}
 
 
@@ -60,11 +65,14 @@ class Arguments:
 
     def __init__(self, words):
         self.mode, self.equaliser, self.channel, self.rescue, self.json = None, "track", 8, False, False
-        self.lost, self.log, self.page, self.limits = 4, None, None, {}
+        self.lost, self.log, self.page, self.report, self.picture, self.limits = 4, None, None, None, None, {}
         try:
             found, files = getopt.gnu_getopt(words, "", OPTIONS)
         except getopt.GetoptError as error:
             raise Invalid(str(error)) from None
+        if any(name == "--report" for name, _ in found):
+            self.of_report(found, files)
+            return
         if not 1 <= len(files) <= 3:
             raise Invalid("no cells are named" if not files else f"too many files: {files[3]}")
         self.cells, self.hp, self.lp = (*files, None, None)[:3]
@@ -72,6 +80,12 @@ class Arguments:
             self.take(name[2:], value)
         if self.rescue and not self.hp:
             raise Invalid("--rescue needs a file for HP")
+
+    def of_report(self, found, files):
+        """The arguments of a report."""
+        if len(found) > 1 or len(files) > 1:
+            raise Invalid("--report LOG has no other option" if len(found) > 1 else f"too many files: {files[1]}")
+        self.report, self.picture = found[0][1], (*files, None)[0]
 
     def take(self, name, value):
         """Takes an option."""

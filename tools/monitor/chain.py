@@ -1,35 +1,15 @@
 """The programs of one reception joined by pipes: align, the equaliser, receive or rescue, and measure."""
-import fcntl
 import os
 import subprocess
 import threading
+import time
 
-PIPE = {"2k": 1 << 18, "8k": 1 << 20}  # bytes that a pipe holds, if the system allows so many: some thirty symbols
-F_SETPIPE_SZ = 1031
+from monitor.pipes import PIPE, move, pipe, put, splice, tee
+
+GATHER = 0.01  # seconds in which packets are gathered: receive writes a few KB at a time
 EQUALISERS = {"track": "track", "symbol": "equalise"}
 KEYS = ("constellation", "hierarchy", "rate_hp", "rate_lp", "guard")
 UNKNOWN = {"constellation": "qpsk", "rate_hp": "1/2", "guard": "1/32"}  # for align, which uses the mode alone
-
-
-def pipe(size):
-    """Both ends of a pipe."""
-    read, write = os.pipe()
-    try:
-        fcntl.fcntl(write, F_SETPIPE_SZ, size)
-    except OSError:
-        pass
-    return read, write
-
-
-def put(to, data):
-    """Writes all of it; answers whether it was taken."""
-    data = memoryview(data)
-    try:
-        while data:
-            data = data[os.write(to, data) :]
-    except OSError:
-        return False
-    return True
 
 
 class Part:
@@ -54,7 +34,7 @@ class Part:
 
 class Chain:
     """One reception: from its first symbol, `first` of the source, until the signal is lost or the cells end. `settings` makes the
-    file of settings of a document. `watch` sees the corrected cells as they pass."""
+    file of settings of a document. `watch`, a page, sees corrected cells as they pass, if it is due."""
 
     def __init__(self, program, arguments, mode, settings, tell, watch=None, after=()):
         self.program, self.arguments, self.mode, self.settings, self.tell, self.watch = program, arguments, mode, settings, tell, watch
@@ -109,18 +89,34 @@ class Chain:
         return self.threads[-1]
 
     def share(self, source, sinks):
-        """Gives the corrected cells to each program that reads them, and shows them."""
+        """Gives the corrected cells to each program that reads them, and shows some."""
         at, taking = 0, list(sinks)
-        while True:
-            piece = os.read(source, self.size)
-            if not piece or not taking:
+        while taking:
+            if self.watch and self.watch.is_due():
+                piece = os.read(source, self.size)
+                count = len(piece)
+                self.watch.corrected(piece, at, self)
+                taking = [it for it in taking if put(it, piece)]
+            else:
+                count = self.pass_on(source, taking)
+            if not count:
                 break
-            if self.watch:
-                self.watch(piece, at, self)
-            at += len(piece)
-            taking = [it for it in taking if put(it, piece)]
+            at += count
         for it in (source, *sinks):
             os.close(it)
+
+    def pass_on(self, source, taking):
+        """Gives what has come to one or two programs, without a look at it, and removes one that has ended; answers how many bytes."""
+        while taking:
+            try:
+                count = (tee if len(taking) > 1 else splice)(source, taking[0], self.size)
+            except OSError:
+                del taking[0]
+                continue
+            if count and len(taking) > 1 and not move(source, taking[1], count):
+                del taking[1]
+            return count
+        return 0
 
     def keep(self, source, file, before):
         """Writes the packets of a stream, after those of the reception before."""
@@ -134,6 +130,7 @@ class Chain:
             if is_well and file is not None and not put(file, piece):
                 is_well = False
                 self.tell("output", file)
+            time.sleep(GATHER)
         os.close(source)
 
     def leave(self):

@@ -51,6 +51,11 @@ class Stream:
         return ratio(self.counts["repaired"] + NINE * self.counts["bad"], WORD * words)
 
     @property
+    def key(self):
+        """What is greater if reception is worse."""
+        return self.rs or 0.0, self.viterbi or 0.0
+
+    @property
     def is_lost(self):
         """Whether no word is received."""
         return self.counts["words"] in (self.counts["bad"], self.counts["unphased"])
@@ -60,17 +65,21 @@ class Stream:
 
 
 class Figures:
-    """The figures of a super-frame or of several: power and error, TPS, and each stream by its name."""
+    """The figures of a super-frame or of several: power and error, TPS, each stream by its name, and the least MER of those added."""
 
     COUNTS = ("symbols", "cells", "muted", "power", "error", "tps_read", "tps_bad")
 
     def __init__(self, counts=()):
         self.counts = {name: dict(counts).get(name, 0) for name in self.COUNTS}
-        self.streams = {}
+        self.streams, self.least = {}, None
 
     def add(self, other):
+        """Adds the figures of a super-frame, or of several."""
         for name, value in other.counts.items():
             self.counts[name] += value
+        least = other.mer if other.least is None else other.least
+        if least is not None and (self.least is None or least < self.least):
+            self.least = least
         for name, stream in other.streams.items():
             self.streams.setdefault(name, Stream()).add(stream)
 
@@ -138,6 +147,12 @@ def rate(value):
 
 def decibels(value):
     return "-" if value is None else f"{value:.1f} dB"
+
+
+def seconds_of(text):
+    """Hours, minutes, seconds as a number."""
+    hours, minutes, seconds = text.split(":")
+    return 3600 * int(hours) + 60 * int(minutes) + float(seconds)
 
 
 def clock(seconds):

@@ -4,15 +4,15 @@ import collections
 from monitor.arguments import LIMITS
 from monitor.figures import Figures, clock
 
-KEPT = 4 * 3600  # seconds that a page can show
+KEPT = {"screen": 600, "page": 4 * 3600}  # seconds that each can show
 CLEAR = 10  # seconds without its cause until an alarm is cleared
 
 
 class Seconds:
-    """The figures second by second of the signal: `done` are those that are over. `whole` and `minutes` sum all."""
+    """The figures second by second of the signal: `done` are the last of those that are over. `whole` and `minutes` sum all."""
 
-    def __init__(self):
-        self.done, self.now = collections.deque(maxlen=KEPT), None
+    def __init__(self, kept):
+        self.done, self.now = collections.deque(maxlen=kept), None
         self.whole, self.minutes, self.least = Figures(), {}, None
         self.last_bad, self.recent = None, collections.deque()
 
@@ -56,13 +56,12 @@ class Seconds:
         return sum(bad for _, bad in self.recent)
 
     def worst_minute(self):
-        """For each stream: the minute with the most bad words, and of those the greatest rate before Reed-Solomon; and its figures."""
+        """For each stream: the minute of the greatest ratio before Reed-Solomon, and of those before Viterbi; and its figures."""
         found = {}
         for minute, figures in self.minutes.items():
             for name, stream in figures.streams.items():
-                key = stream.rs or 0.0
-                if name not in found or key > found[name][0]:
-                    found[name] = key, minute, stream
+                if name not in found or stream.key > found[name][1].key:
+                    found[name] = minute, stream
         return found
 
 
@@ -117,7 +116,7 @@ class Alarms:
 
 def said(event):
     """An event in words."""
-    kind, at = event["event"], f"{clock(event['at'])}.{int(event['at'] * 10) % 10}"
+    kind, at = event["event"], tenths(event["at"])
     if kind in ("alarm", "cleared"):
         limit = event.get("limit")
         text = LIMITS[event["alarm"]].format(f"{limit:g}" if limit is not None else "")
@@ -127,10 +126,14 @@ def said(event):
     if kind == "found":
         return f"{at} found: {described(event)}, super-frame at symbol {event['symbol']}"
     if kind == "lost":
-        return f"{at} lost: {event['why']}; searching"
+        return f"{at} lost: nothing received since {tenths(event['heard'])}: {event['why']}; searching"
     if kind == "cell":
         return f"{at} cell identifier {event['cell_id']:#06x}"
     return f"{at} {kind}{': ' + event['why'] if 'why' in event else ''}"
+
+
+def tenths(seconds):
+    return f"{clock(seconds)}.{int(seconds * 10) % 10}"
 
 
 NAMES = {"qpsk": "QPSK", "16qam": "16-QAM", "64qam": "64-QAM"}

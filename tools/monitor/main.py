@@ -12,11 +12,12 @@ from door import explain, names
 from monitor import arguments, screen
 from monitor.chain import Chain
 from monitor.figures import SUPER_FRAME, Clock, Reader, SuperFrame
-from monitor.history import Alarms, Seconds
+from monitor.history import KEPT, Alarms, Seconds
 from monitor.sample import Sample
 from monitor.source import Feeder, NoHeader, Source
 
 FRAME, FRAMES = 68, 2  # symbols, and frames that tell the cell identifier
+MOST = 16  # times the super-frames of --lost that a search waits at most if the ones before it brought no reception
 
 
 def start(words, program, closed, is_json=False):
@@ -30,6 +31,10 @@ def start(words, program, closed, is_json=False):
         explain.say([str(why), "bin/dvbt monitor --help explains the arguments"])
         print("usage", flush=True)
         return 2
+    if found.report:
+        from monitor import report
+
+        return report.run(*of_report(found, closed))
     found.json = found.json or is_json
     files, is_data = given(found, closed)
     try:
@@ -64,6 +69,14 @@ def given(found, closed):
     return dict(zip((kind.rpartition("-")[2] for kind, _, _ in kinds), words[1:])), is_data
 
 
+def of_report(found, closed):
+    """The paths of a log and of its picture, or None, and whether that is our standard output. A picture that would destroy the log is rejected."""
+    kinds = [("log", "LOG", found.report), ("out-picture", "PICTURE", found.picture)]
+    kinds = [it for it in kinds if it[2] is not None]
+    words, is_data = names.given(forms.Form("monitor", [it[:2] for it in kinds], [it[2] for it in kinds]), closed)
+    return words[1], words[2] if found.picture else None, is_data
+
+
 def opened(path):
     """An output, made anew."""
     return os.open(path, os.O_WRONLY | os.O_CREAT | os.O_TRUNC | os.O_CLOEXEC, 0o666)
@@ -75,11 +88,12 @@ class Monitor:
     def __init__(self, program, found, source, outputs, log, to, folder):
         self.program, self.arguments, self.source, self.outputs, self.folder = program, found, source, outputs, folder
         self.log, self.name, self.queue = log, found.cells, queue.SimpleQueue()
-        self.clock, self.seconds = Clock(source.mode, found.channel), Seconds()
+        self.clock, self.seconds = Clock(source.mode, found.channel), Seconds(KEPT["page" if found.page else "screen"])
         self.alarms = Alarms(found.limits, self.event)
         self.signal = self.last = self.chain = self.speed = None
-        self.at = self.since = 0.0
+        self.at = self.since = self.heard = 0.0
         self.found = self.lost = self.frames = self.silent = 0
+        self.patience = found.lost
         self.status, self.at_end, self.is_ended, self.running, self.began = 0, 0, False, set(), time.monotonic()
         self.page, self.asked = None, set()
         if found.page:
@@ -89,9 +103,7 @@ class Monitor:
             explain.say(f"the page is at http://127.0.0.1:{found.page}/")
         self.tps = Sample(source.size, FRAMES * FRAME, FRAME)
         self.feeder = Feeder(source, self.tell, self.passes)
-        is_screen = os.isatty(to) and not found.json and os.environ.get("TERM") != "dumb"
-        self.shown = screen.Screen(to, self) if is_screen else screen.Json(to) if found.json else screen.Lines(to)
-        self.to = to
+        self.to, self.shown = to, screen.shown(to, self, found.json)
 
     def passes(self, piece, first, chain):
         """Sees the cells as they came, in the thread that hands them on: the first two frames of each reception, and the page."""
@@ -205,9 +217,8 @@ class Monitor:
     def search(self):
         """Begins at align."""
         after = self.chain.outputs if self.chain else ()
-        watch = self.page.corrected if self.page else None
         self.signal, self.silent, self.place = None, 0, {}
-        self.chain = Chain(self.program, self.arguments, self.source.mode, self.settings, self.tell, watch, after)
+        self.chain = Chain(self.program, self.arguments, self.source.mode, self.settings, self.tell, self.page, after)
         self.running.add((self.chain, "align"))
         self.feeder.turn_to(self.chain)
 
@@ -258,17 +269,20 @@ class Monitor:
             self.log.minutes(self.seconds, frame.at)
         if self.page:
             self.page.frame(frame, over)
-        self.silent = self.silent + 1 if frame.is_lost else 0
-        if self.silent >= self.arguments.lost:
+        if not frame.is_lost:
+            self.silent, self.patience, self.heard = 0, self.arguments.lost, self.at
+            return
+        self.silent += 1
+        if self.silent >= self.patience:
             tps = frame.counts["tps_bad"] and not frame.counts["tps_read"]
             self.lose(f"{'no TPS word can be read' if tps else 'all words are bad'} in {self.silent} super-frames")
 
     def lose(self, why):
         """The signal is lost: begins anew at align."""
-        self.lost, self.since = self.lost + 1, self.at
+        self.lost, self.since, self.patience = self.lost + 1, self.at, min(2 * self.patience, MOST * self.arguments.lost)
         self.alarms.lock(self.at, True)
         self.signal = None
-        self.event({"event": "lost", "at": round(self.at, 3), "why": why})
+        self.event({"event": "lost", "at": round(self.at, 3), "heard": round(self.heard, 3), "why": why})
         self.chain.leave()
         if not self.is_ended:
             self.search()
@@ -295,9 +309,9 @@ class Monitor:
         self.shown.event({"event": "end", "at": round(self.at, 3), "superframes": self.frames, "found": self.found, "lost": self.lost, "mer": whole.mer,
                           "alarms": self.alarms.count, **{name: it.described() for name, it in whole.streams.items()}})
         lines = screen.summary(self)
-        if not self.arguments.json:
-            for line in lines:
-                screen.write_line(self.to, line)
+        for line in lines:
+            for to in self.shown.summaries:
+                screen.write_line(to, line)
         if self.log:
             self.log.minutes(self.seconds)
             for line in lines:

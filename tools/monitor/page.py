@@ -48,6 +48,10 @@ class Page:
         """Sees the cells as they came."""
         self.gather("raw", self.raw_sample, piece, (first - chain.begin) * self.raw_sample.size, chain)
 
+    def is_due(self):
+        """Whether it wants to see corrected cells now."""
+        return self.sample.is_due()
+
     def corrected(self, piece, at, chain):
         """Sees the corrected cells, from the header on."""
         if at == 0 and len(piece) > 8:

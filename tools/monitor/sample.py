@@ -12,10 +12,13 @@ class Sample:
     def clear(self):
         self.held, self.first, self.chain = b"", None, None
 
+    def is_due(self):
+        return time.monotonic() >= self.next
+
     def take(self, piece, at, chain):
         """Takes bytes that begin `at` bytes after the first symbol of the chain; answers the symbols and the number of the first, once
         there are enough, else None."""
-        if time.monotonic() < self.next:
+        if not self.is_due():
             return None
         if self.chain is not chain:
             self.clear()

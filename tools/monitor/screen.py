@@ -2,6 +2,7 @@
 import datetime
 import json
 import os
+import stat
 import sys
 import time
 
@@ -19,11 +20,45 @@ def stamp():
     return datetime.datetime.now(datetime.timezone.utc).isoformat(timespec="milliseconds").replace("+00:00", "Z")
 
 
+def shown(to, state, is_json):
+    """What shows the run: a screen if the descriptor `to` is a terminal, else lines there. If they go to a file, and standard error is a
+    terminal, it has a screen too."""
+    is_terminal = {number: os.isatty(number) and os.environ.get("TERM") != "dumb" for number in (to, 2)}
+    if is_terminal[to] and not is_json:
+        return Screen(to, state)
+    lines = (Json if is_json else Lines)(to)
+    return Both(lines, Screen(2, state)) if is_terminal[2] and stat.S_ISREG(os.fstat(to).st_mode) else lines
+
+
+class Both:
+    """Two that show the same."""
+
+    def __init__(self, *both):
+        self.both = both
+        self.summaries = [to for it in both for to in it.summaries]
+
+    def event(self, event):
+        for it in self.both:
+            it.event(event)
+
+    def frame(self, frame):
+        for it in self.both:
+            it.frame(frame)
+
+    def tick(self):
+        for it in self.both:
+            it.tick()
+
+    def clear(self):
+        for it in self.both:
+            it.clear()
+
+
 class Screen:
-    """A screen on the descriptor `to`, drawn again at most four times a second."""
+    """A screen on the descriptor `to`, drawn again at most four times a second. `summaries` get the lines at the end."""
 
     def __init__(self, to, state):
-        self.to, self.state, self.next, self.is_there = to, state, 0.0, False
+        self.to, self.state, self.next, self.is_there, self.summaries = to, state, 0.0, False, [to]
         self.is_colourful = not os.environ.get("NO_COLOR")
 
     def write(self, text):
@@ -104,7 +139,7 @@ class Lines:
     """Events as lines, where there is no terminal."""
 
     def __init__(self, to):
-        self.to = to
+        self.to, self.summaries = to, [to]
 
     def event(self, event):
         if event["event"] != "end":
@@ -122,6 +157,10 @@ class Lines:
 
 class Json(Lines):
     """A line of JSON for each super-frame and each event."""
+
+    def __init__(self, to):
+        super().__init__(to)
+        self.summaries = []
 
     def event(self, event):
         write_line(self.to, json.dumps({"time": stamp(), **event}))
@@ -151,7 +190,7 @@ def of_minute(minute, figures):
     streams = "; ".join(
         f"{name.upper()} BER before Viterbi {rate(it.viterbi)}, before RS {rate(it.rs)}, words {it.counts['words']}, bad {it.counts['bad']}"
         for name, it in figures.streams.items())
-    return f"{clock(60 * minute)} minute: MER {decibels(figures.mer)}; {streams}"
+    return f"{clock(60 * minute)} minute: MER {decibels(figures.mer)}, least {decibels(figures.least)}; {streams}"
 
 
 def summary(state):
@@ -160,10 +199,10 @@ def summary(state):
     lines = [f"{clock(state.at)} of signal, super-frames measured {state.frames}; found {state.found}, lost {state.lost}; alarms {state.alarms.count}"]
     if seconds.least:
         lines.append(f"MER {decibels(seconds.whole.mer)}, least {decibels(seconds.least[0])} at {clock(seconds.least[1])}")
-    for name, (worst, minute, _) in seconds.worst_minute().items():
+    for name, (minute, worst) in seconds.worst_minute().items():
         counts = seconds.whole.streams[name].counts
         lines.append(f"{name.upper()} words {counts['words']}, bad {counts['bad']}; BER before Viterbi {rate(seconds.whole.streams[name].viterbi)}, before RS "
-                     f"{rate(seconds.whole.streams[name].rs)}; the worst minute from {clock(60 * minute)}, before RS {rate(worst)}")
+                     f"{rate(seconds.whole.streams[name].rs)}; the worst minute from {clock(60 * minute)}, before RS {rate(worst.rs)}")
     return lines
 
 

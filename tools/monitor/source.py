@@ -2,7 +2,7 @@
 import os
 import threading
 
-from monitor.chain import PIPE
+from monitor.pipes import PIPE, widen
 
 HEADERS = {b"DVTC\x02\0\0\0": "2k", b"DVTC\x02\1\0\0": "8k"}
 SYMBOL = {"2k": 5 * 1705, "8k": 5 * 6817}  # bytes
@@ -24,6 +24,7 @@ class Source:
         if mode and mode != self.mode:
             raise NoHeader(f"{path} has cells of the {self.mode} mode, not of {mode}")
         self.size = SYMBOL[self.mode]
+        widen(self.file, PIPE[self.mode])
 
     def first(self, size):
         found = b""
@@ -35,17 +36,19 @@ class Source:
         return found
 
     def pieces(self):
-        """The bytes that come, in whole symbols, as soon as there are some. A part symbol at the end is left out."""
-        rest = b""
+        """The bytes that come, in whole symbols, as soon as there are some; the next piece takes the place of the last one. A part symbol at
+        the end is left out."""
+        held, count = memoryview(bytearray(self.size + PIPE[self.mode])), 0
         while True:
-            piece = os.read(self.file, PIPE[self.mode])
-            if not piece:
+            more = os.readv(self.file, [held[count : count + PIPE[self.mode]]])
+            if not more:
                 return
-            piece = rest + piece if rest else piece
-            whole = len(piece) // self.size * self.size
-            rest = piece[whole:]
+            count += more
+            whole = count // self.size * self.size
             if whole:
-                yield piece[:whole]
+                yield held[:whole]
+                held[: count - whole] = held[whole:count]
+                count -= whole
 
 
 class Feeder(threading.Thread):

@@ -82,13 +82,13 @@ zeros = 0 ∷ 3 ∷ 0 ∷ 3 ∷ 1 ∷ 2 ∷ 1 ∷ 2 ∷ 2 ∷ 1 ∷ 2 ∷ 1 ∷ 
 abbrev ones : List ℕ
 ones = 3 ∷ 0 ∷ 3 ∷ 0 ∷ 2 ∷ 1 ∷ 2 ∷ 1 ∷ 1 ∷ 2 ∷ 1 ∷ 2 ∷ 0 ∷ 3 ∷ 0 ∷ 3 ∷ []
 
-abbrev lanes_of : List ℕ → List ℕ → List ℕ
+abbrev pub lanes_of : List ℕ → List ℕ → List ℕ
 lanes_of costs codes = map (λ j. get_or costs j 0) codes
 
 abbrev pub sums_of : CostPair → List ℕ
 sums_of pair = ((pair.x0 + pair.y0) % 65536) ∷ ((pair.x0 + pair.y1) % 65536) ∷ ((pair.x1 + pair.y0) % 65536) ∷ ((pair.x1 + pair.y1) % 65536) ∷ []
 
-sums_are : (pair : CostPair) → sums_of pair ≡ four pair
+pub sums_are : (pair : CostPair) → sums_of pair ≡ four pair
 sums_are pair =
     let a : (pair.x0 + pair.y0) % 65536 ≡ pair.x0 + pair.y0 = omega (arith, pair.small.x0_small, pair.small.y0_small) in
     let b : (pair.x0 + pair.y1) % 65536 ≡ pair.x0 + pair.y1 = omega (arith, pair.small.x0_small, pair.small.y1_small) in
@@ -103,10 +103,10 @@ small_at pair (suc (suc zero)) = four_small pair true false
 small_at pair (suc (suc (suc zero))) = four_small pair true true
 small_at pair (suc (suc (suc (suc j)))) = omega arith
 
-codes_small : (pair : CostPair) (codes : List ℕ) → length codes ≡ 16 → (k : ℕ) → k < 16 → get_or (lanes_of (four pair) codes) k 0 ≤ 8190
+pub codes_small : (pair : CostPair) (codes : List ℕ) → length codes ≡ 16 → (k : ℕ) → k < 16 → get_or (lanes_of (four pair) codes) k 0 ≤ 8190
 codes_small pair codes e k l = omega (arith, at_map (λ j. get_or (four pair) j 0) codes k (omega (arith, e)), small_at pair (get_or codes k 0))
 
-abbrev code_at : ℕ → Bool → ℕ → ℕ
+abbrev pub code_at : ℕ → Bool → ℕ → ℕ
 code_at parity input k = code_of (parity_x (bits_at parity input k)) (parity_y (bits_at parity input k))
 
 steps_at : (pair : CostPair) (codes : List ℕ) (parity : ℕ) (input : Bool) → length codes ≡ 32 → all_below (λ k. eqb (get_or codes (way k) 0) (code_at parity input k)) 32 ≡ true

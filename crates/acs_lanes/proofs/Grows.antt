@@ -9,7 +9,7 @@ use Rattle.acs_lanes.specs.Lanes16.{joined, laid, place, state_at}
 use Rattle.acs_lanes.proofs.LaneLaws.{from_small}
 use Rattle.acs_lanes.proofs.Laid.{at_place, laid_at, place_small, state_small}
 
-lesser : (new old cost other most : ℕ) → new ≡ min (old + cost) other → old ≤ most → cost ≤ 8190 → new ≤ most + 8190
+pub lesser : (new old cost other most : ℕ) → new ≡ min (old + cost) other → old ≤ most → cost ≤ 8190 → new ≤ most + 8190
 lesser new old cost other most e l s = omega (arith, e, min-le_left (old + cost) other, l, s)
 
 module _ (a b c d e f g h : List ℕ) (pair : CostPair) (low high most : ℕ) (s : IsLaneStep pair (laid a b c d) (laid e f g h) low high) (few : (n : ℕ) → n < 64 → slice_index (joined a b c d) n ≤ most) where

@@ -23,7 +23,7 @@ range_at n k l = omega (arith, range_from 0 n k l)
 pub same_below : (n : ℕ) (f g : ℕ → ℕ) → all_below (λ k. eqb (f k) (g k)) n ≡ true → (k : ℕ) → k < n → f k ≡ g k
 same_below n f g t k l = eqb-true (f k) (g k) (all_below_at (λ k. eqb (f k) (g k)) n k t l)
 
-small_below : (n m : ℕ) (f : ℕ → ℕ) → all_below (λ k. ltb (f k) m) n ≡ true → (k : ℕ) → k < n → f k < m
+pub small_below : (n m : ℕ) (f : ℕ → ℕ) → all_below (λ k. ltb (f k) m) n ≡ true → (k : ℕ) → k < n → f k < m
 small_below n m f t k l = ltb-true (f k) m (all_below_at (λ k. ltb (f k) m) n k t l)
 
 pub way_small : (k : ℕ) → k < 32 → way k < 32

@@ -15,6 +15,7 @@ use Rattle.code_paths.specs.States.{register}
 use Rattle.acs_plain.specs.Steps.{IsStep, alive, way, takes_odd}
 use Rattle.code_paths.specs.States.{even_of, odd_of}
 use Rattle.acs_lanes.specs.Lanes.{IsSettled, IsReady, AreSteps, AreLess, AreStepCosts, AreTaken, IsHalfStep, IsLaneStep, cost_from, four}
+use Rattle.acs_lanes.specs.Phases.{IsWordStep}
 use Rattle.acs_plain.specs.Steps.{Close}
 use Rattle.code_paths.proofs.Words.{set_or, set_shl, not_lt}
 
@@ -116,7 +117,7 @@ pub from_small : (pair : CostPair) (parity : ℕ) (input : Bool) (k : ℕ) → c
 from_small pair parity input k = four_small pair (parity_x (bits_at parity input k)) (parity_y (bits_at parity input k))
 
 -- the step of all lanes is that of all states
-module _ (old new : Sums) (low : ℕ) (pair : CostPair) (cost : List ℕ) (d0 d1 : ℕ) (settled : IsSettled old new low) (h : IsLaneStep pair new.cost cost d0 d1) where
+module _ (old new : Sums) (low : ℕ) (pair : CostPair) (cost : List ℕ) (word : ℕ) (settled : IsSettled old new low) (h : IsWordStep pair new.cost cost word) where
   newest_low : (n : ℕ) → n < 32 → is_set n 5 ≡ false
   newest_low n l = agree_below_at (λ n. is_set n 5) (λ n. false) 32 n refl l
 
@@ -152,23 +153,38 @@ module _ (old new : Sums) (low : ℕ) (pair : CostPair) (cost : List ℕ) (d0 d1
         odd_small = from_small pair 1 true (n - 32);
       }
 
-  pub lanes_step : (live : ℕ) → ((n : ℕ) → n < 64 → is_set live n ≡ (alive old (even_of n) || alive old (odd_of n))) → IsStep old pair (record { cost = cost; alive = live }) (bit_or d0 (d1 * 2 ^ 32 % 2 ^ 64))
-  lanes_step live f = record {
+  pub word_step_of : (live : ℕ) → ((n : ℕ) → n < 64 → is_set live n ≡ (alive old (even_of n) || alive old (odd_of n))) → IsStep old pair (record { cost = cost; alive = live }) word
+  word_step_of live f = record {
     less = low;
     lives = f;
     choice = λ n l t. choose n l (sym (f n l) ∙ t) (cases_lt n 32);
     cost = λ n l t. count n l (sym (f n l) ∙ t) (cases_lt n 32);
   }
     where
-      choose : (n : ℕ) → n < 64 → (alive old (even_of n) || alive old (odd_of n)) ≡ true → (n < 32) ⊎ (32 ≤ n) → is_set (bit_or d0 (d1 * 2 ^ 32 % 2 ^ 64)) n ≡ takes_odd old pair n
-      choose n l u (inl k) = set_low_word 32 d0 d1 n k (omega arith) ∙ h.low_odd n k ∙ lane_choice old low pair n _ _ _ _ (lane_low n k) u
-      choose n l u (inr k) = set_high_word 32 d0 d1 n h.low_small k l ∙ h.high_odd (n - 32) (omega arith) ∙ lane_choice old low pair n _ _ _ _ (lane_high n k l) u
+      choose : (n : ℕ) → n < 64 → (alive old (even_of n) || alive old (odd_of n)) ≡ true → (n < 32) ⊎ (32 ≤ n) → is_set word n ≡ takes_odd old pair n
+      choose n l u (inl k) = h.low_odd n k ∙ lane_choice old low pair n _ _ _ _ (lane_low n k) u
+      choose n l u (inr k) =
+          let q : n - 32 + 32 ≡ n = omega arith in
+          ap (is_set word) (sym q) ∙ h.high_odd (n - 32) (omega arith) ∙ lane_choice old low pair n _ _ _ _ (lane_high n k l) u
 
       count : (n : ℕ) → n < 64 → (alive old (even_of n) || alive old (odd_of n)) ≡ true → (n < 32) ⊎ (32 ≤ n) → slice_index cost n + low ≡ way old pair (cond (takes_odd old pair n) (odd_of n) (even_of n)) n
       count n l u (inl k) = ap (λ z. z + low) (h.low_cost n k) ∙ lane_total old low pair n _ _ _ _ (lane_low n k) u
       count n l u (inr k) =
           let q : n - 32 + 32 ≡ n = omega arith in
           ap (λ z. slice_index cost z + low) (sym q) ∙ ap (λ z. z + low) (h.high_cost (n - 32) (omega arith)) ∙ lane_total old low pair n _ _ _ _ (lane_high n k l) u
+
+-- two words of 32 bits, one behind the other
+pub in_one_word : (pair : CostPair) (old new : List ℕ) (d0 d1 : ℕ) → IsLaneStep pair old new d0 d1 → IsWordStep pair old new (bit_or d0 (d1 * 2 ^ 32 % 2 ^ 64))
+in_one_word pair old new d0 d1 h = record {
+  low_cost = h.low_cost;
+  low_odd = λ k l. set_low_word 32 d0 d1 k l (omega arith) ∙ h.low_odd k l;
+  high_cost = h.high_cost;
+  high_odd = λ k l. let e : k + 32 - 32 ≡ k = omega arith in set_high_word 32 d0 d1 (k + 32) h.low_small (omega arith) (omega arith) ∙ ap (is_set d1) e ∙ h.high_odd k l;
+}
+
+pub lanes_step : (old new : Sums) (low : ℕ) (pair : CostPair) (cost : List ℕ) (d0 d1 : ℕ) → IsSettled old new low → IsLaneStep pair new.cost cost d0 d1 → (live : ℕ) → ((n : ℕ) → n < 64 → is_set live n ≡ (alive old (even_of n) || alive old (odd_of n)))
+    → IsStep old pair (record { cost = cost; alive = live }) (bit_or d0 (d1 * 2 ^ 32 % 2 ^ 64))
+lanes_step old new low pair cost d0 d1 settled h = word_step_of old new low pair cost (bit_or d0 (d1 * 2 ^ 32 % 2 ^ 64)) settled (in_one_word pair new.cost cost d0 d1 h)
 
 -- ---- ready sums
 

@@ -10,3 +10,7 @@ mod Back
 pub mod Marks
 pub mod Turns
 pub mod Grows
+pub mod PhaseTables
+pub mod PhaseMarks
+pub mod PhaseCosts
+pub mod PhaseTurns

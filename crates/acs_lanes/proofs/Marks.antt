@@ -17,24 +17,28 @@ two_marks true false = refl
 two_marks false true = refl
 two_marks false false = refl
 
-holds_at : (f : ℕ → Bool) (xs : List ℕ) (k : ℕ) → k < length xs → get_or (map f xs) k false ≡ f (get_or xs k 0)
+pub holds_at : (f : ℕ → Bool) (xs : List ℕ) (k : ℕ) → k < length xs → get_or (map f xs) k false ≡ f (get_or xs k 0)
 holds_at f [] k l = absurd (omega arith)
 holds_at f (x ∷ xs) zero l = refl
 holds_at f (x ∷ xs) (suc k) l = holds_at f xs k (omega arith)
 
-one : (b : Bool) → eqb (cond b 1 0) 1 ≡ b
+pub one : (b : Bool) → eqb (cond b 1 0) 1 ≡ b
 one true = refl
 one false = refl
 
-below_half : (b : Bool) → ltb (cond b 0 255) 128 ≡ b
+pub below_half : (b : Bool) → ltb (cond b 0 255) 128 ≡ b
 below_half true = refl
 below_half false = refl
+
+pub digits_long : (n x : ℕ) → length (digits_l 256 n x) ≡ n
+digits_long zero x = refl
+digits_long (suc n) x = ap suc (digits_long n (x / 256))
 
 module _ (first last : List ℕ) where
   abbrev marks : List ℕ
   marks = zip2 (λ a b. bit_or a b) first last
 
-  abbrev bytes : List ℕ
+  abbrev pub bytes : List ℕ
   bytes = digits_l 256 32 (number_l 65536 marks)
 
   abbrev ordered : List ℕ
@@ -77,7 +81,7 @@ module _ (first last : List ℕ) where
     high_of false true = refl
     high_of false false = refl
 
-    byte_at : (w : ℕ) → w < 32 → get_or bytes (2 * (w % 16) + w / 16) 0 ≡ cond (is_odd w) 0 255
+    pub byte_at : (w : ℕ) → w < 32 → get_or bytes (2 * (w % 16) + w / 16) 0 ≡ cond (is_odd w) 0 255
     byte_at w l = go (cases_lt w 16)
       where
         go : (w < 16) ⊎ (16 ≤ w) → get_or bytes (2 * (w % 16) + w / 16) 0 ≡ cond (is_odd w) 0 255
@@ -89,10 +93,6 @@ module _ (first last : List ℕ) where
             let f : 16 + (w - 16) ≡ w = omega arith in
             ap (λ z. get_or bytes z 0) e ∙ get_or_narrower 65536 2 256 32 marks (w - 16) 1 refl each_fits (lit< tt) (omega arith) ∙ ap (λ x. x / 256 ^ 1 % 256) (marks_at (w - 16) (omega arith))
             ∙ high_of (is_odd (w - 16)) (is_odd (16 + (w - 16))) ∙ ap (λ z. cond (is_odd z) 0 255) f
-
-    digits_long : (n x : ℕ) → length (digits_l 256 n x) ≡ n
-    digits_long zero x = refl
-    digits_long (suc n) x = ap suc (digits_long n (x / 256))
 
     ordered_at : (k : ℕ) → k < 32 → get_or ordered k 0 ≡ cond (is_odd (way k)) 0 255
     ordered_at k l =

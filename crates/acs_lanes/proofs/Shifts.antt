@@ -10,7 +10,8 @@ use Rattle.acs_plain.specs.declared.sums.Sums.{Sums}
 use Rattle.acs_plain.specs.Steps.{IsStep, HasCost, alive, way, takes_odd}
 use Rattle.acs_plain.proofs.Loops.{all_follow}
 use Rattle.acs_lanes.specs.Lanes.{IsLaneStep, IsSettled}
-use Rattle.acs_lanes.proofs.LaneLaws.{lanes_step}
+use Rattle.acs_lanes.specs.Phases.{IsWordStep}
+use Rattle.acs_lanes.proofs.LaneLaws.{in_one_word, word_step_of}
 use Rattle.acs_plain.specs.Steps.{AreSteps}
 use Rattle.acs_plain.specs.Spread.{IsSpread}
 use Rattle.acs_lanes.specs.Lanes16.{AreLowered, AreClose, all_with}
@@ -22,11 +23,14 @@ all_live costs n l = agree_below_at (λ n. is_set 18446744073709551615 n) (λ n.
 pub close_all : (costs : List ℕ) → IsSpread (all_with costs) → AreClose costs
 close_all costs h m n i j = omega (arith, h.close 6 (lit≤ tt) m n i j (all_live costs m i) (all_live costs n j) (mod-one m ∙ sym (mod-one n)))
 
-pub lane_step : (pair : CostPair) (old low new : List ℕ) (d0 d1 : ℕ) → AreLowered old low → IsLaneStep pair low new d0 d1 → IsStep (all_with old) pair (all_with new) (bit_or d0 (d1 * 2 ^ 32 % 2 ^ 64))
-lane_step pair old low new d0 d1 h s = lanes_step (all_with old) (all_with low) h.less pair new d0 d1 settled s 18446744073709551615 (all_follow (all_with old) refl)
+pub word_step : (pair : CostPair) (old low new : List ℕ) (word : ℕ) → AreLowered old low → IsWordStep pair low new word → IsStep (all_with old) pair (all_with new) word
+word_step pair old low new word h s = word_step_of (all_with old) (all_with low) h.less pair new word settled s 18446744073709551615 (all_follow (all_with old) refl)
   where
     settled : IsSettled (all_with old) (all_with low) h.less
     settled = record { lives = λ n l t. h.is n l; small = λ n l t. omega (arith, h.few n l); dead = λ n l f. absurd (true≢false (sym (all_live old n l) ∙ f)) }
+
+pub lane_step : (pair : CostPair) (old low new : List ℕ) (d0 d1 : ℕ) → AreLowered old low → IsLaneStep pair low new d0 d1 → IsStep (all_with old) pair (all_with new) (bit_or d0 (d1 * 2 ^ 32 % 2 ^ 64))
+lane_step pair old low new d0 d1 h s = word_step pair old low new (bit_or d0 (d1 * 2 ^ 32 % 2 ^ 64)) h (in_one_word pair low new d0 d1 s)
 
 -- ---- sums that are less by one number
 

@@ -1,3 +1,4 @@
 pub mod Lanes
 pub mod Lanes16
+pub mod Phases
 pub mod Totals

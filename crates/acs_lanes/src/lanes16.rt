@@ -124,6 +124,7 @@ pub(crate) fn widen(lanes: Lanes, cost: &mut [u32; 64])
 }
 
 /// The higher one of each two lanes.
+#[inline(always)]
 fn higher(x: u16x16, y: u16x16) -> u16x16
     requires x { length x ≡ 16 }
     requires y { length y ≡ 16 }
@@ -134,6 +135,7 @@ fn higher(x: u16x16, y: u16x16) -> u16x16
 }
 
 /// Is some lane at least 49,156?
+#[inline(always)]
 fn reaches(lanes: u16x16) -> bool
     requires { length lanes ≡ 16 }
     ensures low { IsFalse result → (k : ℕ) → k < 16 → slice_index lanes k < 49156 }
@@ -142,6 +144,7 @@ fn reaches(lanes: u16x16) -> bool
 }
 
 /// Is some lane so high that the greatest costs of two steps may not be added?
+#[inline(always)]
 fn is_high(lanes: Lanes) -> bool
     ensures low { IsFalse result → (n : ℕ) → n < 64 → slice_index (joined lanes.a lanes.b lanes.c lanes.d) n < 49156 }
 {
@@ -149,6 +152,8 @@ fn is_high(lanes: Lanes) -> bool
 }
 
 /// The least cost in the lanes.
+// It is a call of its own, since it is seldom made. It gives a number, so that the lanes stay in registers where none is made.
+#[inline(never)]
 fn least(lanes: Lanes) -> u32
     ensures below { (n : ℕ) → n < 64 → result ≤ slice_index (joined lanes.a lanes.b lanes.c lanes.d) n }
     ensures close { AreClose (joined lanes.a lanes.b lanes.c lanes.d) → (n : ℕ) → n < 64 → slice_index (joined lanes.a lanes.b lanes.c lanes.d) n ≤ result + 49140 }
@@ -162,6 +167,7 @@ fn least(lanes: Lanes) -> u32
 }
 
 /// Sixteen lanes less a number.
+#[inline(always)]
 fn less(lanes: u16x16, low: u16) -> u16x16
     requires long { length lanes ≡ 16 }
     requires high { (k : ℕ) → k < 16 → low ≤ slice_index lanes k }
@@ -173,6 +179,7 @@ fn less(lanes: u16x16, low: u16) -> u16x16
 }
 
 /// The lanes less a number.
+#[inline(always)]
 fn less_by(lanes: Lanes, low: u16) -> Lanes
     requires { (n : ℕ) → n < 64 → low ≤ slice_index (joined lanes.a lanes.b lanes.c lanes.d) n }
     ensures { (n : ℕ) → n < 64 → slice_index (joined result.a result.b result.c result.d) n + low ≡ slice_index (joined lanes.a lanes.b lanes.c lanes.d) n }
@@ -186,8 +193,7 @@ fn less_by(lanes: Lanes, low: u16) -> Lanes
 }
 
 /// The lanes less the least of them.
-// It is a call of its own, since it is seldom made, and stays out of the way of the steps.
-#[inline(never)]
+#[inline(always)]
 fn less_by_least(lanes: Lanes) -> Lanes
     requires { AreClose (joined lanes.a lanes.b lanes.c lanes.d) }
     ensures { AreRoomy (joined lanes.a lanes.b lanes.c lanes.d) (joined result.a result.b result.c result.d) }
@@ -198,26 +204,13 @@ fn less_by_least(lanes: Lanes) -> Lanes
 /// The lanes made such that the costs of two steps may be added.
 // Where one is at least 49,156 the least is taken from each, which leaves 49,140 at most, since they are that close; and
 // 65,535 - 2 * 8,190 = 49,155.
-fn lowered(lanes: Lanes) -> Lanes
+#[inline(always)]
+pub(crate) fn lowered(lanes: Lanes) -> Lanes
     requires { AreClose (joined lanes.a lanes.b lanes.c lanes.d) }
     ensures { AreRoomy (joined lanes.a lanes.b lanes.c lanes.d) (joined result.a result.b result.c result.d) }
 {
     if is_high(lanes) {
         less_by_least(lanes)
-    } else {
-        lanes
-    }
-}
-
-/// The lanes made such that a step's cost may be added, before the step of this number: for each two steps at once.
-pub(crate) fn readied(lanes: Lanes, number: usize) -> Lanes
-    requires close { AreClose (joined lanes.a lanes.b lanes.c lanes.d) }
-    requires second { number % 2 ≡ 1 → (n : ℕ) → n < 64 → slice_index (joined lanes.a lanes.b lanes.c lanes.d) n ≤ 57345 }
-    ensures lowered { AreLowered (joined lanes.a lanes.b lanes.c lanes.d) (joined result.a result.b result.c result.d) }
-    ensures first { number % 2 ≡ 0 → (n : ℕ) → n < 64 → slice_index (joined result.a result.b result.c result.d) n ≤ 49155 }
-{
-    if number % 2 == 0 {
-        lowered(lanes)
     } else {
         lanes
     }

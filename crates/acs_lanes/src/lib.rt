@@ -10,7 +10,9 @@
 
 mod lanes;
 mod lanes16;
+mod phases;
 mod settle;
+mod six;
 mod slices;
 mod step16;
 mod totals;

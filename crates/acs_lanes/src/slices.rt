@@ -1,29 +1,42 @@
 // Many steps in lanes of 16 bits.
-ghost use Rattle.std.specs.Prelude.{◌≡◌, ◌<◌, length};
+ghost use Rattle.std.specs.Prelude.{◌≡◌, ◌≤◌, ◌<◌, length, take};
+ghost use Rattle.acs_plain.specs.declared.sums.Sums.{Sums as AllSums};
 ghost use Rattle.acs_plain.specs.Spread.{IsSpread};
 ghost use Rattle.acs_plain.specs.Steps.{AreSteps};
 ghost use Rattle.acs_lanes.specs.Lanes16.{all_with, laid};
 
-use crate::lanes16::{Lanes, narrow, readied, widen};
+use crate::lanes16::{Lanes, lowered, narrow, widen};
+use crate::six::run_sixes;
 use crate::step16::step;
 use acs_plain::Sums;
 use conv_code::CostPair;
 
-/// A step in lanes for each pair.
-#[inline(never)]
+/// A step in lanes for each pair from a place on.
+fn run_rest(from: Lanes, pairs: &[CostPair], at: usize, words: &mut [u64]) -> Lanes
+    requires spread { IsSpread (all_with (laid from.a from.b from.c from.d)) }
+    requires room { length words.old ≡ length pairs.now }
+    requires within { at ≤ length pairs.now }
+    ensures steps { (start : AllSums) → AreSteps start (take at pairs.now) (all_with (laid from.a from.b from.c from.d)) (take at words.old) → AreSteps start pairs.now (all_with (laid result.a result.b result.c result.d)) words.new }
+    ensures room { length words.new ≡ length pairs.now }
+{
+    let mut lanes = from;
+    for k in at..pairs.len() {
+        let (next, low, high) = step(lowered(lanes), pairs[k]);
+        lanes = next;
+        words[k] = low | high << 32;
+    }
+    lanes
+}
+
+/// A step in lanes for each pair, by sixes as far as there are such.
 fn run_lanes(from: Lanes, pairs: &[CostPair], words: &mut [u64]) -> Lanes
     requires spread { IsSpread (all_with (laid from.a from.b from.c from.d)) }
     requires room { length words.old ≡ length pairs.now }
     ensures steps { AreSteps (all_with (laid from.a from.b from.c from.d)) pairs.now (all_with (laid result.a result.b result.c result.d)) words.new }
     ensures room { length words.new ≡ length pairs.now }
 {
-    let mut lanes = from;
-    for k in 0..pairs.len() {
-        let (next, low, high) = step(readied(lanes, k), pairs[k]);
-        lanes = next;
-        words[k] = low | high << 32;
-    }
-    lanes
+    let lanes = run_sixes(from, pairs, words);
+    run_rest(lanes, pairs, 6 * (pairs.len() / 6), words)
 }
 
 /// The steps where every state is alive.

@@ -11,7 +11,7 @@ use std::simd::{u8x32, u16x16, u64x4};
 
 /// The four costs of a pair, four times.
 // As one word of 64 bits they are read into all lanes at once.
-fn repeated(pair: CostPair) -> u16x16
+pub(crate) fn repeated(pair: CostPair) -> u16x16
     ensures { result ≡ repeated pair }
 {
     let word = pair.x0 as u64
@@ -35,7 +35,7 @@ fn step_costs(pair: CostPair) -> (u16x16, u16x16)
 }
 
 /// The lesser sum of each lane, and a mark where it is that of the even state.
-fn pick(
+pub(crate) fn pick(
     even: u16x16,
     even_step: u16x16,
     odd: u16x16,

@@ -1,8 +1,9 @@
 -- Laws of spelled bits and of rings of bytes.
-use Rattle.std.proofs.Common.{◌≡◌, ℕ, zero, suc, ◌+◌, ◌-◌, ◌*◌, ◌/◌, ◌%◌, ◌^◌, ◌<◌, ◌≤◌, Bool, true, false, List, [], ◌∷◌, ◌++◌, length, drop, get_or, refl, sym, ap, ap₂, ◌∙◌, arith, eqb, bit_and, bit_or, length-append, length-drop, append_assoc, append-nil, mod-lt, lit<, length-take-le}
+use Rattle.std.proofs.Common.{◌≡◌, ℕ, zero, suc, ◌+◌, ◌-◌, ◌*◌, ◌/◌, ◌%◌, ◌^◌, ◌<◌, ◌≤◌, Bool, true, false, List, [], ◌∷◌, ◌++◌, length, take, drop, set, get_or, refl, sym, ap, ap₂, ◌∙◌, arith, eqb, bit_and, bit_or, length-append, length-drop, append_assoc, append-nil, mod-lt, lit<, length-take-le}
 use Rattle.std.proofs.Math.Nat.{mod-add-div', one-le-pow}
 use Rattle.std.specs.Int.{bit_at}
-use Rattle.std.proofs.lemmas.List.{get_or-drop, get_or-append_right, get_or_append_left}
+use Rattle.std.proofs.lemmas.List.{get_or-drop, get_or-append_right, get_or_append_left, get_or-set_same, length-set, take-append-drop, take-append-le, drop-append-le, drop-take, drop-drop, take_more, take-set}
+use Rattle.std.proofs.Math.Seq.{take-append-add}
 use Rattle.std.proofs.lemmas.Nat.{or_shifted, and_mask}
 use Rattle.std.proofs.lemmas.Nat.Bits.{bit_at_cat_low, bit_at_cat_high}
 use Rattle.spec_words.specs.Bits.{is_set, spelled}
@@ -147,3 +148,64 @@ queue_take old new back f w byte fl e h =
     ∙ sym (append_assoc (spelled fl f) (spelled 8 byte) (bits_of_bytes new ++ back))
     ∙ ap (λ z. z ++ (bits_of_bytes new ++ back)) (sym h)
     ∙ append_assoc (spelled 8 w) (spelled fl byte) (bits_of_bytes new ++ back)
+
+-- ---- some bytes at a time
+
+pub bits_append : (xs ys : List ℕ) → bits_of_bytes (xs ++ ys) ≡ bits_of_bytes xs ++ bits_of_bytes ys
+bits_append [] ys = refl
+bits_append (x ∷ xs) ys = ap (λ z. spelled 8 x ++ z) (bits_append xs ys) ∙ sym (append_assoc (spelled 8 x) (bits_of_bytes xs) (bits_of_bytes ys))
+
+-- the first n bytes of a ring, which do not go round its end
+pub ring_split : (xs part : List ℕ) (f c n : ℕ) → f + n ≤ length xs → n ≤ c → part ≡ take n (drop f xs) → ring xs f c ≡ part ++ ring xs (f + n) (c - n)
+ring_split xs part f c n l m e =
+    let rest : drop n (drop f xs) ≡ drop (f + n) xs = drop-drop n f xs in
+    let whole : drop f xs ++ xs ≡ part ++ (drop (f + n) xs ++ xs) =
+    ap (λ z. z ++ xs) (sym (take-append-drop n (drop f xs))) ∙ append_assoc (take n (drop f xs)) (drop n (drop f xs)) xs
+    ∙ ap₂ (λ a b. a ++ (b ++ xs)) (sym e) rest in
+    let size : length part ≡ n = ap length e ∙ length-take-le n (drop f xs) (omega (arith, l, length-drop f xs)) in
+    let count : c ≡ length part + (c - n) = omega (arith, m, size) in
+    ap₂ take count whole ∙ take-append-add part (drop (f + n) xs ++ xs) (c - n)
+
+-- bytes behind those of a ring, which do not go round its end
+pub ring_more : (xs new part : List ℕ) (f c : ℕ) → f + c + length part ≤ length xs → length new ≡ length xs → take (f + c + length part) new ≡ take (f + c) xs ++ part → ring new f (c + length part) ≡ ring xs f c ++ part
+ring_more xs new part f c l size e =
+    let n = length part in
+    let count : f + c + n ≡ f + (c + n) = omega arith in
+    let front : length (take (f + c) xs) ≡ f + c = length-take-le (f + c) xs (omega (arith, l)) in
+    take-append-le (c + n) (drop f new) new (omega (arith, l, size, length-drop f new))
+    ∙ sym (drop-take f (c + n) new) ∙ ap (λ z. drop f (take z new)) (sym count) ∙ ap (drop f) e
+    ∙ drop-append-le f (take (f + c) xs) part (omega (arith, front))
+    ∙ ap (λ z. z ++ part) (drop-take f c xs ∙ sym (take-append-le c (drop f xs) xs (omega (arith, l, length-drop f xs))))
+
+-- the queue from which whole bytes are taken, where no bits are before them
+pub queue_part : (xs part : List ℕ) (f c n fr fl b bl : ℕ) → fl ≡ 0 → ring xs f c ≡ part ++ ring xs (f + n) (c - n) → queue xs f c fr fl b bl ≡ bits_of_bytes part ++ queue xs (f + n) (c - n) fr fl b bl
+queue_part xs part f c n fr fl b bl z e =
+    let none : (rest : List Bool) → spelled fl fr ++ rest ≡ rest = λ rest. ap (λ k. spelled k fr ++ rest) z in
+    none (bits_of_bytes (ring xs f c) ++ spelled bl b)
+    ∙ ap (λ z. bits_of_bytes z ++ spelled bl b) e ∙ ap (λ z. z ++ spelled bl b) (bits_append part (ring xs (f + n) (c - n)))
+    ∙ append_assoc (bits_of_bytes part) (bits_of_bytes (ring xs (f + n) (c - n))) (spelled bl b)
+    ∙ ap (λ z. bits_of_bytes part ++ z) (sym (none (bits_of_bytes (ring xs (f + n) (c - n)) ++ spelled bl b)))
+
+-- the queue to which whole bytes are put, where no bits are behind them
+pub queue_paste : (xs new part : List ℕ) (f c d fr fl b bl : ℕ) → bl ≡ 0 → ring new f d ≡ ring xs f c ++ part → queue new f d fr fl b bl ≡ queue xs f c fr fl b bl ++ bits_of_bytes part
+queue_paste xs new part f c d fr fl b bl z e =
+    let none : (front : List Bool) → front ++ spelled bl b ≡ front = λ front. ap (λ k. front ++ spelled k b) z ∙ append-nil front in
+    ap (λ z. spelled fl fr ++ z) (none (bits_of_bytes (ring new f d)) ∙ ap bits_of_bytes e ∙ bits_append (ring xs f c) part ∙ ap (λ z. z ++ bits_of_bytes part) (sym (none (bits_of_bytes (ring xs f c)))))
+    ∙ sym (append_assoc (spelled fl fr) (bits_of_bytes (ring xs f c) ++ spelled bl b) (bits_of_bytes part))
+
+-- how long they are
+pub bytes_long : (xs : List ℕ) (i : ℕ) → i ≤ length xs → length (bits_of_bytes (take i xs)) ≡ 8 * i
+bytes_long xs i l = length-bits (take i xs) ∙ ap (λ z. 8 * z) (length-take-le i xs l)
+
+-- bytes that are put, one more
+pub put_more : (old now new : List Bool) (xs : List ℕ) (i b : ℕ) → i < length xs → b ≡ get_or xs i 0 → now ≡ old ++ bits_of_bytes (take i xs) → new ≡ now ++ spelled 8 b → new ≡ old ++ bits_of_bytes (take (i + 1) xs)
+put_more old now new xs i b l eb e f =
+    f ∙ ap₂ (λ x y. x ++ spelled 8 y) e eb ∙ append_assoc old (bits_of_bytes (take i xs)) (spelled 8 (get_or xs i 0))
+    ∙ ap (λ z. old ++ z) (sym (ap bits_of_bytes (take_more xs i 0 l) ∙ bits_push (take i xs) (get_or xs i 0)))
+
+-- one byte more that is taken
+pub bytes_more : (to : List ℕ) (rest : List Bool) (left : List Bool) (b i : ℕ) → i < length to → left ≡ spelled 8 b ++ rest → bits_of_bytes (take i to) ++ left ≡ bits_of_bytes (take (i + 1) (set to i b)) ++ rest
+bytes_more to rest left b i l e =
+    let more : take (i + 1) (set to i b) ≡ take i to ++ b ∷ [] = take_more (set to i b) i 0 (omega (arith, l, length-set to i b)) ∙ ap₂ (λ x y. x ++ y ∷ []) (take-set to i b) (get_or-set_same to i b 0 l) in
+    ap (λ z. bits_of_bytes (take i to) ++ z) e ∙ sym (append_assoc (bits_of_bytes (take i to)) (spelled 8 b) rest)
+    ∙ ap (λ z. z ++ rest) (sym (bits_push (take i to) b)) ∙ ap (λ z. bits_of_bytes z ++ rest) (sym more)

@@ -1,7 +1,7 @@
 // The queue of bits.
 ghost use Rattle.std.specs.Prelude.{◌≡◌, ◌+◌, ◌*◌, ◌<◌, ◌≤◌, ◌^◌, ℕ, Bool, List, [], ◌∷◌, ◌++◌, ◌-◌, ◌%◌, length, IsNone, IfSome, ◌↔◌};
 ghost use Rattle.spec_words.specs.Bits.{is_set, spelled};
-ghost use Rattle.bit_pack.specs.Queue.{ring};
+ghost use Rattle.bit_pack.specs.Queue.{bits_of_bytes, ring};
 
 use std::marker::Model;
 
@@ -99,6 +99,24 @@ fn pop_whole(bytes: &[u8], first: usize) -> (u8, usize)
     }
 }
 
+/// The bytes of a part of a ring that does not go round the end.
+fn copy_part(bytes: &[u8], first: usize, to: &mut [u8])
+    requires room { first + length to.old ≤ length bytes.now }
+    ensures size { length to.new ≡ length to.old }
+    ensures popped { (count : ℕ) → length to.old ≤ count → ring bytes.now first count ≡ to.new ++ ring bytes.now (first + length to.old) (count - length to.old) }
+{
+    to.copy_from_slice(&bytes[first..first + to.len()]);
+}
+
+/// Puts bytes behind those of a ring, if they do not go round the end.
+fn paste_part(bytes: &mut [u8], first: usize, count: usize, part: &[u8])
+    requires room { first + count + length part.now ≤ length bytes.old }
+    ensures size { length bytes.new ≡ length bytes.old }
+    ensures pushed { ring bytes.new first (count + length part.now) ≡ ring bytes.old first count ++ part.now }
+{
+    bytes[first + count..first + count + part.len()].copy_from_slice(part);
+}
+
 impl<const N: usize> BitBuf<N> {
     /// No bits. `N` is at most 65,536.
     pub fn new() -> BitBuf<N>
@@ -151,6 +169,65 @@ impl<const N: usize> BitBuf<N> {
         push_whole(&mut self.bytes, self.first, self.count, whole);
         self.count += 1;
         self.back = byte;
+    }
+
+    // Puts bytes behind the others, one by one.
+    fn push_each(&mut self, bytes: &[u8])
+        requires room { length self.old + 8 * length bytes.now ≤ 8 * N }
+        ensures { self.new ≡ self.old ++ bits_of_bytes bytes.now }
+    {
+        for byte in bytes {
+            self.push_byte(*byte);
+        }
+    }
+
+    /// Puts the bits of bytes behind the others. There must be room for them.
+    pub fn push_bytes(&mut self, bytes: &[u8])
+        requires room { length self.old + 8 * length bytes.now ≤ 8 * N }
+        ensures bits { self.new ≡ self.old ++ bits_of_bytes bytes.now }
+        ensures amount { length self.new ≡ length self.old + 8 * length bytes.now }
+    {
+        if self.back_len == 0 && self.first + self.count + bytes.len() <= N {
+            paste_part(&mut self.bytes, self.first, self.count, bytes);
+            self.count += bytes.len();
+        } else {
+            self.push_each(bytes);
+        }
+    }
+
+    // Takes the first eight bits of at least as many out.
+    fn take_one(&mut self) -> u8
+        requires { 8 ≤ length self.old }
+        ensures { self.old ≡ spelled 8 result ++ self.new }
+    {
+        self.take_byte().unwrap()
+    }
+
+    // Takes bytes out one by one.
+    fn take_each(&mut self, to: &mut [u8])
+        requires { 8 * length to.old ≤ length self.old }
+        ensures size { length to.new ≡ length to.old }
+        ensures taken { self.old ≡ bits_of_bytes to.new ++ self.new }
+    {
+        for byte in to.iter_mut() {
+            *byte = self.take_one();
+        }
+    }
+
+    /// Takes the first bits out and writes them as bytes, the first one of each the most significant. As many must wait as
+    /// the bytes have.
+    pub fn take_bytes(&mut self, to: &mut [u8])
+        requires { 8 * length to.old ≤ length self.old }
+        ensures size { length to.new ≡ length to.old }
+        ensures taken { self.old ≡ bits_of_bytes to.new ++ self.new }
+    {
+        if self.front_len == 0 && to.len() <= self.count && self.first + to.len() <= N {
+            copy_part(&self.bytes, self.first, to);
+            self.first += to.len();
+            self.count -= to.len();
+        } else {
+            self.take_each(to);
+        }
     }
 
     /// Takes the first bit out and answers it: None exactly where no bit waits, and then nothing changes.

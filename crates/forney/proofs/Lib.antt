@@ -1,2 +1,3 @@
 pub mod ValueLists
 pub mod DelayLines
+pub mod WindowLines

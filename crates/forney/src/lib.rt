@@ -12,10 +12,12 @@ ghost use Rattle.forney.specs.Delays.{Interleaves, Deinterleaves};
 ghost use Rattle.forney.specs.Laws.{ElevenWords, ElevenWordsOfBytes, FirstInterleaved, FirstDeinterleaved};
 
 mod lines;
+mod word_interleaver;
 
 use lines::Lines;
 use std::alloc::{AllocError, Global};
 use std::marker::Model;
+pub use word_interleaver::WordInterleaver;
 
 // The lengths of the branches, in bytes of each.
 const RISING: [usize; 12] = [0, 17, 34, 51, 68, 85, 102, 119, 136, 153, 170, 187];

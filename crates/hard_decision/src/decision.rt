@@ -1,11 +1,15 @@
 // Hard decisions by the middles between the levels of an axis.
 ghost use Rattle.std.specs.Prelude.{◌≡◌, ◌<◌, ◌≤◌, ℕ, false, slice_index_or};
+ghost use Rattle.spec_words.specs.Bits.{is_set};
 ghost use Rattle.mode_set.specs.Levels.{levels as levels_of};
+ghost use Rattle.mode_set.specs.StreamTable.{label_bits};
+ghost use Rattle.qam_map.specs.Points.{distance, map_cell};
+ghost use Rattle.qam_map.specs.declared.cell.Cell.{Cell as AnyCell};
 ghost use Rattle.hard_decision.specs.Bounds.{bounds};
-ghost use Rattle.hard_decision.specs.Hard.{axis_bit};
+ghost use Rattle.hard_decision.specs.Hard.{axis_bit, hard_bit};
 
 use mode_set::{Hierarchy, Shape};
-use qam_map::levels;
+use qam_map::{levels, spacing};
 use std::marker::Model;
 
 /// Makes the hard decisions on the axes of a constellation. It is seen as the constellation and its hierarchy.
@@ -77,5 +81,14 @@ impl HardDecision {
         let outer = twice < self.outer_below;
         let inner = (self.inner_from <= twice) & (twice < self.inner_below);
         [negative, outer, inner]
+    }
+
+    /// How near a cell is to the point of a label, on each axis, for its bits to be decided as those of the label.
+    pub fn safe_distance(&self) -> u16
+        ensures few { result ≤ 11585 }
+        ensures decided { (label e : ℕ) (cell : AnyCell) → e < label_bits self.now.0 → distance cell.re (map_cell self.now.0 self.now.1 (is_set label)).re < result → distance cell.im (map_cell self.now.0 self.now.1 (is_set label)).im < result
+            → hard_bit self.now.0 self.now.1 cell e ≡ is_set label e }
+    {
+        spacing(self.shape, self.hierarchy) / 2
     }
 }

@@ -72,15 +72,15 @@ second_is true n = refl
 second_is false n = omega arith
 
 -- ---- the entries of one step more
-pub step_more : (s : Settings) (law : StepsAreNumbered) (odd : Bool) (σ : Stream) (r : Rate) (n bit : ℕ) (x y : Bool) (old new : List ℕ) → r ≡ rate s σ → x ≡ is_sent r X n → y ≡ is_sent r Y n → bit ≡ sent_before (rate s σ) n
-    → AreCostEntries s odd σ n old → AppendsTwo s odd σ (cond x (Some bit) None) (cond y (Some (second x bit)) None) old new → AreCostEntries s odd σ (n + 1) new
-step_more s law odd σ r n bit x y old new er ex ey eb a two = record { long = long; x = xs; y = ys; x_placed = xs_placed; y_placed = ys_placed; small = small }
+pub step_more : (s : Settings) (law : StepsAreNumbered) (σ : Stream) (r : Rate) (n bit : ℕ) (x y : Bool) (old new : List ℕ) → r ≡ rate s σ → x ≡ is_sent r X n → y ≡ is_sent r Y n → bit ≡ sent_before (rate s σ) n
+    → AreCostEntries s σ n old → AppendsTwo s σ (cond x (Some bit) None) (cond y (Some (second x bit)) None) old new → AreCostEntries s σ (n + 1) new
+step_more s law σ r n bit x y old new er ex ey eb a two = record { long = long; x = xs; y = ys; x_placed = xs_placed; y_placed = ys_placed; small = small }
   where
     a' : ℕ
-    a' = entry_at s odd σ (cond x (Some bit) None)
+    a' = entry_at s σ (cond x (Some bit) None)
 
     b' : ℕ
-    b' = entry_at s odd σ (cond y (Some (second x bit)) None)
+    b' = entry_at s σ (cond y (Some (second x bit)) None)
 
     x_is : cond x (Some bit) None ≡ number_of (rate s σ) X n
     x_is = ap (λ (z : Bool). cond z (Some bit) None) (ex ∙ ap (λ (z : Rate). is_sent z X n) er) ∙ ap (λ (z : ℕ). cond (is_sent (rate s σ) X n) (Some z) None) eb ∙ sym (law (rate s σ) n).x
@@ -105,35 +105,35 @@ step_more s law odd σ r n bit x y old new er ex ey eb a two = record { long = l
         let place : k - 2 * n ≡ j = omega (arith, e) in
         ap (λ (zs : List ℕ). slice_index zs k) two.is ∙ get_or-append_right old (a' ∷ b' ∷ []) (2 * n) k 0 a.long past ∙ ap (slice_index (a' ∷ b' ∷ [])) place
 
-    xs : (t : ℕ) → t < n + 1 → slice_index new (2 * t) ≡ entry_at s odd σ (number_of (rate s σ) X t)
+    xs : (t : ℕ) → t < n + 1 → slice_index new (2 * t) ≡ entry_at s σ (number_of (rate s σ) X t)
     xs t l = go (cases_lt t n)
       where
-        go : (t < n) ⊎ (n ≤ t) → slice_index new (2 * t) ≡ entry_at s odd σ (number_of (rate s σ) X t)
+        go : (t < n) ⊎ (n ≤ t) → slice_index new (2 * t) ≡ entry_at s σ (number_of (rate s σ) X t)
         go (inl m) = left (2 * t) (omega (arith, m, a.long)) ∙ a.x t m
         go (inr m) = let same : n ≡ t = omega (arith, l, m) in
-            subst (λ (z : ℕ). slice_index new (2 * z) ≡ entry_at s odd σ (number_of (rate s σ) X z)) same (right (2 * n) 0 (omega arith) ∙ ap (entry_at s odd σ) x_is)
+            subst (λ (z : ℕ). slice_index new (2 * z) ≡ entry_at s σ (number_of (rate s σ) X z)) same (right (2 * n) 0 (omega arith) ∙ ap (entry_at s σ) x_is)
 
-    ys : (t : ℕ) → t < n + 1 → slice_index new (2 * t + 1) ≡ entry_at s odd σ (number_of (rate s σ) Y t)
+    ys : (t : ℕ) → t < n + 1 → slice_index new (2 * t + 1) ≡ entry_at s σ (number_of (rate s σ) Y t)
     ys t l = go (cases_lt t n)
       where
-        go : (t < n) ⊎ (n ≤ t) → slice_index new (2 * t + 1) ≡ entry_at s odd σ (number_of (rate s σ) Y t)
+        go : (t < n) ⊎ (n ≤ t) → slice_index new (2 * t + 1) ≡ entry_at s σ (number_of (rate s σ) Y t)
         go (inl m) = left (2 * t + 1) (omega (arith, m, a.long)) ∙ a.y t m
         go (inr m) = let same : n ≡ t = omega (arith, l, m) in
-            subst (λ (z : ℕ). slice_index new (2 * z + 1) ≡ entry_at s odd σ (number_of (rate s σ) Y z)) same (right (2 * n + 1) 1 refl ∙ ap (entry_at s odd σ) y_is)
+            subst (λ (z : ℕ). slice_index new (2 * z + 1) ≡ entry_at s σ (number_of (rate s σ) Y z)) same (right (2 * n + 1) 1 refl ∙ ap (entry_at s σ) y_is)
 
-    xs_placed : (t : ℕ) → t < n + 1 → IsPlaced s odd σ (number_of (rate s σ) X t)
+    xs_placed : (t : ℕ) → t < n + 1 → IsPlaced s σ (number_of (rate s σ) X t)
     xs_placed t l = go (cases_lt t n)
       where
-        go : (t < n) ⊎ (n ≤ t) → IsPlaced s odd σ (number_of (rate s σ) X t)
+        go : (t < n) ⊎ (n ≤ t) → IsPlaced s σ (number_of (rate s σ) X t)
         go (inl m) = a.x_placed t m
-        go (inr m) = let same : n ≡ t = omega (arith, l, m) in subst (λ (z : ℕ). IsPlaced s odd σ (number_of (rate s σ) X z)) same (subst (IsPlaced s odd σ) x_is two.x_placed)
+        go (inr m) = let same : n ≡ t = omega (arith, l, m) in subst (λ (z : ℕ). IsPlaced s σ (number_of (rate s σ) X z)) same (subst (IsPlaced s σ) x_is two.x_placed)
 
-    ys_placed : (t : ℕ) → t < n + 1 → IsPlaced s odd σ (number_of (rate s σ) Y t)
+    ys_placed : (t : ℕ) → t < n + 1 → IsPlaced s σ (number_of (rate s σ) Y t)
     ys_placed t l = go (cases_lt t n)
       where
-        go : (t < n) ⊎ (n ≤ t) → IsPlaced s odd σ (number_of (rate s σ) Y t)
+        go : (t < n) ⊎ (n ≤ t) → IsPlaced s σ (number_of (rate s σ) Y t)
         go (inl m) = a.y_placed t m
-        go (inr m) = let same : n ≡ t = omega (arith, l, m) in subst (λ (z : ℕ). IsPlaced s odd σ (number_of (rate s σ) Y z)) same (subst (IsPlaced s odd σ) y_is two.y_placed)
+        go (inr m) = let same : n ≡ t = omega (arith, l, m) in subst (λ (z : ℕ). IsPlaced s σ (number_of (rate s σ) Y z)) same (subst (IsPlaced s σ) y_is two.y_placed)
 
     small : (k : ℕ) → k < length new → IsSmallEntry s (slice_index new k)
     small k l = go (cases_lt k (2 * n)) (cases_lt k (2 * n + 1))

@@ -3,10 +3,11 @@ use Rattle.std.proofs.Common.{◌≡◌, ℕ, zero, suc, ◌+◌, ◌-◌, ◌*�
 use Rattle.std.proofs.lemmas.List.{get_or-take, get_or-drop, get_or_append_left, get_or-append_right, get_or_push, get_or-set_same, get_or-set_other, length_push, length-set, drop-drop, length-drop, length-append, ext_get_or}
 use Rattle.std.proofs.lemmas.List.FromFn.{get_or-map-range_with_len}
 use Rattle.std.proofs.Math.Seq.{drop-append_seam}
+use Rattle.std.specs.Int.{bit_at}
+use Rattle.std.proofs.lemmas.Nat.Bits.{bit_at_cat_low, bit_at_cat_high}
 use Rattle.std.proofs.lemmas.Bool.{cases_lt}
 use Rattle.spec_words.specs.Bits.{bit, is_set, spelled}
 use Rattle.code_paths.specs.Paths.{parity_x, parity_y}
-use Rattle.conv_code.specs.Coded.{xs_of, ys_of}
 use Rattle.puncture.specs.SentBits.{bits_from, window}
 use Rattle.inner_chain.specs.Labels.{parity_at}
 use Rattle.inner_chain.specs.Tables.{read_bit, row_of, AreRows, IsEncoded}
@@ -27,66 +28,6 @@ rows_more rows new n row r e is = record { long = ap length e ∙ length_push ro
             let same : n ≡ k = omega (arith, l, m) in
             let last : length rows ≡ k = r.long ∙ same in
             ap (λ (z : List (List Bool)). get_or z k d) e ∙ get_or_push rows row d k last ∙ is ∙ ap row_of same
-
-is_one : (a b : ℕ) → a ≡ b → eqb a 1 ≡ eqb b 1
-is_one a b e = ap (λ (z : ℕ). eqb z 1) e
-
--- a byte of X and one of Y have the rows of their upper halves and of their lower halves
-abbrev pub upper : ℕ → ℕ → ℕ
-upper x y = x / 16 * 16 + y / 16
-
-abbrev pub lower : ℕ → ℕ → ℕ
-lower x y = x % 16 * 16 + y % 16
-
-abbrev pub IsHalf : ℕ → ℕ → ℕ → ℕ → Type 0
-IsHalf x y n i = (j k : ℕ) → j < 4 → k < 2 → read_bit (row_of n) (2 * j + k) ≡ is_set (cond (eqb k 0) x y) (i - j)
-
-pub upper_half : (x y : ℕ) → y < 256 → IsHalf x y (upper x y) 7
-upper_half x y l zero zero lj lk = is_one _ _ (omega (arith, l))
-upper_half x y l zero (suc zero) lj lk = is_one _ _ (omega (arith, l))
-upper_half x y l zero (suc (suc k)) lj lk = absurd (omega (arith, lk))
-upper_half x y l (suc zero) zero lj lk = is_one _ _ (omega (arith, l))
-upper_half x y l (suc zero) (suc zero) lj lk = is_one _ _ (omega (arith, l))
-upper_half x y l (suc zero) (suc (suc k)) lj lk = absurd (omega (arith, lk))
-upper_half x y l (suc (suc zero)) zero lj lk = is_one _ _ (omega (arith, l))
-upper_half x y l (suc (suc zero)) (suc zero) lj lk = is_one _ _ (omega (arith, l))
-upper_half x y l (suc (suc zero)) (suc (suc k)) lj lk = absurd (omega (arith, lk))
-upper_half x y l (suc (suc (suc zero))) zero lj lk = is_one _ _ (omega (arith, l))
-upper_half x y l (suc (suc (suc zero))) (suc zero) lj lk = is_one _ _ (omega (arith, l))
-upper_half x y l (suc (suc (suc zero))) (suc (suc k)) lj lk = absurd (omega (arith, lk))
-upper_half x y l (suc (suc (suc (suc j)))) k lj lk = absurd (omega (arith, lj))
-
-pub lower_half : (x y : ℕ) → IsHalf x y (lower x y) 3
-lower_half x y zero zero lj lk = is_one _ _ (omega arith)
-lower_half x y zero (suc zero) lj lk = is_one _ _ (omega arith)
-lower_half x y zero (suc (suc k)) lj lk = absurd (omega (arith, lk))
-lower_half x y (suc zero) zero lj lk = is_one _ _ (omega arith)
-lower_half x y (suc zero) (suc zero) lj lk = is_one _ _ (omega arith)
-lower_half x y (suc zero) (suc (suc k)) lj lk = absurd (omega (arith, lk))
-lower_half x y (suc (suc zero)) zero lj lk = is_one _ _ (omega arith)
-lower_half x y (suc (suc zero)) (suc zero) lj lk = is_one _ _ (omega arith)
-lower_half x y (suc (suc zero)) (suc (suc k)) lj lk = absurd (omega (arith, lk))
-lower_half x y (suc (suc (suc zero))) zero lj lk = is_one _ _ (omega arith)
-lower_half x y (suc (suc (suc zero))) (suc zero) lj lk = is_one _ _ (omega arith)
-lower_half x y (suc (suc (suc zero))) (suc (suc k)) lj lk = absurd (omega (arith, lk))
-lower_half x y (suc (suc (suc (suc j)))) k lj lk = absurd (omega (arith, lj))
-
--- two rows, one behind the other
-pub both_halves : (x y : ℕ) (old mid new : List Bool) (at : ℕ) → y < 256
-    → ((i : ℕ) → i < 8 → read_bit mid (at + i) ≡ read_bit (row_of (upper x y)) i) → ((i : ℕ) → i < 8 → read_bit new (at + 8 + i) ≡ read_bit (row_of (lower x y)) i)
-    → ((k : ℕ) → k < at + 8 → read_bit new k ≡ read_bit mid k)
-    → (j k : ℕ) → j < 8 → k < 2 → read_bit new (at + 2 * j + k) ≡ is_set (cond (eqb k 0) x y) (7 - j)
-both_halves x y old mid new at l high low kept j k lj lk = go (cases_lt j 4)
-  where
-    go : (j < 4) ⊎ (4 ≤ j) → read_bit new (at + 2 * j + k) ≡ is_set (cond (eqb k 0) x y) (7 - j)
-    go (inl m) =
-        let place : at + 2 * j + k ≡ at + (2 * j + k) = omega arith in
-        ap (read_bit new) place ∙ kept (at + (2 * j + k)) (omega (arith, m, lk)) ∙ high (2 * j + k) (omega (arith, m, lk)) ∙ upper_half x y l j k m lk
-    go (inr m) =
-        let i : ℕ = j - 4 in
-        let place : at + 2 * j + k ≡ at + 8 + (2 * i + k) = omega (arith, m) in
-        let bit_is : 3 - i ≡ 7 - j = omega (arith, m) in
-        ap (read_bit new) place ∙ low (2 * i + k) (omega (arith, m, lj, lk)) ∙ lower_half x y i k (omega (arith, m, lj)) lk ∙ ap (is_set (cond (eqb k 0) x y)) bit_is
 
 -- ---- parities of a window
 later : (path : ℕ → Bool) (t u : ℕ) → t ≡ u → path t ≡ path u
@@ -228,32 +169,85 @@ spelled_at zero x j l = absurd (omega (arith, l))
 spelled_at (suc n) x zero l = let place : n ≡ suc n - 1 - 0 = omega arith in ap (is_set x) place
 spelled_at (suc n) x (suc j) l = let place : n - 1 - j ≡ suc n - 1 - suc j = omega arith in spelled_at n x j (omega (arith, l)) ∙ ap (is_set x) place
 
-x_at : (n j : ℕ) (p : List Bool) → j < n → bit (xs_of n p) j ≡ parity_x (drop j p)
-x_at zero j p l = absurd (omega (arith, l))
-x_at (suc n) zero p l = refl
-x_at (suc n) (suc j) p l = let next : 1 + j ≡ suc j = omega arith in x_at n j (drop 1 p) (omega (arith, l)) ∙ ap parity_x (drop-drop j 1 p ∙ ap (λ (z : ℕ). drop z p) next)
+-- the parity of a list of inputs: X or Y
+abbrev parity_of : ℕ → List Bool → Bool
+parity_of k p = cond (eqb k 0) (parity_x p) (parity_y p)
 
-y_at : (n j : ℕ) (p : List Bool) → j < n → bit (ys_of n p) j ≡ parity_y (drop j p)
-y_at zero j p l = absurd (omega (arith, l))
-y_at (suc n) zero p l = refl
-y_at (suc n) (suc j) p l = let next : 1 + j ≡ suc j = omega arith in y_at n j (drop 1 p) (omega (arith, l)) ∙ ap parity_y (drop-drop j 1 p ∙ ap (λ (z : ℕ). drop z p) next)
+-- what stands in a row
+row_at : (n j k : ℕ) → j < 4 → k < 2 → read_bit (row_of n) (2 * j + k) ≡ parity_of k (drop j (spelled 10 n))
+row_at n zero zero l m = refl
+row_at n zero (suc zero) l m = refl
+row_at n (suc zero) zero l m = refl
+row_at n (suc zero) (suc zero) l m = refl
+row_at n (suc (suc zero)) zero l m = refl
+row_at n (suc (suc zero)) (suc zero) l m = refl
+row_at n (suc (suc (suc zero))) zero l m = refl
+row_at n (suc (suc (suc zero))) (suc zero) l m = refl
+row_at n (suc (suc (suc (suc j)))) k l m = absurd (omega (arith, l))
+row_at n j (suc (suc k)) l m = absurd (omega (arith, m))
 
-pub encode_eight : (w e x : List Bool) (first n i : ℕ) (waiting register xs : List Bool) (byte : ℕ) (waiting' register' xs' : List Bool) (px py : ℕ)
+low_bit : (n k : ℕ) → k < 10 → is_set (n % 1024) k ≡ is_set n k
+low_bit n k l = ap (λ (z : ℕ). eqb z 1) (sym (bit_at_cat_low (n / 1024) 10 (n % 1024) k l) ∙ ap (λ (z : ℕ). bit_at z k) (let e : n / 1024 * 1024 + n % 1024 ≡ n = omega arith in e))
+
+high_bit : (n k : ℕ) → is_set (n / 16) k ≡ is_set n (k + 4)
+high_bit n k =
+    let small : n % 16 < 16 = omega arith in
+    let place : k + 4 - 4 ≡ k = omega arith in
+    ap (λ (z : ℕ). eqb z 1) (sym (ap (bit_at (n / 16)) place) ∙ sym (bit_at_cat_high (n / 16) 4 (n % 16) (k + 4) small (omega arith)) ∙ ap (λ (z : ℕ). bit_at z (k + 4)) (let e : n / 16 * 16 + n % 16 ≡ n = omega arith in e))
+
+-- the two windows of ten inputs among fourteen
+window_first : (n q : ℕ) → q < 10 → bit (spelled 10 (n / 16 % 1024)) q ≡ bit (spelled 14 n) q
+window_first n q l =
+    let place : 10 - 1 - q + 4 ≡ 14 - 1 - q = omega (arith, l) in
+    spelled_at 10 (n / 16 % 1024) q l ∙ low_bit (n / 16) (10 - 1 - q) (omega (arith, l)) ∙ high_bit n (10 - 1 - q) ∙ ap (is_set n) place ∙ sym (spelled_at 14 n q (omega (arith, l)))
+
+window_second : (n q : ℕ) → q < 10 → bit (spelled 10 (n % 1024)) q ≡ bit (spelled 14 n) (4 + q)
+window_second n q l =
+    let place : 10 - 1 - q ≡ 14 - 1 - (4 + q) = omega (arith, l) in
+    spelled_at 10 (n % 1024) q l ∙ low_bit n (10 - 1 - q) (omega (arith, l)) ∙ ap (is_set n) place ∙ sym (spelled_at 14 n (4 + q) (omega (arith, l)))
+
+-- a step of a window has the parities of the path
+step_is : (path : ℕ → Bool) (n o i j k : ℕ) → ((q : ℕ) → q < 10 → bit (spelled 10 n) q ≡ path (i + (o + q))) → j < 4 → k < 2 → read_bit (row_of n) (2 * j + k) ≡ parity_at k path (i + (o + j))
+step_is path n o i j k is l m = row_at n j k l m ∙ go k m
+  where
+    seven : (parity_x (drop j (spelled 10 n)) ≡ parity_x (window path (i + (o + j)))) × (parity_y (drop j (spelled 10 n)) ≡ parity_y (window path (i + (o + j))))
+    seven = seven_are (drop j (spelled 10 n)) path (i + (o + j))
+        (λ m few. let place : i + (o + (j + m)) ≡ i + (o + j) + m = omega arith in get_or-drop j (spelled 10 n) m false ∙ is (j + m) (omega (arith, few, l)) ∙ ap path place)
+
+    go : (k : ℕ) → k < 2 → parity_of k (drop j (spelled 10 n)) ≡ parity_at k path (i + (o + j))
+    go zero m = seven.0
+    go (suc zero) m = seven.1
+    go (suc (suc k)) m = absurd (omega (arith, m))
+
+pub encode_eight : (w e x : List Bool) (first n i : ℕ) (waiting register xs : List Bool) (byte : ℕ) (waiting' register' xs' : List Bool) (inputs : ℕ)
     → IsEncoded w e x first n i waiting register xs → i + 8 ≤ n → waiting ≡ spelled 8 byte ++ waiting'
-    → spelled 8 px ≡ xs_of 8 (register ++ spelled 8 byte) → spelled 8 py ≡ ys_of 8 (register ++ spelled 8 byte) → register' ≡ drop 8 (register ++ spelled 8 byte)
-    → ((j k : ℕ) → j < 8 → k < 2 → read_bit xs' (2 * (first + i) + 2 * j + k) ≡ is_set (cond (eqb k 0) px py) (7 - j)) → ((k : ℕ) → k < 2 * (first + i) → read_bit xs' k ≡ read_bit xs k)
+    → spelled 14 inputs ≡ register ++ spelled 8 byte → register' ≡ drop 8 (register ++ spelled 8 byte)
+    → ((m : ℕ) → m < 8 → read_bit xs' (2 * (first + i) + m) ≡ read_bit (row_of (inputs / 16 % 1024)) m)
+    → ((m : ℕ) → m < 8 → read_bit xs' (2 * (first + i) + 8 + m) ≡ read_bit (row_of (inputs % 1024)) m)
+    → ((k : ℕ) → k < 2 * (first + i) → read_bit xs' k ≡ read_bit xs k)
     → IsEncoded w e x first n (i + 8) waiting' register' xs'
-encode_eight w e x first n i waiting register xs byte waiting' register' xs' px py s few head ex ey er here kept =
+encode_eight w e x first n i waiting register xs byte waiting' register' xs' inputs s few head ei er high low kept =
     encode_on w e x first n i waiting register xs (spelled 8 byte) waiting' register' xs' s few head er made kept
   where
-    p : List Bool
-    p = register ++ spelled 8 byte
-
-    seven : (path : ℕ → Bool) → Along path i register (spelled 8 byte) → (j : ℕ) → j < 8 → (parity_x (drop j p) ≡ parity_x (window path (i + j))) × (parity_y (drop j p) ≡ parity_y (window path (i + j)))
-    seven path a j l = seven_are (drop j p) path (i + j)
-        (λ m few. let place : i + (j + m) ≡ i + j + m = omega arith in get_or-drop j p m false ∙ a (j + m) (omega (arith, few, l)) ∙ ap path place)
+    input_at : (path : ℕ → Bool) → Along path i register (spelled 8 byte) → (q : ℕ) → q < 14 → bit (spelled 14 inputs) q ≡ path (i + q)
+    input_at path a q l = ap (λ (z : List Bool). bit z q) ei ∙ a q (omega (arith, l))
 
     made : (path : ℕ → Bool) → Along path i register (spelled 8 byte) → (j k : ℕ) → j < 8 → k < 2 → read_bit xs' (2 * (first + i) + 2 * j + k) ≡ parity_at k path (i + j)
-    made path a j zero l two = here j 0 l two ∙ sym (spelled_at 8 px j l) ∙ ap (λ (z : List Bool). bit z j) ex ∙ x_at 8 j p l ∙ (seven path a j l).0
-    made path a j (suc zero) l two = here j 1 l two ∙ sym (spelled_at 8 py j l) ∙ ap (λ (z : List Bool). bit z j) ey ∙ y_at 8 j p l ∙ (seven path a j l).1
-    made path a j (suc (suc k)) l two = absurd (omega (arith, two))
+    made path a j k l two = go (cases_lt j 4)
+      where
+        go : (j < 4) ⊎ (4 ≤ j) → read_bit xs' (2 * (first + i) + 2 * j + k) ≡ parity_at k path (i + j)
+        go (inl less) =
+            let place : 2 * (first + i) + 2 * j + k ≡ 2 * (first + i) + (2 * j + k) = omega arith in
+            let step : i + (0 + j) ≡ i + j = omega arith in
+            ap (read_bit xs') place ∙ high (2 * j + k) (omega (arith, less, two))
+            ∙ step_is path (inputs / 16 % 1024) 0 i j k
+            (λ q m. let at : i + q ≡ i + (0 + q) = omega arith in window_first inputs q m ∙ input_at path a q (omega (arith, m)) ∙ ap path at) less two
+            ∙ ap (parity_at k path) step
+        go (inr past) =
+            let u : ℕ = j - 4 in
+            let place : 2 * (first + i) + 2 * j + k ≡ 2 * (first + i) + 8 + (2 * u + k) = omega (arith, past) in
+            let step : i + (4 + u) ≡ i + j = omega (arith, past) in
+            ap (read_bit xs') place ∙ low (2 * u + k) (omega (arith, past, l, two))
+            ∙ step_is path (inputs % 1024) 4 i u k
+            (λ q m. window_second inputs q m ∙ input_at path a (4 + q) (omega (arith, m))) (omega (arith, past, l)) two
+            ∙ ap (parity_at k path) step

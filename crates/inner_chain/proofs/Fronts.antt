@@ -10,7 +10,6 @@ use Rattle.mode_set.specs.declared.settings.Settings.{Settings}
 use Rattle.puncture.specs.SentBits.{X, Y}
 use Rattle.puncture.specs.Steps.{number_of, costs_at}
 use Rattle.bit_interleave.specs.Place.{place_in_label, word_of_bit}
-use Rattle.symbol_interleave.specs.Carried.{is_odd, place_of_word}
 use Rattle.qam_map.specs.declared.cell.Cell.{Cell}
 use Rattle.inner_chain.specs.CostPairs.{costs_of_bit, AppendsPairs}
 use Rattle.inner_chain.specs.CostTables.{pair_at, entry_at, IsPlaced, IsRoom, AreCosts, AreCostEntries, AppendsRead}
@@ -18,13 +17,13 @@ use Rattle.inner_chain.specs.PairLists.{pair_of, BeginsWithPairs}
 use Rattle.inner_chain.proofs.Listing.{pairs_are_listed}
 
 -- the costs at the entry of a coded bit are its costs
-cost_read : (s : Settings) (cells : List Cell) (weights : List ℕ) (l : ℕ) (σ : Stream) (costs : List (ℕ × ℕ)) (d : Option ℕ) → AreCosts s cells weights l costs → IsRoom s.mode costs → IsPlaced s (is_odd l) σ d
-    → pair_at costs (entry_at s (is_odd l) σ d) ≡ costs_at (costs_of_bit s cells weights l σ) d
+cost_read : (s : Settings) (cells : List Cell) (weights : List ℕ) (l : ℕ) (σ : Stream) (costs : List (ℕ × ℕ)) (d : Option ℕ) → AreCosts s cells weights l costs → IsRoom s.mode costs → IsPlaced s σ d
+    → pair_at costs (entry_at s σ d) ≡ costs_at (costs_of_bit s cells weights l σ) d
 cost_read s cells weights l σ costs None a r placed = r.last
-cost_read s cells weights l σ costs (Some d) a r placed = a.at (place_of_word s.mode (is_odd l) (word_of_bit s.shape s.hierarchy σ d)) (place_in_label s.shape s.hierarchy σ d) placed.0 placed.1
+cost_read s cells weights l σ costs (Some d) a r placed = a.at (word_of_bit s.shape s.hierarchy σ d) (place_in_label s.shape s.hierarchy σ d) placed.0 placed.1
 
-pairs_read : (s : Settings) (cells : List Cell) (weights : List ℕ) (l : ℕ) (σ : Stream) (costs : List (ℕ × ℕ)) (entries : List ℕ) (old new : List CostPair) → AreCosts s cells weights l costs → IsRoom s.mode costs
-    → AreCostEntries s (is_odd l) σ (need s σ) entries → AppendsRead costs entries (need s σ) old new → AppendsPairs s cells weights l σ old new
+pub pairs_read : (s : Settings) (cells : List Cell) (weights : List ℕ) (l : ℕ) (σ : Stream) (costs : List (ℕ × ℕ)) (entries : List ℕ) (old new : List CostPair) → AreCosts s cells weights l costs → IsRoom s.mode costs
+    → AreCostEntries s σ (need s σ) entries → AppendsRead costs entries (need s σ) old new → AppendsPairs s cells weights l σ old new
 pairs_read s cells weights l σ costs entries old new a r e read = record {
   pairs = read.pairs;
   long = read.long;
@@ -36,7 +35,7 @@ pairs_read s cells weights l σ costs entries old new a r e read = record {
 }
 
 pub begins_with : (s : Settings) (cells : List Cell) (weights : List ℕ) (l : ℕ) (σ : Stream) (costs : List (ℕ × ℕ)) (entries : List ℕ) (n : ℕ) (old new : List CostPair) → n ≡ need s σ → AreCosts s cells weights l costs → IsRoom s.mode costs
-    → AreCostEntries s (is_odd l) σ (need s σ) entries → AppendsRead costs entries n [] (take n new) → drop n new ≡ drop n old → BeginsWithPairs s cells weights l σ old new
+    → AreCostEntries s σ (need s σ) entries → AppendsRead costs entries n [] (take n new) → drop n new ≡ drop n old → BeginsWithPairs s cells weights l σ old new
 begins_with s cells weights l σ costs entries n old new same a r e read rest =
     let read' : AppendsRead costs entries (need s σ) [] (take n new) = subst (λ (k : ℕ). AppendsRead costs entries k [] (take n new)) same read in
     let front : take n new ≡ map (pair_of s cells weights l σ) (numbers (need s σ)) = pairs_are_listed s cells weights l σ [] (take n new) (pairs_read s cells weights l σ costs entries [] (take n new) a r e read') in

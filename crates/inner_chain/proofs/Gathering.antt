@@ -1,36 +1,14 @@
 -- Labels bit by bit.
-use Rattle.std.proofs.Common.{◌≡◌, ℕ, ◌+◌, ◌-◌, ◌*◌, ◌%◌, ◌^◌, ◌<◌, ◌≤◌, ◌⊎◌, inl, inr, Bool, true, false, List, [], ◌∷◌, ◌++◌, append_assoc, length, refl, sym, ap, ◌∙◌, subst, arith}
+use Rattle.std.proofs.Common.{◌≡◌, ℕ, suc, ◌+◌, ◌-◌, ◌*◌, ◌^◌, ◌<◌, ◌≤◌, ◌⊎◌, inl, inr, Bool, true, false, List, [], ◌∷◌, ◌++◌, append_assoc, length, refl, sym, ap, ◌∙◌, subst, arith}
 use Rattle.std.specs.Prelude.{slice_index, ◌==◌}
 use Rattle.std.specs.Int.{bit_at}
 use mir.Val.{bool_byte}
-use Rattle.std.proofs.Math.Nat.{pow-le-pow_right, mul-le-mul, mod-eq_of_lt, add_comm}
+use Rattle.std.proofs.Math.Nat.{pow-le-pow_right, pow-suc}
 use Rattle.std.proofs.lemmas.Nat.Bits.{bit_at_cat_low, bit_at_cat_high}
 use Rattle.std.proofs.lemmas.Bool.{cases_lt}
 use Rattle.spec_words.specs.Bits.{is_set}
 use Rattle.std.proofs.lemmas.List.{get_or_append_left, get_or_push, length_push}
 use Rattle.inner_chain.specs.Tables.{read_bit, IsGathered, AppendsGathered}
-
-no_wrap : (bit place : ℕ) → place < 6 → bit < 2 → bit * 2 ^ place % 256 ≡ bit * 2 ^ place
-no_wrap bit place l b =
-    let least : place ≤ 5 = omega (arith, l) in
-    let some : 0 < 2 = omega arith in
-    let weight : 2 ^ place ≤ 2 ^ 5 = pow-le-pow_right {n = 2} some {i = place} {j = 5} least in
-    let one : bit ≤ 1 = omega (arith, b) in
-    let product : bit * 2 ^ place ≤ 1 * 2 ^ 5 = mul-le-mul one weight in
-    let small : bit * 2 ^ place < 256 = omega (arith, product) in
-    mod-eq_of_lt small
-
-sum_is : (label bit place : ℕ) → place < 6 → bit < 2 → label + bit * 2 ^ place % 256 ≡ bit * 2 ^ place + label
-sum_is label bit place l b = ap (λ (z : ℕ). label + z) (no_wrap bit place l b) ∙ add_comm label (bit * 2 ^ place)
-
-pub bit_below : (label bit place e : ℕ) → place < 6 → bit < 2 → e < place → is_set (label + bit * 2 ^ place % 256) e ≡ is_set label e
-bit_below label bit place e l b m = ap (λ (z : ℕ). is_set z e) (sum_is label bit place l b) ∙ ap (λ (z : ℕ). z == 1) (bit_at_cat_low bit place label e m)
-
-pub bit_here : (label bit place : ℕ) → place < 6 → bit < 2 → label < 2 ^ place → is_set (label + bit * 2 ^ place % 256) place ≡ is_set bit 0
-bit_here label bit place l b small =
-    let none : place - place ≡ 0 = omega arith in
-    let same : place ≤ place = omega arith in
-    ap (λ (z : ℕ). is_set z place) (sum_is label bit place l b) ∙ ap (λ (z : ℕ). z == 1) (bit_at_cat_high bit place label place small same ∙ ap (bit_at bit) none)
 
 pub bool_small : (b : Bool) → bool_byte b < 2
 bool_small true = omega arith
@@ -40,16 +18,53 @@ pub bool_bit : (b : Bool) → is_set (bool_byte b) 0 ≡ b
 bool_bit true = refl
 bool_bit false = refl
 
-pub gather_more : (xs : List Bool) (entries : List ℕ) (first count label new : ℕ) → IsGathered xs entries first count label → new < 2 ^ (count + 1)
-    → ((e : ℕ) → e < count → is_set new e ≡ is_set label e) → is_set new count ≡ read_bit xs (slice_index entries (first + count)) → IsGathered xs entries first (count + 1) new
-gather_more xs entries first count label new g small below here = record { small = small; bit = bits }
+-- ---- a label moved up by one place, and a bit in the place that becomes free
+up_is : (label bit : ℕ) → 2 * label + bit ≡ label * 2 ^ 1 + bit
+up_is label bit = omega arith
+
+pub up_here : (label bit : ℕ) → is_set (2 * label + bit) 0 ≡ is_set bit 0
+up_here label bit = ap (λ (z : ℕ). is_set z 0) (up_is label bit) ∙ ap (λ (z : ℕ). z == 1) (bit_at_cat_low label 1 bit 0 (omega arith))
+
+pub up_above : (label bit e : ℕ) → bit < 2 → is_set (2 * label + bit) (e + 1) ≡ is_set label e
+up_above label bit e b =
+    let place : e + 1 - 1 ≡ e = omega arith in
+    ap (λ (z : ℕ). is_set z (e + 1)) (up_is label bit) ∙ ap (λ (z : ℕ). z == 1) (bit_at_cat_high label 1 bit (e + 1) b (omega arith) ∙ ap (bit_at label) place)
+
+pub up_small : (label bit n : ℕ) → bit < 2 → label < 2 ^ n → 2 * label + bit < 2 ^ (n + 1)
+up_small label bit n b l =
+    let next : n + 1 ≡ suc n = omega arith in
+    let double : 2 ^ (n + 1) ≡ 2 * 2 ^ n = omega (arith, ap (λ (z : ℕ). 2 ^ z) next, pow-suc 2 n) in
+    omega (arith, b, l, double)
+
+-- a label of fewer than six bits
+pub label_small : (e label : ℕ) → e < 6 → label < 2 ^ e → label < 128
+label_small e label l m =
+    let least : e ≤ 5 = omega (arith, l) in
+    let some : 0 < 2 = omega arith in
+    let most : 2 ^ e ≤ 2 ^ 5 = pow-le-pow_right {n = 2} some {i = e} {j = 5} least in
+    omega (arith, m, most)
+
+pub gather_none : (xs : List Bool) (entries : List ℕ) (first : ℕ) → IsGathered xs entries first 0 0
+gather_none xs entries first = record { small = omega arith; bit = λ e l. absurd (omega (arith, l)) }
+
+-- one bit more, below the others
+pub gather_up : (xs : List Bool) (entries : List ℕ) (from below count label new : ℕ) → IsGathered xs entries from count label → from ≡ below + 1 → new < 2 ^ (count + 1)
+    → ((e : ℕ) → is_set new (e + 1) ≡ is_set label e) → is_set new 0 ≡ read_bit xs (slice_index entries below) → IsGathered xs entries below (count + 1) new
+gather_up xs entries from below count label new g ef small above here = record { small = small; bit = bits }
   where
-    bits : (e : ℕ) → e < count + 1 → is_set new e ≡ read_bit xs (slice_index entries (first + e))
-    bits e l = go (cases_lt e count)
+    bits : (e : ℕ) → e < count + 1 → is_set new e ≡ read_bit xs (slice_index entries (below + e))
+    bits e l = go (cases_lt 0 e)
       where
-        go : (e < count) ⊎ (count ≤ e) → is_set new e ≡ read_bit xs (slice_index entries (first + e))
-        go (inl m) = below e m ∙ g.bit e m
-        go (inr m) = let same : count ≡ e = omega (arith, l, m) in subst (λ (z : ℕ). is_set new z ≡ read_bit xs (slice_index entries (first + z))) same here
+        go : (0 < e) ⊎ (e ≤ 0) → is_set new e ≡ read_bit xs (slice_index entries (below + e))
+        go (inl m) =
+            let k : ℕ = e - 1 in
+            let same : e ≡ k + 1 = omega (arith, m) in
+            let place : from + k ≡ below + e = omega (arith, m, ef) in
+            ap (is_set new) same ∙ above k ∙ g.bit k (omega (arith, l, m)) ∙ ap (λ (n : ℕ). read_bit xs (slice_index entries n)) place
+        go (inr m) =
+            let same : e ≡ 0 = omega (arith, m) in
+            let place : below ≡ below + e = omega (arith, m) in
+            ap (is_set new) same ∙ here ∙ ap (λ (n : ℕ). read_bit xs (slice_index entries n)) place
 
 pub push_more : (xs : List Bool) (entries : List ℕ) (n count : ℕ) (old mid new : List ℕ) (label : ℕ) → AppendsGathered xs entries n count old mid → IsGathered xs entries (n * count) count label → new ≡ mid ++ label ∷ []
     → AppendsGathered xs entries (n + 1) count old new

@@ -1,5 +1,5 @@
 -- What the tables of the receiving side hold.
-use Rattle.std.specs.Prelude.{◌≡◌, ℕ, ◌+◌, ◌*◌, ◌/◌, ◌%◌, ◌<◌, ◌≤◌, Bool, true, false, if◌then◌else◌, List, ◌++◌, ◌∷◌, [], length, Option, Some, None, slice_index, slice_index_or, ⊤}
+use Rattle.std.specs.Prelude.{◌≡◌, ℕ, ◌+◌, ◌*◌, ◌/◌, ◌%◌, ◌<◌, ◌≤◌, Bool, if◌then◌else◌, List, ◌++◌, ◌∷◌, [], length, Option, Some, None, slice_index, slice_index_or, ⊤}
 use Rattle.mode_set.specs.StreamTable.{payload, label_bits, carriers, need, rate}
 use Rattle.mode_set.specs.declared.modes.Mode.{Mode}
 use Rattle.mode_set.specs.declared.modes.Shape.{Shape}
@@ -13,7 +13,7 @@ use Rattle.code_paths.specs.declared.costs.CostPair.{CostPair}
 use Rattle.puncture.specs.SentBits.{X, Y}
 use Rattle.puncture.specs.Steps.{number_of}
 use Rattle.bit_interleave.specs.Place.{place_in_label, word_of_bit}
-use Rattle.symbol_interleave.specs.Carried.{place_of_word}
+use Rattle.symbol_interleave.specs.Carried.{is_odd, place_of_word}
 use Rattle.pilots.specs.Carriers.{payload_carriers}
 use Rattle.qam_map.specs.declared.cell.Cell.{Cell}
 use Rattle.soft_metric.specs.Squares.{IsSmallPair}
@@ -26,18 +26,18 @@ use Rattle.inner_chain.specs.Tables.{most_steps}
 abbrev pub most_places : Mode → ℕ
 most_places m = 6 * payload m
 
--- the number of the costs of a coded bit among those of all places of all labels, the number behind the most for an unsent bit
-abbrev pub entry_at : Settings → Bool → Stream → Option ℕ → ℕ
-entry_at s odd σ None = most_places s.mode
-entry_at s odd σ (Some d) = place_in_label s.shape s.hierarchy σ d * payload s.mode + place_of_word s.mode odd (word_of_bit s.shape s.hierarchy σ d)
+-- the number of the costs of a coded bit among those of all places of all words, the number behind the most for an unsent bit
+abbrev pub entry_at : Settings → Stream → Option ℕ → ℕ
+entry_at s σ None = most_places s.mode
+entry_at s σ (Some d) = place_in_label s.shape s.hierarchy σ d * payload s.mode + word_of_bit s.shape s.hierarchy σ d
 
 abbrev pub IsSmallEntry : Settings → ℕ → Type 0
 IsSmallEntry s n = n ≤ most_places s.mode
 
--- the place of a coded bit is one of the symbol's
-abbrev pub IsPlaced : Settings → Bool → Stream → Option ℕ → Type 0
-IsPlaced s odd σ None = ⊤
-IsPlaced s odd σ (Some d) = (place_of_word s.mode odd (word_of_bit s.shape s.hierarchy σ d) < payload s.mode) × (place_in_label s.shape s.hierarchy σ d < label_bits s.shape)
+-- the word and the place of a coded bit are among the symbol's
+abbrev pub IsPlaced : Settings → Stream → Option ℕ → Type 0
+IsPlaced s σ None = ⊤
+IsPlaced s σ (Some d) = (word_of_bit s.shape s.hierarchy σ d < payload s.mode) × (place_in_label s.shape s.hierarchy σ d < label_bits s.shape)
 
 abbrev pub count_of : Bool → ℕ
 count_of b = if b then 1 else 0
@@ -47,35 +47,39 @@ abbrev pub second : Bool → ℕ → ℕ
 second x_goes n = if x_goes then n + 1 else n
 
 -- the entries of the X and the Y of the first n steps
-pub record AreCostEntries (s : Settings) (odd : Bool) (σ : Stream) (n : ℕ) (entries : List ℕ) : Type 0 where
+pub record AreCostEntries (s : Settings) (σ : Stream) (n : ℕ) (entries : List ℕ) : Type 0 where
   pub long : length entries ≡ 2 * n
-  pub x : (t : ℕ) → t < n → slice_index entries (2 * t) ≡ entry_at s odd σ (number_of (rate s σ) X t)
-  pub y : (t : ℕ) → t < n → slice_index entries (2 * t + 1) ≡ entry_at s odd σ (number_of (rate s σ) Y t)
-  pub x_placed : (t : ℕ) → t < n → IsPlaced s odd σ (number_of (rate s σ) X t)
-  pub y_placed : (t : ℕ) → t < n → IsPlaced s odd σ (number_of (rate s σ) Y t)
+  pub x : (t : ℕ) → t < n → slice_index entries (2 * t) ≡ entry_at s σ (number_of (rate s σ) X t)
+  pub y : (t : ℕ) → t < n → slice_index entries (2 * t + 1) ≡ entry_at s σ (number_of (rate s σ) Y t)
+  pub x_placed : (t : ℕ) → t < n → IsPlaced s σ (number_of (rate s σ) X t)
+  pub y_placed : (t : ℕ) → t < n → IsPlaced s σ (number_of (rate s σ) Y t)
   pub small : (k : ℕ) → k < length entries → IsSmallEntry s (slice_index entries k)
 
--- the payload carriers of the symbols 0 to 3
+-- the carrier of a word in symbol l
+abbrev pub carrier_of_word : Mode → ℕ → ℕ → ℕ
+carrier_of_word m l w = slice_index (payload_carriers m l) (place_of_word m (is_odd l) w)
+
+-- the carriers of the words of the symbols 0 to 3, one symbol after another: pilots and parity repeat after four symbols
 pub record AreCarriers (m : Mode) (n : ℕ) (list : List ℕ) : Type 0 where
   pub long : length list ≡ n
-  pub at : (k : ℕ) → k < n → slice_index list k ≡ slice_index (payload_carriers m (k / payload m)) (k % payload m)
+  pub at : (k : ℕ) → k < n → slice_index list k ≡ carrier_of_word m (k / payload m) (k % payload m)
   pub within : (k : ℕ) → k < n → slice_index list k < carriers m
 
 -- a list is continued by the entries of an X and a Y with these numbers
-pub record AppendsTwo (s : Settings) (odd : Bool) (σ : Stream) (x y : Option ℕ) (old new : List ℕ) : Type 0 where
-  pub is : new ≡ old ++ entry_at s odd σ x ∷ entry_at s odd σ y ∷ []
-  pub x_small : IsSmallEntry s (entry_at s odd σ x)
-  pub y_small : IsSmallEntry s (entry_at s odd σ y)
-  pub x_placed : IsPlaced s odd σ x
-  pub y_placed : IsPlaced s odd σ y
+pub record AppendsTwo (s : Settings) (σ : Stream) (x y : Option ℕ) (old new : List ℕ) : Type 0 where
+  pub is : new ≡ old ++ entry_at s σ x ∷ entry_at s σ y ∷ []
+  pub x_small : IsSmallEntry s (entry_at s σ x)
+  pub y_small : IsSmallEntry s (entry_at s σ y)
+  pub x_placed : IsPlaced s σ x
+  pub y_placed : IsPlaced s σ y
 
 -- pair n of a list of cost pairs
 abbrev pub pair_at : List (ℕ × ℕ) → ℕ → ℕ × ℕ
 pair_at costs n = slice_index_or costs n (0, 0)
 
--- the weighted costs of all places of the labels on all payload places of symbol l: those of place 0 of the labels first
+-- the weighted costs of all places of all words of symbol l: those of place 0 first
 pub record AreCosts (s : Settings) (cells : List Cell) (weights : List ℕ) (l : ℕ) (costs : List (ℕ × ℕ)) : Type 0 where
-  pub at : (q e : ℕ) → q < payload s.mode → e < label_bits s.shape → pair_at costs (e * payload s.mode + q) ≡ weighted_costs_on s cells weights l q e
+  pub at : (w e : ℕ) → w < payload s.mode → e < label_bits s.shape → pair_at costs (e * payload s.mode + w) ≡ weighted_costs_on s cells weights l (place_of_word s.mode (is_odd l) w) e
 
 -- the room for those of any labels: its last pair is nothing, and no cost is above 4095
 pub record IsRoom (m : Mode) (costs : List (ℕ × ℕ)) : Type 0 where
@@ -88,20 +92,20 @@ pub record AreWeights (m : Mode) (weights : List ℕ) : Type 0 where
   pub long : length weights ≡ carriers m
   pub small : (k : ℕ) → k < carriers m → slice_index weights k ≤ full_weight
 
--- the cells on the first n payload places of symbol l
-pub record ArePayloadCells (m : Mode) (cells : List Cell) (l n : ℕ) (list : List Cell) : Type 0 where
+-- the cells of the first n words of symbol l
+pub record AreWordCells (m : Mode) (cells : List Cell) (l n : ℕ) (list : List Cell) : Type 0 where
   pub long : length list ≡ payload m
-  pub at : (q : ℕ) (d : Cell) → q < n → slice_index_or list q d ≡ cell_of cells (slice_index (payload_carriers m l) q)
+  pub at : (q : ℕ) (d : Cell) → q < n → slice_index_or list q d ≡ cell_of cells (carrier_of_word m l q)
 
--- the room for the weights of payload places, none above 15
+-- the room for the weights of words, none above 15
 pub record IsWeightRoom (m : Mode) (list : List ℕ) : Type 0 where
   pub long : length list ≡ payload m
   pub small : (q : ℕ) → q < payload m → slice_index list q ≤ full_weight
 
--- the weights on the first n payload places of symbol l
-pub record ArePayloadWeights (m : Mode) (weights : List ℕ) (l n : ℕ) (list : List ℕ) : Type 0 where
+-- the weights of the first n words of symbol l
+pub record AreWordWeights (m : Mode) (weights : List ℕ) (l n : ℕ) (list : List ℕ) : Type 0 where
   pub room : IsWeightRoom m list
-  pub at : (q : ℕ) → q < n → slice_index list q ≡ weight_of weights (slice_index (payload_carriers m l) q)
+  pub at : (q : ℕ) → q < n → slice_index list q ≡ weight_of weights (carrier_of_word m l q)
 
 -- a list is continued by cost pairs whose X and Y are the costs at two entries each
 pub record AppendsRead (costs : List (ℕ × ℕ)) (entries : List ℕ) (n : ℕ) (old new : List CostPair) : Type 0 where
@@ -112,23 +116,38 @@ pub record AppendsRead (costs : List (ℕ × ℕ)) (entries : List ℕ) (n : ℕ
   pub is : new ≡ old ++ pairs
 
 -- a table of the entries of all steps of a stream in a symbol, in room for the most steps
-pub record IsCostTable (s : Settings) (odd : Bool) (σ : Stream) (entries : List ℕ) (room : ℕ) : Type 0 where
-  pub are : AreCostEntries s odd σ (need s σ) entries
+pub record IsCostTable (s : Settings) (σ : Stream) (entries : List ℕ) (room : ℕ) : Type 0 where
+  pub are : AreCostEntries s σ (need s σ) entries
   pub spare : 2 * most_steps s.mode ≤ room
 
--- the tables of both streams, in the symbols of even and of odd number
-pub record AreCostTables (s : Settings) (metric : Shape × Hierarchy) (hp_even hp_odd lp_even lp_odd : List ℕ) (room1 room2 room3 room4 : ℕ) : Type 0 where
+-- the metric of these parameters, and the tables of both streams
+pub record AreCostTables (s : Settings) (metric : Shape × Hierarchy) (hp lp : List ℕ) (hp_room lp_room : ℕ) : Type 0 where
   pub metric_is : metric ≡ (s.shape, s.hierarchy)
-  pub hp_in_even : IsCostTable s false Hp hp_even room1
-  pub hp_in_odd : IsCostTable s true Hp hp_odd room2
-  pub lp_in_even : IsCostTable s false Lp lp_even room3
-  pub lp_in_odd : IsCostTable s true Lp lp_odd room4
+  pub of_hp : IsCostTable s Hp hp hp_room
+  pub of_lp : IsCostTable s Lp lp lp_room
 
--- what the receiving side of a mode keeps: its tables are those of the last symbol's parameters
-pub record IsRx (m : Mode) (s : Settings) (latest : Entry) (metric : Shape × Hierarchy) (carrier_table hp_even hp_odd lp_even lp_odd : List ℕ) (room1 room2 room3 room4 : ℕ) (costs : List (ℕ × ℕ)) (payload_cells : List Cell) (payload_weights : List ℕ) : Type 0 where
-  pub mode : s.mode ≡ m
-  pub are_carriers : AreCarriers s.mode (4 * payload s.mode) carrier_table
-  pub tables : AreCostTables (with_entry s latest) metric hp_even hp_odd lp_even lp_odd room1 room2 room3 room4
-  pub room : IsRoom s.mode costs
-  pub cells_long : length payload_cells ≡ payload s.mode
-  pub weight_room : IsWeightRoom s.mode payload_weights
+-- what is seen of the tables: the settings of the transmission, and the parameters of the last symbol
+pub record TablesState : Type 0 where
+  pub settings : Settings
+  pub latest : Entry
+
+-- the settings with those parameters
+abbrev pub settings_of : TablesState → Settings
+settings_of t = with_entry t.settings t.latest
+
+-- what is seen of the costs of a symbol
+pub record CostsState : Type 0 where
+  pub mode : Mode
+  pub costs : List (ℕ × ℕ)
+
+-- what they are found from: the carriers of the words, and room
+pub record IsCostRoom (m : Mode) (carrier_table : List ℕ) (cells : List Cell) (weights : List ℕ) (costs : List (ℕ × ℕ)) : Type 0 where
+  pub are_carriers : AreCarriers m (4 * payload m) carrier_table
+  pub cells_long : length cells ≡ payload m
+  pub weight_room : IsWeightRoom m weights
+  pub room : IsRoom m costs
+
+-- what the receiving side of a mode keeps
+pub record IsRx (m : Mode) (tables : TablesState) (costs : CostsState) : Type 0 where
+  pub table_mode : tables.settings.mode ≡ m
+  pub cost_mode : costs.mode ≡ m

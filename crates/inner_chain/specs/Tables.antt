@@ -1,6 +1,7 @@
 -- What the tables and the intermediate lists of the code hold.
 use Rattle.std.specs.Prelude.{◌≡◌, ℕ, ◌+◌, ◌-◌, ◌*◌, ◌/◌, ◌%◌, ◌^◌, ◌<◌, ◌≤◌, Bool, true, false, List, [], ◌∷◌, ◌++◌, length, get_or, slice_index, take, drop}
-use Rattle.spec_words.specs.Bits.{is_set}
+use Rattle.spec_words.specs.Bits.{is_set, spelled}
+use Rattle.code_paths.specs.Paths.{parity_x, parity_y}
 use Rattle.mode_set.specs.StreamTable.{payload, label_bits, need, rate}
 use Rattle.mode_set.specs.declared.modes.Mode.{Mode}
 use Rattle.mode_set.specs.declared.modes.Stream.{Stream}
@@ -21,9 +22,9 @@ read_bit xs n = get_or xs n false
 pub record AreParities (path : ℕ → Bool) (first count : ℕ) (xs : List Bool) : Type 0 where
   pub at : (t k : ℕ) → t < count → k < 2 → read_bit xs (2 * (first + t) + k) ≡ parity_at k path t
 
--- X and Y of four steps: the X are the upper four bits of the number, the Y the lower four, those of the first step the highest
+-- X and Y of the four steps whose inputs are the lowest ten bits of a number, the oldest the most significant
 abbrev pub row_of : ℕ → List Bool
-row_of n = is_set n 7 ∷ is_set n 3 ∷ is_set n 6 ∷ is_set n 2 ∷ is_set n 5 ∷ is_set n 1 ∷ is_set n 4 ∷ is_set n 0 ∷ []
+row_of n = let p = spelled 10 n in parity_x p ∷ parity_y p ∷ parity_x (drop 1 p) ∷ parity_y (drop 1 p) ∷ parity_x (drop 2 p) ∷ parity_y (drop 2 p) ∷ parity_x (drop 3 p) ∷ parity_y (drop 3 p) ∷ []
 
 -- the rows of the numbers below `count`
 pub record AreRows (rows : List (List Bool)) (count : ℕ) : Type 0 where
@@ -93,7 +94,7 @@ pub record IsTx (m : Mode) (s : Settings) (latest : Entry) (hp lp : List Bool) (
   pub lp_long : length lp ≡ 6
   pub even_table : IsLabelTable (with_entry s latest) false even even_room
   pub odd_table : IsLabelTable (with_entry s latest) true odd odd_room
-  pub are_rows : AreRows rows 256
+  pub are_rows : AreRows rows 1024
   pub room : 2 * most_steps s.mode ≤ length parities
 
 -- X and Y of the steps of a symbol of both paths, HP's first

@@ -1,20 +1,29 @@
 // Labels out of the parities of all steps.
-ghost use Rattle.std.specs.Prelude.{◌≡◌, ◌+◌, ◌*◌, ◌<◌, ◌≤◌, ◌^◌, ℕ, length, vec_capacity, vec_len};
+ghost use Rattle.std.specs.Prelude.{◌≡◌, ◌+◌, ◌*◌, ◌<◌, ◌≤◌, ◌^◌, ℕ, length, slice_index, vec_capacity, vec_len};
 ghost use Rattle.spec_words.specs.Bits.{is_set};
-ghost use Rattle.inner_chain.specs.Tables.{AppendsGathered, AreWithin, IsGathered};
+ghost use Rattle.inner_chain.specs.Tables.{AppendsGathered, AreWithin, IsGathered, read_bit};
 
-// The label below this one with a bit put above its `place` bits.
-fn with_bit(label: u8, place: u8, bit: bool) -> u8
-    requires place { place < 6 }
-    requires label { label < 2 ^ place }
-    ensures small { result < 2 ^ (place + 1) }
-    ensures below { (e : ℕ) → e < place → is_set result e ≡ is_set label e }
-    ensures here { is_set result place ≡ bit }
+// A label moved up by one place, and a bit in the place that becomes free.
+fn with_bit(label: u8, bit: bool) -> u8
+    requires { label < 128 }
+    ensures small { (n : ℕ) → label < 2 ^ n → result < 2 ^ (n + 1) }
+    ensures above { (e : ℕ) → is_set result (e + 1) ≡ is_set label e }
+    ensures here { is_set result 0 ≡ bit }
 {
-    label + ((bit as u8) << place)
+    2 * label + bit as u8
 }
 
-// The label whose bits are those that `COUNT` entries name.
+// The bit that an entry names.
+fn entered(bits: &[bool], entries: &[u16], place: usize) -> bool
+    requires place { place < length entries.now }
+    requires entries { AreWithin entries.now (length bits.now) }
+    ensures { result ≡ read_bit bits.now (slice_index entries.now place) }
+{
+    bits[entries[place] as usize]
+}
+
+// The label whose bits are those that `COUNT` entries name. The highest bit comes first, so that each takes one shift
+// by one place.
 fn gathered<const COUNT: u8>(bits: &[bool], entries: &[u16], first: usize) -> u8
     requires count { COUNT ≤ 6 }
     requires room { first + COUNT ≤ length entries.now }
@@ -23,7 +32,10 @@ fn gathered<const COUNT: u8>(bits: &[bool], entries: &[u16], first: usize) -> u8
 {
     let mut label = 0;
     for e in 0..COUNT {
-        label = with_bit(label, e, bits[entries[first + e as usize] as usize]);
+        label = with_bit(
+            label,
+            entered(bits, entries, first + (COUNT - 1 - e) as usize),
+        );
     }
     label
 }

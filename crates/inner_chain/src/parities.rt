@@ -1,7 +1,8 @@
 // The parities of the input bits of a symbol.
-ghost use Rattle.std.specs.Prelude.{◌≡◌, ◌<◌, ◌≤◌, ◌==◌, ℕ, Bool, List, IfOk, if◌then◌else◌, length, drop, take, ◌+◌, ◌-◌, ◌*◌};
+ghost use Rattle.std.specs.Prelude.{◌≡◌, ◌<◌, ◌≤◌, ℕ, Bool, List, IfOk, length, drop, take, ◌++◌, ◌+◌, ◌*◌, ◌/◌, ◌%◌};
+ghost use Rattle.bit_pack.specs.Queue.{bits_of_bytes};
 ghost use Rattle.puncture.specs.SentBits.{bits_from};
-ghost use Rattle.spec_words.specs.Bits.{bit, is_set};
+ghost use Rattle.spec_words.specs.Bits.{bit, is_set, xor};
 ghost use Rattle.inner_chain.specs.Tables.{AreParities, AreRows, IsEncoded, row_of};
 
 use bit_pack::WaitBuf;
@@ -10,35 +11,44 @@ use std::alloc::{AllocError, Global};
 
 // Bit `place` of a number, bit 0 being the lowest.
 fn bit_of(number: u16, place: u8) -> bool
-    requires { place < 8 }
+    requires { place < 10 }
     ensures { result ≡ is_set number place }
 {
     (number >> place) & 1 == 1
 }
 
-// X and Y of four steps in order. The X are the upper four bits of the number, the Y the lower four, those of the first
-// step the highest.
-fn row(number: u16) -> [bool; 8]
-    ensures { result ≡ row_of number }
+// X and Y of a step, of whose seven inputs the newest is bit `place`.
+fn taps(inputs: u16, place: u8) -> (bool, bool)
+    requires { place < 4 }
+    ensures x { result.0 ≡ xor (is_set inputs place) (xor (is_set inputs (place + 1)) (xor (is_set inputs (place + 2)) (xor (is_set inputs (place + 3)) (is_set inputs (place + 6))))) }
+    ensures y { result.1 ≡ xor (is_set inputs place) (xor (is_set inputs (place + 2)) (xor (is_set inputs (place + 3)) (xor (is_set inputs (place + 5)) (is_set inputs (place + 6))))) }
 {
+    let [newest, third] = [bit_of(inputs, place), bit_of(inputs, place + 2)];
+    let [fourth, oldest] = [bit_of(inputs, place + 3), bit_of(inputs, place + 6)];
+    let x = newest ^ (bit_of(inputs, place + 1) ^ (third ^ (fourth ^ oldest)));
+    let y = newest ^ (third ^ (fourth ^ (bit_of(inputs, place + 5) ^ oldest)));
+    (x, y)
+}
+
+// X and Y of the four steps whose inputs are the lowest ten bits of a number, the oldest the most significant.
+fn row(inputs: u16) -> [bool; 8]
+    ensures { result ≡ row_of inputs }
+{
+    let first = taps(inputs, 3);
+    let second = taps(inputs, 2);
+    let third = taps(inputs, 1);
+    let fourth = taps(inputs, 0);
     [
-        bit_of(number, 7),
-        bit_of(number, 3),
-        bit_of(number, 6),
-        bit_of(number, 2),
-        bit_of(number, 5),
-        bit_of(number, 1),
-        bit_of(number, 4),
-        bit_of(number, 0),
+        first.0, first.1, second.0, second.1, third.0, third.1, fourth.0, fourth.1,
     ]
 }
 
-// The rows of all numbers of eight bits.
+// The rows of all numbers of ten bits.
 pub(crate) fn rows(alloc: Global) -> Result<Vec<[bool; 8]>, AllocError>
-    ensures { IfOk result (λ list. AreRows list.items 256) }
+    ensures { IfOk result (λ list. AreRows list.items 1024) }
 {
-    let mut list = Vec::with_capacity(alloc, 256)?;
-    for number in 0..256u16 {
+    let mut list = Vec::with_capacity(alloc, 1024)?;
+    for number in 0..1024u16 {
         list.push(row(number))?;
     }
     Ok(list)
@@ -53,15 +63,16 @@ fn write_four(row: &[bool; 8], to: &mut [bool], at: usize)
     to[at..at + 8].copy_from_slice(row);
 }
 
-// Writes X and Y of eight steps, of which those of the first are the highest bits.
-fn write_eight(rows: &[[bool; 8]], x: u8, y: u8, to: &mut [bool], at: usize)
-    requires rows { AreRows rows.now 256 }
+// Writes X and Y of the eight steps whose inputs are the lowest 14 bits of a number.
+fn write_eight(rows: &[[bool; 8]], inputs: u16, to: &mut [bool], at: usize)
+    requires rows { AreRows rows.now 1024 }
     requires room { at + 16 ≤ length to.old }
-    ensures here { (j k : ℕ) → j < 8 → k < 2 → bit to.new (at + 2 * j + k) ≡ is_set (if k == 0 then x else y) (7 - j) }
+    ensures first { (i : ℕ) → i < 8 → bit to.new (at + i) ≡ bit (row_of (inputs / 16 % 1024)) i }
+    ensures second { (i : ℕ) → i < 8 → bit to.new (at + 8 + i) ≡ bit (row_of (inputs % 1024)) i }
     ensures before { (k : ℕ) → k < at → bit to.new k ≡ bit to.old k }
 {
-    write_four(&rows[(x / 16 * 16 + y / 16) as usize], to, at);
-    write_four(&rows[(x % 16 * 16 + y % 16) as usize], to, at + 8);
+    write_four(&rows[(inputs / 16 % 1024) as usize], to, at);
+    write_four(&rows[(inputs % 1024) as usize], to, at + 8);
 }
 
 // Takes eight bits, and writes their parities behind those of the `done` steps before.
@@ -73,13 +84,52 @@ fn encode_byte(
     first: usize,
     done: usize,
 )
-    requires rows { AreRows rows.now 256 }
+    requires rows { AreRows rows.now 1024 }
     requires enough { 8 ≤ length waiting.old }
     requires room { 2 * (first + done + 8) ≤ length to.old }
     ensures goes { (w e x : List Bool) (n : ℕ) → done + 8 ≤ n → IsEncoded w e x first n done waiting.old encoder.old to.old → IsEncoded w e x first n (done + 8) waiting.new encoder.new to.new }
 {
-    let (x, y) = encoder.step_byte(waiting.take_byte().unwrap());
-    write_eight(rows, x, y, to, 2 * (first + done));
+    let inputs = encoder.push_byte(waiting.take_byte().unwrap());
+    write_eight(rows, inputs, to, 2 * (first + done));
+}
+
+// Writes the parities of the bits of bytes behind those of the `done` steps before.
+fn encode_bytes(
+    rows: &[[bool; 8]],
+    bytes: &[u8],
+    encoder: &mut Encoder,
+    to: &mut [bool],
+    first: usize,
+    done: usize,
+)
+    requires rows { AreRows rows.now 1024 }
+    requires room { 2 * (first + done + 8 * length bytes.now) ≤ length to.old }
+    ensures goes { (w e x rest : List Bool) (n : ℕ) → done + 8 * length bytes.now ≤ n → IsEncoded w e x first n done (bits_of_bytes bytes.now ++ rest) encoder.old to.old
+        → IsEncoded w e x first n (done + 8 * length bytes.now) rest encoder.new to.new }
+{
+    for index in 0..bytes.len() {
+        let inputs = encoder.push_byte(bytes[index]);
+        write_eight(rows, inputs, to, 2 * (first + done + 8 * index));
+    }
+}
+
+// Takes as many bits as a chunk has, and writes their parities behind those of the `done` steps before.
+fn encode_chunk(
+    rows: &[[bool; 8]],
+    waiting: &mut WaitBuf,
+    encoder: &mut Encoder,
+    to: &mut [bool],
+    first: usize,
+    done: usize,
+)
+    requires rows { AreRows rows.now 1024 }
+    requires enough { 512 ≤ length waiting.old }
+    requires room { 2 * (first + done + 512) ≤ length to.old }
+    ensures goes { (w e x : List Bool) (n : ℕ) → done + 512 ≤ n → IsEncoded w e x first n done waiting.old encoder.old to.old → IsEncoded w e x first n (done + 512) waiting.new encoder.new to.new }
+{
+    let mut bytes = [0; 64];
+    waiting.take_bytes(&mut bytes);
+    encode_bytes(rows, &bytes, encoder, to, first, done);
 }
 
 // Takes a bit, and writes its parities behind those of the `done` steps before.
@@ -108,7 +158,7 @@ pub(crate) fn encode(
     first: usize,
     count: usize,
 )
-    requires rows { AreRows rows.now 256 }
+    requires rows { AreRows rows.now 1024 }
     requires enough { count ≤ length waiting.old }
     requires room { 2 * (first + count) ≤ length to.old }
     ensures taken { waiting.new ≡ drop count waiting.old }
@@ -119,7 +169,10 @@ pub(crate) fn encode(
 {
     let mut done = 0;
     while done < count {
-        if count - done >= 8 {
+        if count - done >= 512 {
+            encode_chunk(rows, waiting, encoder, to, first, done);
+            done += 512;
+        } else if count - done >= 8 {
             encode_byte(rows, waiting, encoder, to, first, done);
             done += 8;
         } else {

@@ -23,7 +23,7 @@ pub(crate) fn code(
     lp_encoder: &mut Encoder,
     parities: &mut [bool],
 )
-    requires rows { AreRows rows.now 256 }
+    requires rows { AreRows rows.now 1024 }
     requires hp { need settings.now Hp ≤ length hp.old }
     requires lp { need settings.now Lp ≤ length lp.old }
     requires room { 2 * most_steps settings.now.mode ≤ length parities.old }

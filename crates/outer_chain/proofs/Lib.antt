@@ -1,4 +1,3 @@
-pub mod Interleaved
 pub mod Sender
 pub mod NearWords
 pub mod BurstPlaces

@@ -1,14 +1,12 @@
 // The sender of the outer code.
 
 ghost use Rattle.std.specs.Prelude.{◌≡◌, ◌<◌, ◌+◌, ◌*◌, ℕ, List, [], ◌∷◌, ◌++◌, length, IfOk};
-ghost use Rattle.forney.specs.Values.{values, stream_of};
-ghost use Rattle.forney.specs.Interleaving.{interleaved};
-ghost use Rattle.forney.specs.Delays.{Interleaves};
+ghost use Rattle.forney.specs.Values.{values};
 ghost use Rattle.outer_chain.specs.Sent.{outer_byte, sent_bytes};
 ghost use Rattle.outer_chain.specs.Sending.{Sends};
 
 use dispersal::Dispersal;
-use forney::Interleaver;
+use forney::WordInterleaver;
 use rs204::encode;
 use std::alloc::{AllocError, Global};
 use std::marker::Model;
@@ -18,7 +16,7 @@ use ts_packet::Packet;
 #[derive(Drop)]
 pub struct OuterTx {
     dispersal: Dispersal,
-    interleaver: Interleaver,
+    interleaver: WordInterleaver,
 }
 
 impl Model for OuterTx {
@@ -29,16 +27,6 @@ impl Model for OuterTx {
     ghost view = { λ t. record { delays = t.interleaver; phase = t.dispersal } };
 }
 
-// Puts interleaved bytes in the place of coded ones.
-fn interleave(interleaver: &mut Interleaver, word: &mut [u8])
-    ensures given { (coded : List ℕ) → Interleaves interleaver.old coded → word.new ≡ values (interleaved (stream_of (coded ++ word.old))) (length coded) (length word.old) }
-    ensures stands { (coded : List ℕ) → Interleaves interleaver.old coded → Interleaves interleaver.new (coded ++ word.old) }
-{
-    for byte in word.iter_mut() {
-        *byte = interleaver.step(*byte);
-    }
-}
-
 impl OuterTx {
     /// A sender that has had no packet. The only error is want of memory.
     pub fn new(alloc: Global) -> Result<OuterTx, AllocError>
@@ -46,7 +34,7 @@ impl OuterTx {
     {
         Ok(OuterTx {
             dispersal: Dispersal::start(),
-            interleaver: Interleaver::new(alloc)?,
+            interleaver: WordInterleaver::new(alloc)?,
         })
     }
 
@@ -57,7 +45,7 @@ impl OuterTx {
         ensures next { (packets : List (List ℕ)) → Sends self.old packets → sent_bytes (packets ++ packet.now ∷ []) ≡ sent_bytes packets ++ result }
     {
         let mut word = encode(&self.dispersal.apply(packet));
-        interleave(&mut self.interleaver, &mut word);
+        self.interleaver.take(&mut word);
         word
     }
 }

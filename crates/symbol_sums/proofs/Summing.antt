@@ -1,11 +1,10 @@
 -- The sums of a symbol, one payload place more at a time.
-use Rattle.std.proofs.Common.{◌≡◌, ℕ, zero, suc, ◌+◌, ◌*◌, ◌/◌, ◌<◌, min, Bool, true, false, cond, not, ◌&&◌, List, [], ◌∷◌, ◌++◌, length, get_or, map, refl, sym, ap, ap₂, ◌∙◌, arith}
-use Rattle.std.specs.Prelude.{count_by, sum_by, nat_lt}
+use Rattle.std.proofs.Common.{◌≡◌, ℕ, zero, suc, ◌+◌, ◌*◌, ◌/◌, ◌<◌, ◌≤◌, min, Bool, true, false, cond, not, ◌&&◌, List, [], ◌∷◌, ◌++◌, length, get_or, map, refl, sym, ap, ap₂, ◌∙◌, arith}
+use Rattle.std.specs.Prelude.{count_by, nat_lt}
 use Rattle.std.specs.Bool.{beq}
 use Rattle.std.proofs.lemmas.Bool.{lt-ltb}
 use Rattle.std.proofs.lemmas.List.{map-append}
 use Rattle.spec_words.specs.Words.{numbers}
-use Rattle.spec_words.specs.Bits.{is_set}
 use Rattle.spec_words.proofs.Counting.{numbers_end}
 use Rattle.mode_set.specs.StreamTable.{payload, label_bits}
 use Rattle.mode_set.specs.declared.modes.Shape.{Shape}
@@ -19,40 +18,11 @@ use Rattle.qam_map.specs.declared.cell.Cell.{Cell}
 use Rattle.measure_report.specs.declared.sums.SymbolSums.{SymbolSums}
 use Rattle.symbol_sums.specs.Comparing.{Comparison, counts, carries, is_wrong, label_places, received, remade, power_of, squared_distance, symbol_sums, AlikeAreSummedAlike}
 use Rattle.symbol_sums.specs.Tables.{place_adds, plus, no_sums, AreLittle}
+use Rattle.symbol_sums.specs.Parts.{all, bits_at, wrong_at, power_at, error_at, cell_at, mute_at, sums_to, place_of, symbol_of}
 use Rattle.hard_decision.specs.Hard.{hard_bit}
 use Rattle.symbol_sums.proofs.Counting.{no_numbers, sum_more, sum_same, count_same}
 
 -- ---- the first n places
-
-abbrev all : ℕ → ℕ → ℕ → ℕ → ℕ → ℕ → ℕ → ℕ → SymbolSums
-all c m p e hb hw lb lw = record { cells = c; muted = m; power = p; error = e; hp = record { bits = hb; wrong = hw }; lp = record { bits = lb; wrong = lw } }
-
-abbrev bits_at : Comparison → Stream → ℕ → ℕ
-bits_at x σ q = cond (counts x q) (count_by (carries x σ) (label_places x)) 0
-
-abbrev wrong_at : Comparison → Stream → ℕ → ℕ
-wrong_at x σ q = cond (counts x q) (count_by (λ e. carries x σ e && is_wrong x q e) (label_places x)) 0
-
-abbrev power_at : Comparison → ℕ → ℕ
-power_at x q = cond (counts x q) (power_of (remade x q)) 0
-
-abbrev error_at : Comparison → ℕ → ℕ
-error_at x q = cond (counts x q) (squared_distance (received x q) (remade x q)) 0
-
-abbrev cell_at : Comparison → ℕ → ℕ
-cell_at x q = cond (counts x q) 1 0
-
-abbrev mute_at : Comparison → ℕ → ℕ
-mute_at x q = cond (not (counts x q)) 1 0
-
-abbrev over : (ℕ → ℕ) → ℕ → ℕ
-over f n = sum_by f (numbers n)
-
-abbrev pub sums_to : Comparison → ℕ → SymbolSums
-sums_to x n = all (over (cell_at x) n) (over (mute_at x) n) (over (power_at x) n) (over (error_at x) n) (over (bits_at x Hp) n) (over (wrong_at x Hp) n) (over (bits_at x Lp) n) (over (wrong_at x Lp) n)
-
-abbrev pub place_of : Comparison → ℕ → SymbolSums
-place_of x q = all (cell_at x q) (mute_at x q) (power_at x q) (error_at x q) (bits_at x Hp q) (wrong_at x Hp q) (bits_at x Lp q) (wrong_at x Lp q)
 
 all_same : (a b c d e f g h a1 b1 c1 d1 e1 f1 g1 h1 : ℕ) → a ≡ a1 → b ≡ b1 → c ≡ c1 → d ≡ d1 → e ≡ e1 → f ≡ f1 → g ≡ g1 → h ≡ h1 → all a b c d e f g h ≡ all a1 b1 c1 d1 e1 f1 g1 h1
 all_same a b c d e f g h a1 b1 c1 d1 e1 f1 g1 h1 p q r s t u v w = cc
@@ -69,9 +39,6 @@ sums_more x n sums place es ep =
     (sum_more (bits_at x Hp) n) (sum_more (wrong_at x Hp) n) (sum_more (bits_at x Lp) n) (sum_more (wrong_at x Lp) n))
 
 -- ---- one place
-
-abbrev pub symbol_of : Settings → List Cell → List ℕ → ℕ → List ℕ → Comparison
-symbol_of s cells weights l labels = record { settings = s; cells = cells; weights = weights; symbol = l; labels = λ q. is_set (get_or labels q 0) }
 
 abbrev place_if : Comparison → ℕ → Bool → SymbolSums
 place_if x q b = all (cond b 1 0) (cond (not b) 1 0) (cond b (power_of (remade x q)) 0) (cond b (squared_distance (received x q) (remade x q)) 0)
@@ -116,6 +83,16 @@ little_more a b n x y = record {
   error = omega (arith, x.error, y.error);
   hp = (omega (arith, x.hp.0, y.hp.0), omega (arith, x.hp.1, y.hp.1));
   lp = (omega (arith, x.lp.0, y.lp.0), omega (arith, x.lp.1, y.lp.1));
+}
+
+pub little_up : (a : SymbolSums) (m n : ℕ) → AreLittle a m → m ≤ n → AreLittle a n
+little_up a m n x l = record {
+  cells = omega (arith, x.cells, l);
+  muted = omega (arith, x.muted, l);
+  power = omega (arith, x.power, l);
+  error = omega (arith, x.error, l);
+  hp = (omega (arith, x.hp.0, l), omega (arith, x.hp.1, l));
+  lp = (omega (arith, x.lp.0, l), omega (arith, x.lp.1, l));
 }
 
 -- ---- alike symbols

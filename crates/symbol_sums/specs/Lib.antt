@@ -1,2 +1,4 @@
 pub mod Comparing
 pub mod Tables
+pub mod Quick
+pub mod Parts

@@ -6,7 +6,11 @@
 
 pub mod laws;
 mod place;
+pub mod plain;
+mod sent;
+mod sums;
 mod symbol;
+mod table;
 mod tables;
 
 pub use symbol::sum_symbol;

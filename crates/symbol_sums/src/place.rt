@@ -39,14 +39,14 @@ fn squared_gap(x: i16, y: i16) -> u64
     gap * gap
 }
 
-fn power(cell: Cell) -> u64
+pub(crate) fn power(cell: Cell) -> u64
     ensures is { result ≡ power_of cell }
     ensures few { result ≤ 2 ^ 31 }
 {
     squared(cell.re) + squared(cell.im)
 }
 
-fn error(received: Cell, point: Cell) -> u64
+pub(crate) fn error(received: Cell, point: Cell) -> u64
     ensures is { result ≡ squared_distance received point }
     ensures few { result ≤ 2 ^ 33 }
 {
@@ -97,7 +97,7 @@ fn are_same(one: Stream, other: Stream) -> bool
 }
 
 // How many of the places of a label carry the stream.
-fn bits_of(shape: Shape, hierarchy: Hierarchy, stream: Stream) -> u64
+pub(crate) fn bits_of(shape: Shape, hierarchy: Hierarchy, stream: Stream) -> u64
     ensures is { result ≡ bits_of_label shape hierarchy stream }
     ensures few { result ≤ 6 }
 {
@@ -200,7 +200,7 @@ impl Constellation {
     }
 
     // The sums of a place whose cell counts.
-    fn counted(&self, label: u8, received: Cell) -> SymbolSums
+    pub(crate) fn counted(&self, label: u8, received: Cell) -> SymbolSums
         requires { label < 2 ^ label_bits self.now.0 }
         ensures is { result ≡ counted_sums self.now.0 self.now.1 label received }
         ensures little { AreLittle result 1 }

@@ -1,54 +1,62 @@
 // The sums of a symbol.
-ghost use Rattle.std.specs.Prelude.{◌≡◌, ◌+◌, ◌<◌, ◌≤◌, ◌^◌, ℕ, length, slice_index};
+ghost use Rattle.std.specs.Prelude.{◌≡◌, ◌+◌, ◌*◌, ◌<◌, ◌≤◌, ◌^◌, ℕ, length, slice_index};
 ghost use Rattle.spec_words.specs.Bits.{is_set};
 ghost use Rattle.mode_set.specs.StreamTable.{carriers, label_bits, payload};
+ghost use Rattle.mode_set.specs.declared.settings.Settings.{Settings as AnySettings};
 ghost use Rattle.symbol_sums.specs.Comparing.{symbol_sums};
-ghost use Rattle.symbol_sums.specs.Tables.{AreLittle, no_sums, plus};
+ghost use Rattle.symbol_sums.specs.Parts.{sums_to, symbol_of};
+ghost use Rattle.symbol_sums.specs.Tables.{AreLittle};
 
-use crate::place::Constellation;
-use measure_report::{BitSums, SymbolSums};
-use mode_set::Settings;
+use crate::sums::nothing;
+use crate::table::PointTable;
+use measure_report::SymbolSums;
+use mode_set::{Mode, Settings};
 use pilots::carrier;
 use qam_map::Cell;
 
-fn nothing() -> SymbolSums
-    ensures is { result ≡ no_sums }
-    ensures little { AreLittle result 0 }
+// The payload carriers of the 2K mode are repeated after so many carriers ..
+const PERIOD: usize = 1704;
+
+// .. which have so many of them.
+const PAYLOAD: usize = 1512;
+
+// How often a symbol has the carriers of the 2K mode.
+fn periods(mode: Mode) -> usize
+    ensures payload { 1512 * result ≡ payload mode }
+    ensures carriers { 1704 * result + 1 ≡ carriers mode }
+    ensures few { result ≤ 4 }
 {
-    let none = BitSums { bits: 0, wrong: 0 };
-    SymbolSums {
-        cells: 0,
-        muted: 0,
-        power: 0,
-        error: 0,
-        hp: none,
-        lp: none,
+    match mode {
+        Mode::M2k => 1,
+        Mode::M8k => 4,
     }
 }
 
-fn add_bits(sums: &mut BitSums, more: &BitSums)
-    requires sums { sums.old.bits + sums.old.wrong ≤ 2 ^ 40 }
-    requires more { more.now.bits + more.now.wrong ≤ 2 ^ 40 }
-    ensures bits { sums.new.bits ≡ sums.old.bits + more.now.bits }
-    ensures wrong { sums.new.wrong ≡ sums.old.wrong + more.now.wrong }
+// Adds the payload places of one period.
+fn sum_period(
+    table: &PointTable,
+    l: u8,
+    period: usize,
+    labels: &[u8],
+    cells: &[Cell],
+    weights: &[u8],
+    sums: &mut SymbolSums,
+)
+    requires symbol { l < 68 }
+    requires period { period < 4 }
+    requires labels { 1512 * period + 1512 ≤ length labels.now }
+    requires small { (q : ℕ) → q < length labels.now → slice_index labels.now q < 2 ^ label_bits table.now.0 }
+    requires cells { 1704 * period + 1705 ≤ length cells.now }
+    requires weights { 1704 * period + 1705 ≤ length weights.now }
+    requires little { AreLittle sums.old (1512 * period) }
+    ensures little { AreLittle sums.new (1512 * period + 1512) }
+    ensures sums { (s : AnySettings) → table.now ≡ (s.shape, s.hierarchy) → 1512 * period + 1512 ≤ payload s.mode → sums.old ≡ sums_to (symbol_of s cells.now weights.now l labels.now) (1512 * period)
+        → sums.new ≡ sums_to (symbol_of s cells.now weights.now l labels.now) (1512 * period + 1512) }
 {
-    sums.bits += more.bits;
-    sums.wrong += more.wrong;
-}
-
-// Adds what one payload place adds.
-fn add(sums: &mut SymbolSums, place: &SymbolSums)
-    requires place { AreLittle place.now 1 }
-    requires few { AreLittle sums.old 65536 }
-    ensures is { sums.new ≡ plus sums.old place.now }
-    ensures little { (n : ℕ) → AreLittle sums.old n → AreLittle sums.new (n + 1) }
-{
-    sums.cells += place.cells;
-    sums.muted += place.muted;
-    sums.power += place.power;
-    sums.error += place.error;
-    add_bits(&mut sums.hp, &place.hp);
-    add_bits(&mut sums.lp, &place.lp);
+    for i in 0..PAYLOAD {
+        let k = PERIOD * period + carrier(Mode::M2k, l, i as u32) as usize;
+        table.add(labels[PAYLOAD * period + i], cells[k], weights[k], sums);
+    }
 }
 
 /// The sums of symbol `l` of a frame with these parameters, beside the labels of its payload places.
@@ -70,12 +78,10 @@ pub fn sum_symbol(
     ensures sums { result ≡ symbol_sums (record { settings = settings.now; cells = cells.now; weights = weights.now; symbol = l; labels = λ q. is_set (slice_index labels.now q) }) }
     ensures little { AreLittle result (payload settings.now.mode) }
 {
-    let constellation = Constellation::new(settings.shape, settings.hierarchy);
+    let table = PointTable::new(settings.shape, settings.hierarchy);
     let mut sums = nothing();
-    for q in 0..settings.mode.payload() {
-        let k = carrier(settings.mode, l, q) as usize;
-        let place = constellation.place(labels[q as usize], cells[k], weights[k]);
-        add(&mut sums, &place);
+    for period in 0..periods(settings.mode) {
+        sum_period(&table, l, period, labels, cells, weights, &mut sums);
     }
     sums
 }

@@ -1,5 +1,5 @@
 // Four thousand bytes through both interleavers, against the index formulas.
-use forney::{Deinterleaver, Interleaver};
+use forney::{Deinterleaver, Interleaver, WordInterleaver};
 use std::test::Fail;
 
 // Byte `place - delay` of the coded stream, and 0 before it.
@@ -24,6 +24,32 @@ fn four_thousand_bytes(rt: HostRuntime) -> Result<(), Fail> {
     for place in 0..4000usize {
         let got = steps(&mut interleaver, &mut deinterleaver, coded(place, 0));
         assert_eq!(rt; got, (coded(place, 204 * (place % 12)), coded(place, 2244)));
+    }
+    Ok(())
+}
+
+// Word `number` of a stream, a byte at a time and whole.
+fn words(bytes: &mut Interleaver, whole: &mut WordInterleaver, number: usize) -> ([u8; 204], [u8; 204]) {
+    let mut one = [0; 204];
+    for (place, byte) in one.iter_mut().enumerate() {
+        *byte = coded(204 * number + place, 0);
+    }
+    let mut other = one;
+    for byte in one.iter_mut() {
+        *byte = bytes.step(*byte);
+    }
+    whole.take(&mut other);
+    (one, other)
+}
+
+#[test]
+fn whole_words_are_as_their_bytes(rt: HostRuntime) -> Result<(), Fail> {
+    let mut bytes = Interleaver::new(rt.alloc())?;
+    let mut whole = WordInterleaver::new(rt.alloc())?;
+    for number in 0..30usize {
+        let (one, other) = words(&mut bytes, &mut whole, number);
+        assert_eq!(rt; one[203], coded(204 * number + 203, 204 * 11));
+        assert_eq!(rt; one.as_slice(), other.as_slice());
     }
     Ok(())
 }

@@ -13,6 +13,8 @@ mod aligned;
 #[cfg(test)]
 mod arithmetic;
 #[cfg(test)]
+mod both_bodies;
+#[cfg(test)]
 mod corrected_cells;
 #[cfg(test)]
 mod equalised;

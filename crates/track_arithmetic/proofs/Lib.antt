@@ -1,4 +1,5 @@
 pub mod Products
 pub mod Roots
 pub mod Halves
+pub mod Guesses
 pub mod Sorted

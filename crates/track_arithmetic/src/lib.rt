@@ -11,4 +11,4 @@ mod rounding;
 pub use complex::Complex;
 pub use directions::direction;
 pub use order::middle;
-pub use rounding::{near, shifted, value_near};
+pub use rounding::{near, shifted, value_by, value_near};

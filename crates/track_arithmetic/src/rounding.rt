@@ -1,5 +1,5 @@
 // Quotients, rounded to the nearest whole number.
-ghost use Rattle.std.specs.Prelude.{◌≡◌, ℕ, ◌-◌, ◌*◌, ◌^◌, ◌<◌, ◌≤◌, nat_abs, pos, ◌+ℤ◌};
+ghost use Rattle.std.specs.Prelude.{◌≡◌, ℕ, ◌-◌, ◌*◌, ◌^◌, ◌<◌, ◌≤◌, nat_abs, pos, ◌+ℤ◌, ◌-ℤ◌, ◌*ℤ◌};
 ghost use Rattle.track_arithmetic.specs.Laws.{IsWithin};
 ghost use Rattle.track_arithmetic.specs.Numbers.{floor, near, nearest, shifted, value_near};
 
@@ -61,4 +61,49 @@ pub fn value_near(x: i64, n: u64) -> i16
     ensures { result ≡ value_near x n }
 {
     nearest(x, n).clamp(-32768, 32767) as i16
+}
+
+// The product of a guess and a divisor.
+fn multiple(guess: i16, divisor: i64) -> i64
+    requires { nat_abs divisor ≤ 2 ^ 47 }
+    ensures is { result ≡ guess *ℤ divisor }
+    ensures small { nat_abs result ≤ 2 ^ 62 }
+{
+    i64::from(guess) * divisor
+}
+
+// Twice a dividend and once its divisor, of which the quotient by twice the divisor is rounded down.
+fn dividend(x: i64, n: i64) -> i64
+    requires x { nat_abs x ≤ 2 ^ 60 }
+    requires n { nat_abs n ≤ 2 ^ 46 }
+    ensures is { result ≡ pos 2 *ℤ x +ℤ n }
+    ensures small { nat_abs result ≤ 3 * 2 ^ 60 }
+{
+    2 * x + n
+}
+
+// What a guess at a quotient leaves of the dividend.
+fn rest_after(guess: i16, dividend: i64, divisor: i64) -> i64
+    requires dividend { nat_abs dividend ≤ 3 * 2 ^ 60 }
+    requires divisor { nat_abs divisor ≤ 2 ^ 47 }
+    ensures { result ≡ dividend -ℤ guess *ℤ divisor }
+{
+    dividend - multiple(guess, divisor)
+}
+
+/// The same, by a guess at it: a right one costs no division, if `n` is at most 2^46.
+pub fn value_by(guess: i16, x: i64, n: u64) -> i16
+    requires x { nat_abs x ≤ 2 ^ 60 }
+    requires some { 0 < n }
+    requires most { n ≤ 2 ^ 60 }
+    ensures { result ≡ value_near x n }
+{
+    if n <= 1 << 46 {
+        let divisor = 2 * n as i64;
+        let rest = rest_after(guess, dividend(x, n as i64), divisor);
+        if rest >= 0 && rest < divisor {
+            return guess;
+        }
+    }
+    value_near(x, n)
 }

@@ -3,3 +3,5 @@ pub mod Tables
 pub mod Bytes
 pub mod Centred
 pub mod Corrected
+pub mod Digits
+pub mod Placed

@@ -7,7 +7,7 @@ use Rattle.qam_map.specs.Cells.{cell_of}
 use Rattle.qam_map.specs.declared.cell.Cell.{Cell}
 use Rattle.tracking.specs.Comb.{points}
 use Rattle.tracking.specs.Correction.{corrected}
-use Rattle.tracking.specs.InFrequency.{centred}
+use Rattle.tracking.specs.InFrequency.{carrier_gain, centred}
 use Rattle.tracking.specs.Tracking.{bytes_of}
 use Rattle.track_arithmetic.specs.Laws.{IsWithin}
 use Rattle.track_arithmetic.specs.Numbers.{nothing}
@@ -28,3 +28,11 @@ corrected_bytes full gains cells weights n = flat_map (λ k. bytes_of (corrected
 -- the gains at the points of a symbol are turned so that the middle of the guard interval has no delay
 abbrev pub AreCentred : Guard → Mode → (ℕ → Complex) → List Complex → Type 0
 AreCentred guard mode gains list = (j : ℕ) → j < points mode → gain_of list j ≡ centred guard gains j
+
+-- the gains of the first n carriers are those of the definition
+abbrev pub AreGains : Guard → Mode → (ℕ → Complex) → ℕ → List Complex → Type 0
+AreGains guard mode gains n list = (k : ℕ) → k < n → gain_of list k ≡ carrier_gain guard mode gains k
+
+-- no part of the first n gains exceeds 2^25
+abbrev pub AreSmall : ℕ → List Complex → Type 0
+AreSmall n list = (k : ℕ) → k < n → IsWithin (2 ^ 25) (gain_of list k)

@@ -1,14 +1,16 @@
 // The correction of the cells of a symbol.
-ghost use Rattle.std.specs.Prelude.{◌≡◌, ℕ, ◌+◌, ◌*◌, ◌/◌, ◌++◌, ◌<◌, ◌≤◌, ◌^◌, length, min, nat_abs, vec_len, vec_capacity, pos, ◌+ℤ◌, ◌-ℤ◌, ◌*ℤ◌};
-ghost use Rattle.tracking.specs.Correction.{corrected, divided, shared_weight, weight_of};
+ghost use Rattle.std.specs.Prelude.{◌≡◌, ℕ, ◌+◌, ◌*◌, ◌++◌, ◌<◌, ◌≤◌, ◌^◌, length, nat_abs, vec_len, vec_capacity, pos, ◌+ℤ◌, ◌-ℤ◌, ◌*ℤ◌};
+ghost use Rattle.tracking.specs.Correction.{corrected, divided};
 ghost use Rattle.track_arithmetic.specs.Laws.{IsWithin};
 ghost use Rattle.track_arithmetic.specs.Numbers.{power, value_near};
 ghost use Rattle.track_cells.specs.Gains.{corrected_bytes, AreWithin};
 
+use crate::estimate;
+use crate::weights::{shared_weight, weight_of};
 use tracking::Tracked;
 use frame_build::{cell_bytes, push_five};
 use qam_map::Cell;
-use track_arithmetic::{Complex, value_near};
+use track_arithmetic::{Complex, value_by};
 
 // The product of a value of a cell and a part of a gain.
 fn product(value: i16, part: i64) -> i64
@@ -20,7 +22,7 @@ fn product(value: i16, part: i64) -> i64
 }
 
 // The part of a cell along the gain (u, v), times the gain's amplitude.
-fn along(re: i16, im: i16, u: i64, v: i64) -> i64
+pub(crate) fn along(re: i16, im: i16, u: i64, v: i64) -> i64
     requires u { nat_abs u ≤ 2 ^ 25 }
     requires v { nat_abs v ≤ 2 ^ 25 }
     ensures is { result ≡ re *ℤ u +ℤ im *ℤ v }
@@ -30,7 +32,7 @@ fn along(re: i16, im: i16, u: i64, v: i64) -> i64
 }
 
 // The part across it.
-fn across(re: i16, im: i16, u: i64, v: i64) -> i64
+pub(crate) fn across(re: i16, im: i16, u: i64, v: i64) -> i64
     requires u { nat_abs u ≤ 2 ^ 25 }
     requires v { nat_abs v ≤ 2 ^ 25 }
     ensures is { result ≡ im *ℤ u -ℤ re *ℤ v }
@@ -40,7 +42,7 @@ fn across(re: i16, im: i16, u: i64, v: i64) -> i64
 }
 
 // 16 times the value of a sent pilot, times a number.
-fn scaled(x: i64) -> i64
+pub(crate) fn scaled(x: i64) -> i64
     requires { nat_abs x ≤ 2 ^ 41 }
     ensures is { result ≡ pos 349520 *ℤ x }
     ensures small { nat_abs result ≤ 2 ^ 60 }
@@ -48,14 +50,14 @@ fn scaled(x: i64) -> i64
     349520 * x
 }
 
-// The value of a cell nearest to that over a power.
-fn quotient(x: i64, n: u64) -> i16
+// The value of a cell nearest to that over a power, by a guess at it.
+fn quotient(guess: i16, x: i64, n: u64) -> i16
     requires x { nat_abs x ≤ 2 ^ 41 }
     requires some { 0 < n }
     requires most { n ≤ 2 ^ 51 }
     ensures { result ≡ value_near (pos 349520 *ℤ x) n }
 {
-    value_near(scaled(x), n)
+    value_by(guess, scaled(x), n)
 }
 
 // The cell divided by a gain of this power.
@@ -66,28 +68,11 @@ fn divided(gain: Complex, cell: Cell, n: u64) -> Cell
     requires most { n ≤ 2 ^ 51 }
     ensures { result ≡ divided gain cell }
 {
+    let (re, im) = estimate::parts(gain, cell);
     Cell {
-        re: quotient(along(cell.re, cell.im, gain.re, gain.im), n),
-        im: quotient(across(cell.re, cell.im, gain.re, gain.im), n),
+        re: quotient(re, along(cell.re, cell.im, gain.re, gain.im), n),
+        im: quotient(im, across(cell.re, cell.im, gain.re, gain.im), n),
     }
-}
-
-// The share of the weight that a cell of this power keeps, in fifteenths.
-fn weight_of(full: u64, n: u64) -> u8
-    requires some { 1 ≤ full }
-    requires most { full ≤ 2 ^ 52 }
-    requires n { n ≤ 2 ^ 51 }
-    ensures is { result ≡ weight_of full n }
-    ensures most { result ≤ 15 }
-{
-    ((15 * n + full / 2) / full).min(15) as u8
-}
-
-fn shared_weight(w: u8, old: u8) -> u8
-    requires { w ≤ 15 }
-    ensures { result ≡ shared_weight w old }
-{
-    ((2 * (u32::from(w) * u32::from(old.min(15))) + 15) / 30) as u8
 }
 
 // The cell divided by the gain, and its weight.

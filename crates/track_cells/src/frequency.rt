@@ -7,9 +7,10 @@ ghost use Rattle.tracking.specs.InFrequency.{carrier_gain, first_point, slope};
 ghost use Rattle.track_arithmetic.specs.Laws.{IsWithin};
 ghost use Rattle.track_arithmetic.specs.Numbers.{near, scaled, sum_of, times, turned_by};
 ghost use Rattle.track_arithmetic.specs.declared.complex.Complex.{Complex as Gain};
-ghost use Rattle.track_cells.specs.Gains.{gain_of, AreCentred, AreWithin};
+ghost use Rattle.track_cells.specs.Gains.{gain_of, AreCentred, AreGains, AreSmall, AreWithin};
 ghost use Rattle.track_cells.specs.Sizes.{size_to};
 
+use crate::blocks::weighted_block;
 use crate::rows::row;
 use crate::turns::turned_by;
 use mode_set::{Guard, Mode};
@@ -54,7 +55,7 @@ fn weighted(row: &[i16; 12], points: &[Complex]) -> Complex
 }
 
 // Turns the gains at the points so that the middle of the guard interval has no delay.
-fn centre(guard: Guard, gains: &[Complex], centred: &mut [Complex])
+pub(crate) fn centre(guard: Guard, gains: &[Complex], centred: &mut [Complex])
     requires gains { AreWithin (2 ^ 21) gains.now }
     requires few { length gains.now ≤ 2273 }
     requires long { length centred.old ≡ length gains.now }
@@ -93,6 +94,62 @@ fn carrier_gain(guard: Guard, mode: Mode, centred: &[Complex], k: usize) -> Comp
     turn(near(sum, 14), 63 * (k as u32 * slope(guard)))
 }
 
+// The gains of the carriers below `end` by those below `from`, carrier by carrier.
+pub(crate) fn put_each(
+    guard: Guard,
+    mode: Mode,
+    centred: &[Complex],
+    from: usize,
+    end: usize,
+    to: &mut [Complex],
+)
+    requires long { length centred.now ≡ points mode }
+    requires centred { AreWithin (2 ^ 22) centred.now }
+    requires from { from ≤ end }
+    requires end { end ≤ carriers mode }
+    requires carriers { length to.old ≡ carriers mode }
+    ensures carriers { length to.new ≡ carriers mode }
+    ensures is { (gains : ℕ → Gain) → AreCentred guard mode gains centred.now → AreGains guard mode gains from to.old → AreGains guard mode gains end to.new }
+    ensures within { AreSmall from to.old → AreSmall end to.new }
+{
+    for k in from..end {
+        to[k] = carrier_gain(guard, mode, centred, k);
+    }
+}
+
+// The gains of the twelve carriers from 15 + 12 b on.
+fn put_block(guard: Guard, mode: Mode, centred: &[Complex], b: usize, to: &mut [Complex])
+    requires long { length centred.now ≡ points mode }
+    requires centred { AreWithin (2 ^ 22) centred.now }
+    requires block { 4 * b + 15 ≤ points mode }
+    requires carriers { length to.old ≡ carriers mode }
+    ensures carriers { length to.new ≡ carriers mode }
+    ensures is { (gains : ℕ → Gain) → AreCentred guard mode gains centred.now → AreGains guard mode gains (15 + 12 * b) to.old → AreGains guard mode gains (15 + 12 * b + 12) to.new }
+    ensures within { AreSmall (15 + 12 * b) to.old → AreSmall (15 + 12 * b + 12) to.new }
+{
+    let sums = weighted_block(guard, &centred[4 * b..4 * b + 15]);
+    let slope = slope(guard);
+    for i in 0..12 {
+        let k = 15 + 12 * b + i;
+        to[k] = turn(near(sums[i % 3][i / 3], 14), 63 * (k as u32 * slope));
+    }
+}
+
+// The gains of all carriers below `15 + 12 n` by those of the first 15.
+fn put_blocks(guard: Guard, mode: Mode, centred: &[Complex], n: usize, to: &mut [Complex])
+    requires long { length centred.now ≡ points mode }
+    requires centred { AreWithin (2 ^ 22) centred.now }
+    requires blocks { 4 * n + 11 ≤ points mode }
+    requires carriers { length to.old ≡ carriers mode }
+    ensures carriers { length to.new ≡ carriers mode }
+    ensures is { (gains : ℕ → Gain) → AreCentred guard mode gains centred.now → AreGains guard mode gains 15 to.old → AreGains guard mode gains (15 + 12 * n) to.new }
+    ensures within { AreSmall 15 to.old → AreSmall (15 + 12 * n) to.new }
+{
+    for b in 0..n {
+        put_block(guard, mode, centred, b, to);
+    }
+}
+
 /// The gain at each carrier of a symbol, from that at its comb points, every third carrier. Both are 16
 /// times the value of a pilot. `centred` is room for as many gains as there are points. No part of a
 /// point's gain exceeds 2^21, and none of a carrier's 2^25.
@@ -113,7 +170,8 @@ pub fn interpolate(
     ensures within { AreWithin (2 ^ 25) to.new }
 {
     centre(guard, gains, centred);
-    for k in 0..to.len() {
-        to[k] = carrier_gain(guard, mode, centred, k);
-    }
+    let n = (centred.len() - 11) / 4;
+    put_each(guard, mode, centred, 0, 15, to);
+    put_blocks(guard, mode, centred, n, to);
+    put_each(guard, mode, centred, 15 + 12 * n, to.len(), to);
 }

@@ -4,12 +4,16 @@
 //! The rules are this project's own.
 #![tactic(auto)]
 
+mod blocks;
 mod coefficients;
 mod correction;
+mod estimate;
 mod frequency;
+pub mod plain;
 mod reference_power;
 mod rows;
 mod turns;
+mod weights;
 
 pub use correction::push_corrected;
 pub use frequency::interpolate;

@@ -1,25 +1,4 @@
-use Rattle.std.proofs.Common.{◌∙◌, sym, arith, length-set}
-use Rattle.acs_lanes.specs.Lanes16.{all_with, laid}
-use Rattle.acs_plain.proofs.Rows.{row_more}
-use Rattle.acs_plain.proofs.Spread.{spread_step}
-use Rattle.acs_lanes.proofs.Grows.{grown}
-use Rattle.acs_lanes.proofs.Shifts.{lane_step}
-use Rattle.acs_lanes.proofs.Laid.{close_lanes, laid_lowered}
 use Rattle.acs_lanes.proofs.slices.run_lanes.Goals as goal
 
-pub readied-requires-clause-close : goal.readied-requires-clause-close
-readied-requires-clause-close c = close_lanes c.loop-k.lanes.a c.loop-k.lanes.b c.loop-k.lanes.c c.loop-k.lanes.d c.loop-k.invariant.spread
-
-pub loop-k-preserved : goal.loop-k-preserved
-loop-k-preserved c =
-    let l = c.loop-k.lanes in
-    let n = c.step-low.result.0 in
-    let s = lane_step c.index-pairs-k.result _ _ _ _ _ (laid_lowered l.a l.b l.c l.d c.readied.result.a c.readied.result.b c.readied.result.c c.readied.result.d c.readied.ensures.lowered) c.step-low.ensures.step in
-    record {
-      long = length-set c.loop-k.words c.loop-k.k _ ∙ c.loop-k.invariant.long;
-      room = λ e. let r = c.readied.result in grown r.a r.b r.c r.d n.a n.b n.c n.d c.index-pairs-k.result _ _ 49155 c.step-low.ensures.step (c.readied.ensures.first (omega (arith, e)));
-      spread = spread_step _ _ _ _ c.loop-k.invariant.spread s;
-      steps =
-          row_more _ c.args.pairs.now c.loop-k.k c.index-pairs-k.result c.index-pairs-k.result (all_with (laid l.a l.b l.c l.d)) c.loop-k.words (all_with (laid n.a n.b n.c n.d)) _ c.loop-k-test.true (omega (arith, c.loop-k-test.true, c.loop-k.invariant.long))
-          (sym c.index-pairs-k.is) c.loop-k.invariant.steps s;
-    }
+pub returns-clause-steps : goal.returns-clause-steps
+returns-clause-steps c = c.run_rest.ensures.steps _ c.run_sixes-lanes.ensures.steps

@@ -6,8 +6,8 @@ use Rattle.inner_chain.specs.CostTables.{AreCostEntries}
 use Rattle.inner_chain.proofs.cost_entries.write_cost_entries.Given as goal
 
 abbrev pub invariant-loop-step : goal.invariant-loop-step
-invariant-loop-step g l = record {
+invariant-loop-step l = record {
   number : l.bit ≡ sent_before (rate l.settings l.stream) l.step;
-  entries : AreCostEntries l.settings l.odd l.stream l.step l.table.items;
+  entries : AreCostEntries l.settings l.stream l.step l.table.items;
   capacity : vec_capacity l.table ≡ vec_capacity l.initial.table;
 }

@@ -7,6 +7,11 @@ use Rattle.inner_chain.proofs.parities.encode.Goals as goal
 pub loop-done-init : goal.loop-done-init
 loop-done-init c = record { encoded = encode_begins c.args.waiting.now c.args.encoder.now c.args.to.now c.args.first c.args.count; few = omega arith }
 
+pub encode_chunk-requires-clause-enough : goal.encode_chunk-requires-clause-enough
+encode_chunk-requires-clause-enough c =
+    let left : length c.loop-done.waiting ≡ length c.args.waiting.now - c.loop-done.done = ap length c.loop-done.invariant.encoded.left ∙ length-drop c.loop-done.done c.args.waiting.now in
+    omega (arith, left, c.requires.enough)
+
 pub encode_byte-requires-clause-enough : goal.encode_byte-requires-clause-enough
 encode_byte-requires-clause-enough c =
     let left : length c.loop-done.waiting ≡ length c.args.waiting.now - c.loop-done.done = ap length c.loop-done.invariant.encoded.left ∙ length-drop c.loop-done.done c.args.waiting.now in
@@ -21,6 +26,11 @@ pub loop-done-preserved-then-count-done-ge8 : goal.loop-done-preserved-then-coun
 loop-done-preserved-then-count-done-ge8 c =
     let few : c.loop-done.done + 8 ≤ c.args.count = omega (arith, c.if-count-done-ge8.true, c.loop-done-test.true) in
     record { encoded = c.encode_byte.ensures.goes c.args.waiting.now c.args.encoder.now c.args.to.now c.args.count few c.loop-done.invariant.encoded; few = few }
+
+pub loop-done-preserved-then-count-done-ge512 : goal.loop-done-preserved-then-count-done-ge512
+loop-done-preserved-then-count-done-ge512 c =
+    let few : c.loop-done.done + 512 ≤ c.args.count = omega (arith, c.if-count-done-ge512.true, c.loop-done-test.true) in
+    record { encoded = c.encode_chunk.ensures.goes c.args.waiting.now c.args.encoder.now c.args.to.now c.args.count few c.loop-done.invariant.encoded; few = few }
 
 pub loop-done-preserved : goal.loop-done-preserved
 loop-done-preserved c =

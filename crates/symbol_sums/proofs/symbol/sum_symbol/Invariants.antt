@@ -1,11 +1,11 @@
--- The places so far.
-use Rattle.std.proofs.Common.{◌≡◌}
+-- The periods so far.
+use Rattle.std.proofs.Common.{◌≡◌, ◌*◌}
+use Rattle.symbol_sums.specs.Parts.{sums_to, symbol_of}
 use Rattle.symbol_sums.specs.Tables.{AreLittle}
-use Rattle.symbol_sums.proofs.Summing.{sums_to, symbol_of}
 use Rattle.symbol_sums.proofs.symbol.sum_symbol.Given as goal
 
-abbrev pub invariant-loop-q : goal.invariant-loop-q
-invariant-loop-q l = record {
-  sums : l.sums ≡ sums_to (symbol_of l.settings l.cells l.weights l.l l.labels) l.q;
-  little : AreLittle l.sums l.q;
+abbrev pub invariant-loop-period : goal.invariant-loop-period
+invariant-loop-period l = record {
+  sums : l.sums ≡ sums_to (symbol_of l.settings l.cells l.weights l.l l.labels) (1512 * l.period);
+  little : AreLittle l.sums (1512 * l.period);
 }

@@ -1,34 +1,20 @@
-use Rattle.std.proofs.Common.{rules, ◌≡◌, ℕ, List, length, ap, subst, sym}
-use Rattle.std.specs.Prelude.{vec_capacity}
-use Rattle.mode_set.specs.StreamTable.{payload}
-use Rattle.mode_set.specs.declared.modes.Mode.{Mode}
-use Rattle.mode_set.specs.declared.entry.Entry.{Entry}
-use Rattle.qam_map.specs.declared.cell.Cell.{Cell}
+use Rattle.std.proofs.Common.{◌≡◌, ◌∙◌, ℕ, List, ap₂, sym, subst}
 use Rattle.mode_set.specs.Entries.{with_entry}
+use Rattle.mode_set.specs.StreamTable.{need}
+use Rattle.mode_set.specs.declared.entry.Entry.{Entry}
 use Rattle.mode_set.specs.declared.settings.Settings.{Settings}
 use Rattle.inner_chain.specs.CostPairs.{AppendsPairs}
-use Rattle.inner_chain.specs.CostTables.{AreCostTables, IsRoom, IsWeightRoom}
-use Rattle.inner_chain.proofs.Symbols.{written_over}
+use Rattle.inner_chain.specs.CostTables.{AppendsRead, AreCostEntries, AreCosts, IsRoom}
+use Rattle.inner_chain.proofs.Fronts.{pairs_read}
 use Rattle.inner_chain.proofs.rx.InnerRx.pairs.Goals as goal
 
 pub returns-clause-pairs : goal.returns-clause-pairs
 returns-clause-pairs g c =
-    let seen : c.self.inside.settings ≡ c.args.self.now = search rules in
-    subst (λ (z : Settings). AppendsPairs (with_entry z c.args.entry.now) c.args.cells.now c.args.weights.now c.args.l c.args.stream c.args.to.now.items c.push_symbol_pairs.new.to.items) seen
-    (subst (λ (z : Settings). AppendsPairs z c.args.cells.now c.args.weights.now c.args.l c.args.stream c.args.to.now.items c.push_symbol_pairs.new.to.items) c.with_entry-settings.ensures c.push_symbol_pairs.ensures.pairs)
-
-pub invariant_of-self : goal.invariant_of-self
-invariant_of-self g c =
-    let mode : c.with_entry-settings.result.mode ≡ c.self.inside.settings.mode = ap (λ (z : Settings). z.mode) c.with_entry-settings.ensures in
-    let costs : c.self.inside.costs.len ≡ length c.push_symbol_pairs.new.costs = search rules in
-    let cells : c.self.inside.payload_cells.len ≡ length c.push_symbol_pairs.new.payload_cells = search rules in
-    let weights : c.self.inside.payload_weights.len ≡ length c.push_symbol_pairs.new.payload_weights = search rules in
-    record {
-      mode = c.self.invariant.mode;
-      are_carriers = c.self.invariant.are_carriers;
-      tables = subst (λ (e : Entry). AreCostTables (with_entry c.self.inside.settings e) c.turn_cost_tables.new.metric c.turn_cost_tables.new.hp_even.items c.turn_cost_tables.new.hp_odd.items c.turn_cost_tables.new.lp_even.items c.turn_cost_tables.new.lp_odd.items
-          (vec_capacity c.turn_cost_tables.new.hp_even) (vec_capacity c.turn_cost_tables.new.hp_odd) (vec_capacity c.turn_cost_tables.new.lp_even) (vec_capacity c.turn_cost_tables.new.lp_odd)) (sym c.turn_cost_tables.ensures.latest) c.turn_cost_tables.ensures.tables;
-      room = subst (λ (z : List (ℕ × ℕ)). IsRoom c.self.inside.settings.mode z) (sym (written_over c.self.inside.costs.len c.push_symbol_pairs.new.costs _ costs)) (subst (λ (m : Mode). IsRoom m c.push_symbol_pairs.new.costs) mode c.push_symbol_pairs.ensures.room);
-      cells_long = subst (λ (z : List Cell). length z ≡ payload c.self.inside.settings.mode) (sym (written_over c.self.inside.payload_cells.len c.push_symbol_pairs.new.payload_cells _ cells)) (subst (λ (m : Mode). length c.push_symbol_pairs.new.payload_cells ≡ payload m) mode c.push_symbol_pairs.ensures.payload_cells);
-      weight_room = subst (λ (z : List ℕ). IsWeightRoom c.self.inside.settings.mode z) (sym (written_over c.self.inside.payload_weights.len c.push_symbol_pairs.new.payload_weights _ weights)) (subst (λ (m : Mode). IsWeightRoom m c.push_symbol_pairs.new.payload_weights) mode c.push_symbol_pairs.ensures.payload_weights);
-    }
+    let s = c.settings-settings.result in
+    let here : s ≡ with_entry c.args.self.now c.args.entry.now = c.settings-settings.ensures ∙ ap₂ (λ (z : Settings) (e : Entry). with_entry z e) (c.turn_to.ensures.settings ∙ c.self.view_is) c.turn_to.ensures.latest in
+    let entries = subst (λ (z : Settings). AreCostEntries z c.args.stream (need z c.args.stream) c.entries.result.now) (sym c.settings-settings.ensures) c.entries.ensures in
+    let costs = subst (λ (z : List (ℕ × ℕ)). AreCosts s c.args.cells.now c.args.weights.now c.args.l z) (sym c.costs.ensures) c.write.ensures.costs in
+    let room = subst (λ (z : List (ℕ × ℕ)). IsRoom s.mode z) (sym c.costs.ensures) c.write.ensures.room in
+    let read = subst (λ (n : ℕ). AppendsRead c.costs.result.now c.entries.result.now n c.args.to.now.items c.push_pairs.new.to.items) c.need-steps.ensures.need c.push_pairs.ensures.pairs in
+    subst (λ (z : Settings). AppendsPairs z c.args.cells.now c.args.weights.now c.args.l c.args.stream c.args.to.now.items c.push_pairs.new.to.items) here
+    (pairs_read s c.args.cells.now c.args.weights.now c.args.l c.args.stream c.costs.result.now c.entries.result.now c.args.to.now.items c.push_pairs.new.to.items costs room entries read)

@@ -8,13 +8,13 @@ pub returns-clause-sends : goal.returns-clause-sends
 returns-clause-sends c = λ packets h.
     sends_push (record { delays = c.self.inside.interleaver; phase = c.self.inside.dispersal }) _ packets c.args.packet.now c.encode-word.result
     (c.encode-word.ensures.is ∙ ap codeword c.apply.ensures.word) c.encode-word.ensures.code.long (subst (λ s. Sends s packets) (sym c.self.view_is) h)
-    c.interleave.ensures.stands c.apply.ensures.next
+    c.take.ensures.stands c.apply.ensures.next
 
 pub returns-clause-bytes : goal.returns-clause-bytes
 returns-clause-bytes c = λ packets h.
-    bytes_push (record { delays = c.self.inside.interleaver; phase = c.self.inside.dispersal }) packets c.args.packet.now c.encode-word.result c.interleave.new.word
+    bytes_push (record { delays = c.self.inside.interleaver; phase = c.self.inside.dispersal }) packets c.args.packet.now c.encode-word.result c.take.new.word
     (c.encode-word.ensures.is ∙ ap codeword c.apply.ensures.word) c.encode-word.ensures.code.long (subst (λ s. Sends s packets) (sym c.self.view_is) h)
-    c.interleave.ensures.given
+    c.take.ensures.given
 
 pub returns-clause-next : goal.returns-clause-next
-returns-clause-next c = λ packets h. next_push packets c.args.packet.now c.interleave.new.word (returns-clause-bytes c packets h)
+returns-clause-next c = λ packets h. next_push packets c.args.packet.now c.take.new.word (returns-clause-bytes c packets h)

@@ -1,0 +1,136 @@
+-- A word of the lanes that have no mark, in each phase.
+use Rattle.std.proofs.Common.{◌≡◌, ℕ, ◌+◌, ◌-◌, ◌*◌, ◌/◌, ◌%◌, ◌^◌, ◌<◌, Bool, true, false, cond, not, ◌&&◌, ◌||◌, List, ◌++◌, map, get_or, replicate, refl, sym, ap, ap₂, ◌∙◌, subst, arith, bit_and, bit_or, eqb, ltb, true≢false, w8, mod-lt}
+use Rattle.std.proofs.lemmas.Bool.{eqb-true}
+use Rattle.std.proofs.lemmas.List.{get_or_append_left}
+use Rattle.std.proofs.lemmas.Nat.Bits.{bit_at_cat_high}
+use Rattle.std.proofs.lemmas.Simd.{bitmask_splat, bit_mask_l, mask_l-lt}
+use Rattle.std.specs.Bool.{nat_lt}
+use Rattle.std.specs.Int.{bit_at}
+use Rattle.std.specs.Prelude.{slice_index}
+use Rattle.std.specs.Simd.Lanes.{zip2, mask_l, number_l, top}
+use Rattle.code_paths.proofs.Registers.{all_below, all_below_at}
+use Rattle.code_paths.proofs.Words.{pow-pos, set_and, set_or, set_shl, whole}
+use Rattle.spec_words.specs.Bits.{is_set}
+use Rattle.acs_lanes.specs.Lanes16.{AreMarks}
+use Rattle.acs_lanes.specs.Phases.{byte_of, exchanged, ordered, way_in}
+use Rattle.acs_lanes.proofs.LaneLaws.{set_low_word, set_high_word}
+use Rattle.acs_lanes.proofs.Laid.{at_range}
+use Rattle.acs_lanes.proofs.Marks.{below_half, byte_at, bytes, digits_long, holds_at, one}
+use Rattle.acs_lanes.proofs.PhaseTables.{exchanged_high, exchanged_small, exchanged_twice, way_in_small}
+
+-- ---- the word of two vectors
+
+abbrev pub word_by : List ℕ → ℕ
+word_by xs = mask_l (map (top 7) (zip2 (λ a b. cond (ltb a b) 255 0) xs (replicate 32 128))) % 2 ^ 64
+
+module _ (p : ℕ) (in6 : p < 6) (first last : List ℕ) where
+  abbrev inner : List ℕ
+  inner = ordered p (bytes first last)
+
+  word_is : word_by inner ≡ mask_l (map (λ x. ltb x 128) inner)
+  word_is = bitmask_splat w8 ltb inner 32 128 refl (omega arith)
+
+  ordered_small : word_by inner < 2 ^ 32
+  ordered_small = omega (arith, word_is, mask_l-lt (map (λ x. ltb x 128) inner))
+
+  pub half_small : (xs : List ℕ) → xs ≡ inner → word_by xs < 2 ^ 32
+  half_small xs e = subst (λ z. word_by z < 2 ^ 32) (sym e) ordered_small
+
+  module _ (is_odd : ℕ → Bool) (m : AreMarks first last is_odd) where
+    inner_at : (k : ℕ) → k < 32 → get_or inner k 0 ≡ cond (is_odd (way_in p (exchanged p k))) 0 255
+    inner_at k l =
+        let w = way_in p (exchanged p k) in
+        let s : w < 32 = way_in_small p in6 (exchanged p k) (exchanged_small p in6 k l) in
+        let b = bytes first last in
+        at_range (λ i. slice_index (b ++ b) (byte_of (way_in p (exchanged p i)))) 32 k refl l
+        ∙ get_or_append_left b b 0 (byte_of w) (omega (arith, digits_long 32 (number_l 65536 (zip2 (λ a b. bit_or a b) first last)), s))
+        ∙ byte_at first last is_odd m w s
+
+    half_at : (k : ℕ) → k < 32 → is_set (word_by inner) k ≡ is_odd (way_in p (exchanged p k))
+    half_at k l =
+        ap (λ w. is_set w k) word_is ∙ ap (λ z. eqb z 1) (bit_mask_l (map (λ x. ltb x 128) inner) k) ∙ one (get_or (map (λ x. ltb x 128) inner) k false)
+        ∙ holds_at (λ x. ltb x 128) inner k l ∙ ap (λ x. ltb x 128) (inner_at k l) ∙ below_half (is_odd (way_in p (exchanged p k)))
+
+    pub half_bits : (xs : List ℕ) → xs ≡ inner → (k : ℕ) → k < 32 → is_set (word_by xs) k ≡ is_odd (way_in p (exchanged p k))
+    half_bits xs e = subst (λ z. (k : ℕ) → k < 32 → is_set (word_by z) k ≡ is_odd (way_in p (exchanged p k))) (sym e) half_at
+
+-- ---- bits that change places
+
+set_down : (x s k : ℕ) → is_set (x / 2 ^ s) k ≡ is_set x (k + s)
+set_down x s k =
+    let e : k + s - s ≡ k = omega arith in
+    let f : bit_at (x / 2 ^ s * 2 ^ s + x % 2 ^ s) (k + s) ≡ bit_at (x / 2 ^ s) (k + s - s) = bit_at_cat_high (x / 2 ^ s) s (x % 2 ^ s) (k + s) (mod-lt x (pow-pos s)) (omega arith) in
+    ap (λ z. eqb z 1) (sym (ap (bit_at (x / 2 ^ s)) e) ∙ sym f ∙ ap (λ z. bit_at z (k + s)) (whole x s))
+
+or_none : (a : Bool) → (a || false) ≡ a
+or_none true = refl
+or_none false = refl
+
+turned_and : (a b : Bool) → (a && b) ≡ (b && a)
+turned_and true true = refl
+turned_and true false = refl
+turned_and false true = refl
+turned_and false false = refl
+
+-- one of three bits is taken, by masks: the one that stays, one from above, or one from below
+abbrev fits : ℕ → ℕ → ℕ → Bool → Bool → Bool → Bool → Bool
+fits to n s stays above low below = cond stays (cond above false (cond (not low && below) false (eqb to n))) (cond above (cond (not low && below) false (eqb to (n + s))) (cond (not low && below) (eqb to (n - s)) false))
+
+taken : (x to n s : ℕ) (stays above low below : Bool) → fits to n s stays above low below ≡ true
+    → ((stays && is_set x n || above && is_set x (n + s)) || (not low && (below && is_set x (n - s)))) ≡ is_set x to
+taken x to n s true true low below t = absurd (true≢false (sym t))
+taken x to n s true false true below t = or_none (is_set x n || false) ∙ or_none (is_set x n) ∙ ap (is_set x) (sym (eqb-true to n t))
+taken x to n s true false false true t = absurd (true≢false (sym t))
+taken x to n s true false false false t = or_none (is_set x n || false) ∙ or_none (is_set x n) ∙ ap (is_set x) (sym (eqb-true to n t))
+taken x to n s false true true below t = or_none (is_set x (n + s)) ∙ ap (is_set x) (sym (eqb-true to (n + s) t))
+taken x to n s false true false true t = absurd (true≢false (sym t))
+taken x to n s false true false false t = or_none (is_set x (n + s)) ∙ ap (is_set x) (sym (eqb-true to (n + s) t))
+taken x to n s false false true below t = absurd (true≢false (sym t))
+taken x to n s false false false true t = ap (is_set x) (sym (eqb-true to (n - s) t))
+taken x to n s false false false false t = absurd (true≢false (sym t))
+
+abbrev pub moved_by : ℕ → ℕ → ℕ → ℕ → ℕ
+moved_by s stays moves x = bit_or (bit_or (bit_and x stays) (bit_and (x / 2 ^ s) moves)) (bit_and x moves * 2 ^ s % 2 ^ 64)
+
+moved : (s stays moves : ℕ) (to : ℕ → ℕ) → all_below (λ n. fits (to n) n s (is_set stays n) (is_set moves n) (nat_lt n s) (is_set moves (n - s))) 64 ≡ true → (x n : ℕ) → n < 64 → is_set (moved_by s stays moves x) n ≡ is_set x (to n)
+moved s stays moves to t x n l =
+    set_or (bit_or (bit_and x stays) (bit_and (x / 2 ^ s) moves)) (bit_and x moves * 2 ^ s % 2 ^ 64) n
+    ∙ ap₂ (λ y z. y || z)
+    (set_or (bit_and x stays) (bit_and (x / 2 ^ s) moves) n
+    ∙ ap₂ (λ y z. y || z) (set_and x stays n ∙ turned_and (is_set x n) (is_set stays n)) (set_and (x / 2 ^ s) moves n ∙ turned_and (is_set (x / 2 ^ s) n) (is_set moves n) ∙ ap (λ z. is_set moves n && z) (set_down x s n)))
+    (set_shl (bit_and x moves) s n l ∙ ap (λ z. not (nat_lt n s) && z) (set_and x moves (n - s) ∙ turned_and (is_set x (n - s)) (is_set moves (n - s))))
+    ∙ taken x (to n) n s (is_set stays n) (is_set moves n) (nat_lt n s) (is_set moves (n - s)) (all_below_at (λ n. fits (to n) n s (is_set stays n) (is_set moves n) (nat_lt n s) (is_set moves (n - s))) 64 n t l)
+
+pub moved_1 : (p x : ℕ) → p ≡ 1 → (n : ℕ) → n < 64 → is_set (moved_by 8 18374687579166474495 280375465148160 x) n ≡ is_set x (exchanged p n)
+moved_1 p x e = subst (λ p. (n : ℕ) → n < 64 → is_set (moved_by 8 18374687579166474495 280375465148160 x) n ≡ is_set x (exchanged p n)) (sym e) (moved 8 18374687579166474495 280375465148160 (exchanged 1) refl x)
+
+pub moved_2 : (p x : ℕ) → p ≡ 2 → (n : ℕ) → n < 64 → is_set (moved_by 12 17361393124654452495 264913582878960 x) n ≡ is_set x (exchanged p n)
+moved_2 p x e = subst (λ p. (n : ℕ) → n < 64 → is_set (moved_by 12 17361393124654452495 264913582878960 x) n ≡ is_set x (exchanged p n)) (sym e) (moved 12 17361393124654452495 264913582878960 (exchanged 2) refl x)
+
+pub moved_3 : (p x : ℕ) → p ≡ 3 → (n : ℕ) → n < 64 → is_set (moved_by 14 14757226376558555955 225176545447116 x) n ≡ is_set x (exchanged p n)
+moved_3 p x e = subst (λ p. (n : ℕ) → n < 64 → is_set (moved_by 14 14757226376558555955 225176545447116 x) n ≡ is_set x (exchanged p n)) (sym e) (moved 14 14757226376558555955 225176545447116 (exchanged 3) refl x)
+
+pub moved_4 : (p x : ℕ) → p ≡ 4 → (n : ℕ) → n < 64 → is_set (moved_by 15 12297735558912431445 187647121205930 x) n ≡ is_set x (exchanged p n)
+moved_4 p x e = subst (λ p. (n : ℕ) → n < 64 → is_set (moved_by 15 12297735558912431445 187647121205930 x) n ≡ is_set x (exchanged p n)) (sym e) (moved 15 12297735558912431445 187647121205930 (exchanged 4) refl x)
+
+pub moved_5 : (p x : ℕ) → p ≡ 5 → (n : ℕ) → n < 64 → is_set (moved_by 15 12297735558912431445 187647121205930 x) n ≡ is_set x (exchanged p n)
+moved_5 p x e = subst (λ p. (n : ℕ) → n < 64 → is_set (moved_by 15 12297735558912431445 187647121205930 x) n ≡ is_set x (exchanged p n)) (sym e) (moved 15 12297735558912431445 187647121205930 (exchanged 5) refl x)
+
+-- bytes in the order of a phase
+pub ordered_as : (p q : ℕ) → p ≡ q → (xs bytes : List ℕ) → xs ≡ ordered q bytes → xs ≡ ordered p bytes
+ordered_as p q e xs bytes h = subst (λ p. xs ≡ ordered p bytes) (sym e) h
+
+-- ---- both halves
+
+module _ (p : ℕ) (in6 : p < 6) (low high word : ℕ) (small : low < 2 ^ 32) (h : (n : ℕ) → n < 64 → is_set word n ≡ is_set (bit_or low (high * 2 ^ 32 % 2 ^ 64)) (exchanged p n)) where
+  pub low_bits : (is_odd : ℕ → Bool) → ((k : ℕ) → k < 32 → is_set low k ≡ is_odd (way_in p (exchanged p k))) → (k : ℕ) → k < 32 → is_set word k ≡ is_odd (way_in p k)
+  low_bits is_odd f k l =
+      let s = exchanged_small p in6 k l in
+      h k (omega arith) ∙ set_low_word 32 low high (exchanged p k) s (omega arith) ∙ f (exchanged p k) s ∙ ap (λ z. is_odd (way_in p z)) (exchanged_twice p in6 k l)
+
+  pub high_bits : (is_odd : ℕ → Bool) → ((k : ℕ) → k < 32 → is_set high k ≡ is_odd (way_in p (exchanged p k))) → (k : ℕ) → k < 32 → is_set word (k + 32) ≡ is_odd (way_in p k)
+  high_bits is_odd f k l =
+      let s = exchanged_small p in6 k l in
+      let e : exchanged p k + 32 - 32 ≡ exchanged p k = omega arith in
+      h (k + 32) (omega arith) ∙ ap (is_set (bit_or low (high * 2 ^ 32 % 2 ^ 64))) (exchanged_high p in6 k l)
+      ∙ set_high_word 32 low high (exchanged p k + 32) small (omega arith) (omega (arith, s)) ∙ ap (is_set high) e ∙ f (exchanged p k) s ∙ ap (λ z. is_odd (way_in p z)) (exchanged_twice p in6 k l)

@@ -1,0 +1,255 @@
+// The tables of a step in each of the six phases.
+ghost use Rattle.std.specs.Prelude.{◌≡◌, ◌≤◌, ◌<◌, ◌+◌, ◌*◌, ◌%◌, ◌^◌, ◌++◌, ℕ, Bool, length, slice_index};
+ghost use Rattle.spec_words.specs.Bits.{is_set};
+ghost use Rattle.code_paths.specs.declared.costs.CostPair.{CostPair as Pair};
+ghost use Rattle.acs_lanes.specs.Lanes16.{AreMarks};
+ghost use Rattle.acs_lanes.specs.Phases.{AreCostsIn, AreTurnedIn, all_sums, exchanged, laid_in, lower_eights, lower_fours, next, ordered, upper_eights, upper_fours, way_in};
+
+use crate::lanes16::Lanes;
+use crate::step16::repeated;
+use conv_code::CostPair;
+use std::simd::cmp::SimdPartialOrd;
+use std::simd::{u8x32, u16x16};
+
+/// The sums of a cost of X and one of Y, by 2X + Y, four times.
+#[inline(always)]
+pub(crate) fn all_sums(pair: CostPair) -> u16x16
+    ensures { result ≡ all_sums pair }
+{
+    let costs = repeated(pair);
+    costs.swizzle([0, 0, 1, 1, 0, 0, 1, 1, 8, 8, 9, 9, 8, 8, 9, 9])
+        + costs.swizzle([2, 3, 2, 3, 2, 3, 2, 3, 10, 11, 10, 11, 10, 11, 10, 11])
+}
+
+/// The costs of the steps from the even states on 0, as from the odd ones on 1, and of the others: of the first vectors, and
+/// of the second ones.
+#[inline(always)]
+pub(crate) fn costs_in(phase: usize, sums: u16x16) -> (u16x16, u16x16, u16x16, u16x16)
+    requires { phase < 6 }
+    ensures { (pair : Pair) → sums ≡ all_sums pair → AreCostsIn phase pair result.0 result.1 result.2 result.3 }
+{
+    if phase == 0 {
+        let zero = sums.swizzle([0, 3, 0, 3, 1, 2, 1, 2, 10, 9, 10, 9, 11, 8, 11, 8]);
+        let one = sums.swizzle([3, 0, 3, 0, 2, 1, 2, 1, 9, 10, 9, 10, 8, 11, 8, 11]);
+        (zero, one, one, zero)
+    } else if phase == 1 {
+        let zero = sums.swizzle([0, 2, 0, 2, 1, 3, 1, 3, 11, 9, 11, 9, 10, 8, 10, 8]);
+        let one = sums.swizzle([3, 1, 3, 1, 2, 0, 2, 0, 8, 10, 8, 10, 9, 11, 9, 11]);
+        (zero, one, one, zero)
+    } else if phase == 2 {
+        let zero = sums.swizzle([0, 2, 3, 1, 1, 3, 2, 0, 11, 9, 8, 10, 10, 8, 9, 11]);
+        let one = sums.swizzle([3, 1, 0, 2, 2, 0, 1, 3, 8, 10, 11, 9, 9, 11, 10, 8]);
+        (zero, one, zero, one)
+    } else if phase == 3 {
+        let zero = sums.swizzle([0, 2, 3, 1, 3, 1, 0, 2, 8, 10, 11, 9, 11, 9, 8, 10]);
+        let one = sums.swizzle([3, 1, 0, 2, 0, 2, 3, 1, 11, 9, 8, 10, 8, 10, 11, 9]);
+        let last_zero = sums.swizzle([1, 3, 2, 0, 2, 0, 1, 3, 9, 11, 10, 8, 10, 8, 9, 11]);
+        let last_one = sums.swizzle([2, 0, 1, 3, 1, 3, 2, 0, 10, 8, 9, 11, 9, 11, 10, 8]);
+        (zero, one, last_zero, last_one)
+    } else if phase == 4 {
+        let zero = sums.swizzle([0, 2, 3, 1, 3, 1, 0, 2, 9, 11, 10, 8, 10, 8, 9, 11]);
+        let one = sums.swizzle([3, 1, 0, 2, 0, 2, 3, 1, 10, 8, 9, 11, 9, 11, 10, 8]);
+        (zero, one, zero, one)
+    } else {
+        let zero = sums.swizzle([0, 3, 3, 0, 0, 3, 3, 0, 9, 10, 10, 9, 9, 10, 10, 9]);
+        let one = sums.swizzle([3, 0, 0, 3, 3, 0, 0, 3, 10, 9, 9, 10, 10, 9, 9, 10]);
+        let last_zero = sums.swizzle([2, 1, 1, 2, 2, 1, 1, 2, 11, 8, 8, 11, 11, 8, 8, 11]);
+        let last_one = sums.swizzle([1, 2, 2, 1, 1, 2, 2, 1, 8, 11, 11, 8, 8, 11, 11, 8]);
+        (zero, one, last_zero, last_one)
+    }
+}
+
+/// The bytes of marks in the order of a word's bits: within each half of the vector, where one instruction does it.
+#[inline(always)]
+fn ordered_in(phase: usize, bytes: u8x32) -> u8x32
+    requires { phase < 6 }
+    ensures { result ≡ ordered phase bytes }
+{
+    if phase == 0 {
+        bytes.swizzle([
+            0, 8, 4, 12, 2, 10, 6, 14, 1, 9, 5, 13, 3, 11, 7, 15, 16, 24, 20, 28, 18, 26, 22, 30,
+            17, 25, 21, 29, 19, 27, 23, 31,
+        ])
+    } else if phase == 1 {
+        bytes.swizzle([
+            0, 8, 4, 12, 1, 9, 5, 13, 2, 10, 6, 14, 3, 11, 7, 15, 16, 24, 20, 28, 17, 25, 21, 29,
+            18, 26, 22, 30, 19, 27, 23, 31,
+        ])
+    } else if phase == 2 {
+        bytes.swizzle([
+            0, 8, 1, 9, 2, 10, 3, 11, 4, 12, 5, 13, 6, 14, 7, 15, 16, 24, 17, 25, 18, 26, 19, 27,
+            20, 28, 21, 29, 22, 30, 23, 31,
+        ])
+    } else if phase == 3 {
+        bytes.swizzle([
+            0, 1, 2, 3, 8, 9, 10, 11, 4, 5, 6, 7, 12, 13, 14, 15, 16, 17, 18, 19, 24, 25, 26, 27,
+            20, 21, 22, 23, 28, 29, 30, 31,
+        ])
+    } else if phase == 4 {
+        bytes.swizzle([
+            0, 2, 1, 3, 8, 10, 9, 11, 4, 6, 5, 7, 12, 14, 13, 15, 16, 18, 17, 19, 24, 26, 25, 27,
+            20, 22, 21, 23, 28, 30, 29, 31,
+        ])
+    } else {
+        bytes.swizzle([
+            0, 1, 8, 9, 4, 5, 12, 13, 2, 3, 10, 11, 6, 7, 14, 15, 16, 17, 24, 25, 20, 21, 28, 29,
+            18, 19, 26, 27, 22, 23, 30, 31,
+        ])
+    }
+}
+
+/// The word with its bits in the order of states: the bit of a state's number that said which half of a vector it is in goes
+/// to its place.
+#[inline(always)]
+fn exchanged_in(phase: usize, word: u64) -> u64
+    requires { phase < 6 }
+    ensures { (n : ℕ) → n < 64 → is_set result n ≡ is_set word (exchanged phase n) }
+{
+    if phase == 0 {
+        word
+    } else if phase == 1 {
+        (word & 0xFF00_00FF_FF00_00FF)
+            | (word >> 8 & 0x0000_FF00_0000_FF00)
+            | (word & 0x0000_FF00_0000_FF00) << 8
+    } else if phase == 2 {
+        (word & 0xF0F0_0F0F_F0F0_0F0F)
+            | (word >> 12 & 0x0000_F0F0_0000_F0F0)
+            | (word & 0x0000_F0F0_0000_F0F0) << 12
+    } else if phase == 3 {
+        (word & 0xCCCC_3333_CCCC_3333)
+            | (word >> 14 & 0x0000_CCCC_0000_CCCC)
+            | (word & 0x0000_CCCC_0000_CCCC) << 14
+    } else if phase == 4 {
+        (word & 0xAAAA_5555_AAAA_5555)
+            | (word >> 15 & 0x0000_AAAA_0000_AAAA)
+            | (word & 0x0000_AAAA_0000_AAAA) << 15
+    } else {
+        (word & 0xAAAA_5555_AAAA_5555)
+            | (word >> 15 & 0x0000_AAAA_0000_AAAA)
+            | (word & 0x0000_AAAA_0000_AAAA) << 15
+    }
+}
+
+/// The word of the lanes of two vectors that have no mark.
+#[inline(always)]
+fn half_word(phase: usize, first: u16x16, last: u16x16) -> u64
+    requires { phase < 6 }
+    ensures small { result < 2 ^ 32 }
+    ensures bits { (is_odd : ℕ → Bool) → AreMarks first last is_odd → (k : ℕ) → k < 32 → is_set result k ≡ is_odd (way_in phase (exchanged phase k)) }
+{
+    let bytes = ordered_in(phase, (first | last).to_le_bytes());
+    bytes.simd_lt(u8x32::splat(128)).to_bitmask()
+}
+
+/// The word of the states that the odd way leads to, by the marks of those below 32 and of the others.
+#[inline(always)]
+pub(crate) fn word_in(
+    phase: usize,
+    low_first: u16x16,
+    low_last: u16x16,
+    high_first: u16x16,
+    high_last: u16x16,
+) -> u64
+    requires { phase < 6 }
+    ensures low { (is_odd : ℕ → Bool) → AreMarks low_first low_last is_odd → (k : ℕ) → k < 32 → is_set result k ≡ is_odd (way_in phase k) }
+    ensures high { (is_odd : ℕ → Bool) → AreMarks high_first high_last is_odd → (k : ℕ) → k < 32 → is_set result (k + 32) ≡ is_odd (way_in phase k) }
+{
+    let low = half_word(phase, low_first, low_last);
+    let high = half_word(phase, high_first, high_last);
+    exchanged_in(phase, low | high << 32)
+}
+
+/// The lower four of each eight lanes of two vectors in turn, and the upper four.
+#[inline(always)]
+fn fours_apart(x: u16x16, y: u16x16) -> (u16x16, u16x16)
+    ensures lower { result.0 ≡ lower_fours x y }
+    ensures upper { result.1 ≡ upper_fours x y }
+{
+    (
+        x.shuffle(
+            y,
+            [0, 16, 1, 17, 2, 18, 3, 19, 8, 24, 9, 25, 10, 26, 11, 27],
+        ),
+        x.shuffle(
+            y,
+            [4, 20, 5, 21, 6, 22, 7, 23, 12, 28, 13, 29, 14, 30, 15, 31],
+        ),
+    )
+}
+
+/// The lower eight lanes of two vectors, and the upper eight.
+#[inline(always)]
+fn eights_apart(x: u16x16, y: u16x16) -> (u16x16, u16x16)
+    ensures lower { result.0 ≡ lower_eights x y }
+    ensures upper { result.1 ≡ upper_eights x y }
+{
+    (
+        x.shuffle(y, [0, 1, 2, 3, 4, 5, 6, 7, 16, 17, 18, 19, 20, 21, 22, 23]),
+        x.shuffle(
+            y,
+            [8, 9, 10, 11, 12, 13, 14, 15, 24, 25, 26, 27, 28, 29, 30, 31],
+        ),
+    )
+}
+
+/// Lanes of two and two vectors, by fours.
+#[inline(always)]
+fn by_fours(x0: u16x16, x1: u16x16, y0: u16x16, y1: u16x16) -> Lanes
+    ensures a { result.a ≡ lower_fours x0 y0 }
+    ensures b { result.b ≡ lower_fours x1 y1 }
+    ensures c { result.c ≡ upper_fours x0 y0 }
+    ensures d { result.d ≡ upper_fours x1 y1 }
+{
+    let (a, c) = fours_apart(x0, y0);
+    let (b, d) = fours_apart(x1, y1);
+    Lanes { a, b, c, d }
+}
+
+/// The same, with the vectors in another order.
+#[inline(always)]
+fn by_fours_across(x0: u16x16, x1: u16x16, y0: u16x16, y1: u16x16) -> Lanes
+    ensures a { result.a ≡ lower_fours x0 y0 }
+    ensures b { result.b ≡ upper_fours x0 y0 }
+    ensures c { result.c ≡ lower_fours x1 y1 }
+    ensures d { result.d ≡ upper_fours x1 y1 }
+{
+    let (a, b) = fours_apart(x0, y0);
+    let (c, d) = fours_apart(x1, y1);
+    Lanes { a, b, c, d }
+}
+
+/// Lanes of two and two vectors, by eights.
+#[inline(always)]
+fn by_eights(x0: u16x16, x1: u16x16, y0: u16x16, y1: u16x16) -> Lanes
+    ensures a { result.a ≡ lower_eights x0 y0 }
+    ensures b { result.b ≡ lower_eights x1 y1 }
+    ensures c { result.c ≡ upper_eights x0 y0 }
+    ensures d { result.d ≡ upper_eights x1 y1 }
+{
+    let (a, c) = eights_apart(x0, y0);
+    let (b, d) = eights_apart(x1, y1);
+    Lanes { a, b, c, d }
+}
+
+/// The new costs of the states below 32 and of the others, as the lanes of the next phase.
+#[inline(always)]
+pub(crate) fn turned_in(
+    phase: usize,
+    low_first: u16x16,
+    low_last: u16x16,
+    high_first: u16x16,
+    high_last: u16x16,
+) -> Lanes
+    requires { phase < 6 }
+    ensures { AreTurnedIn phase low_first low_last high_first high_last (laid_in (next phase) result.a result.b result.c result.d) }
+{
+    if phase < 3 {
+        by_fours(low_first, low_last, high_first, high_last)
+    } else if phase == 3 {
+        by_fours_across(low_first, low_last, high_first, high_last)
+    } else if phase == 4 {
+        by_eights(low_first, high_first, low_last, high_last)
+    } else {
+        by_eights(low_first, low_last, high_first, high_last)
+    }
+}
