@@ -9,13 +9,13 @@ ghost use Rattle.cmd_align.specs.Working.{Appends, ReportOnly};
 
 use crate::announcement::announced_line;
 use crate::copying::Copying;
+use cmd_base::{CellsRefusal, Refusal};
+use cmd_cells::{Stop, SymbolWork, write_some};
 use frame_build::header;
 use mode_set::Settings;
-use tune_search::{PlaceSearch, place_line};
-use cmd_base::{CellsRefusal, Refusal};
 use station_core::{OutPort, Station};
-use cmd_cells::{Stop, SymbolWork, write_some};
 use tune_in::{Found, begin};
+use tune_search::{PlaceSearch, place_line};
 
 // Writes the lines of a place, each by one write.
 fn write_found<'a, S: Station<'a>>(found: &Found, station: &mut S) -> Result<(), Stop>

@@ -11,15 +11,13 @@ ghost use Rattle.cmd_align.specs.Working.{RunsOrLacks, aligning_work};
 
 use crate::aligning_work::AligningWork;
 use crate::copying::Copying;
-use frame_build::{SymbolIn, header};
+use cmd_base::{Limits, Refusal, read_settings, refuse};
+use cmd_cells::{CellFile, run_cells};
+use frame_build::header;
 use mode_set::{Carriers, Mode, Mode2k, Mode8k, Settings};
-use tune_search::{PlaceSearch, Search};
-use cmd_base::{Limits, Refusal};
-use cmd_base::{read_settings, refuse};
 use station_core::Station;
 use std::alloc::Global;
-use cmd_cells::{CellFile, run_cells};
-use tune_in::Tuner;
+use tune_search::{PlaceSearch, Search};
 
 // Runs the work by a search that has had no byte. `symbol` has the size of a symbol.
 fn align_by<'a, T: PlaceSearch + Drop, S: Station<'a>>(
@@ -68,16 +66,9 @@ fn align_in<'a, M: Carriers, S: Station<'a>>(
     let Ok(mut symbol) = vec![in alloc; 0u8; 5 * M::K as usize] else {
         return refuse(&Refusal::Memory, station);
     };
-    let Ok(room) = SymbolIn::<M>::new(alloc) else {
-        return refuse(&Refusal::Memory, station);
-    };
     // Constructed last: early returns would have to drop it, which is slow to prove.
-    let Ok(tuner) = Tuner::<M>::new(alloc) else {
+    let Ok(search) = Search::<M>::new(alloc) else {
         return refuse(&Refusal::Memory, station);
-    };
-    let search = Search {
-        tuner,
-        symbol: room,
     };
     align_by(search, settings, &mut symbol, old_cells, new_cells, station)
 }

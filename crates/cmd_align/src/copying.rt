@@ -10,9 +10,9 @@ ghost use Rattle.cmd_convert.specs.Working.{writes_at};
 ghost use Rattle.tune_in.specs.declared.frame.Found.{Found as AnyFound};
 ghost use Rattle.cmd_align.specs.Working.{GivesAt, IsCopying};
 
+use cmd_cells::{Stop, write_some};
 use rx_report::{Line, push_count};
 use station_core::{OutPort, Station};
-use cmd_cells::{Stop, write_some};
 
 /// What was counted of the symbols behind a place.
 #[derive(Clone, Copy, Debug)]

@@ -1,4 +1,4 @@
--- Behind a place symbols are passed over, and then received.
+-- After a place symbols are skipped, and then received.
 use Rattle.std.proofs.Common.{◌≡◌, ◌≢◌, ℕ, ◌+◌, ◌<◌, ◌≤◌, ◌^◌, Bool, List, [], ◌++◌, ◌⊎◌, inl, inr, length, Result, Ok, refl, ◌∙◌, sym, subst, arith}
 use Rattle.station_core.specs.Meaning.{Meaning}
 use Rattle.mode_set.specs.declared.settings.Settings.{Settings}
@@ -12,12 +12,12 @@ use Rattle.cmd_cells.specs.Work as works
 use Rattle.tune_in.specs.OfBytes.{rest}
 use Rattle.tune_in.specs.Places.{begin}
 use Rattle.tune_in.specs.declared.frame.Found.{Found}
+use Rattle.tune_search.proofs.Bytes.{more_rest, no_rest, no_rest_yet, rest_fewer, same_symbols}
 use Rattle.cmd_tune.specs.Working.{IsBehind}
-use Rattle.cmd_tune.proofs.Bytes.{more_rest, no_rest, no_rest_yet, rest_fewer, same_symbols}
 use Rattle.cmd_tune.proofs.Calls.{does_as, does_nothing}
 
 module _ (standing : List ℕ → Written → Type 0) (a s : Settings) (two : Bool) (found : Found) (same : a.mode ≡ s.mode) where
-  -- the reception has begun where nothing is left to be passed over
+  -- the reception has begun if nothing is left to be skipped
   pub begun : (bytes : List ℕ) (given : Written) → IsBehind standing a s two 0 found bytes given → begin found ≤ symbols s bytes
   begun bytes given is = elim is.counts [ inl e ↦ omega (arith, e) | inr p ↦ p.1 ]
 
@@ -45,7 +45,7 @@ module _ (standing : List ℕ → Written → Type 0) (a s : Settings) (two : Bo
       })
       (λ after gives. subst (λ (l : List ℕ). LiveGives a two l after) (sym is) gives) (λ r no. no []) takes
 
-  -- a symbol is passed over, or what there is of one
+  -- a symbol is skipped, or a part of one at the end
   pub passed : SameSymbols → OneSymbolMore → (skip skip' : ℕ) (bytes piece : List ℕ) (given : Written) (m : Meaning) → tail s bytes ≡ 0 → length piece ≤ symbol_length s → 0 < skip
       → ((length piece ≡ symbol_length s) × (skip' + 1 ≡ skip)) ⊎ ((length piece ≢ symbol_length s) × (skip' ≡ skip))
       → IsBehind standing a s two skip found bytes given

@@ -9,7 +9,7 @@ use Rattle.cmd_cells.specs.declared.stop.Stop.TheVariants.{ReadFault, WriteFault
 use Rattle.cmd_cells.specs.declared.stop.Stop.TheVariants as stops
 use Rattle.cmd_cells.specs.Work.{Does, Written}
 
--- what was given is given in other words
+-- the same output by another statement
 pub does_as : (S S' I I' : Written → Type 0) (Its Its' : Refusal → Type 0) (before : Written) (m m' : Meaning) (result : Result (Unit {0}) Stop)
     → ((after : Written) → S after → I after → S' after) → ((after : Written) → I after → I' after) → ((r : Refusal) → Its r → Its' r)
     → Does S I Its before m m' result → Does S' I' Its' before m m' result
@@ -19,7 +19,7 @@ does_as S S' I I' Its Its' before m m' (Err (stops.Work r)) stands gives its d =
 does_as S S' I I' Its Its' before m m' (Err ReadFault) stands gives its d = absurd d
 does_as S S' I I' Its Its' before m m' (Err Limit) stands gives its d = absurd d
 
--- what was given stands behind what was written first
+-- what was given comes after what was written first
 pub does_behind : (first : Written) (S S' I I' : Written → Type 0) (Its Its' : Refusal → Type 0) (before given : Written) (m m' : Meaning) (result : Result (Unit {0}) Stop)
     → ((port : OutPort) → given port ≡ first port ++ before port)
     → ((after : Written) → S after → S' (λ port. first port ++ after port)) → ((after : Written) → I after → I' (λ port. first port ++ after port)) → ((r : Refusal) → Its r → Its' r)

@@ -1,7 +1,7 @@
--- What first bytes of the cells give begins what the run comes to.
-use Rattle.std.proofs.Common.{◌≡◌, ℕ, ◌+◌, ◌-◌, ◌*◌, ◌/◌, ◌<◌, ◌≤◌, Bool, true, false, not, List, [], ◌∷◌, ◌++◌, ◌⊎◌, inl, inr, length, take, drop, Option, Some, None, refl, ◌∙◌, sym, ap, subst, arith, append_assoc, take-append-drop}
+-- What the first bytes of the cells give is a prefix of what the run produces.
+use Rattle.std.proofs.Common.{◌≡◌, ℕ, ◌+◌, ◌-◌, ◌*◌, ◌/◌, ◌<◌, ◌≤◌, Bool, true, false, not, List, [], ◌∷◌, ◌++◌, ◌⊎◌, inl, inr, length, take, drop, Option, Some, None, refl, ◌∙◌, sym, ap, subst, arith, append_assoc, length-drop, take-append-drop}
 use Rattle.std.specs.Prelude.{flat_map, if◌then◌else◌, is_some}
-use Rattle.std.specs.Option.{option_or}
+use Rattle.std.specs.Option.{option_map_or, option_or}
 use Rattle.std.proofs.lemmas.Bool.{cases_lt, le-ltb, lt-ltb}
 use Rattle.std.proofs.lemmas.List.{append-nil, drop-append-le, drop-take, drop_all, length-take}
 use Rattle.std.proofs.Math.Seq.{take-append-add}
@@ -12,6 +12,7 @@ use Rattle.mode_set.specs.Kept.{is_flat}
 use Rattle.mode_set.specs.declared.modes.Hierarchy.{Hierarchy}
 use Rattle.mode_set.specs.declared.modes.Hierarchy.TheVariants.{Flat, Alpha1, Alpha2, Alpha4}
 use Rattle.mode_set.specs.declared.modes.Mode.{Mode}
+use Rattle.mode_set.specs.declared.modes.Mode.TheVariants.{M2k, M8k}
 use Rattle.mode_set.specs.declared.modes.Rate.{Rate}
 use Rattle.mode_set.specs.declared.modes.Start.TheVariants.{Any}
 use Rattle.mode_set.specs.declared.modes.Stream.{Stream}
@@ -20,7 +21,6 @@ use Rattle.mode_set.specs.StreamTable.{carriers}
 use Rattle.mode_set.specs.declared.settings.Settings.{Settings}
 use Rattle.rx_report.specs.Text.{event_line}
 use Rattle.reception.specs.Cells.{symbol_length, symbols}
-use Rattle.reception.specs.Frames.{tps_cells}
 use Rattle.reception.specs.Lines.{events, event_lines, closing_lines}
 use Rattle.reception.specs.Streams.{Reception, Live, Final}
 use Rattle.reception.specs.Laws.{TpsCellsStay}
@@ -38,22 +38,33 @@ use Rattle.tps_word.specs.Tps.{IsValid}
 use Rattle.tps_word.specs.declared.word.TpsWord.{TpsWord}
 use Rattle.tune_in.specs.Announced.{IsAnnounced}
 use Rattle.tune_in.specs.OfBytes.{FoundStaysInBytes, HasNoPlace, IsFoundIn, rest}
-use Rattle.tune_in.specs.Places.{Announces, OneFound}
+use Rattle.tune_in.specs.Places.{OneFound, begin}
 use Rattle.tune_in.specs.declared.frame.Found.{Found}
-use Rattle.tune_in.proofs.Votes.{bits_agree}
-use Rattle.tune_in.specs.LeastPlace.{HoldsNone, HoldsPlace, held, place_of}
-use Rattle.cmd_tune.specs.Tuned.{ComesTo, GivesFinal, GivesLive, IsNothing, Tuned, at_place, fits, refusal_at, tune_refusal}
-use Rattle.cmd_tune.proofs.LeastPlaces.{searches}
-use Rattle.cmd_tune.proofs.Bytes.{rest_within, start, symbols_grow}
+use Rattle.tune_in.specs.LeastPlace.{HoldsNone, HoldsPlace, place_of}
+use Rattle.tune_search.specs.Searching.{FindsLeastPlaces}
+use Rattle.tune_search.proofs.Bytes.{start}
+use Rattle.tune_search.proofs.Held.{finds_none, held_place}
+use Rattle.cmd_tune.specs.Tuned.{ComesTo, GivesFinal, GivesLive, IsNothing, Tuned, at_place, fits, tune_refusal}
 
 pub record Laws : Type 0 where
   pub receptions : KindLaws plain
   pub one : OneFound
+  pub least : FindsLeastPlaces
   pub stays : FoundStaysInBytes
   pub tps : TpsCellsStay
   pub live : SameLive
   pub final : SameFinal
   pub lines : SameLines
+
+-- the whole symbols after b symbols are within the limit
+within_after : (m : Mode) (n b most : ℕ) → n / (5 * carriers m) ≤ most → ((n - b * (5 * carriers m)) / (5 * carriers m)) * (5 * carriers m) ≤ most * (5 * carriers m) - b * (5 * carriers m)
+within_after M2k n b most l = omega (arith, l)
+within_after M8k n b most l = omega (arith, l)
+
+rest_within : (s : Settings) (found : Found) (bytes : List ℕ) (most : ℕ) → symbols s bytes ≤ most → symbols s (rest s bytes found) * symbol_length s ≤ most * symbol_length s - start s found
+rest_within s found bytes most l =
+    subst (λ (n : ℕ). (n / symbol_length s) * symbol_length s ≤ most * symbol_length s - start s found) (sym (length-drop (start s found) bytes))
+    (within_after s.mode (length bytes) (begin found) most l)
 
 -- the settings that valid fields announce
 announced_by : (w : TpsWord) (s : Settings) → IsValid w → (a : Settings) × IsAnnounced w s a
@@ -85,36 +96,6 @@ announced_by w s v = (
     has_low Alpha4 = refl
 
 module _ (laws : Laws) (s : Settings) (two : Bool) (bytes : List ℕ) where
-  -- ---- places within the limit
-  held_few : held s bytes ≤ symbols s bytes
-  held_few = omega arith
-
-  held_at : (n : ℕ) → n ≤ symbols s bytes → n ≤ s.max_symbols → n ≤ held s bytes
-  held_at n a b = omega (arith, a, b)
-
-  -- a place of first bytes is the place within the limit
-  pub held_place : (taken left : List ℕ) (found : Found) → bytes ≡ taken ++ left → symbols s taken ≤ s.max_symbols → IsFoundIn s taken found → HoldsPlace s bytes found
-  held_place taken left found are few is =
-      let long : symbols s taken ≤ symbols s bytes = subst (λ (l : List ℕ). symbols s taken ≤ symbols s l) (sym are) (symbols_grow s taken left) in
-      let all : IsFoundIn s bytes found = subst (λ (l : List ℕ). IsFoundIn s l found) (sym are) (laws.stays s taken left found is) in
-      let within = held_at (symbols s taken) long few in
-      record {
-        place = record { held = omega (arith, is.place.held, within); announces = all.place.announces };
-        least = λ i fields p. all.least i fields (record { held = omega (arith, p.held, held_few); announces = p.announces });
-      }
-
-  -- where first bytes have all symbols within the limit and no place, there is none within it
-  pub held_none : (taken left : List ℕ) → bytes ≡ taken ++ left → held s bytes ≤ symbols s taken → HasNoPlace s taken → HoldsNone s bytes
-  held_none taken left are long none i fields p =
-      none i fields (record {
-        held = omega (arith, p.held, long);
-        announces = subst (λ (b : List Bool). Announces s.mode b fields)
-            (bits_agree (tps_cells s bytes) (tps_cells s taken) (symbols s taken) i (omega (arith, p.held, long)) same) p.announces;
-      })
-    where
-      same : (m : ℕ) → m < symbols s taken → tps_cells s bytes m ≡ tps_cells s taken m
-      same m l = ap (λ (l : List ℕ). tps_cells s l m) are ∙ laws.tps s taken left m l
-
   -- ---- the refusal
   abbrev pub limit : Option Refusal
   limit = reception_refusal s bytes
@@ -125,17 +106,16 @@ module _ (laws : Laws) (s : Settings) (two : Bool) (bytes : List ℕ) where
   pub passed : s.max_symbols < symbols s bytes → limit ≡ Some (Limit s.max_symbols)
   passed more = ap (λ (b : Bool). if b then Some (Limit s.max_symbols) else None) (lt-ltb s.max_symbols (symbols s bytes) more)
 
+  abbrev refusal_at : Option Found → Option Refusal
+  refusal_at place = option_map_or (λ (found : Found). if fits two found then limit else Some (Cells AnnouncedForm)) place (option_or limit (Some (Cells NoPlace)))
+
   pub refusal_found : (found : Found) → HoldsPlace s bytes found → tune_refusal s two bytes ≡ (if fits two found then limit else Some (Cells AnnouncedForm))
-  refusal_found found holds = ap (λ (o : Option Found). refusal_at two limit o) ((searches laws.one s bytes).finds found holds)
+  refusal_found found holds = ap refusal_at ((laws.least s bytes).finds found holds)
 
   pub refusal_none : HoldsNone s bytes → tune_refusal s two bytes ≡ option_or limit (Some (Cells NoPlace))
-  refusal_none none = ap (λ (o : Option Found). refusal_at two limit o) (go (place_of s bytes) refl)
-    where
-      go : (o : Option Found) → place_of s bytes ≡ o → place_of s bytes ≡ None
-      go None is = is
-      go (Some found) is = let h = (searches laws.one s bytes).found found is in absurd (none found.place found.word h.place)
+  refusal_none none = ap refusal_at (finds_none laws.stays laws.tps s bytes (laws.least s bytes) none)
 
-  -- ---- something is always come to
+  -- ---- a run always produces something
   live_from : (found : Found) (cells : List ℕ) → HoldsPlace s bytes found → fits two found ≡ true → (given : Written) × Tuned (λ a. LiveGives a two) s two cells found given
   live_from found cells holds fit =
       let a = announced_by found.word s holds.place.announces.signals.valid in
@@ -162,20 +142,20 @@ module _ (laws : Laws) (s : Settings) (two : Bool) (bytes : List ℕ) where
       by_form found holds false fit = ((λ port. []), inr (found, holds, inl (fit, (λ port. refl))))
 
       go : (o : Option Found) → place_of s bytes ≡ o → (given : Written) × ComesTo s two bytes given
-      go None is = ((λ port. []), inl ((searches laws.one s bytes).none is, (λ port. refl)))
-      go (Some found) is = by_form found ((searches laws.one s bytes).found found is) (fits two found) refl
+      go None is = ((λ port. []), inl ((laws.least s bytes).none is, (λ port. refl)))
+      go (Some found) is = by_form found ((laws.least s bytes).found found is) (fits two found) refl
 
-  -- ---- what first bytes give begins it
+  -- ---- what the first bytes give is a prefix of it
   pub record Continues (given : Written) : Type 0 where
     pub all : Written
     pub comes : ComesTo s two bytes all
     pub begins : (port : OutPort) → (rest : List ℕ) × (all port ≡ given port ++ rest)
 
-  -- nothing begins everything
+  -- nothing is a prefix of everything
   nothing_begins : (given : Written) → IsNothing given → Continues given
   nothing_begins given none = let t = total in record { all = t.0; comes = t.1; begins = λ port. (t.0 port, ap (λ (l : List ℕ). l ++ t.0 port) (sym (none port))) }
 
-  -- what is written of a reception begins what is written of one that it begins
+  -- if a reception begins another, so does what is written of it
   written_begins : (q r : Reception) (more lines : List ℕ) → ((σ : Stream) → (rest : List ℕ) × (q.packets σ ≡ r.packets σ ++ rest)) → ((rest : List ℕ) × (more ≡ lines ++ rest))
       → (port : OutPort) → (rest : List ℕ) × (written_at two q.packets more port ≡ written_at two r.packets lines port ++ rest)
   written_begins q r more lines packets report outs.Cells = ([], refl)
@@ -202,9 +182,9 @@ module _ (laws : Laws) (s : Settings) (two : Bool) (bytes : List ℕ) where
     live = tuned.received.1
 
     holds : HoldsPlace s bytes found
-    holds = held_place taken left found are few is_in
+    holds = held_place laws.stays laws.tps s bytes taken left found are few is_in
 
-    -- the bytes behind the place continue those that were had
+    -- all bytes after the place continue those that were taken
     rest_grows : (more : List ℕ) × (rest s bytes found ≡ had ++ more)
     rest_grows = go (cases_lt (length taken) (start s found))
       where
@@ -212,7 +192,7 @@ module _ (laws : Laws) (s : Settings) (two : Bool) (bytes : List ℕ) where
         go (inl short) = (rest s bytes found, ap (λ (l : List ℕ). l ++ rest s bytes found) (sym (drop_all (start s found) taken (omega (arith, short)))))
         go (inr long) = (left, ap (λ (l : List ℕ). rest s l found) are ∙ drop-append-le (start s found) taken left long)
 
-    -- what begins so is written behind the same line
+    -- a reception that continues this one is written after the same line
     continued : (q : Reception) (cells lines : List ℕ) → Begins plain a had cells r q → ((more : List ℕ) × (lines ≡ event_lines a cells q ++ more)) → (port : OutPort) → (rest : List ℕ) × (at_place found port ++ written_at two q.packets lines port ≡ given port ++ rest)
     continued q cells lines b ends port =
         let report : (rest : List ℕ) × (lines ≡ event_lines a had r ++ rest) = (b.lines.0 ++ ends.0, ends.1 ∙ ap (λ (l : List ℕ). l ++ ends.0) b.lines.1 ∙ append_assoc (event_lines a had r) b.lines.0 ends.0) in
@@ -236,7 +216,7 @@ module _ (laws : Laws) (s : Settings) (two : Bool) (bytes : List ℕ) where
           begins = continued q.0 cells (event_lines a cells q.0 ++ closing_lines a cells q.0) b (closing_lines a cells q.0, refl);
         }
 
-    -- past it: the whole symbols that were had, and what follows within the limit
+    -- past it: the whole symbols that were taken, and what follows within the limit
     abbrev whole : List ℕ
     whole = whole_of laws.receptions a had
 
@@ -304,7 +284,7 @@ module _ (laws : Laws) (s : Settings) (two : Bool) (bytes : List ℕ) where
   live_begins taken left are few given (inr found) = tuned_begins taken left are few found.0 found.1 given found.2
 
   pub final_comes : symbols s bytes ≤ s.max_symbols → (given : Written) → GivesFinal s two bytes given → ComesTo s two bytes given
-  final_comes few given ends = inr (ends.0, held_place bytes [] ends.0 (sym (append-nil bytes)) few ends.1, inr (inl (few, ends.2)))
+  final_comes few given ends = inr (ends.0, held_place laws.stays laws.tps s bytes bytes [] ends.0 (sym (append-nil bytes)) few ends.1, inr (inl (few, ends.2)))
 
   pub final_begins : symbols s bytes ≤ s.max_symbols → (given : Written) → GivesFinal s two bytes given → Continues given
   final_begins few given ends = record { all = given; comes = final_comes few given ends; begins = λ port. ([], sym (append-nil (given port))) }

@@ -1,4 +1,4 @@
--- `tune` is a command on cells: what it comes to is what its work gives.
+-- `tune` is a command on cells: it produces what its work gives.
 use Rattle.std.proofs.Common.{◌≡◌, inl, inr, true, false, ℕ, ◌*◌, ◌≤◌, ◌<◌, Bool, List, [], ◌++◌, take, drop, Option, Some, None, refl, ◌∙◌, sym, ap, subst, arith, append_assoc, if◌then◌else◌}
 use Rattle.std.proofs.lemmas.List.{append-nil, drop_all, length-take, take-append-drop}
 use Rattle.std.specs.Prelude.{is_some, option_and_then}
@@ -21,29 +21,25 @@ use Rattle.cmd_base.specs.Ports.{stream_names}
 use Rattle.cmd_cells.specs.Cells.{GivenUpTo}
 use Rattle.cmd_cells.specs.Commands as commands
 use Rattle.cmd_cells.specs.Commands.{CellCommand, Come, ComesRefused, MayRefuse}
-use Rattle.cmd_receive.specs.Received.{cells_in, within_limit}
+use Rattle.cmd_receive.specs.Received.{IsSoFar, cells_in, within_limit}
 use Rattle.cmd_receive.specs.ReceiveCommand.{header_by, most_cells}
-use Rattle.cmd_receive.proofs.Commands.{behind, symbols_none}
-use Rattle.cmd_receive.proofs.Parts.{some_bytes}
+use Rattle.cmd_receive.proofs.Commands.{behind}
 use Rattle.tune_in.specs.OfBytes.{HasNoPlace, IsFoundIn}
 use Rattle.tune_in.specs.declared.frame.Found.{Found}
+use Rattle.tune_search.proofs.Bytes.{symbols_limited}
+use Rattle.tune_search.proofs.Held.{held_none, held_place, no_place, some_bytes, symbols_none}
 use Rattle.cmd_tune.specs.Tuned.{ComesTo, GivesFinal, GivesLive, fits, tune_refusal}
-use Rattle.cmd_tune.specs.TuneCommand.{IsSoFar, LinesSoFar, TakesPlace, tune_command}
+use Rattle.cmd_tune.specs.TuneCommand.{LinesSoFar, TakesPlace, tune_command}
 use Rattle.cmd_tune.specs.Working.{RefusesTuning, TuningReasons, tuning_work}
-use Rattle.cmd_tune.proofs.Bytes.{symbols_limited}
-use Rattle.cmd_tune.proofs.Coming.{Laws, final_begins, final_comes, held_none, held_place, live_begins, passed, refusal_found, refusal_none, unrefused}
+use Rattle.cmd_tune.proofs.Coming.{Laws, final_begins, final_comes, live_begins, passed, refusal_found, refusal_none, unrefused}
 use Rattle.cmd_tune.proofs.Coming as coming
 use Rattle.cmd_tune.proofs.OwnLaws.{own_laws}
 
--- no bytes hold no place
-pub no_place : (s : TheSettings) → HasNoPlace s []
-no_place s i fields p = let none = symbols_none s in absurd (omega (arith, p.held, none))
-
--- within the header no byte is behind it
+-- bytes within the header are no cells
 none_behind : (file : List ℕ) (k : ℕ) → k ≤ 8 → cells_in (take k file) ≡ []
 none_behind file k few = drop_all 8 (take k file) (let some = length-take k file in omega (arith, some, few))
 
--- so where no more than the header is taken of the cells the report has no lines
+-- so the report has no lines if no more than the header is taken
 pub no_lines : (stated : Option TheSettings) (lp : Option (List ℕ)) (file left : List ℕ) (k : ℕ) → k ≤ 8 → left ≡ drop k file → LinesSoFar stated lp file left []
 no_lines None lp file left k few is = refl
 no_lines (Some s) lp file left k few is = (
@@ -52,7 +48,7 @@ no_lines (Some s) lp file left k few is = (
     taken = take k file;
     are = sym (take-append-drop k file) ∙ ap (λ (l : List ℕ). take k file ++ l) (sym is);
     within = let none : symbols s (cells_in (take k file)) ≡ 0 = ap (symbols s) (none_behind file k few) ∙ symbols_none s in omega (arith, none);
-    gives = inl (subst (HasNoPlace s) (sym (none_behind file k few)) (no_place s), λ port. refl);
+    live = inl (subst (HasNoPlace s) (sym (none_behind file k few)) (no_place s), λ port. refl);
   },
   refl,
 )
@@ -95,16 +91,16 @@ module _ (laws : Laws) (limit : ℕ) (name cells hp : List ℕ) (lp : Option (Li
   whole : (given : Written) → symbols s bytes ≤ s.max_symbols → GivesFinal s two bytes given → Come c limit file given × (c.work_refusal limit file ≡ None)
   whole given few ends = (
     come given (final_comes laws s two bytes few given ends),
-    refusal_is None (refusal_found laws s two bytes ends.0 (held_place laws s two bytes bytes [] ends.0 (sym (append-nil bytes)) few ends.1) ∙ fitting true (coming.limit laws s two bytes) (fits two ends.0) ends.2.fits_form ∙ unrefused laws s two bytes few),
+    refusal_is None (refusal_found laws s two bytes ends.0 (held_place laws.stays laws.tps s bytes bytes [] ends.0 (sym (append-nil bytes)) few ends.1) ∙ fitting true (coming.limit laws s two bytes) (fits two ends.0) ends.2.fits_form ∙ unrefused laws s two bytes few),
   )
 
   past : (given : Written) → s.max_symbols < symbols s bytes → GivesLive s two (within_limit s bytes) given → Come c limit file given × (c.work_refusal limit file ≡ Some (Limit s.max_symbols))
   past given more gives = elim gives [
     | inl p ↦
-        let none = held_none laws s two bytes taken left are (omega (arith, many)) p.0 in
+        let none = held_none laws.stays laws.tps s bytes taken left are (omega (arith, many)) p.0 in
         (come given (inl (none, p.1)), refusal_is (Some (Limit s.max_symbols)) (refusal_none laws s two bytes none ∙ ap (λ (o : Option Refusal). option_or o (Some (Cells NoPlace))) (passed laws s two bytes more)))
     | inr p ↦
-        let holds = held_place laws s two bytes taken left p.0 are (omega (arith, many)) p.1 in
+        let holds = held_place laws.stays laws.tps s bytes taken left p.0 are (omega (arith, many)) p.1 in
         (come given (inr (p.0, holds, inr (inr (more, p.2)))), refusal_is (Some (Limit s.max_symbols)) (refusal_found laws s two bytes p.0 holds ∙ fitting true (coming.limit laws s two bytes) (fits two p.0) p.2.fits_form ∙ passed laws s two bytes more))
   ]
     where
@@ -120,17 +116,18 @@ module _ (laws : Laws) (limit : ℕ) (name cells hp : List ℕ) (lp : Option (Li
       many : symbols s taken ≡ s.max_symbols
       many = symbols_limited s bytes more
 
-  -- the place that was found in the cells behind the header is found in what was taken of the file
+  -- a place found in the cells is found in what was taken of the file, after its header
   takes : (unread : Unread) (taken : List ℕ) (found : Found) → bytes ≡ taken ++ unread ins.Cells → symbols s taken ≤ s.max_symbols → IsFoundIn s taken found → fits two found ≡ true → TakesPlace s lp (file cells) (unread ins.Cells)
   takes unread taken found are few is fit =
-      let same : cells_in (take 8 (file cells) ++ taken) ≡ taken = behind 8 (file cells) taken (unread ins.Cells) are in record {
-        taken = take 8 (file cells) ++ taken;
-        are = sym (take-append-drop 8 (file cells)) ∙ ap (λ (l : List ℕ). take 8 (file cells) ++ l) are ∙ sym (append_assoc (take 8 (file cells)) taken (unread ins.Cells));
-        within = subst (λ (l : List ℕ). symbols s l ≤ s.max_symbols) (sym same) few;
-        found = found;
-        is_found = subst (λ (l : List ℕ). IsFoundIn s l found) (sym same) is;
-        fits_form = fit;
-      }
+      let same : cells_in (take 8 (file cells) ++ taken) ≡ taken = behind 8 (file cells) taken (unread ins.Cells) are in (
+        found,
+        record {
+          taken = take 8 (file cells) ++ taken;
+          are = sym (take-append-drop 8 (file cells)) ∙ ap (λ (l : List ℕ). take 8 (file cells) ++ l) are ∙ sym (append_assoc (take 8 (file cells)) taken (unread ins.Cells));
+          within = subst (λ (l : List ℕ). symbols s l ≤ s.max_symbols) (sym same) few;
+          live = (subst (λ (l : List ℕ). IsFoundIn s l found) (sym same) is, fit);
+        },
+      )
 
   refused : (unread : Unread) (taken : List ℕ) (given : Written) (r : Refusal) → bytes ≡ taken ++ unread ins.Cells → symbols s taken ≤ s.max_symbols → TuningReasons r → RefusesTuning s two taken (unread ins.Cells) given r
       → ComesRefused c limit file unread given r
@@ -138,10 +135,10 @@ module _ (laws : Laws) (limit : ℕ) (name cells hp : List ℕ) (lp : Option (Li
   refused unread taken given (Cells NoPlace) are few reason is =
       let same : bytes ≡ taken = are ∙ ap (λ (l : List ℕ). taken ++ l) is.0 ∙ append-nil taken in
       let all : symbols s bytes ≡ symbols s taken = ap (symbols s) same in
-      let none = held_none laws s two bytes taken (unread ins.Cells) are (omega (arith, all)) is.1 in
+      let none = held_none laws.stays laws.tps s bytes taken (unread ins.Cells) are (omega (arith, all)) is.1 in
       (come given (inl (none, is.2)), refusal_is (Some (Cells NoPlace)) (refusal_none laws s two bytes none ∙ ap (λ (o : Option Refusal). option_or o (Some (Cells NoPlace))) (unrefused laws s two bytes (omega (arith, all, few)))))
   refused unread taken given (Cells AnnouncedForm) are few reason is =
-      let holds = held_place laws s two bytes taken (unread ins.Cells) is.0 are few is.1 in
+      let holds = held_place laws.stays laws.tps s bytes taken (unread ins.Cells) is.0 are few is.1 in
       (come given (inr (is.0, holds, inl (is.2, is.3))), refusal_is (Some (Cells AnnouncedForm)) (refusal_found laws s two bytes is.0 holds ∙ fitting false (coming.limit laws s two bytes) (fits two is.0) is.2))
   refused unread taken given (Cells Header) are few reason is = absurd is
   refused unread taken given refusals.Usage are few reason is = absurd is
@@ -166,11 +163,11 @@ module _ (laws : Laws) (limit : ℕ) (name cells hp : List ℕ) (lp : Option (Li
     refused = refused;
     so_far = λ unread taken given are within gives.
         let same : cells_in (take 8 (file cells) ++ taken) ≡ taken = behind 8 (file cells) taken (unread ins.Cells) are in
-        let so_far : IsSoFar s lp (file cells) (unread ins.Cells) given = record {
+        let so_far : IsSoFar (λ a. GivesLive a two) s (file cells) (unread ins.Cells) given = record {
           taken = take 8 (file cells) ++ taken;
           are = sym (take-append-drop 8 (file cells)) ∙ ap (λ (l : List ℕ). take 8 (file cells) ++ l) are ∙ sym (append_assoc (take 8 (file cells)) taken (unread ins.Cells));
           within = subst (λ (l : List ℕ). symbols s l ≤ s.max_symbols) (sym same) within;
-          gives = subst (λ (l : List ℕ). GivesLive s two l given) (sym same) gives;
+          live = subst (λ (l : List ℕ). GivesLive s two l given) (sym same) gives;
         } in
         record {
           outputs = λ port output. (s, stated, (given, so_far, refl));

@@ -1,6 +1,3 @@
-pub mod LeastPlaces
-pub mod Bytes
-pub mod Searched
 pub mod Behinds
 pub mod Calls
 pub mod Places

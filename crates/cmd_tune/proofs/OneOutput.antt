@@ -1,10 +1,9 @@
--- What `tune` comes to is one output.
+-- What `tune` produces is one output.
 use Rattle.std.proofs.Common.{◌≡◌, ◌⊎◌, inl, inr, true, false, ℕ, ◌<◌, ◌≤◌, Bool, List, ◌++◌, Option, Some, refl, ◌∙◌, sym, ap, ap₂, subst, arith}
 use Rattle.std.specs.Prelude.{is_some}
 use Rattle.std.proofs.lemmas.Bool.{true≢false}
 use Rattle.std.proofs.lemmas.List.{append_cancel_right}
 use Rattle.station_core.specs.declared.ports.OutPort.{OutPort}
-use Rattle.station_core.specs.declared.ports.OutPort.TheVariants as outs
 use Rattle.mode_set.specs.declared.settings.Settings.{Settings}
 use Rattle.reception.specs.Cells.{symbols}
 use Rattle.reception.specs.Frames.{tps_cells}
@@ -12,7 +11,7 @@ use Rattle.reception.specs.Lines.{closing_lines, event_lines}
 use Rattle.reception.specs.Streams.{Final, Live, Reception}
 use Rattle.cmd_cells.specs.Work.{Written}
 use Rattle.reception.specs.Alike.{DifferInWorkers}
-use Rattle.cmd_receive.specs.OneOutput.{AtMostOne, ExactlyOne, IsOneOutput}
+use Rattle.cmd_receive.specs.OneOutput.{AtMostOne, ExactlyOne}
 use Rattle.cmd_receive.specs.Received.{cells_in, within_limit}
 use Rattle.cmd_receive.specs.Working.{FinalGives, LiveGives, written_at}
 use Rattle.tps_word.specs.declared.word.TpsWord.{TpsWord}
@@ -21,7 +20,7 @@ use Rattle.tune_in.specs.LeastPlace.{held}
 use Rattle.tune_in.specs.OfBytes.{rest}
 use Rattle.tune_in.specs.declared.frame.Found.{Found}
 use Rattle.cmd_tune.specs.Tuned.{ComesTo, GivesLive, IsNothing, Tuned, at_place, fits}
-use Rattle.cmd_tune.specs.TuneCommand.{LinesSoFar, PortComes, PortSoFar}
+use Rattle.cmd_tune.specs.TuneCommand.{PortComes, PortSoFar}
 use Rattle.cmd_tune.proofs.Coming.{Laws, total}
 
 -- the same at every port
@@ -68,7 +67,7 @@ module _ (laws : Laws) (two : Bool) where
     nothing_once : (one other : Written) → IsNothing one → IsNothing other → Same one other
     nothing_once one other a b port = b port ∙ sym (a port)
 
-    -- ---- so far as a failed read
+    -- ---- after a failed read
     gives_once : (bytes : List ℕ) (one other : Written) → GivesLive s two bytes one → GivesLive s two bytes other → Same one other
     gives_once bytes one other (inl a) (inl b) = nothing_once one other a.1 b.1
     gives_once bytes one other (inl a) (inr b) = absurd (a.0 b.0.place b.0.word b.1.place)
@@ -108,14 +107,11 @@ module _ (laws : Laws) (s : Settings) (lp : Option (List ℕ)) (file : List ℕ)
   abbrev bytes : List ℕ
   bytes = cells_in file
 
-  port_once : (port : OutPort) → ExactlyOne (PortComes s lp bytes port)
+  pub port_once : (port : OutPort) → ExactlyOne (PortComes s lp bytes port)
   port_once port = let all = total laws s (is_some lp) bytes in (all.0 port, (all.0, all.1, refl), (λ other c. c.2 ∙ comes_once laws (is_some lp) s bytes all.0 c.0 all.1 c.1 port))
 
-  so_far_once : (left : List ℕ) (port : OutPort) → AtMostOne (PortSoFar s lp file left port)
+  pub so_far_once : (left : List ℕ) (port : OutPort) → AtMostOne (PortSoFar s lp file left port)
   so_far_once left port one other a b =
       let same : b.1.taken ≡ a.1.taken = append_cancel_right b.1.taken a.1.taken left (sym b.1.are ∙ a.1.are) in
-      let gives : GivesLive s (is_some lp) (cells_in a.1.taken) b.0 = subst (λ (l : List ℕ). GivesLive s (is_some lp) (cells_in l) b.0) same b.1.gives in
-      b.2 ∙ gives_once laws (is_some lp) s (cells_in a.1.taken) a.0 b.0 a.1.gives gives port ∙ sym a.2
-
-  pub one_output : IsOneOutput (PortComes s lp bytes) (PortComes s lp bytes outs.Report) (PortSoFar s lp file) (LinesSoFar (Some s) lp file)
-  one_output = record { outputs = port_once; lines = port_once outs.Report; outputs_so_far = so_far_once; lines_so_far = λ left. so_far_once left outs.Report }
+      let gives : GivesLive s (is_some lp) (cells_in a.1.taken) b.0 = subst (λ (l : List ℕ). GivesLive s (is_some lp) (cells_in l) b.0) same b.1.live in
+      b.2 ∙ gives_once laws (is_some lp) s (cells_in a.1.taken) a.0 b.0 a.1.live gives port ∙ sym a.2

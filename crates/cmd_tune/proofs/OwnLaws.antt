@@ -1,4 +1,4 @@
--- The laws of what `tune` comes to: it is one output, its place is the least, and the number of workers changes nothing.
+-- The laws of what `tune` produces: it is one output, its place is the least, and the number of workers changes nothing.
 use Rattle.std.proofs.Common.{◌≡◌, inl, inr, ℕ, Bool, List, ◌++◌, Option, refl, ◌∙◌, sym, ap, ap₂, subst}
 use Rattle.std.specs.Prelude.{is_some}
 use Rattle.station_core.specs.declared.ports.OutPort.{OutPort}
@@ -20,8 +20,7 @@ use Rattle.tune_in.specs.declared.frame.Found.{Found}
 use Rattle.cmd_tune.specs.Tuned.{ComesTo, GivesLive, Tuned}
 use Rattle.cmd_tune.specs.TuneCommand.{PortComes, PortSoFar, TuneLaws}
 use Rattle.cmd_tune.proofs.Coming.{Laws}
-use Rattle.cmd_tune.proofs.LeastPlaces.{searches}
-use Rattle.cmd_tune.proofs.OneOutput.{one_output}
+use Rattle.cmd_tune.proofs.OneOutput.{port_once, so_far_once}
 
 module _ (laws : Laws) (s : Settings) (w : ℕ) (k : IsKept s.shape s.hierarchy s.rate_lp w s.max_symbols) where
   -- settings with this number of workers
@@ -48,7 +47,7 @@ module _ (laws : Laws) (s : Settings) (w : ℕ) (k : IsKept s.shape s.hierarchy 
   none_alike : (bytes : List ℕ) (n : ℕ) → NoPlace s.mode (tps_cells s bytes) n → NoPlace t.mode (tps_cells t bytes) n
   none_alike bytes n none = subst (λ (cells : ℕ → List Cell). NoPlace s.mode cells n) (all_alike bytes) none
 
-  -- ---- and so is what is received behind them
+  -- ---- and so is what is received after them
   live_alike : (two : Bool) (a : Settings) (bytes : List ℕ) (given : Written) → LiveGives a two bytes given → LiveGives (working a) two bytes given
   live_alike two a bytes given g = (
     g.0,
@@ -90,7 +89,7 @@ module _ (laws : Laws) (s : Settings) (w : ℕ) (k : IsKept s.shape s.hierarchy 
     is = u.is;
   }
 
-  -- ---- what is come to
+  -- ---- what a run produces
   gives_alike : (two : Bool) (bytes : List ℕ) (given : Written) → GivesLive s two bytes given → GivesLive t two bytes given
   gives_alike two bytes given (inl p) = inl (none_alike bytes (symbols s bytes) p.0, p.1)
   gives_alike two bytes given (inr p) = inr (p.0, found_alike bytes (symbols s bytes) p.0 p.1, tuned_alike (λ a. LiveGives a two) (live_alike two) two bytes p.0 given p.2)
@@ -111,12 +110,10 @@ module _ (laws : Laws) (s : Settings) (w : ℕ) (k : IsKept s.shape s.hierarchy 
 
 pub own_laws : Laws → (stated : Option Settings) (lp : Option (List ℕ)) (file : List ℕ) → TuneLaws stated lp file
 own_laws laws stated lp file = record {
-  one = λ s is. one_output laws s lp file;
-  searches = λ s is. searches laws.one s (cells_in file);
-  alike = λ s t is d. record {
-    comes = over (λ z. (port : OutPort) (output : List ℕ) → PortComes s lp (cells_in file) port output → PortComes z lp (cells_in file) port output) s t d
-        (λ k port output c. (c.0, comes_alike laws s t.workers k (is_some lp) (cells_in file) c.0 c.1, c.2));
-    so_far = over (λ z. (left : List ℕ) (port : OutPort) (output : List ℕ) → PortSoFar s lp file left port output → PortSoFar z lp file left port output) s t d
-        (λ k left port output c. (c.0, record { taken = c.1.taken; are = c.1.are; within = c.1.within; gives = gives_alike laws s t.workers k (is_some lp) (cells_in c.1.taken) c.0 c.1.gives }, c.2));
-  };
+  one = λ s is port. (port_once laws s lp file port, λ left. so_far_once laws s lp file left port);
+  searches = λ s is. laws.least s (cells_in file);
+  alike = λ s t is d. over (λ z. (port : OutPort) (output : List ℕ) → PortComes s lp (cells_in file) port output → PortComes z lp (cells_in file) port output) s t d
+      (λ k port output c. (c.0, comes_alike laws s t.workers k (is_some lp) (cells_in file) c.0 c.1, c.2));
+  alike_so_far = λ s t is d. over (λ z. (left : List ℕ) (port : OutPort) (output : List ℕ) → PortSoFar s lp file left port output → PortSoFar z lp file left port output) s t d
+      (λ k left port output c. (c.0, record { taken = c.1.taken; are = c.1.are; within = c.1.within; live = gives_alike laws s t.workers k (is_some lp) (cells_in c.1.taken) c.0 c.1.live }, c.2));
 }

@@ -1,4 +1,4 @@
--- The line of a place is written; and what the work stands for, by whether it is behind a place.
+-- The line of a place is written; and what the work stands for, before a place and after it.
 use Rattle.std.proofs.Common.{◌≡◌, ℕ, Bool, true, List, [], ◌++◌, take, Option, Some, None, Result, Ok, Err, ◌∙◌, sym, ap, subst, if◌then◌else◌}
 use Rattle.std.proofs.lemmas.List.{append-nil}
 use Rattle.station_core.specs.Meaning.{Meaning}
@@ -10,7 +10,8 @@ use Rattle.cmd_cells.specs.Writing.{WritesAt}
 use Rattle.cmd_cells.proofs.Fronts.{none_of}
 use Rattle.tune_in.specs.OfBytes.{HasNoPlace}
 use Rattle.tune_in.specs.declared.frame.Found.{Found}
-use Rattle.cmd_tune.specs.Tuned.{IsNothing, at_place, fits, place_line}
+use Rattle.tune_search.specs.Searching.{place_line}
+use Rattle.cmd_tune.specs.Tuned.{IsNothing, at_place, fits}
 use Rattle.cmd_tune.specs.Working.{Tunes, TuningStands}
 
 module _ (m m' : Meaning) (found : Found) (text : List ℕ) (is : text ≡ place_line found) (t : m.tells ≡ true) where

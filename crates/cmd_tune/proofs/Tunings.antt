@@ -1,4 +1,4 @@
--- The calls of the work: before a place, at it and behind it.
+-- The calls of the work: before a place, at it and after it.
 use Rattle.std.proofs.Common.{◌≡◌, ℕ, ◌<◌, ◌≤◌, Bool, true, List, [], ◌++◌, ◌⊎◌, inl, inr, Option, Some, None, Result, Ok, Err, refl, ◌∙◌, sym, ap, subst, arith}
 use Rattle.std.specs.Prelude.{flat_map}
 use Rattle.std.proofs.lemmas.Bool.{cases_lt}
@@ -8,7 +8,6 @@ use Rattle.station_core.specs.declared.ports.OutPort.{OutPort}
 use Rattle.mode_set.specs.declared.settings.Settings.{Settings}
 use Rattle.rx_report.specs.Text.{event_line}
 use Rattle.reception.specs.Cells.{symbols}
-use Rattle.reception.specs.Frames.{tps_cells}
 use Rattle.reception.specs.Lines.{events}
 use Rattle.reception.specs.Streams.{Reception}
 use Rattle.reception.specs.Laws.{BitsOfCells, IsWithin, NoEvents, NothingLive, SameCosts, SameSymbols, TpsCellsStay, nothing}
@@ -22,13 +21,13 @@ use Rattle.cmd_receive.proofs.Commands.{nothing_written}
 use Rattle.cmd_receive.proofs.Parts.{part_live}
 use Rattle.tune_in.specs.Announced.{IsAnnounced}
 use Rattle.tune_in.specs.OfBytes.{FoundStaysInBytes, HasNoPlace, IsFoundIn, rest}
-use Rattle.tune_in.specs.Places.{Announces, begin}
+use Rattle.tune_in.specs.Places.{begin}
 use Rattle.tune_in.specs.declared.frame.Found.{Found}
-use Rattle.tune_in.proofs.Votes.{bits_agree}
-use Rattle.cmd_tune.specs.Searching.{IsAtPlace}
+use Rattle.tune_search.specs.Searching.{IsAtPlace}
+use Rattle.tune_search.proofs.Bytes.{more_rest, no_rest, no_rest_whole, rest_tail, same_length, same_tail}
+use Rattle.tune_search.proofs.Held.{none_more}
 use Rattle.cmd_tune.specs.Tuned.{GivesFinal, GivesLive, IsNothing, at_place, fits}
 use Rattle.cmd_tune.specs.Working.{BeginsBehind, HasSome, IsBehindPlace, RefusesTuning, Tunes}
-use Rattle.cmd_tune.proofs.Bytes.{more_rest, no_rest, no_rest_whole, rest_tail, same_length, same_tail}
 
 -- ---- bytes that end no symbol
 
@@ -39,16 +38,6 @@ part_gives same costs tps bits a two bytes more given within is = (
   part_live same costs tps bits a bytes more is.0 within is.1,
   (λ port. is.2 port ∙ ap (λ (q : ℕ). written_at two is.0.packets (flat_map event_line (events a q is.0.reports)) port) (sym (same a bytes more within))),
 )
-
--- nor do they make a place
-none_more : SameSymbols → TpsCellsStay → (s : Settings) (bytes more : List ℕ) → IsWithin s bytes more → HasNoPlace s bytes → HasNoPlace s (bytes ++ more)
-none_more same tps s bytes more within none i fields p =
-    let count = same s bytes more within in
-    none i fields (record {
-      held = omega (arith, p.held, count);
-      announces = subst (λ (b : List Bool). Announces s.mode b fields)
-          (bits_agree (tps_cells s (bytes ++ more)) (tps_cells s bytes) (symbols s bytes) i (omega (arith, p.held, count)) (λ m l. tps s bytes more m l)) p.announces;
-    })
 
 pub part : SameSymbols → SameCosts → TpsCellsStay → BitsOfCells → FoundStaysInBytes → (s : Settings) (two : Bool) (bytes more : List ℕ) (given : Written) → IsWithin s bytes more → GivesLive s two bytes given → GivesLive s two (bytes ++ more) given
 part same costs tps bits stays s two bytes more given within (inl p) = inl (none_more same tps s bytes more within p.0, p.1)
@@ -72,7 +61,7 @@ part same costs tps bits stays s two bytes more given within (inr (found, is_in,
         omega (arith, within, e, f, g)) in
         subst (λ (l : List ℕ). LiveGives t.announced two l t.behind) (sym at) (part_gives same costs tps bits t.announced two (rest s bytes found) more t.behind within' t.received)
 
--- ---- behind a place
+-- ---- after a place
 
 pub behind_gives : (a s : Settings) (two two' : Bool) (found : Found) (bytes : List ℕ) (after : Written) → two' ≡ two → fits two found ≡ true → IsAnnounced found.word s a → IsFoundIn s bytes found → LiveGives a two' (rest s bytes found) after
     → GivesLive s two bytes (λ port. at_place found port ++ after port)
@@ -100,7 +89,7 @@ module _ (no_events : NoEvents) (nothing_live : NothingLive) (s : Settings) (two
   nothing_given : (a : Settings) (b : Bool) → (port : OutPort) → [] ≡ live_at a b [] nothing port
   nothing_given a b port = sym (nothing_written no_events nothing.packets nothing.reports (λ σ. refl) a b port)
 
-  -- a reception that begins there stands for the bytes behind the place, of which there are none
+  -- a reception that begins there stands for the bytes after the place, of which there are none
   begins : (a : Settings) (standing : List ℕ → Reception → Type 0) (skip : ℕ) (its_two : Bool) → BeginsBehind a (standing [] nothing) s skip its_two two found
       → IsBehindPlace a its_two skip (ReceiverStands standing a its_two) s two found bytes none
   begins a standing skip its_two b = record {

@@ -1,4 +1,3 @@
 pub mod Tuned
 pub mod TuneCommand
 pub mod Working
-pub mod Searching

@@ -1,65 +1,49 @@
--- The command `tune`: the files that it reads and writes, and what it comes to, from its settings and the file of cells alone. Of the settings only the mode, the workers and the limit are used.
-use Rattle.std.specs.Prelude.{◌≡◌, ℕ, ◌+◌, ◌≤◌, true, List, [], ◌∷◌, ◌++◌, Option, None, Some, is_some, option_and_then}
+-- The command `tune`: the files that it reads and writes, and what it produces from its settings and the file of cells alone. Of the settings only the mode, the workers and the limit are used.
+use Rattle.std.specs.Prelude.{◌≡◌, ℕ, ◌+◌, true, List, [], ◌∷◌, Option, None, Some, is_some, option_and_then}
 use Rattle.station_core.specs.declared.ports.InPort.TheVariants as ins
 use Rattle.station_core.specs.declared.ports.OutPort.{OutPort}
 use Rattle.station_core.specs.declared.ports.OutPort.TheVariants as outs
 use Rattle.mode_set.specs.declared.settings.Settings.{Settings}
-use Rattle.reception.specs.Cells.{symbols}
 use Rattle.cmd_base.specs.Command.{Command}
 use Rattle.cmd_base.specs.Ports.{by_input, stream_names}
 use Rattle.cmd_base.specs.SettingsFile.{most_settings, settings_refusal}
 use Rattle.cmd_base.specs.StatedSettings.{settings_of}
 use Rattle.cmd_cells.specs.Work.{Written}
 use Rattle.reception.specs.Alike.{DifferInWorkers}
-use Rattle.cmd_receive.specs.OneOutput.{IsOneOutput}
-use Rattle.cmd_receive.specs.Received.{cells_in}
+use Rattle.cmd_receive.specs.OneOutput.{AtMostOne, ExactlyOne}
+use Rattle.cmd_receive.specs.Received.{IsSoFar, cells_in}
 use Rattle.cmd_receive.specs.ReceiveCommand.{header_by, most_cells}
 use Rattle.tune_in.specs.LeastPlace.{Searches}
 use Rattle.tune_in.specs.OfBytes.{IsFoundIn}
 use Rattle.tune_in.specs.declared.frame.Found.{Found}
 use Rattle.cmd_tune.specs.Tuned.{ComesTo, GivesLive, fits, tune_refusal}
 
--- at a port a run comes to this
+-- what a run produces at a port
 abbrev pub PortComes : Settings → Option (List ℕ) → List ℕ → OutPort → List ℕ → Type 0
 PortComes s lp bytes port output = (given : Written) × ComesTo s (is_some lp) bytes given × (output ≡ given port)
 
--- After a failed read the bytes taken of the file give this behind the header, as if more might follow. They are at most as many whole symbols as the limit.
-pub record IsSoFar (s : Settings) (lp : Option (List ℕ)) (file left : List ℕ) (given : Written) : Type 0 where
-  pub taken : List ℕ
-  pub are : file ≡ taken ++ left
-  pub within : symbols s (cells_in taken) ≤ s.max_symbols
-  pub gives : GivesLive s (is_some lp) (cells_in taken) given
-
+-- the same after a failed read: what the bytes taken of the file give
 abbrev pub PortSoFar : Settings → Option (List ℕ) → List ℕ → List ℕ → OutPort → List ℕ → Type 0
-PortSoFar s lp file left port output = (given : Written) × IsSoFar s lp file left given × (output ≡ given port)
+PortSoFar s lp file left port output = (given : Written) × IsSoFar (λ a. GivesLive a (is_some lp)) s file left given × (output ≡ given port)
 
--- the lines of the report then; where no settings are stated there are none
+-- the lines of the report then; none if no settings are stated
 abbrev pub LinesSoFar : Option Settings → Option (List ℕ) → List ℕ → List ℕ → List ℕ → Type 0
 LinesSoFar None lp file left lines = lines ≡ []
 LinesSoFar (Some s) lp file left lines = PortSoFar s lp file left outs.Report lines
 
--- The bytes taken of the file hold behind the header a place of this form. They are at most as many whole symbols as the limit.
-pub record TakesPlace (s : Settings) (lp : Option (List ℕ)) (file left : List ℕ) : Type 0 where
-  pub taken : List ℕ
-  pub are : file ≡ taken ++ left
-  pub within : symbols s (cells_in taken) ≤ s.max_symbols
-  pub found : Found
-  pub is_found : IsFoundIn s (cells_in taken) found
-  pub fits_form : fits (is_some lp) found ≡ true
+-- The bytes taken of the file hold a place that fits.
+abbrev pub TakesPlace : Settings → Option (List ℕ) → List ℕ → List ℕ → Type 0
+TakesPlace s lp file left = (place : Found) × IsSoFar (λ a bytes found. IsFoundIn a bytes found × (fits (is_some lp) found ≡ true)) s file left place
 
--- What the file of cells comes to by settings s it comes to by settings t: at each port, the lines of Report among them, and likewise so far as a failed read.
-pub record AreAlike (s t : Settings) (lp : Option (List ℕ)) (file : List ℕ) : Type 0 where
-  pub comes : (port : OutPort) (output : List ℕ) → PortComes s lp (cells_in file) port output → PortComes t lp (cells_in file) port output
-  pub so_far : (left : List ℕ) (port : OutPort) (output : List ℕ) → PortSoFar s lp file left port output → PortSoFar t lp file left port output
-
--- its laws, by the settings that are stated, if any are, the file of LP, if one is written, and the file of cells
+-- Its laws, by the settings that are stated, if any are, the file of LP, if one is written, and the file of cells.
 pub record TuneLaws (stated : Option Settings) (lp : Option (List ℕ)) (file : List ℕ) : Type 0 where
-  -- At each port, the lines of Report among them, it comes to one list of bytes.
-  pub one : (s : Settings) → stated ≡ Some s → IsOneOutput (PortComes s lp (cells_in file)) (PortComes s lp (cells_in file) outs.Report) (PortSoFar s lp file) (LinesSoFar (Some s) lp file)
-  -- What decides the refusal is the least place of the definition.
+  -- At each port, the lines of Report among them, it produces one list of bytes; after a failed read one at most.
+  pub one : (s : Settings) → stated ≡ Some s → (port : OutPort) → ExactlyOne (PortComes s lp (cells_in file) port) × ((left : List ℕ) → AtMostOne (PortSoFar s lp file left port))
+  -- The place that decides the refusal is the least one by its definition.
   pub searches : (s : Settings) → stated ≡ Some s → Searches s (cells_in file)
-  -- By settings that differ from the stated ones in the number of workers alone, all is the same.
-  pub alike : (s t : Settings) → stated ≡ Some s → DifferInWorkers s t → AreAlike s t lp file
+  -- The number of workers changes nothing, at no port and after no failed read.
+  pub alike : (s t : Settings) → stated ≡ Some s → DifferInWorkers s t → (port : OutPort) (output : List ℕ) → PortComes s lp (cells_in file) port output → PortComes t lp (cells_in file) port output
+  pub alike_so_far : (s t : Settings) → stated ≡ Some s → DifferInWorkers s t → (left : List ℕ) (port : OutPort) (output : List ℕ) → PortSoFar s lp file left port output → PortSoFar t lp file left port output
 
 -- tune SETTINGS CELLS HP, or tune SETTINGS CELLS HP LP
 abbrev pub tune_command : List ℕ → List ℕ → List ℕ → Option (List ℕ) → Command

@@ -1,7 +1,7 @@
--- What is received of cells that begin at any symbol. `bytes` are those behind the header of the file, `two` says that a file of LP is written too.
-use Rattle.std.specs.Prelude.{◌≡◌, ◌⊎◌, ℕ, ◌<◌, ◌≤◌, Bool, true, false, not, List, [], ◌++◌, codes, decimal, Option, Some, None, if◌then◌else◌}
+-- Reception of cells that begin at any symbol. `bytes` are those after the header of the file; `two` is true if a file of LP is written too.
+use Rattle.std.specs.Prelude.{◌≡◌, ◌⊎◌, ℕ, ◌<◌, ◌≤◌, Bool, true, false, not, List, [], ◌++◌, Option, Some, None, if◌then◌else◌}
 use Rattle.std.specs.Bool.{beq}
-use Rattle.std.specs.Option.{option_or}
+use Rattle.std.specs.Option.{option_map_or, option_or}
 use Rattle.station_core.specs.declared.ports.OutPort.{OutPort}
 use Rattle.station_core.specs.declared.ports.OutPort.TheVariants as outs
 use Rattle.mode_set.specs.Kept.{is_flat}
@@ -17,16 +17,13 @@ use Rattle.tune_in.specs.Announced.{IsAnnounced}
 use Rattle.tune_in.specs.OfBytes.{HasNoPlace, IsFoundIn, rest}
 use Rattle.tune_in.specs.declared.frame.Found.{Found}
 use Rattle.tune_in.specs.LeastPlace.{HoldsNone, HoldsPlace, place_of}
+use Rattle.tune_search.specs.Searching.{place_line}
 
--- the line of a place: the number of its first symbol, and that of the frame
-abbrev pub place_line : Found → List ℕ
-place_line found = codes "tune at " ++ decimal found.place ++ codes " frame " ++ decimal found.word.frame ++ codes "\n"
-
--- the form of the words has LP exactly where a hierarchy is announced
+-- the command has LP exactly if a hierarchy is announced
 abbrev pub fits : Bool → Found → Bool
 fits two found = beq two (not (is_flat found.word.hierarchy))
 
--- what is written at the place: its line
+-- what is written at a place: its line
 abbrev pub at_place : Found → Written
 at_place found outs.Report = place_line found
 at_place found port = []
@@ -44,15 +41,15 @@ pub record Tuned (Received : Settings → List ℕ → Written → Type 0) (s : 
 abbrev pub IsNothing : Written → Type 0
 IsNothing given = (port : OutPort) → given port ≡ []
 
--- What first bytes give, as if more might follow: nothing where they hold no place.
+-- What the first bytes give, as if more might follow: nothing if they hold no place.
 abbrev pub GivesLive : Settings → Bool → List ℕ → Written → Type 0
 GivesLive s two bytes given = (HasNoPlace s bytes × IsNothing given) ⊎ ((found : Found) × IsFoundIn s bytes found × Tuned (λ a. LiveGives a two) s two bytes found given)
 
--- What all bytes give in the end: they hold a place.
+-- What all bytes give at their end: they hold a place.
 abbrev pub GivesFinal : Settings → Bool → List ℕ → Written → Type 0
 GivesFinal s two bytes given = (found : Found) × IsFoundIn s bytes found × Tuned (λ a. FinalGives a two) s two bytes found given
 
--- What a run comes to. The symbols within the limit hold no place, or one of another form: nothing. They hold one of the form: what all bytes give from it on or, where they are more than the limit, what those within it give.
+-- What a run produces. The symbols within the limit hold no place, or one that does not fit: nothing. They hold one that fits: what all bytes give from it on or, if they are more than the limit, what those within it give.
 abbrev pub ComesTo : Settings → Bool → List ℕ → Written → Type 0
 ComesTo s two bytes given =
     (HoldsNone s bytes × IsNothing given)
@@ -61,10 +58,6 @@ ComesTo s two bytes given =
     ⊎ ((symbols s bytes ≤ s.max_symbols) × Tuned (λ a. FinalGives a two) s two bytes found given)
     ⊎ ((s.max_symbols < symbols s bytes) × Tuned (λ a. LiveGives a two) s two (within_limit s bytes) found given)))
 
--- why it is refused, if it is: by the place within the limit, if there is one, and by the limit
-abbrev pub refusal_at : Bool → Option Refusal → Option Found → Option Refusal
-refusal_at two limit None = option_or limit (Some (Cells NoPlace))
-refusal_at two limit (Some found) = if fits two found then limit else Some (Cells AnnouncedForm)
-
+-- Why it is refused, if it is: by the place within the limit, if there is one, and by the limit.
 abbrev pub tune_refusal : Settings → Bool → List ℕ → Option Refusal
-tune_refusal s two bytes = refusal_at two (reception_refusal s bytes) (place_of s bytes)
+tune_refusal s two bytes = option_map_or (λ found. if fits two found then reception_refusal s bytes else Some (Cells AnnouncedForm)) (place_of s bytes) (option_or (reception_refusal s bytes) (Some (Cells NoPlace)))

@@ -1,4 +1,4 @@
--- The work of `tune` on cells, by settings s; `two` says that there are two streams.
+-- The work of `tune` on cells, by settings s; `two` is true if there are two streams.
 use Rattle.std.specs.Prelude.{◌≡◌, ◌⊎◌, ℕ, ◌+◌, ◌≤◌, Bool, true, false, List, [], ◌++◌, Option, Some, None, Result, Ok, Err}
 use Rattle.mode_set.specs.declared.settings.Settings.{Settings}
 use Rattle.reception.specs.Cells.{symbol_length, symbols}
@@ -18,7 +18,7 @@ use Rattle.tune_in.specs.Places.{begin}
 use Rattle.tune_in.specs.declared.frame.Found.{Found}
 use Rattle.cmd_tune.specs.Tuned.{GivesFinal, GivesLive, IsNothing, at_place, fits}
 
--- The cells are refused where they end without a place, where a place of another form is found, or for want of memory at a place of the form. Nothing was given before.
+-- The cells are refused if they end without a place, if the place does not fit, or for want of memory at a place that fits. Nothing was given before.
 abbrev pub RefusesTuning : Settings → Bool → List ℕ → List ℕ → Written → Refusal → Type 0
 RefusesTuning s two bytes left given (Cells NoPlace) = (left ≡ []) × HasNoPlace s bytes × IsNothing given
 RefusesTuning s two bytes left given (Cells AnnouncedForm) = (found : Found) × IsFoundIn s bytes found × (fits two found ≡ false) × IsNothing given
@@ -43,25 +43,25 @@ tuning_work s two = record {
   Reasons = TuningReasons;
 }
 
--- Behind a place: this many symbols are still to be passed over, and the reception by the announced settings stands for the bytes behind them.
+-- After a place: this many symbols are still to be skipped, and the reception by the announced settings stands for the bytes after them.
 pub record IsBehind (standing : List ℕ → Written → Type 0) (announced s : Settings) (two : Bool) (skip : ℕ) (found : Found) (bytes : List ℕ) (given : Written) : Type 0 where
   pub counts : (skip + symbols s bytes ≡ begin found) ⊎ ((skip ≡ 0) × (begin found ≤ symbols s bytes))
   pub stands : standing (rest s bytes found) given
   pub gives : LiveGives announced two (rest s bytes found) given
 
--- a reception behind a place, by the settings that it announces
+-- a reception after a place, by the settings that it announces
 pub record IsBehindPlace (announced : Settings) (its_two : Bool) (skip : ℕ) (standing : List ℕ → Written → Type 0) (s : Settings) (two : Bool) (found : Found) (bytes : List ℕ) (given : Written) : Type 0 where
   pub is_announced : IsAnnounced found.word s announced
   pub two_is : its_two ≡ two
   pub is_behind : IsBehind standing announced s its_two skip found bytes given
 
--- the work stands for these bytes and gave this: it searches, or it receives behind a place
+-- the work stands for these bytes and gave this: it searches, or it receives after a place
 abbrev pub TuningStands : {B : Type 0} → (Settings → List ℕ → Type 0) → (B → Settings → Bool → Found → List ℕ → Written → Type 0) → Settings → Bool → Option B → List ℕ → Written → Type 0
 TuningStands searching receives s two None bytes given = searching s bytes × HasNoPlace s bytes × IsNothing given
 TuningStands searching receives s two (Some b) bytes given =
     (found : Found) × (behind : Written) × IsFoundIn s bytes found × (fits two found ≡ true) × receives b s two found bytes behind × ((port : OutPort) → given port ≡ at_place found port ++ behind port)
 
--- a reception that begins behind a place, and has had no byte
+-- a reception that begins after a place, and has had no byte
 pub record BeginsBehind (announced : Settings) (Stands : Type 0) (s : Settings) (skip : ℕ) (its_two two : Bool) (found : Found) : Type 0 where
   pub is_announced : IsAnnounced found.word s announced
   pub stands : Stands
@@ -73,7 +73,7 @@ abbrev pub HasSome : {B : Type 0} → (B → Type 0) → Option B → Type 0
 HasSome Is None = ⊥
 HasSome Is (Some b) = Is b
 
--- what is done at a place: its line is written and the reception begun, or a front of the line was written, or it is of another form, or memory was wanting
+-- what is done at a place: its line is written and the reception begun, or a prefix of the line was written, or the place does not fit, or there was no memory
 abbrev pub Tunes : Found → Bool → Type 0 → Meaning → Meaning → Result (Unit {0}) Stop → Type 0
 Tunes found two Begun old new (Ok u) = (fits two found ≡ true) × Begun × (old.tells ≡ true → Holds old new (at_place found))
 Tunes found two Begun old new (Err stops.WriteFault) = (fits two found ≡ true) × Begun × (old.tells ≡ true → HoldsFront old new (at_place found))

@@ -13,22 +13,19 @@ ghost use Rattle.cmd_tune.specs.Working.{tuning_work};
 ghost use Rattle.cmd_tune.specs.TuneCommand.{tune_command};
 
 use crate::reception_at_place::{ModeMaker, ReceiverMaker};
-use crate::search::{PlaceSearch, Search};
 use crate::tuning_work::TuningWork;
-use frame_build::SymbolIn;
-use mode_set::{Carriers, Mode, Mode2k, Mode8k, Settings};
+use cmd_base::{Limits, Refusal, read_settings, refuse};
 use cmd_receive::{CellReceiver, ReceptionFiles};
+use mode_set::{Carriers, Mode, Mode2k, Mode8k, Settings};
 use receiver::{Receiver, RxOut};
-use cmd_base::{Limits, Refusal};
-use cmd_base::{read_settings, refuse};
 use station_core::Station;
 use std::alloc::Global;
 use std::marker::PhantomData;
 use std::thread::Threads;
-use tune_in::Tuner;
+use tune_search::{PlaceSearch, Search};
 use word_workers::Gate;
 
-// Runs the tuning by a search that has had no byte. `symbol` has the size of a symbol.
+// Runs the tuning with a new search. `symbol` has the size of a symbol.
 fn tune_by<
     'a,
     T: PlaceSearch + Drop,
@@ -62,7 +59,7 @@ fn tune_by<
     files.run_work(settings, &mut work, symbol, station)
 }
 
-// Takes the memory of a mode's search and of one symbol, and runs the tuning through this gate.
+// Allocates a mode's search and one symbol, and runs the tuning through this gate.
 fn tune_in_mode<'a, M: Carriers, R: Threads + Sync, G: Gate, S: Station<'a>>(
     rt: &R,
     gate: &G,
@@ -78,11 +75,8 @@ fn tune_in_mode<'a, M: Carriers, R: Threads + Sync, G: Gate, S: Station<'a>>(
     let Ok(mut symbol) = vec![in alloc; 0u8; 5 * M::K as usize] else {
         return refuse(&Refusal::Memory, station);
     };
-    let Ok(room) = SymbolIn::<M>::new(alloc) else {
-        return refuse(&Refusal::Memory, station);
-    };
-    // It comes last: a value of so many parts is dear to prove on each path that lets it go.
-    let Ok(tuner) = Tuner::<M>::new(alloc) else {
+    // Constructed last: early returns would have to drop it, which is slow to prove.
+    let Ok(search) = Search::<M>::new(alloc) else {
         return refuse(&Refusal::Memory, station);
     };
     let feeder = |receiver: &mut Receiver<M>, piece: &[u8], out: &mut RxOut| -> usize
@@ -95,14 +89,10 @@ fn tune_in_mode<'a, M: Carriers, R: Threads + Sync, G: Gate, S: Station<'a>>(
         alloc,
         of: PhantomData,
     };
-    let search = Search {
-        tuner,
-        symbol: room,
-    };
     tune_by(search, maker, settings, &mut symbol, files, station)
 }
 
-// The same in the mode that is set.
+// The same in the mode of the settings.
 fn tune_accepted<'a, R: Threads + Sync, G: Gate, S: Station<'a>>(
     rt: &R,
     gate: &G,
@@ -120,13 +110,13 @@ fn tune_accepted<'a, R: Threads + Sync, G: Gate, S: Station<'a>>(
     }
 }
 
-/// Runs `tune SETTINGS CELLS HP` or, with a file of LP, `tune SETTINGS CELLS HP LP`, and gives its status.
+/// Runs `tune SETTINGS CELLS HP` or, with a file of LP, `tune SETTINGS CELLS HP LP`, and returns its status.
 ///
-/// What it promises is `Run` of its definition, `tune_command`. The cells begin at any symbol; of the
-/// settings only the mode, the workers and the limit are used, and all else is what the first readable
-/// frame announces. The settings are read, and then the memory of the search is taken, before another
-/// port is asked; the receiver takes its memory at the place. The receiver is fed through the gate, of
-/// which no clause speaks: they hold for every one. What its end decodes passes no gate.
+/// Its promise is `Run` of its definition, `tune_command`. The cells begin at any symbol. Of the settings
+/// only the mode, the workers and the limit are used; the first readable frame announces the rest. The
+/// settings are read and the search is allocated before another file is asked for; the receiver is allocated
+/// at the place. The receiver is fed through the gate: no clause depends on it. Decoding at the end of the
+/// cells passes no gate.
 pub fn tune<'a, R: Threads + Sync, G: Gate, S: Station<'a>>(
     rt: &R,
     alloc: Global,
@@ -148,6 +138,7 @@ pub fn tune<'a, R: Threads + Sync, G: Gate, S: Station<'a>>(
     reception::moments::existence();
     reception::moments::beginnings();
     tune_in::one_found();
+    tune_search::laws::least_place();
     tune_in::found_stays();
     tune_in::more_bytes();
     reception::workers::workers();

@@ -1,4 +1,4 @@
-// The reception behind a place.
+// The reception after a place.
 ghost use Rattle.std.specs.Prelude.{◌≡◌, ◌≤◌, ◌<◌, ◌^◌, ◌++◌, ℕ, List, IfSome, length, []};
 ghost use Rattle.mode_set.specs.declared.modes.Mode.{Mode as AnyMode};
 ghost use Rattle.mode_set.specs.declared.settings.Settings.{Settings as AnySettings};
@@ -13,22 +13,22 @@ ghost use Rattle.tune_in.specs.declared.frame.Found.{Found as AnyFound};
 ghost use Rattle.tune_in.specs.OfBytes.{rest};
 ghost use Rattle.cmd_tune.specs.Working.{IsBehind};
 
-use mode_set::{Carriers, Settings};
+use cmd_cells::{Stop, SymbolWork};
 use cmd_receive::{CellReceiver, ModeReceiver, ReceiverWithOutput, ReceptionWork};
+use mode_set::{Carriers, Settings};
 use receiver::{Receiver, RxOut};
 use station_core::Station;
 use std::alloc::Global;
 use std::marker::PhantomData;
 use std::thread::Threads;
-use cmd_cells::{Stop, SymbolWork};
 
-/// What makes the receiver at the place. `able` says that it may be used.
+/// Makes the receiver at the place. `able` says that it may be used.
 pub(crate) trait ReceiverMaker<X: CellReceiver> {
     ghost mode: { AnyMode };
 
     ghost able: { Self → Type 0 };
 
-    /// A receiver by these settings that has had no byte. None is made only for want of memory.
+    /// A new receiver with these settings; None only for want of memory.
     fn make(&self, settings: &Settings) -> Option<X>
         requires able { able self.now }
         requires mode { settings.now.mode ≡ mode }
@@ -36,11 +36,11 @@ pub(crate) trait ReceiverMaker<X: CellReceiver> {
         ensures stands { IfSome result (λ x. X.stands x so_far [] nothing) };
 }
 
-/// A receiver of a mode that can be made.
+/// A receiver of a mode, with a constructor.
 pub(crate) trait NewReceiver: ModeReceiver {
     ghost mode: { AnyMode };
 
-    /// A receiver by these settings that has had no byte. None is made only for want of memory.
+    /// A new receiver with these settings; None only for want of memory.
     fn made(alloc: Global, settings: &Settings) -> Option<Self>
         requires mode { settings.now.mode ≡ mode }
         ensures settings { IfSome result (λ x. (Self.state x).settings ≡ settings.now) }
@@ -58,16 +58,16 @@ impl<M: Carriers> NewReceiver for Receiver<M> {
     }
 }
 
-/// Makes the receiver of a mode, which is fed so.
+/// Makes the receiver of a mode, fed by `feeder`.
 #[derive(Drop)]
 pub(crate) struct ModeMaker<'r, R, F, T> {
     /// The runtime whose threads the receiver may use.
     pub rt: &'r R,
     /// What feeds it.
     pub feeder: &'r F,
-    /// Where its memory comes from.
+    /// The allocator of its memory.
     pub alloc: Global,
-    /// The receiver.
+    /// The type of the receiver.
     pub of: PhantomData<T>,
 }
 
@@ -97,18 +97,18 @@ impl<
     }
 }
 
-/// The reception behind a place.
+/// The reception after a place.
 #[derive(Drop)]
 pub(crate) struct Behind<X> {
-    /// The symbols that are still to be passed over.
+    /// The symbols still to be skipped.
     pub skip: u64,
     /// The reception.
     pub work: ReceptionWork<X>,
 }
 
 impl<X: CellReceiver> Behind<X> {
-    /// Takes the next symbol of `size` bytes, or what there is of it: passes it over, or receives it and
-    /// writes what that gives.
+    /// Takes the next symbol of `size` bytes, or the part of it that ends the cells: skips it, or receives
+    /// it and writes the result.
     pub(crate) fn take<'a, S: Station<'a>>(
         &mut self,
         size: usize,

@@ -7,17 +7,16 @@ ghost use Rattle.cmd_cells.specs.Work.{HasReason, WritesOnly};
 ghost use Rattle.tps_word.specs.Tps.{IsValid};
 ghost use Rattle.cmd_tune.specs.Working.{BeginsBehind, HasSome, Tunes, tuning_work};
 
-use crate::place_line::line_of;
 use crate::reception_at_place::{Behind, ReceiverMaker};
-use crate::search::PlaceSearch;
-use mode_set::Settings;
-use cmd_receive::{CellReceiver, ReceptionWork};
 use cmd_base::{CellsRefusal, Refusal};
-use station_core::{OutPort, Station};
 use cmd_cells::{Stop, SymbolWork, write_some};
+use cmd_receive::{CellReceiver, ReceptionWork};
+use mode_set::Settings;
+use station_core::{OutPort, Station};
 use tune_in::{Found, announced, begin};
+use tune_search::{PlaceSearch, place_line};
 
-/// A search for a place, and behind it the reception.
+/// A search for a place, and the reception after it.
 #[derive(Drop)]
 pub(crate) struct TuningWork<T, P, X> {
     /// The settings of the command.
@@ -33,7 +32,7 @@ pub(crate) struct TuningWork<T, P, X> {
 }
 
 impl<T: PlaceSearch, X: CellReceiver + Drop, P: ReceiverMaker<X>> TuningWork<T, P, X> {
-    // At a place: its form is looked at, the receiver is made, and then its line is written.
+    // At a place: checks its form, makes the receiver and writes the line.
     fn tune<'a, S: Station<'a>>(&mut self, found: &Found, station: &mut S) -> Result<(), Stop>
         requires able { P.able self.old.maker }
         requires mode { self.old.settings.mode ≡ P.mode }
@@ -65,7 +64,7 @@ impl<T: PlaceSearch, X: CellReceiver + Drop, P: ReceiverMaker<X>> TuningWork<T, 
                 two: self.two,
             },
         });
-        let line = line_of(found);
+        let line = place_line(found);
         write_some(OutPort::Report, line.as_str().as_bytes(), station)
     }
 }

@@ -49,7 +49,7 @@ limited : (m : Mode) (n most : ℕ) → most < n / (5 * carriers m) → (most * 
 limited M2k n most l = (omega (arith, l), omega arith)
 limited M8k n most l = (omega (arith, l), omega arith)
 
--- ---- the bytes behind a place
+-- ---- the bytes after a place
 
 pub symbols_grow : (s : Settings) (taken left : List ℕ) → symbols s taken ≤ symbols s (taken ++ left)
 symbols_grow s taken left = grows s.mode (length taken) (length (taken ++ left)) (omega (arith, length-append taken left))
@@ -76,11 +76,11 @@ module _ (s : Settings) (found : Found) where
   length_rest : (bytes : List ℕ) → length (rest s bytes found) ≡ length bytes - start
   length_rest bytes = length-drop start bytes
 
-  -- where the bytes reach the super-frame, more bytes follow
+  -- if the bytes reach the super-frame, more bytes follow
   pub more_rest : (bytes more : List ℕ) → begin found ≤ symbols s bytes → rest s (bytes ++ more) found ≡ rest s bytes found ++ more
   more_rest bytes more l = drop-append-le start bytes more (reached s.mode (length bytes) (begin found) l)
 
-  -- where they do not there is none
+  -- if they do not, there is none
   pub no_rest : (bytes : List ℕ) → symbols s bytes + 1 ≤ begin found → rest s bytes found ≡ []
   no_rest bytes l = drop_all start bytes (shorter s.mode (length bytes) (begin found) l)
 

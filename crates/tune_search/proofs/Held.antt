@@ -1,4 +1,4 @@
--- What first bytes hold is held within the limit.
+-- A place in the first bytes is the place within the limit.
 use Rattle.std.proofs.Common.{◌≡◌, ℕ, ◌*◌, ◌%◌, ◌<◌, ◌≤◌, Bool, List, [], ◌++◌, Option, Some, None, refl, ◌∙◌, sym, ap, subst, arith}
 use Rattle.std.proofs.Math.Nat.{div-eq_of_lt}
 use Rattle.mode_set.specs.StreamTable.{carriers}
@@ -53,7 +53,7 @@ module _ (stays : FoundStaysInBytes) (tps : TpsCellsStay) (s : Settings) (bytes 
   held_at : (n : ℕ) → n ≤ symbols s bytes → n ≤ s.max_symbols → n ≤ held s bytes
   held_at n a b = omega (arith, a, b)
 
-  -- a place of first bytes is the place within the limit
+  -- a place in the first bytes is the place within the limit
   pub held_place : (taken left : List ℕ) (found : Found) → bytes ≡ taken ++ left → symbols s taken ≤ s.max_symbols → IsFoundIn s taken found → HoldsPlace s bytes found
   held_place taken left found are few is =
       let long : symbols s taken ≤ symbols s bytes = subst (λ (l : List ℕ). symbols s taken ≤ symbols s l) (sym are) (symbols_grow s taken left) in
@@ -64,7 +64,7 @@ module _ (stays : FoundStaysInBytes) (tps : TpsCellsStay) (s : Settings) (bytes 
         least = λ i fields p. all.least i fields (record { held = omega (arith, p.held, held_few); announces = p.announces });
       }
 
-  -- where first bytes have all symbols within the limit and no place, there is none within it
+  -- if the first bytes have all symbols within the limit and no place, there is none within it
   pub held_none : (taken left : List ℕ) → bytes ≡ taken ++ left → held s bytes ≤ symbols s taken → HasNoPlace s taken → HoldsNone s bytes
   held_none taken left are long none i fields p =
       none i fields (record {

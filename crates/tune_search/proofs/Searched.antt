@@ -1,4 +1,4 @@
--- The search takes a symbol, or what there is of one.
+-- The search takes a symbol, or a part of one at the end.
 use Rattle.std.proofs.Common.{◌≡◌, ℕ, zero, suc, ◌+◌, ◌<◌, ◌^◌, List, [], ◌∷◌, ◌++◌, length, map, Option, Some, None, refl, ◌∙◌, sym, ap, ap₂, subst, arith}
 use Rattle.std.specs.Prelude.{is_some, IfSome, IfNone}
 use Rattle.std.specs.List.{range_with_len}
@@ -21,7 +21,7 @@ map_same {X} f g a (suc n) h =
     ap₂ (λ (x : X) (xs : List X). x ∷ xs) (ap f (sym at) ∙ h 0 (omega arith) ∙ ap g at)
     (map_same f g (a + 1) n (λ i l. let e : a + 1 + i ≡ a + suc i = omega arith in ap f e ∙ h (suc i) (omega (arith, l)) ∙ ap g (sym e)))
 
--- bytes within a symbol leave the symbols
+-- bytes within a symbol do not change the symbols
 symbols_kept : SameSymbols → CellsStay → (s : Settings) (bytes more : List ℕ) → IsWithin s bytes more → symbols_of s (bytes ++ more) ≡ symbols_of s bytes
 unfolding symbols_of numbers
 symbols_kept same stay s bytes more within =

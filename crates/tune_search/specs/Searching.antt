@@ -8,7 +8,7 @@ use Rattle.tune_in.specs.OfBytes.{HasNoPlace, IsFoundIn, symbols_of}
 use Rattle.tune_in.specs.Tuning.{StandsFor, TunerState}
 use Rattle.tune_in.specs.declared.frame.Found.{Found}
 
--- the tuner has had the whole symbols of the bytes and found no place, and nothing waits of a symbol
+-- the tuner has taken the whole symbols of the bytes and found no place, and no part of a symbol is waiting
 pub record IsSearching (s : Settings) (tuner : TunerState) (waiting : List ℕ) (bytes : List ℕ) : Type 0 where
   pub stands : StandsFor s.mode tuner (symbols_of s bytes)
   pub searching : tuner.found ≡ false
@@ -29,7 +29,7 @@ abbrev pub Searched : Settings → (List ℕ → Type 0) → List ℕ → Option
 Searched s standing bytes None = standing bytes × HasNoPlace s bytes
 Searched s standing bytes (Some found) = IsAtPlace s bytes found
 
--- the least place within the limit is found, and none where there is none
+-- the least place within the limit is found, and none if there is none
 abbrev pub FindsLeastPlaces : Type 0
 FindsLeastPlaces = (s : Settings) (bytes : List ℕ) → Searches s bytes
 

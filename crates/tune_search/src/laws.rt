@@ -1,4 +1,4 @@
-// The law of the search, as the contract of a function that does nothing.
+// The law of the search, as the contract of a function with an empty body.
 ghost use Rattle.tune_search.specs.Searching.{FindsLeastPlaces};
 
 use tune_in::one_found;

@@ -1,26 +1,26 @@
 // The search for a place in the symbols of a file.
-ghost use Rattle.std.specs.Prelude.{◌≡◌, ◌≤◌, ◌<◌, ◌^◌, ◌++◌, ℕ, List, length, IfSome};
+ghost use Rattle.std.specs.Prelude.{◌≡◌, ◌≤◌, ◌<◌, ◌^◌, ◌++◌, ℕ, List, [], length, IfSome, IfOk};
 ghost use Rattle.mode_set.specs.declared.modes.Mode.{Mode};
 ghost use Rattle.mode_set.specs.declared.settings.Settings.{Settings};
 ghost use Rattle.reception.specs.Cells.{symbol_length, symbols, tail};
 ghost use Rattle.tps_word.specs.Tps.{IsValid};
-ghost use Rattle.tune_search.specs.Searching.{Searched};
+ghost use Rattle.tune_search.specs.Searching.{IsSearching, Searched};
 
 use frame_build::SymbolIn;
 use mode_set::Carriers;
+use std::alloc::{AllocError, Global};
 use tune_in::{Found, Tuner};
 
 /// A search for a place.
 ///
-/// `stands settings bytes` says that it has taken these bytes and found none; `mode` is the mode in which
-/// it searches.
+/// `stands settings bytes`: it has taken these bytes and found none. `mode` is the mode in which it searches.
 pub trait PlaceSearch {
     ghost mode: { Mode };
 
     ghost stands: { Self → Settings → List ℕ → Type 0 };
 
-    /// Takes the next symbol or, where the cells end within it, what there is of it. It answers the least
-    /// place exactly where this symbol is the last of that frame.
+    /// Takes the next symbol, or the part of it that ends the cells. Returns the least place exactly if this
+    /// symbol is the last of its frame.
     fn take(&mut self, piece: &[u8]) -> Option<Found>
         requires going { (s : Settings) × (bytes : List ℕ) × (s.mode ≡ mode) × stands self.old s bytes × (symbols s bytes < 2 ^ 32) }
         ensures takes { (s : Settings) (bytes : List ℕ) → s.mode ≡ mode → stands self.old s bytes → tail s bytes ≡ 0 → length piece.now ≤ symbol_length s
@@ -36,6 +36,18 @@ pub struct Search<M: Carriers> {
     pub tuner: Tuner<M>,
     /// Room for the cells of a symbol.
     pub symbol: SymbolIn<M>,
+}
+
+impl<M: Carriers> Search<M> {
+    /// A search that has taken no byte. It takes all its memory; the only error is want of it.
+    pub fn new(alloc: Global) -> Result<Self, AllocError>
+        ensures { IfOk result (λ x. (s : Settings) → s.mode ≡ M.MODE → IsSearching s x.tuner x.symbol []) }
+    {
+        let symbol = SymbolIn::<M>::new(alloc)?;
+        // Constructed last: early returns would have to drop it, which is slow to prove.
+        let tuner = Tuner::<M>::new(alloc)?;
+        Ok(Search { tuner, symbol })
+    }
 }
 
 impl<M: Carriers> PlaceSearch for Search<M> {

@@ -7,7 +7,7 @@ use Rattle.cmd_receive.specs.Working.{LiveGives, ReceiverStands}
 use Rattle.tune_in.specs.OfBytes.{rest}
 use Rattle.cmd_tune.specs.Working.{IsBehind}
 use Rattle.cmd_tune.proofs.Behinds.{begun, passed, received}
-use Rattle.cmd_tune.proofs.Bytes.{rest_whole, same_length, same_tail, symbols_grow}
+use Rattle.tune_search.proofs.Bytes.{rest_whole, same_length, same_tail, symbols_grow}
 use Rattle.cmd_tune.proofs.reception_at_place.Behind.take.Goals as goal
 
 pub returns-then-self-eq0-clause-takes : goal.returns-then-self-eq0-clause-takes

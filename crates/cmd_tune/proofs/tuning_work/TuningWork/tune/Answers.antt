@@ -10,14 +10,14 @@ use Rattle.cmd_tune.specs.Tuned.{fits}
 use Rattle.cmd_tune.proofs.Places.{line_tunes}
 use Rattle.cmd_tune.proofs.tuning_work.TuningWork.tune.Goals as goal
 
--- the form fits where LP is written and there is a hierarchy, or neither
+-- the form fits if LP is written and there is a hierarchy, or neither
 fitting : (flat two : Bool) → beq flat two ≡ false → beq two (not flat) ≡ true
 fitting true true e = absurd (true≢false e)
 fitting true false e = refl
 fitting false true e = refl
 fitting false false e = absurd (true≢false e)
 
--- and so at a place that announces that
+-- the same at a place that announces it
 fits_found : (found : Found) (two flat : Bool) → flat ≡ is_flat found.word.hierarchy → beq flat two ≡ false → fits two found ≡ true
 fits_found found two flat is e = fitting (is_flat found.word.hierarchy) two (ap (λ (f : Bool). beq f two) (sym is) ∙ e)
 
@@ -36,4 +36,4 @@ returns-clause-tunes g c =
       two_is = refl;
       skips = (let v = c.requires.valid in omega (arith, c.begin.ensures, v.first, v.last));
     })
-    (c.as_bytes.ensures.value ∙ c.as_str.ensures.value ∙ c.line_of-line.ensures) c.write_some.ensures.writes
+    (c.as_bytes.ensures.value ∙ c.as_str.ensures.value ∙ c.place_line-line.ensures) c.write_some.ensures.writes

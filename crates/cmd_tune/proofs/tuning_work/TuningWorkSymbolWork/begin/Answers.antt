@@ -6,7 +6,7 @@ use Rattle.cmd_cells.specs.Work.{none_written}
 use Rattle.reception.specs.Streams.{so_far}
 use Rattle.cmd_receive.specs.Working.{ReceiverStands}
 use Rattle.cmd_tune.specs.Working.{IsBehindPlace}
-use Rattle.cmd_tune.proofs.Commands.{no_place}
+use Rattle.tune_search.proofs.Held.{no_place}
 use Rattle.cmd_tune.proofs.Places.{searching_stands}
 use Rattle.cmd_tune.proofs.tuning_work.TuningWorkSymbolWork.begin.Goals as goal
 

@@ -7,7 +7,7 @@ use Rattle.cmd_receive.specs.Working.{FinalGives, writes_at}
 use Rattle.tune_in.specs.OfBytes.{rest}
 use Rattle.cmd_tune.specs.Tuned.{GivesFinal, at_place}
 use Rattle.cmd_tune.specs.Working.{RefusesTuning}
-use Rattle.cmd_tune.proofs.Bytes.{rest_fewer, same_symbols}
+use Rattle.tune_search.proofs.Bytes.{rest_fewer, same_symbols}
 use Rattle.cmd_tune.proofs.Calls.{does_behind}
 use Rattle.cmd_tune.proofs.Places.{stands_behind}
 use Rattle.cmd_tune.proofs.Tunings.{behind_ends}

@@ -9,7 +9,7 @@ use Rattle.cmd_receive.specs.Working.{LiveGives, ReceiverStands, writes_at}
 use Rattle.tune_in.specs.Announced.{IsAnnounced}
 use Rattle.tune_in.specs.OfBytes.{rest}
 use Rattle.tune_in.specs.declared.frame.Found.{Found}
-use Rattle.cmd_tune.specs.Searching.{IsAtPlace}
+use Rattle.tune_search.specs.Searching.{IsAtPlace}
 use Rattle.cmd_tune.specs.Tuned.{GivesLive, at_place}
 use Rattle.cmd_tune.specs.Working.{IsBehind, IsBehindPlace, RefusesTuning, TuningStands}
 use Rattle.cmd_tune.proofs.Calls.{does_behind, does_nothing}
