@@ -8,11 +8,15 @@ mod cut;
 #[cfg(test)]
 mod bursts;
 #[cfg(test)]
+mod cut_symbols;
+#[cfg(test)]
 mod draws;
 #[cfg(test)]
 mod hostile_cells;
 #[cfg(test)]
 mod reports;
+#[cfg(test)]
+mod rescued_pieces;
 #[cfg(test)]
 mod sending;
 #[cfg(test)]
