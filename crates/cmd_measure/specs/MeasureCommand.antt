@@ -1,4 +1,5 @@
--- The command `measure SETTINGS CELLS`: the files that it reads, and the lines that it comes to, from its settings and the file of cells alone. It writes nothing but its report.
+-- The command `measure SETTINGS CELLS`: its files and its lines, from its settings and the file of cells alone. It
+-- writes only its report.
 use Rattle.std.specs.Prelude.{◌≡◌, ℕ, ◌+◌, List, [], ◌∷◌, Option, None, Some, option_and_then, false}
 use Rattle.station_core.specs.declared.ports.InPort.TheVariants as ins
 use Rattle.station_core.specs.declared.ports.OutPort.{OutPort}

@@ -1,4 +1,4 @@
--- The command that the words are. Each command is defined in the crate that runs it.
+-- The command of a list of arguments. Each command is defined in the crate that runs it.
 use Rattle.std.specs.Prelude.{◌≡◌, ℕ, ⊤, List, [], ◌∷◌, Option, None, Some, false}
 use Rattle.cmd_base.specs.Command.{Command}
 use Rattle.cmd_base.specs.declared.work.Refusal.TheVariants.{Usage}
@@ -15,7 +15,7 @@ use Rattle.cmd_convert.specs.EqualiseCommand.{equalise_command}
 use Rattle.cmd_track.specs.TrackCommand.{track_command}
 use Rattle.dvbt_top.specs.Order.{Order, Disperse, Outer, Inner, Code, Modulate, Receive, Rescue, Tune, Align, Measure, Upgrade, Equalise, Track, Trial, order_of}
 
--- words of no form: they are refused, and no file is asked for
+-- invalid arguments: they are refused, and no file is requested
 abbrev pub no_command : Command
 no_command = record {
   reads = λ port. None;

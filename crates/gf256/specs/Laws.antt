@@ -1,4 +1,4 @@
--- The laws of the field, each the clause of a public function of the module laws.
+-- The laws of the field. Each is the clause of a public function of module laws.
 use Rattle.std.specs.Prelude.{◌≡◌, ◌≢◌, ℕ, ◌+◌, ◌<◌, ◌⊎◌, bit_xor}
 use Rattle.gf256.specs.Field.{mul, power}
 
@@ -40,7 +40,7 @@ OneChangesNothing = (a : ℕ) → IsElement a → mul 1 a ≡ a
 abbrev pub ZeroTakesAll : Type 0
 ZeroTakesAll = (a : ℕ) → mul 0 a ≡ 0
 
--- a product is 0 only where a factor is
+-- a product is 0 only if a factor is 0
 abbrev pub NoZeroDivisors : Type 0
 NoZeroDivisors = (a b : ℕ) → IsElement a → IsElement b → mul a b ≡ 0 → (a ≡ 0) ⊎ (b ≡ 0)
 
@@ -49,7 +49,7 @@ ProductDistributes = (a b c : ℕ) → mul (bit_xor a b) c ≡ bit_xor (mul a c)
 
 -- powers
 
--- each element but 0 is one of the 255 powers of λ
+-- every nonzero element is one of the 255 powers of λ
 abbrev pub EachIsPower : Type 0
 EachIsPower = (a : ℕ) → IsElement a → a ≢ 0 → (i : ℕ) × (i < 255) × (power i ≡ a)
 

@@ -1,4 +1,4 @@
--- The closing lines of the report of a reception that rescues words. Each line ends with a line feed.
+-- The closing lines of a rescue report. Each line ends with a line feed.
 use Rattle.std.specs.Prelude.{ℕ, List, [], ◌∷◌, ◌++◌, Option, None, Some, codes, decimal}
 use Rattle.mode_set.specs.declared.modes.Stream.{Stream}
 use Rattle.mode_set.specs.declared.modes.Stream.TheVariants.{Hp, Lp}
@@ -25,6 +25,6 @@ abbrev pub lp_lines : Option StreamCounts → List (List ℕ)
 lp_lines None = []
 lp_lines (Some c) = stream_line Lp c ∷ []
 
--- the closing lines in order; none tells of TPS words, which are not read
+-- the closing lines in order; none is on TPS words, which are not read
 abbrev pub closing_lines : Counts → List (List ℕ)
 closing_lines c = symbols_line c.symbols c.tail ∷ stream_line Hp c.hp ∷ lp_lines c.lp

@@ -1,4 +1,4 @@
--- What a station in memory stands for, and what it is told to do.
+-- The state of a station in memory, and the faults that it is set up to produce.
 use Rattle.std.specs.Prelude.{◌≡◌, ℕ, true, List}
 use Rattle.station_core.specs.declared.memory.MemoryStation.{MemoryStation}
 use Rattle.station_core.specs.declared.memory.Failing.{Failing}
@@ -35,15 +35,15 @@ memory_meaning m = record {
 abbrev pub files_of : MemoryStation → Files
 files_of m = m.files.items
 
--- the calls that are to fail
+-- the calls set to fail
 abbrev pub failing_of : MemoryStation → List Failing
 failing_of m = m.failing.items
 
--- the most bytes that a read gives
+-- the most bytes that one read returns
 abbrev pub most_of : MemoryStation → ℕ
 most_of m = m.most_per_read
 
--- the most bytes that a port holds
+-- the most bytes that a port can hold
 abbrev pub room_of : OutPort → MemoryStation → ℕ
 room_of outs.Cells m = m.cells_out.room
 room_of outs.Hp m = m.hp_out.room
@@ -64,15 +64,15 @@ out_number outs.Lp = 2
 out_number outs.Bytes = 3
 out_number outs.Report = 4
 
--- the reads that were tried at each port
+-- the reads tried at each port
 abbrev pub reads_of : MemoryStation → List ℕ
 reads_of m = m.reads
 
--- the writes that were tried at each port
+-- the writes tried at each port
 abbrev pub writes_of : MemoryStation → List ℕ
 writes_of m = m.writes
 
--- what a station in memory is told to do stays
+-- the set-up of a station in memory does not change
 pub record IsSamePlan (old new : MemoryStation) : Type 0 where
   pub files : files_of new ≡ files_of old
   pub failing : failing_of new ≡ failing_of old

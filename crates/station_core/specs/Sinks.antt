@@ -1,4 +1,4 @@
--- What a port of a station in memory that is written stands for.
+-- The meaning of an output port of a station in memory.
 use Rattle.std.specs.Option.{option_copied}
 use Rattle.station_core.specs.Meaning.{Sink}
 use Rattle.station_core.specs.declared.sink.Writing.{Writing}

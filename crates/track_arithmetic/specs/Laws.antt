@@ -1,4 +1,4 @@
--- Laws of rounding and of the root, and the bounds that keep sums in range.
+-- Laws of rounding and of the square root, and bounds that keep sums in range.
 use Rattle.std.specs.Prelude.{ℕ, ◌*◌, ◌<◌, ◌≤◌, ℤ, pos, nat_abs, ◌+ℤ◌, ◌*ℤ◌, ◌≤ℤ◌, ◌<ℤ◌}
 use Rattle.track_arithmetic.specs.Numbers.{floor, root}
 use Rattle.track_arithmetic.specs.declared.complex.Complex.{Complex}
