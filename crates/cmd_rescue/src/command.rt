@@ -24,7 +24,7 @@ use station_core::Station;
 use std::alloc::Global;
 use std::thread::Threads;
 
-// Runs the reception by a receiver that has had no byte. `symbol` has the size of a symbol.
+// Runs the reception with a receiver that has had no byte. `symbol` has the size of a symbol.
 fn rescue_by<'a, R: Threads + Sync, T: ModeRescue + Drop, S: Station<'a>>(
     rt: &R,
     receiver: T,
@@ -50,7 +50,7 @@ fn rescue_by<'a, R: Threads + Sync, T: ModeRescue + Drop, S: Station<'a>>(
     files.run_work(settings, &mut work, symbol, station)
 }
 
-// Takes the memory of a mode's receiver and of one symbol, and runs the reception.
+// Allocates the memory for a mode's receiver and one symbol, and runs the reception.
 fn rescue_in<'a, M: Carriers, R: Threads + Sync, S: Station<'a>>(
     rt: &R,
     alloc: Global,
@@ -68,14 +68,14 @@ fn rescue_in<'a, M: Carriers, R: Threads + Sync, S: Station<'a>>(
     let Ok(mut symbol) = vec![in alloc; 0u8; 5 * M::K as usize] else {
         return refuse(&Refusal::Memory, station);
     };
-    // It comes last: a value of so many parts is dear to prove on each path that lets it go.
+    // Constructed last: early returns would have to drop it, which is slow to prove.
     let Ok(receiver) = Rescue::<M>::new(alloc, settings) else {
         return refuse(&Refusal::Memory, station);
     };
     rescue_by(rt, receiver, out, settings, &mut symbol, files, station)
 }
 
-// The same in the mode that is set.
+// The same in the mode of the settings.
 fn rescue_accepted<'a, R: Threads + Sync, S: Station<'a>>(
     rt: &R,
     alloc: Global,
@@ -92,12 +92,11 @@ fn rescue_accepted<'a, R: Threads + Sync, S: Station<'a>>(
     }
 }
 
-/// Runs `rescue SETTINGS CELLS HP` or, with a file of LP, `rescue SETTINGS CELLS HP LP`, and gives its
-/// status.
+/// Runs `rescue SETTINGS CELLS HP` or, with an LP file, `rescue SETTINGS CELLS HP LP`, and returns its status.
 ///
-/// What it promises is `Run` of its definition, `rescue_command`. The settings are read and checked, and
-/// then all memory is taken, before another port is asked; the cells are opened, and their header is read,
-/// before an output is made.
+/// Its promise is `Run` of its definition, `rescue_command`. The settings are read and checked, and then all memory is
+/// allocated, before another port is requested; the cells are opened, and their header is read, before an output is
+/// created.
 pub fn rescue<'a, R: Threads + Sync, S: Station<'a>>(
     rt: &R,
     alloc: Global,
