@@ -1,5 +1,5 @@
-//! The receiver over the symbols of the modulator: pieces of any size, paths that do not merge, the text of reports, hostile
-//! cells, trials, and the gate that workers enter.
+//! The receiver with the symbols of the modulator: pieces of any size, paths that do not merge, the text of reports,
+//! hostile cells, trials, and the gate that workers enter.
 //!
 //! The crate has tests alone.
 #![tactic(auto)]

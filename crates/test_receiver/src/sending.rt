@@ -10,7 +10,7 @@ use ts_packet::Packet;
 /// The bytes of a symbol of the 2K mode.
 pub(crate) const SYMBOL: usize = 8525;
 
-/// The room for a symbol of either mode.
+/// The capacity for a symbol of either mode.
 const ROOM: usize = 34085;
 
 /// QPSK at 1/2 in the 2K mode.
@@ -32,7 +32,7 @@ pub(crate) fn settings(start: Start) -> Settings
     }
 }
 
-// Puts a null packet where HP wants one.
+// Puts a null packet if HP is wanted.
 fn put_null<M: Carriers>(tx: &mut Modulator<M>) {
     if tx.wants() == Want::Hp {
         tx.put(&Packet::null());
@@ -52,7 +52,7 @@ fn symbol_of<M: Carriers>(
     Ok(to)
 }
 
-/// The bytes of the first symbols that carry null packets. A symbol wants two packets at most.
+/// The bytes of the first symbols of null packets. A symbol needs at most two packets.
 pub(crate) fn null_symbols(
     rt: &impl Abort,
     alloc: Global,
