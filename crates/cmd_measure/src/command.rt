@@ -29,34 +29,26 @@ use word_workers::Gate;
 // Runs the work with a measurer that has had no byte, fed by this feeder. `symbol` has the size of a symbol.
 fn measure_by<
     'a,
+    'r,
     R: Threads + Sync,
     F: Fn(&mut T, &[u8], &mut MeasureOut) -> usize,
     T: ModeMeasurer + Drop,
     S: Station<'a>,
 >(
-    rt: &R,
-    feeder: &F,
-    measurer: T,
-    out: MeasureOut,
+    measurer: MeasurerWithLines<'r, R, F, T>,
     settings: &Settings,
     symbol: &mut [u8],
     cells: &'a str,
     station: &mut S,
 ) -> u8
-    requires feeder { IsFeeder T.size T.state F.Fn feeder.now }
+    requires feeder { IsFeeder T.size T.state F.Fn measurer.feeder.now }
     requires fits { symbol_length settings.now ≡ T.size }
-    requires start { StandsFor so_far (T.state measurer) [] [] }
-    requires settings { (T.state measurer).settings ≡ settings.now }
+    requires start { StandsFor so_far (T.state measurer.measurer) [] [] }
+    requires settings { (T.state measurer.measurer).settings ≡ settings.now }
     requires size { length symbol.old ≡ symbol_length settings.now }
     requires ready { IsReady no_names (S.meaning station.old) }
     ensures { RunsCells (measuring_work settings.now) settings.now.max_symbols cells.now (Some (header_of settings.now.mode)) no_names (S.meaning station.old) (S.meaning station.new) result }
 {
-    let measurer = MeasurerWithLines {
-        rt,
-        feeder,
-        measurer,
-        out,
-    };
     let mut work = MeasuringWork { measurer };
     run_cells(
         settings.max_symbols,
@@ -96,16 +88,13 @@ fn measure_in<'a, M: Carriers, R: Threads + Sync, G: Gate, S: Station<'a>>(
         requires { IsSync R.row × (measurer.now.ended ≡ false) × (measurer.now.taken < 2 ^ 32) }
         ensures { IsFed (5 * M.K) measurer.entry.now piece.entry.now measurer.exit.now out.exit.now result }
     { measurer.feed_gated(rt, gate, piece, out) };
-    measure_by(
+    let measurer = MeasurerWithLines {
         rt,
-        &feeder,
+        feeder: &feeder,
         measurer,
         out,
-        settings,
-        &mut symbol,
-        cells,
-        station,
-    )
+    };
+    measure_by(measurer, settings, &mut symbol, cells, station)
 }
 
 // The same in the mode of the settings.

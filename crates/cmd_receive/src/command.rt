@@ -31,33 +31,25 @@ use word_workers::Gate;
 // Runs the reception with a receiver that has had no byte, fed by this feeder. `symbol` has the size of a symbol.
 fn receive_by<
     'a,
+    'r,
     R: Threads + Sync,
     F: Fn(&mut T, &[u8], &mut RxOut) -> usize,
     T: ModeReceiver + Drop,
     S: Station<'a>,
 >(
-    rt: &R,
-    feeder: &F,
-    receiver: T,
-    out: RxOut,
+    receiver: ReceiverWithOutput<'r, R, F, T>,
     settings: &Settings,
     symbol: &mut [u8],
     files: ReceptionFiles<'a>,
     station: &mut S,
 ) -> u8
-    requires feeder { IsFeeder T.state F.Fn feeder.now }
-    requires start { StandsFor so_far (T.state receiver) [] nothing }
-    requires settings { (T.state receiver).settings ≡ settings.now }
+    requires feeder { IsFeeder T.state F.Fn receiver.feeder.now }
+    requires start { StandsFor so_far (T.state receiver.receiver) [] nothing }
+    requires settings { (T.state receiver.receiver).settings ≡ settings.now }
     requires size { length symbol.old ≡ symbol_length settings.now }
     requires ready { IsReady (stream_names files.hp.now (option_copied files.lp)) (S.meaning station.old) }
     ensures { RunsReceiving reception_work settings.now files.entry.cells.now files.entry.hp.now (option_copied files.entry.lp) (S.meaning station.old) (S.meaning station.new) result }
 {
-    let receiver = ReceiverWithOutput {
-        rt,
-        feeder,
-        receiver,
-        out,
-    };
     let two = files.lp.is_some();
     let mut work = ReceptionWork { receiver, two };
     files.run_work(settings, &mut work, symbol, station)
@@ -90,16 +82,13 @@ fn receive_in<'a, M: Carriers, R: Threads + Sync, G: Gate, S: Station<'a>>(
         requires { IsSync R.row × (receiver.now.ended ≡ false) × (receiver.now.taken < 2 ^ 32) }
         ensures { IsFed receiver.entry.now piece.entry.now receiver.exit.now out.exit.now result }
     { receiver.feed_gated(rt, gate, piece, out) };
-    receive_by(
+    let receiver = ReceiverWithOutput {
         rt,
-        &feeder,
+        feeder: &feeder,
         receiver,
         out,
-        settings,
-        &mut symbol,
-        files,
-        station,
-    )
+    };
+    receive_by(receiver, settings, &mut symbol, files, station)
 }
 
 // The same in the mode of the settings.
@@ -121,6 +110,7 @@ fn receive_accepted<'a, R: Threads + Sync, G: Gate, S: Station<'a>>(
 }
 
 /// Runs `receive SETTINGS CELLS HP` or, with an LP file, `receive SETTINGS CELLS HP LP`, and returns its status.
+/// `files` are all files but the settings.
 ///
 /// Its promise is `Run` of its definition, `receive_command`. The settings are read and checked, and then all memory is
 /// allocated, before another port is requested; the cells are opened, and their header is read, before an output is
@@ -130,14 +120,12 @@ pub fn receive<'a, R: Threads + Sync, G: Gate, S: Station<'a>>(
     alloc: Global,
     gate: &G,
     settings: &'a str,
-    cells: &'a str,
-    hp: &'a str,
-    lp: Option<&'a str>,
+    files: ReceptionFiles<'a>,
     limits: &Limits,
     station: &mut S,
 ) -> u8
     requires fresh { IsFresh (S.meaning station.old) }
-    ensures { Run (receive_command settings.now cells.now hp.now (option_copied lp.entry)) limits.now.packets (S.meaning station.old) (S.meaning station.new) result }
+    ensures { Run (receive_command settings.now files.entry.cells.now files.entry.hp.now (option_copied files.entry.lp)) limits.now.packets (S.meaning station.old) (S.meaning station.new) result }
 {
     reception::workers::workers();
     law_link::laws::noise();
@@ -150,11 +138,8 @@ pub fn receive<'a, R: Threads + Sync, G: Gate, S: Station<'a>>(
     law_link::laws::own_cells();
     law_link::laws::packets_then_nulls();
     shared_begins_least();
-    match read_fitting(alloc, settings, lp, station) {
-        Ok(accepted) => {
-            let files = ReceptionFiles { cells, hp, lp };
-            receive_accepted(rt, gate, alloc, &accepted, files, station)
-        }
+    match read_fitting(alloc, settings, files.lp, station) {
+        Ok(accepted) => receive_accepted(rt, gate, alloc, &accepted, files, station),
         Err(refusal) => refuse(&refusal, station),
     }
 }

@@ -92,7 +92,8 @@ fn rescue_accepted<'a, R: Threads + Sync, S: Station<'a>>(
     }
 }
 
-/// Runs `rescue SETTINGS CELLS HP` or, with an LP file, `rescue SETTINGS CELLS HP LP`, and returns its status.
+/// Runs `rescue SETTINGS CELLS HP` or, with an LP file, `rescue SETTINGS CELLS HP LP`, and returns its status. `files`
+/// are all files but the settings.
 ///
 /// Its promise is `Run` of its definition, `rescue_command`. The settings are read and checked, and then all memory is
 /// allocated, before another port is requested; the cells are opened, and their header is read, before an output is
@@ -101,14 +102,12 @@ pub fn rescue<'a, R: Threads + Sync, S: Station<'a>>(
     rt: &R,
     alloc: Global,
     settings: &'a str,
-    cells: &'a str,
-    hp: &'a str,
-    lp: Option<&'a str>,
+    files: ReceptionFiles<'a>,
     limits: &Limits,
     station: &mut S,
 ) -> u8
     requires fresh { IsFresh (S.meaning station.old) }
-    ensures { Run (rescue_command settings.now cells.now hp.now (option_copied lp.entry)) limits.now.packets (S.meaning station.old) (S.meaning station.new) result }
+    ensures { Run (rescue_command settings.now files.entry.cells.now files.entry.hp.now (option_copied files.entry.lp)) limits.now.packets (S.meaning station.old) (S.meaning station.new) result }
 {
     reception::laws::symbols();
     reception::laws::events();
@@ -117,11 +116,8 @@ pub fn rescue<'a, R: Threads + Sync, S: Station<'a>>(
     rescue::laws::existence();
     rescue::laws::beginnings();
     rescue::laws::workers();
-    match read_fitting(alloc, settings, lp, station) {
-        Ok(accepted) => {
-            let files = ReceptionFiles { cells, hp, lp };
-            rescue_accepted(rt, alloc, &accepted, files, station)
-        }
+    match read_fitting(alloc, settings, files.lp, station) {
+        Ok(accepted) => rescue_accepted(rt, alloc, &accepted, files, station),
         Err(refusal) => refuse(&refusal, station),
     }
 }

@@ -51,7 +51,6 @@ pub fn begin(alloc: Global, start: Start) -> Result<StreamBranch, AllocError>
 fn run<R: Threads + Sync, G: Gate>(
     rt: &R,
     gate: &G,
-    two: bool,
     hp_pairs: &[CostPair],
     lp_pairs: &[CostPair],
     hp: &mut StreamBranch,
@@ -62,11 +61,11 @@ fn run<R: Threads + Sync, G: Gate>(
     ensures hp { HasRunOver hp_pairs.now hp.old hp.new }
     ensures lp { HasRunOver lp_pairs.now lp.old lp.new }
 {
-    if two {
-        both_over(rt, gate, hp, hp_pairs, lp, lp_pairs);
-    } else {
+    if lp_pairs.is_empty() {
         hp.run_over(hp_pairs);
         lp.run_over(lp_pairs);
+    } else {
+        both_over(rt, gate, hp, hp_pairs, lp, lp_pairs);
     }
 }
 
@@ -95,7 +94,6 @@ fn push_events(stream: Stream, reports: &[Unmerged], to: &mut Vec<Event>)
 pub fn take_symbol<R: Threads + Sync, G: Gate>(
     rt: &R,
     gate: &G,
-    two: bool,
     hp_pairs: &[CostPair],
     lp_pairs: &[CostPair],
     hp: &mut StreamBranch,
@@ -112,7 +110,7 @@ pub fn take_symbol<R: Threads + Sync, G: Gate>(
     ensures events { events.new.items ≡ events.old.items ++ map (event_at Hp) (ats hp.new.events) ++ map (event_at Lp) (ats lp.new.events) }
     ensures capacity { vec_capacity events.new ≡ vec_capacity events.old }
 {
-    run(rt, gate, two, hp_pairs, lp_pairs, hp, lp);
+    run(rt, gate, hp_pairs, lp_pairs, hp, lp);
     push_events(Stream::Hp, hp.events(), events);
     push_events(Stream::Lp, lp.events(), events);
 }

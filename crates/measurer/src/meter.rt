@@ -114,7 +114,6 @@ impl<M: Carriers> FrameMeter<M> {
         take_symbol(
             rt,
             gate,
-            settings.has_lp(),
             cells.pairs(Stream::Hp),
             cells.pairs(Stream::Lp),
             &mut self.hp.branch,

@@ -125,7 +125,6 @@ impl<M: Carriers> Receiver<M> {
         take_symbol(
             rt,
             gate,
-            settings.has_lp(),
             self.cells.pairs(Stream::Hp),
             self.cells.pairs(Stream::Lp),
             &mut self.hp.branch,

@@ -98,7 +98,6 @@ impl<M: Carriers> Rescue<M> {
         take_symbol(
             rt,
             &OpenGate,
-            self.cells.settings().has_lp(),
             hp_pairs,
             lp_pairs,
             &mut self.hp.branch,

@@ -1,6 +1,6 @@
 //! Each call of the station in memory that a command makes fails once: the first, the last and the thirty-first of its
 //! kind. The status, the report and the content of each output are checked. Also each refusal in the work followed by a
-//! failed flush.
+//! failed flush, hostile cells through `receive` itself, and the gate that workers enter.
 //!
 //! The crate has tests alone.
 #![tactic(auto)]
@@ -11,6 +11,14 @@ mod cases;
 mod cells;
 #[cfg(test)]
 mod flushed;
+#[cfg(test)]
+mod gated_pieces;
+#[cfg(test)]
+mod gated_receivers;
+#[cfg(test)]
+mod gated_words;
+#[cfg(test)]
+mod hostile_received;
 #[cfg(test)]
 mod received;
 #[cfg(test)]

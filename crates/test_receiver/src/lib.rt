@@ -1,27 +1,16 @@
 //! The receiver with the symbols of the modulator: pieces of any size, paths that do not merge, the text of reports,
-//! hostile cells, trials, and the gate that workers enter.
+//! hostile cells, and trials.
 //!
-//! The crate has tests alone.
+//! The crate has tests alone. [`Received`] feeds a receiver, a [`Cut`] cuts bytes into pieces.
 #![tactic(auto)]
 
+mod cut;
 #[cfg(test)]
 mod bursts;
 #[cfg(test)]
-mod cut;
-#[cfg(test)]
 mod draws;
 #[cfg(test)]
-mod gated_pieces;
-#[cfg(test)]
-mod gated_receivers;
-#[cfg(test)]
-mod gated_words;
-#[cfg(test)]
 mod hostile_cells;
-#[cfg(test)]
-mod hostile_received;
-#[cfg(test)]
-mod receiving;
 #[cfg(test)]
 mod reports;
 #[cfg(test)]
@@ -34,3 +23,7 @@ mod tests;
 mod trial_plans;
 #[cfg(test)]
 mod trials;
+mod receiving;
+
+pub use cut::Cut;
+pub use receiving::{Given, Received, Reception};

@@ -32,4 +32,4 @@ returns g c =
     let old : Meaning = g.S.Station.meaning c.args.station.now in
     let new : Meaning = g.S.Station.meaning c.run_cells.new.station in
     subst (λ (x : Settings). RunsCells (measuring_work x) s.max_symbols c.args.cells.now (Some (header s.mode)) no_names old new c.run_cells.result) c.requires.settings
-    (subst (λ (h : List ℕ). RunsCells (measuring_work ((g.T.ModeMeasurer.state c.args.measurer).settings)) s.max_symbols c.args.cells.now (Some h) no_names old new c.run_cells.result) c.header.ensures c.run_cells.ensures.runs)
+    (subst (λ (h : List ℕ). RunsCells (measuring_work ((g.T.ModeMeasurer.state c.args.measurer.measurer).settings)) s.max_symbols c.args.cells.now (Some h) no_names old new c.run_cells.result) c.header.ensures c.run_cells.ensures.runs)

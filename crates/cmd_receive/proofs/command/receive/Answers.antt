@@ -12,7 +12,7 @@ returns-in-Ok g c =
     let old : Meaning = g.S.Station.meaning c.args.station.now in
     let mid : Meaning = g.S.Station.meaning c.read_fitting.new.station in
     let new : Meaning = g.S.Station.meaning c.receive_accepted.new.station in
-    let lp : Option (List ℕ) = option_copied c.args.lp in
+    let lp : Option (List ℕ) = option_copied c.args.files.lp in
     let laws : Laws = record {
       receptions = plain_laws c.existence.ensures.live c.existence.ensures.last c.receptions.ensures.live c.receptions.ensures.last c.beginnings.ensures.live c.beginnings.ensures.last c.beginnings.ensures.whole c.symbols.ensures.tail c.nothing.ensures.live c.events.ensures.none;
       begins_least = c.shared_begins_least.ensures.law;
@@ -23,7 +23,7 @@ returns-in-Ok g c =
       final = c.workers.ensures.last;
       lines = c.workers.ensures.lines;
     } in
-    run laws.receptions ReceiveLaws (own_laws laws) c.args.limits.now.packets c.args.settings.now c.args.cells.now c.args.hp.now lp old mid new c.requires.fresh c.in-Ok.ensures.asks
+    run laws.receptions ReceiveLaws (own_laws laws) c.args.limits.now.packets c.args.settings.now c.args.files.cells.now c.args.files.hp.now lp old mid new c.requires.fresh c.in-Ok.ensures.asks
     c.in-Ok.accepted c.in-Ok.ensures.accepts c.receive_accepted.result c.receive_accepted.ensures
 
 pub returns-in-Err : goal.returns-in-Err
@@ -31,7 +31,7 @@ returns-in-Err g c =
     let old : Meaning = g.S.Station.meaning c.args.station.now in
     let mid : Meaning = g.S.Station.meaning c.read_fitting.new.station in
     let new : Meaning = g.S.Station.meaning c.refuse.new.station in
-    let lp : Option (List ℕ) = option_copied c.args.lp in
+    let lp : Option (List ℕ) = option_copied c.args.files.lp in
     let laws : Laws = record {
       receptions = plain_laws c.existence.ensures.live c.existence.ensures.last c.receptions.ensures.live c.receptions.ensures.last c.beginnings.ensures.live c.beginnings.ensures.last c.beginnings.ensures.whole c.symbols.ensures.tail c.nothing.ensures.live c.events.ensures.none;
       begins_least = c.shared_begins_least.ensures.law;
@@ -42,14 +42,14 @@ returns-in-Err g c =
       final = c.workers.ensures.last;
       lines = c.workers.ensures.lines;
     } in
-    refused laws.receptions ReceiveLaws (own_laws laws) c.args.limits.now.packets c.args.settings.now c.args.cells.now c.args.hp.now lp old mid new c.requires.fresh c.in-Err.ensures.asks
+    refused laws.receptions ReceiveLaws (own_laws laws) c.args.limits.now.packets c.args.settings.now c.args.files.cells.now c.args.files.hp.now lp old mid new c.requires.fresh c.in-Err.ensures.asks
     c.in-Err.refusal c.in-Err.ensures.accepts c.refuse.result c.refuse.ensures.status c.refuse.ensures.text
 
 pub receive_accepted-requires : goal.receive_accepted-requires
 receive_accepted-requires g c =
     let old : Meaning = g.S.Station.meaning c.args.station.now in
     let mid : Meaning = g.S.Station.meaning c.read_fitting.new.station in
-    let lp : Option (List ℕ) = option_copied c.args.lp in
+    let lp : Option (List ℕ) = option_copied c.args.files.lp in
     let laws : Laws = record {
       receptions = plain_laws c.existence.ensures.live c.existence.ensures.last c.receptions.ensures.live c.receptions.ensures.last c.beginnings.ensures.live c.beginnings.ensures.last c.beginnings.ensures.whole c.symbols.ensures.tail c.nothing.ensures.live c.events.ensures.none;
       begins_least = c.shared_begins_least.ensures.law;
@@ -66,7 +66,7 @@ receive_accepted-requires g c =
         record { shared = c.type_bounds.sync-G.shared },
         (
           (refl, tt),
-          ready laws.receptions ReceiveLaws (own_laws laws) c.args.limits.now.packets c.args.settings.now c.args.cells.now c.args.hp.now lp old mid mid c.requires.fresh c.in-Ok.ensures.asks c.in-Ok.accepted c.in-Ok.ensures.accepts,
+          ready laws.receptions ReceiveLaws (own_laws laws) c.args.limits.now.packets c.args.settings.now c.args.files.cells.now c.args.files.hp.now lp old mid mid c.requires.fresh c.in-Ok.ensures.asks c.in-Ok.accepted c.in-Ok.ensures.accepts,
         ),
       ),
     )

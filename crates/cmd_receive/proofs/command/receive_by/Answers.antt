@@ -38,4 +38,4 @@ returns g c =
     let names : Names = stream_names c.args.files.hp.now lp in
     let two : c.is_some-two.result ≡ is_some lp = c.is_some-two.ensures ∙ copied_some c.args.files.lp in
     subst (λ (x : Settings). RunsCells (reception_work x (is_some lp)) s.max_symbols cells (Some (header s.mode)) names old new c.run_work.result) c.requires.settings
-    (subst (λ (b : Bool). RunsCells (reception_work (g.T.ModeReceiver.state c.args.receiver).settings b) s.max_symbols cells (Some (header s.mode)) names old new c.run_work.result) two c.run_work.ensures)
+    (subst (λ (b : Bool). RunsCells (reception_work (g.T.ModeReceiver.state c.args.receiver.receiver).settings b) s.max_symbols cells (Some (header s.mode)) names old new c.run_work.result) two c.run_work.ensures)

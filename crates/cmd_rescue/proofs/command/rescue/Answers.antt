@@ -12,14 +12,14 @@ returns-in-Ok g c =
     let old : Meaning = g.S.Station.meaning c.args.station.now in
     let mid : Meaning = g.S.Station.meaning c.read_fitting.new.station in
     let new : Meaning = g.S.Station.meaning c.rescue_accepted.new.station in
-    let lp : Option (List ℕ) = option_copied c.args.lp in
+    let lp : Option (List ℕ) = option_copied c.args.files.lp in
     let laws : Laws = record {
       rescues = rescue_laws c.existence.ensures.so_far c.existence.ensures.at_end c.receptions.ensures.so_far c.receptions.ensures.at_end c.beginnings.ensures.so_far c.beginnings.ensures.at_end c.beginnings.ensures.whole c.symbols.ensures.tail c.nothing.ensures.so_far c.events.ensures.none;
       so_far = c.workers.ensures.so_far;
       at_end = c.workers.ensures.at_end;
       lines = c.workers.ensures.lines;
     } in
-    run laws.rescues RescueLaws (own_laws laws) c.args.limits.now.packets c.args.settings.now c.args.cells.now c.args.hp.now lp old mid new c.requires.fresh c.in-Ok.ensures.asks
+    run laws.rescues RescueLaws (own_laws laws) c.args.limits.now.packets c.args.settings.now c.args.files.cells.now c.args.files.hp.now lp old mid new c.requires.fresh c.in-Ok.ensures.asks
     c.in-Ok.accepted c.in-Ok.ensures.accepts c.rescue_accepted.result c.rescue_accepted.ensures
 
 pub returns-in-Err : goal.returns-in-Err
@@ -27,21 +27,21 @@ returns-in-Err g c =
     let old : Meaning = g.S.Station.meaning c.args.station.now in
     let mid : Meaning = g.S.Station.meaning c.read_fitting.new.station in
     let new : Meaning = g.S.Station.meaning c.refuse.new.station in
-    let lp : Option (List ℕ) = option_copied c.args.lp in
+    let lp : Option (List ℕ) = option_copied c.args.files.lp in
     let laws : Laws = record {
       rescues = rescue_laws c.existence.ensures.so_far c.existence.ensures.at_end c.receptions.ensures.so_far c.receptions.ensures.at_end c.beginnings.ensures.so_far c.beginnings.ensures.at_end c.beginnings.ensures.whole c.symbols.ensures.tail c.nothing.ensures.so_far c.events.ensures.none;
       so_far = c.workers.ensures.so_far;
       at_end = c.workers.ensures.at_end;
       lines = c.workers.ensures.lines;
     } in
-    refused laws.rescues RescueLaws (own_laws laws) c.args.limits.now.packets c.args.settings.now c.args.cells.now c.args.hp.now lp old mid new c.requires.fresh c.in-Err.ensures.asks
+    refused laws.rescues RescueLaws (own_laws laws) c.args.limits.now.packets c.args.settings.now c.args.files.cells.now c.args.files.hp.now lp old mid new c.requires.fresh c.in-Err.ensures.asks
     c.in-Err.refusal c.in-Err.ensures.accepts c.refuse.result c.refuse.ensures.status c.refuse.ensures.text
 
 pub rescue_accepted-requires : goal.rescue_accepted-requires
 rescue_accepted-requires g c =
     let old : Meaning = g.S.Station.meaning c.args.station.now in
     let mid : Meaning = g.S.Station.meaning c.read_fitting.new.station in
-    let lp : Option (List ℕ) = option_copied c.args.lp in
+    let lp : Option (List ℕ) = option_copied c.args.files.lp in
     let laws : Laws = record {
       rescues = rescue_laws c.existence.ensures.so_far c.existence.ensures.at_end c.receptions.ensures.so_far c.receptions.ensures.at_end c.beginnings.ensures.so_far c.beginnings.ensures.at_end c.beginnings.ensures.whole c.symbols.ensures.tail c.nothing.ensures.so_far c.events.ensures.none;
       so_far = c.workers.ensures.so_far;
@@ -52,6 +52,6 @@ rescue_accepted-requires g c =
       record { shared = c.type_bounds.sync-R.shared },
       (
         (refl, tt),
-        ready laws.rescues RescueLaws (own_laws laws) c.args.limits.now.packets c.args.settings.now c.args.cells.now c.args.hp.now lp old mid mid c.requires.fresh c.in-Ok.ensures.asks c.in-Ok.accepted c.in-Ok.ensures.accepts,
+        ready laws.rescues RescueLaws (own_laws laws) c.args.limits.now.packets c.args.settings.now c.args.files.cells.now c.args.files.hp.now lp old mid mid c.requires.fresh c.in-Ok.ensures.asks c.in-Ok.accepted c.in-Ok.ensures.accepts,
       ),
     )
