@@ -9,7 +9,7 @@ use conv_code::CostPair;
 /// One step of the Viterbi decoder.
 pub trait Acs {
     /// Adds the costs of a step to the sums, and keeps the lower way into each state; on a tie that from the even
-    /// state. Bit n of the result, the decision word, says that state n came from the odd state.
+    /// state. Bit n of the result, the decision word, is set if the odd way was taken to state n.
     ///
     /// Some state must be alive, and alive costs differ by at most 131,072. Afterwards state n is alive if `2 * (n %
     /// 32)` or the state after that was. One number is subtracted from all alive costs, so that all fit 32 bits.

@@ -36,7 +36,7 @@ pub record Command : Type 1 where
   pub most_taken : ℕ → Files → InPort → ℕ
   -- the bytes of each output: all of them or, if the work is refused, those before the refusal
   pub Comes : ℕ → Files → OutPort → List ℕ → Type 0
-  -- the lines of the report, likewise; the text of a refusal is not among them
+  -- the lines of the report: all or those before the refusal; the text of a refusal is not among them
   pub Prints : ℕ → Files → List ℕ → Type 0
   -- the same if reading stops at a fault, with these bytes left unread
   pub ComesSoFar : ℕ → Files → Unread → OutPort → List ℕ → Type 0

@@ -1,5 +1,5 @@
--- The work on cells: what is left, what was written, and how far it came. `file` is the bytes that the work may take,
--- `start` is the state of the station before it.
+-- The work on cells: the bytes left, the output written, and how far it got. `file` is the bytes that the work may
+-- take, `start` is the state of the station before it.
 use Rattle.std.specs.Prelude.{◌≡◌, ◌⊎◌, ℕ, ◌+◌, ◌*◌, ◌<◌, ◌≤◌, Bool, true, false, List, [], ◌++◌, length, drop, Result, Ok, Err}
 use Rattle.station_core.specs.Meaning.{Meaning}
 use Rattle.cmd_base.specs.declared.work.Refusal.{Refusal}

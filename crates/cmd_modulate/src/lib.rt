@@ -1,6 +1,6 @@
 //! The command [`modulate`]: one transport file, or two with a hierarchy, become the file of cells of a transmission.
 //!
-//! The work goes symbol by symbol. For each one the packets that it needs are read, and the symbol is written. The call
+//! The work is symbol by symbol: for each one the packets that it needs are read, and the symbol is written. The call
 //! has the promise of a run of its command (`specs/ModulateCommand.antt`).
 #![tactic(auto)]
 

@@ -1,5 +1,5 @@
 -- Kinds of reception: the output of each for bytes of cells, with settings s. All have the same work on cells; `two`
--- says that there are two streams.
+-- means that there are two streams.
 use Rattle.std.specs.Prelude.{◌≡◌, ℕ, Bool, true, false, if◌then◌else◌, List, [], ◌++◌, flat_map}
 use Rattle.station_core.specs.declared.ports.OutPort.{OutPort}
 use Rattle.station_core.specs.declared.ports.OutPort.TheVariants as outs

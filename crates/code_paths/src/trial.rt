@@ -147,7 +147,7 @@ pub fn least_path(start: Option<[bool; 6]>, costs: &[CostPair], best: &mut [bool
     search(start, None, costs, &mut path[..best.len()], best)
 }
 
-/// Finds the least path that ends in the register `end`, likewise. Returns false exactly if there is none.
+/// Finds the least path that ends in the register `end` in the same way. Returns false exactly if there is none.
 pub fn least_path_to(
     start: Option<[bool; 6]>,
     end: [bool; 6],

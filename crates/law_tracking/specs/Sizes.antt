@@ -1,4 +1,4 @@
--- Bounds of the gain at a comb point, and of the sums behind it.
+-- Bounds of the gain at a comb point, and of the sums that it is computed from.
 use Rattle.std.specs.Prelude.{ℕ, ◌^◌, ◌<◌, ◌≤◌, filter, map, nat_abs, sum_by, Bool}
 use Rattle.spec_words.specs.Words.{numbers}
 use Rattle.mode_set.specs.declared.modes.Guard.{Guard}

@@ -18,7 +18,7 @@ use Rattle.transmission.proofs.Rounding.{enough, least}
 use Rattle.modulator.specs.Carrying.{AreLeastFor}
 
 -- ---- lists whose numbers rise
--- the first i entries of a list have begun by a super-frame, the others begin behind it
+-- the first i entries of a list have begun by a super-frame, the others begin after it
 pub record IsBetween (l : List Entry) (i start : ℕ) : Type 0 where
   pub begun : (k : ℕ) → k < i → (get_or l k filler).after ≤ start
   pub later : (k : ℕ) → i ≤ k → k < length l → start < (get_or l k filler).after

@@ -156,7 +156,7 @@ has_put_nothing none s p inner hp lp hp_sends lp_sends hp_bits lp_bits inputs = 
 pub none_put : NoSteps → (s : Settings) (p : Parts) → p.hp_waiting ≡ [] → p.lp_waiting ≡ [] → ((transmitter s 0 p).hp ≡ 0) × ((transmitter s 0 p).lp ≡ 0)
 none_put none s p hp_bits lp_bits = ((no_bits (steps_before s Hp 0) p.hp_waiting (none s Hp) hp_bits).0, (no_bits (steps_before s Lp 0) p.lp_waiting (none s Lp) lp_bits).0)
 
--- ---- other streams that begin alike
+-- ---- other streams with a common prefix
 pub other_streams : SameBeginning → OtherStreams
 other_streams alike t inputs other h same = record {
   settings = h.settings;

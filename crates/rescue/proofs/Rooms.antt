@@ -1,4 +1,4 @@
--- Bounds of the pending items, so that there is space for what a symbol brings.
+-- Bounds of the pending items, so that there is space for what a symbol adds.
 use Rattle.std.proofs.Common.{◌≡◌, ℕ, zero, suc, ◌+◌, ◌-◌, ◌*◌, ◌/◌, ◌%◌, ◌<◌, ◌≤◌, Bool, inl, inr, ◌⊎◌, List, [], ◌∷◌, length, refl, ap, ◌∙◌, subst, arith, length-append, length-drop, append-nil}
 use Rattle.std.specs.Prelude.{Option, slice_index}
 use Rattle.bit_pack.specs.Queue.{bits_of_bytes}

@@ -12,7 +12,7 @@ use Rattle.rescue.specs.declared.stream.StreamRx.{StreamRx}
 abbrev pub seen : StreamRx → StreamState
 seen x = record { branch = x.branch; margins = x.margins; bytes = x.bytes.items; byte_margins = x.byte_margins.items; words = x.words; unmerged = x.unmerged }
 
--- there is space for all that a symbol brings
+-- there is space for all that a symbol adds
 pub record HasRoom (x : StreamRx) : Type 0 where
   pub block : 1279 ≤ vec_capacity x.block
   pub bytes : 4608 ≤ vec_capacity x.bytes

@@ -63,7 +63,7 @@ impl<'a> MemoryStation<'a> {
     ghost use Rattle.station_core.specs.Files.{found};
     ghost use Rattle.station_core.specs.declared.ports.OutPort.{OutPort};
 
-    /// A station over these files; of several with the same name the first counts.
+    /// A station with these files; of several with the same name the first counts.
     ///
     /// A read returns at most `most_per_read` bytes, which is at least 1. Each output holds up to `room` bytes, which
     /// are allocated now. The calls in `failing` fail.

@@ -1,4 +1,4 @@
-// A run over one transport file, and the command `outer`. The expected bytes are those of an independent program.
+// A run with one transport file, and the command `outer`. The expected bytes are those of an independent program.
 use test_runs::{
     BASE, Conditions, File, Made, Ran, UNMADE, ample, checksum, run_files, text_bytes,
 };
@@ -26,7 +26,7 @@ pub(crate) type Case = (
     Found,
 );
 
-/// Runs these arguments over the settings and this file.
+/// Runs these arguments with the settings and this file.
 pub(crate) fn run_on<R: Abort + Threads + Sync>(
     rt: &R,
     alloc: Global,
@@ -86,7 +86,7 @@ fn is_in(bytes: &[u8], part: &Part) -> bool {
     part.0 <= bytes.len() && bytes[part.0..].starts_with(part.1)
 }
 
-/// Runs these arguments over the settings and null packets. Returns the status, the output's length, whether the report
+/// Runs these arguments with the settings and null packets. Returns the status, the output's length, whether the report
 /// is this, and the index of the first part that is not in the output.
 pub(crate) fn parts_of<R: Abort + Threads + Sync>(
     rt: &R,

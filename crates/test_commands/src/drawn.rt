@@ -128,7 +128,7 @@ fn byte_sum(bytes: &[u8]) -> u32 {
     sum
 }
 
-// Runs these arguments over the settings and one file.
+// Runs these arguments with the settings and one file.
 fn run<R: Abort + Threads + Sync>(
     rt: &R,
     alloc: Global,

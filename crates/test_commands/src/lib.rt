@@ -1,4 +1,4 @@
-//! The commands `modulate`, `receive` and `trial` over a station in memory, and the packet commands `disperse`, `outer`
+//! The commands `modulate`, `receive` and `trial` on a station in memory, and the packet commands `disperse`, `outer`
 //! and `inner`: whole runs with known outcomes.
 //!
 //! Among them: the null super-frame both ways, refusals, faults and limits with their results, both streams of a

@@ -1,4 +1,4 @@
-// The command `trial` over a station in memory. The expected lines are those of an independent program.
+// The command `trial` on a station in memory. The expected lines are those of an independent program.
 use test_runs::{BASE, Conditions, LAYERED, UNMADE, ample, run_files, text_bytes};
 use station_core::{Failing, InPort, OutPort};
 use std::alloc::{AllocError, Global};

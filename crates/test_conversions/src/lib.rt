@@ -1,4 +1,4 @@
-//! The commands `upgrade`, `equalise`, `align` and `track` over a station in memory: whole files, files that end within
+//! The commands `upgrade`, `equalise`, `align` and `track` on a station in memory: whole files, files that end within
 //! a symbol, limits, refusals and faults with their results; and a `Tracker` called directly.
 //!
 //! The crate has tests alone.

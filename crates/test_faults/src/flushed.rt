@@ -18,7 +18,7 @@ const LIMITED: &str = "max_symbols = 32\n";
 // the text of the refusal.
 type Refused<'a> = (&'a str, &'a str, u64, Option<Failing>, u8, &'a str);
 
-// Runs a command over these settings and inputs. Its flush fails, or does not.
+// Runs a command with these settings and inputs. Its flush fails, or does not.
 fn run<R: Threads + Sync>(
     rt: &R,
     alloc: Global,

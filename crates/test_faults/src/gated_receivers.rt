@@ -9,7 +9,7 @@ use word_workers::{Gate, OpenGate};
 const LAYERED_64: &str =
     "mode = \"8k\"\nconstellation = \"64qam\"\nhierarchy = \"2\"\nrate_hp = \"3/4\"\nrate_lp = \"3/4\"\nguard = \"1/32\"\n";
 
-// Runs these arguments through this gate, over a file of cells named `b` and an empty one named `a`.
+// Runs these arguments through this gate, with a file of cells named `b` and an empty one named `a`.
 fn run<R: Threads + Sync, G: Gate>(
     rt: &R,
     alloc: Global,

@@ -1,4 +1,4 @@
-// The command `receive` with one stream and with two, over the first frame of a transmission of forty packets of HP and
+// The command `receive` with one stream and with two, on the first frame of a transmission of forty packets of HP and
 // seventy of LP, and three bytes of its next symbol. The first read returns the header, each other one a symbol. The
 // numbers of packets after the symbols are those of an independent program.
 use crate::cases::{Stands, Work, each_fails, whole};

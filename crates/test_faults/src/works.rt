@@ -1,4 +1,4 @@
-// The commands `disperse`, `outer` and `inner` over 33 packets. A read returns one packet, and a write takes the whole
+// The commands `disperse`, `outer` and `inner` on 33 packets. A read returns one packet, and a write takes the whole
 // bytes for one packet.
 use crate::cases::{Stands, Work, each_fails, whole};
 use test_runs::File;

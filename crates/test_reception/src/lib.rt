@@ -1,4 +1,4 @@
-//! The commands `tune`, `measure` and `rescue` over a station in memory, against an independent program; and a
+//! The commands `tune`, `measure` and `rescue` on a station in memory, against an independent program; and a
 //! `Measurer` fed in pieces.
 //!
 //! The crate has tests alone.

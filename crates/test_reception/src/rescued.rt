@@ -81,7 +81,7 @@ fn disturbed<R: Threads + Sync>(
     noisy(alloc, front(&cells, file.1), file.2)
 }
 
-// Whether these arguments over this file have this result.
+// Whether these arguments with this file have this result.
 fn leaves<R: Threads + Sync>(
     rt: &R,
     alloc: Global,

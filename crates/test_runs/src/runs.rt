@@ -166,7 +166,7 @@ fn run_words_gated<'a, R: Threads + Sync, G: Gate>(
     run_gated(rt, alloc, words, Limits { packets: 1000 }, gate, station)
 }
 
-/// Runs these arguments over the settings, named `s`, and two files, named `a` and `b`, with this limit of packets. The
+/// Runs these arguments with the settings, named `s`, and two files, named `a` and `b`, with this limit of packets. The
 /// only error is lack of memory.
 pub fn run_files<R: Threads + Sync>(
     rt: &R,

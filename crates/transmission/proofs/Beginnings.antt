@@ -187,7 +187,7 @@ number_within found s e w l b =
     below_at : (a b n : ℕ) → a ≡ b → b < n → a < n
     below_at a b n e k = omega (arith, e, k)
 
--- ---- sent bits of paths that begin alike
+-- ---- sent bits of paths with a common prefix
 last_step : (r : Rate) (i : ℕ) → step_in_period (slice_index_or (sent r) i (X 1)) ≤ steps_in_period r
 last_step R1of2 zero = omega arith
 last_step R1of2 (suc zero) = omega arith

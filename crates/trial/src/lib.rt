@@ -2,7 +2,7 @@
 //! received packets counted.
 //!
 //! The definitions are in `specs/`: the packets of a number, the disturbed cells of their transmission, and the output
-//! of a receiver for them. [`Trial`] goes symbol by symbol and never holds the whole transmission; [`TrialCounts`] has
+//! of a receiver for them. [`Trial`] works symbol by symbol and never holds the whole transmission; [`TrialCounts`] has
 //! its counts. [`laws`] are the laws of the definitions; by [`workers`] the number of workers changes nothing.
 #![tactic(auto)]
 
