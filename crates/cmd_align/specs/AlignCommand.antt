@@ -21,6 +21,7 @@ abbrev pub most_cells : Option Settings → ℕ
 most_cells None = 0
 most_cells (Some s) = 8 + (s.max_symbols + 1) * symbol_length s
 
+-- the command with these names of its files
 abbrev pub align_command : List ℕ → List ℕ → List ℕ → Command
 align_command settings old new = record {
   reads = by_input (Some settings) None None (Some old);

@@ -71,14 +71,16 @@ abbrev pub LinesSoFar : Option Settings → List ℕ → List ℕ → List ℕ �
 LinesSoFar None file left lines = lines ≡ []
 LinesSoFar (Some s) file left lines = (taken : List ℕ) × AreTaken s file left taken × (lines ≡ lines_at (place_of s (cells_in taken)))
 
--- the refusal, if any: past the limit or, within it, if no place is found
+-- the refusal past the limit of symbols, if any
 abbrev pub limit_refusal : Settings → List ℕ → Option Refusal
 limit_refusal s bytes = if nat_lt s.max_symbols (symbols s bytes) then Some (Limit s.max_symbols) else None
 
+-- within the limit, cells without a place are refused
 abbrev pub refusal_at : Option Refusal → Option Found → Option Refusal
 refusal_at limit None = option_or limit (Some (Cells NoPlace))
 refusal_at limit (Some found) = limit
 
+-- the refusal of the cells, if any
 abbrev pub align_refusal : Settings → List ℕ → Option Refusal
 align_refusal s bytes = refusal_at (limit_refusal s bytes) (place_of s bytes)
 

@@ -50,6 +50,7 @@ pub record AreSettingsWords : Type 0 where
 abbrev pub low_rate : TpsWord → List ℕ
 low_rate word = if is_flat word.hierarchy then [] else codes " rate_lp " ++ rate_word word.rate_lp
 
+-- the line of the announced parameters
 abbrev pub announced_line : TpsWord → List ℕ
 announced_line word =
     codes "announced constellation " ++ shape_word word.shape ++ codes " hierarchy " ++ hierarchy_word word.hierarchy ++ codes " rate_hp " ++ rate_word word.rate_hp ++ low_rate word ++ codes " guard " ++ guard_word word.guard ++ codes "\n"

@@ -16,6 +16,7 @@ Files = List ℕ → List ℕ
 abbrev pub Unread : Type 0
 Unread = InPort → List ℕ
 
+-- a command: what it reads and writes, its statuses, its refusals, and its outputs
 pub record Command : Type 1 where
   -- the name of the file read at each input port, if any, and of the file written at each output port
   pub reads : InPort → Option (List ℕ)
@@ -44,10 +45,11 @@ pub record Command : Type 1 where
   -- laws of all its outputs for these files; most commands have none
   pub Own : ℕ → Files → Type 0
 
--- the command writes, or reads, at the port
+-- the command writes at the port
 abbrev pub IsOutput : Command → OutPort → Type 0
 IsOutput c port = IsTrue (is_some (c.writes port))
 
+-- the command reads at the port
 abbrev pub IsInput : Command → InPort → Type 0
 IsInput c port = IsTrue (is_some (c.reads port))
 
@@ -56,11 +58,12 @@ abbrev pub is_among : ℕ → List ℕ → Bool
 is_among n [] = false
 is_among n (m ∷ ms) = (n == m) || is_among n ms
 
--- the whole file that a command reads at a port
+-- the whole file of this name; no bytes without a name
 abbrev pub named : Files → Option (List ℕ) → List ℕ
 named file None = []
 named file (Some name) = file name
 
+-- the whole file that a command reads at a port
 abbrev pub input_file : Files → Command → InPort → List ℕ
 input_file file c port = named file (c.reads port)
 

@@ -16,6 +16,7 @@ file_packet bytes i = take 188 (drop (188 * i) bytes)
 abbrev pub whole_packets : List ℕ → ℕ
 whole_packets bytes = length bytes / 188
 
+-- the number of bytes after the last whole packet
 abbrev pub tail_of : List ℕ → ℕ
 tail_of bytes = length bytes % 188
 
@@ -66,5 +67,6 @@ most_packets_taken limit input = 188 * (accepted limit input + 1)
 abbrev pub packets_line : Stream → Counts → List ℕ
 packets_line σ counts = stream_text σ ++ codes " packets " ++ decimal counts.packets ++ codes " tail " ++ decimal counts.tail ++ codes "\n"
 
+-- the closing line of a command with one transport file
 abbrev pub closing_line : Counts → List ℕ
 closing_line = packets_line Hp

@@ -39,6 +39,7 @@ pub record AreMadeEmpty (c : Command) (m : Meaning) : Type 0 where
 abbrev pub IsUntaken : Command → Meaning → InPort → Type 0
 IsUntaken c m port = (k : ℕ) × (k ≤ header_at c m port) × (unread c m port ≡ drop k (input_file m.file c port))
 
+-- a run of command c with this limit, from `old` to `new`, that returned this status
 pub record Run (c : Command) (limit : ℕ) (old new : Meaning) (status : ℕ) : Type 0 where
   -- STATUSES
   -- The status is one of the command's own.

@@ -14,6 +14,7 @@ use Rattle.cmd_base.specs.StatedSettings.{settings_of}
 abbrev pub fits_form : TheSettings → Option (List ℕ) → Bool
 fits_form s lp = beq (is_some lp) (has_lp s)
 
+-- settings that do not fit the arguments are refused
 abbrev pub form_refusal : Option TheSettings → Option (List ℕ) → Option Refusal
 form_refusal None lp = None
 form_refusal (Some s) lp = if fits_form s lp then None else Some (Settings Form)

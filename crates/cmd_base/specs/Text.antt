@@ -42,11 +42,13 @@ abbrev pub text_if_refused : Option Refusal → List ℕ
 text_if_refused None = []
 text_if_refused (Some refusal) = refusal_text refusal
 
+-- the status if cells are refused
 abbrev pub cells_status : CellsRefusal → ℕ
 cells_status cells.Header = 9
 cells_status cells.NoPlace = 10
 cells_status cells.AnnouncedForm = 11
 
+-- the status of a refusal
 abbrev pub refusal_status : Refusal → ℕ
 refusal_status Usage = 2
 refusal_status (Settings reason) = 3

@@ -4,6 +4,7 @@ use Rattle.spec_words.specs.Words.{numbers}
 use Rattle.cmd_base.specs.Header.{behind_header}
 use Rattle.cmd_cells.specs.Symbols.{symbols, tail}
 
+-- a conversion from one kind of cell file to another
 pub record Conversion : Type 0 where
   -- the header required of the old file, if any
   pub old_header : Option (List ℕ)
@@ -38,5 +39,6 @@ new_file c bytes = c.new_header ++ new_cells c bytes
 abbrev pub counts_line : ℕ → ℕ → List ℕ
 counts_line counted rest = codes "symbols " ++ decimal counted ++ codes " tail " ++ decimal rest ++ codes "\n"
 
+-- the closing line for the bytes of an old file
 abbrev pub closing_line : Conversion → List ℕ → List ℕ
 closing_line c bytes = counts_line (symbols c.size bytes) (tail c.size bytes)

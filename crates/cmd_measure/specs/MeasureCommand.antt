@@ -17,6 +17,7 @@ use Rattle.cmd_measure.specs.Measured.{LinesCome, LinesSoFar}
 abbrev pub no_names : OutPort → Option (List ℕ)
 no_names port = None
 
+-- the command with these names of its files
 abbrev pub measure_command : List ℕ → List ℕ → Command
 measure_command settings cells = record {
   reads = by_input (Some settings) None None (Some cells);

@@ -47,6 +47,7 @@ abbrev pub sent_by : TheSettings → ℕ → Inputs → Option agenda.Refusal �
 sent_by s limit inputs None = header s.mode ++ tx s inputs
 sent_by s limit inputs (Some refusal) = file_of_symbols s inputs (symbols_sent s limit inputs)
 
+-- the cell file of a run: up to the first refusal, if there is one
 abbrev pub cells_sent : TheSettings → ℕ → Inputs → List ℕ
 cells_sent s limit inputs = sent_by s limit inputs (first_refusal s limit inputs)
 

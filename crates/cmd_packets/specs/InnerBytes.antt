@@ -18,5 +18,6 @@ filled bits = bits ++ replicate 7 false
 abbrev pub inner_bytes : Rate → List ℕ → List ℕ
 inner_bytes r bytes = bytes_of (inner_bits r bytes)
 
+-- the same, with the last byte filled with zeros
 abbrev pub filled_inner_bytes : Rate → List ℕ → List ℕ
 filled_inner_bytes r bytes = bytes_of (filled (inner_bits r bytes))

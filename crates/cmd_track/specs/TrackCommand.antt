@@ -22,6 +22,7 @@ abbrev pub most_cells : Option Settings → ℕ
 most_cells None = 0
 most_cells (Some s) = 8 + (s.max_symbols + 1) * symbol_length s
 
+-- the command with these names of its files
 abbrev pub track_command : List ℕ → List ℕ → List ℕ → Command
 track_command settings old new = record {
   reads = by_input (Some settings) None None (Some old);

@@ -23,6 +23,7 @@ abbrev pub limit_of : ℕ → Option ℕ → Option Refusal
 limit_of most None = Some (Limit most)
 limit_of most (Some n) = if nat_lt most (272 * n) then Some (Limit most) else None
 
+-- the refusal of a trial, if any
 abbrev pub trial_refusal : Settings → ℕ → Option Refusal
 trial_refusal s number = limit_of s.max_symbols (trial_frames s number)
 
@@ -33,6 +34,7 @@ cells_line counts = codes "cells " ++ decimal counts.cells ++ codes "\n"
 abbrev pub return_line : Stream → StreamReturn → List ℕ
 return_line σ r = stream_text σ ++ codes " packets " ++ decimal r.packets ++ codes " back " ++ decimal r.back ++ codes " sum " ++ decimal r.sum ++ codes "\n"
 
+-- the line for the packets of LP, if it exists
 abbrev pub lp_return_line : Option StreamReturn → List ℕ
 lp_return_line None = []
 lp_return_line (Some r) = return_line Lp r

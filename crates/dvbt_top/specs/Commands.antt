@@ -34,6 +34,7 @@ no_command = record {
   Own = λ limit file. ⊤;
 }
 
+-- the command for parsed arguments; an invalid command line is refused
 abbrev pub command_for : Option Order → Command
 command_for None = no_command
 command_for (Some (Code Disperse input output)) = disperse_command input output
@@ -50,5 +51,6 @@ command_for (Some (Equalise settings old new)) = equalise_command settings old n
 command_for (Some (Track settings old new)) = track_command settings old new
 command_for (Some (Trial settings number)) = trial_command settings number
 
+-- the command for a list of arguments
 abbrev pub command_of : List (List ℕ) → Command
 command_of words = command_for (order_of words)

@@ -81,6 +81,7 @@ abbrev pub FramesAreNear : Type 0
 FramesAreNear = (s : Settings) (inputs : Inputs) (bytes out : List ℕ) (n : ℕ) (m : MeasureFinal s bytes out) → s.start ≡ Zero → HavePackets s inputs → super_frames s (counts_of inputs) ≡ Some n → IsWithin s inputs bytes
     → (begun_by (symbols s bytes) ≡ n) × ((j : ℕ) → j < n → IsMeasuredNear s n j (m.frames j))
 
+-- For a transmission's own cells each measures as free of errors, with a modulation error of 0.
 abbrev pub FramesAreExact : Type 0
 FramesAreExact = (s : Settings) (inputs : Inputs) (out : List ℕ) (n : ℕ) (m : MeasureFinal s (tx s inputs) out) → s.start ≡ Zero → HavePackets s inputs → super_frames s (counts_of inputs) ≡ Some n
     → (begun_by (symbols s (tx s inputs)) ≡ n) × ((j : ℕ) → j < n → IsMeasuredExact s n j (m.frames j))

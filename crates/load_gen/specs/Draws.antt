@@ -44,6 +44,7 @@ packet_byte g i = if i == 0 then 0x47 else if i == 1 then byte_of g 0 % 128 else
 abbrev pub packet_words : ℕ
 packet_words = 47
 
+-- a random packet of 188 bytes
 unfoldable pub packet_of : Lcg → List ℕ
 packet_of g = map (packet_byte g) (range_with_len 0 188)
 

@@ -7,6 +7,7 @@ use Rattle.mode_set.specs.declared.modes.Hierarchy.{Hierarchy}
 use Rattle.mode_set.specs.declared.modes.Hierarchy.TheVariants.{Flat, Alpha1, Alpha2, Alpha4}
 use Rattle.mode_set.specs.declared.modes.Rate.{Rate}
 
+-- there is no hierarchy
 abbrev pub is_flat : Hierarchy → Bool
 is_flat Flat = true
 is_flat Alpha1 = false

@@ -22,5 +22,6 @@ key_text Plan = codes "plan"
 abbrev pub all_keys : List Key
 all_keys = Mode ∷ Constellation ∷ Hierarchy ∷ RateHp ∷ RateLp ∷ Guard ∷ CellId ∷ Start ∷ Workers ∷ MaxSymbols ∷ Plan ∷ []
 
+-- whether a text is a key of the document
 abbrev pub is_key : List ℕ → Bool
 is_key text = list_any (λ key. bytes_eq text (key_text key)) all_keys

@@ -19,12 +19,15 @@ use Rattle.mode_set.specs.declared.modes.Rate.{Rate}
 abbrev pub entry_keys : List (List ℕ)
 entry_keys = codes "after" ∷ codes "constellation" ∷ codes "hierarchy" ∷ codes "rate_hp" ∷ codes "rate_lp" ∷ []
 
+-- whether a text is a key of an entry
 abbrev pub is_entry_key : List ℕ → Bool
 is_entry_key text = list_any (bytes_eq text) entry_keys
 
+-- the table has no other keys than those of an entry
 abbrev pub has_entry_keys : Members → Bool
 has_entry_keys ms = list_all is_entry_key (keys_of ms)
 
+-- the super-frame after which an entry applies, if it is valid
 abbrev pub after_in : Members → Option ℕ
 after_in ms = option_and_then (a_number 1 4294967295) (get_member (codes "after") ms)
 
@@ -58,8 +61,10 @@ abbrev pub some_plan : List Entry → Option Plan
 some_plan [] = None
 some_plan (e ∷ es) = plan_of (e ∷ es)
 
+-- the plan of an array, if it is valid
 abbrev pub a_plan : Data → Option Plan
 a_plan d = option_and_then (λ ds. option_and_then some_plan (entries_in ds)) (as_array d)
 
+-- the plan of a document; without the key, the plan without entries
 abbrev pub plan_in : Members → Result Plan SettingsError
 plan_in ms = with_default key.Plan no_plan a_plan (at key.Plan ms)

@@ -23,6 +23,7 @@ may_follow l e = nat_lt (length l) 16 && nat_lt 0 e.after && list_all (λ f. nat
 abbrev pub filler : Entry
 filler = record { after = 0; shape = Qpsk; hierarchy = Flat; rate_hp = R1of2; rate_lp = None; kept = record { qpsk = λ q. refl; lp = refl } }
 
+-- a list of entries, padded to 16
 abbrev pub filled : List Entry → List Entry
 filled l = l ++ replicate (16 - length l) filler
 

@@ -40,6 +40,7 @@ settings_from (Ok mode) (Ok shape) (Ok hierarchy) (Ok rate_hp) (Ok rate_lp) (Ok 
     settings_if mode shape hierarchy rate_hp rate_lp guard cell_id start workers most plan (fit shape hierarchy rate_lp workers most) (kept_if shape hierarchy rate_lp workers most)
 settings_from mode shape hierarchy rate_hp rate_lp guard cell_id start workers most plan = None
 
+-- the settings that these bytes state, if they are a valid document
 unfoldable pub settings_of : List ℕ → Option Settings
 settings_of bytes =
     option_and_then (λ ms. settings_from (mode_in ms) (shape_in ms) (hierarchy_in ms) (rate_hp_in ms) (rate_lp_in ms) (guard_in ms) (cell_id_in ms) (start_in ms) (workers_in ms) (max_symbols_in ms) (plan_in ms)) (document bytes)

@@ -50,6 +50,7 @@ steps_in_period R7of8 = 7
 abbrev pub sent_in_period : Rate → ℕ
 sent_in_period r = steps_in_period r + 1
 
+-- the code rate of a stream
 abbrev pub rate : Settings → Stream → Rate
 rate s Hp = s.rate_hp
 rate s Lp = unwrap_or s.rate_lp R1of2

@@ -45,5 +45,6 @@ abbrev pub in_range : ℕ → ℕ → ℤ → Option ℕ
 in_range least most (pos n) = if nat_le least n && nat_le n most then Some n else None
 in_range least most _ = None
 
+-- an integer in this range
 abbrev pub a_number : ℕ → ℕ → Data → Option ℕ
 a_number least most d = option_and_then (in_range least most) (as_integer d)

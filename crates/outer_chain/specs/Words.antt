@@ -82,10 +82,12 @@ abbrev pub has : {A : Type 0} → Option A → Bool
 has None = false
 has (Some x) = true
 
+-- a clean word equals its nearest codeword
 abbrev pub is_clean : List ℕ → Option (List ℕ) → Bool
 is_clean word None = false
 is_clean word (Some c) = distance word c == 0
 
+-- the counts of the first n words, from the nearest codeword of each
 abbrev pub tally_to : (ℕ → Option (List ℕ)) → (ℕ → List ℕ) → ℕ → Tally
 tally_to near word n = record {
   words = n;

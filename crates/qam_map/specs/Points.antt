@@ -51,6 +51,7 @@ map_cell s h y = record { re = value_of s h (real_bits s y); im = value_of s h (
 abbrev pub on_axis : Cell → ℕ → ℤ
 on_axis c e = if e % 2 == 0 then c.re else c.im
 
+-- the distance of two values of an axis
 abbrev pub distance : ℤ → ℤ → ℕ
 distance x n = nat_abs (x -ℤ n)
 

@@ -30,6 +30,7 @@ events s n reports = flat_map (λ m. events_of s reports m Hp ++ events_of s rep
 abbrev pub stream_counts : Tally → ℕ → StreamCounts
 stream_counts t unmerged = record { words = t.words; clean = t.clean; corrected = t.corrected; bad = t.bad; unphased = t.unphased; unmerged = unmerged }
 
+-- the counts of a stream
 abbrev pub counts_of_stream : Reception → Stream → StreamCounts
 counts_of_stream r σ = stream_counts (r.tally σ) (length (r.reports σ))
 
@@ -44,6 +45,7 @@ counts_of s bytes r = record {
   lp = if exists_in s Lp then Some (counts_of_stream r Lp) else None;
 }
 
+-- the lines of the reports, in order
 abbrev pub event_lines : Settings → List ℕ → Reception → List ℕ
 event_lines s bytes r = flat_map event_line (events s (symbols s bytes) r.reports)
 

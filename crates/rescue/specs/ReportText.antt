@@ -6,9 +6,11 @@ use Rattle.rx_report.specs.Streams.{stream_text}
 use Rattle.rescue.specs.declared.counts.Counts.{Counts}
 use Rattle.rescue.specs.declared.counts.StreamCounts.{StreamCounts}
 
+-- the line of the symbols
 abbrev pub symbols_line : ℕ → ℕ → List ℕ
 symbols_line symbols tail = codes "symbols " ++ decimal symbols ++ codes " tail " ++ decimal tail ++ codes "\n"
 
+-- the line of a stream
 abbrev pub stream_line : Stream → StreamCounts → List ℕ
 stream_line σ c =
     stream_text σ
@@ -21,6 +23,7 @@ stream_line σ c =
     ++ codes " unmerged " ++ decimal c.unmerged
     ++ codes "\n"
 
+-- the line of LP, if it exists
 abbrev pub lp_lines : Option StreamCounts → List (List ℕ)
 lp_lines None = []
 lp_lines (Some c) = stream_line Lp c ∷ []

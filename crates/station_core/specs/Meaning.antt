@@ -21,6 +21,7 @@ pub record Sink : Type 0 where
   -- the bytes written since its creation
   pub written : List ℕ
 
+-- the state of a station
 pub record Meaning : Type 0 where
   -- whether the contents (`file`, `left`, `written`) are known; if not, they mean nothing
   pub tells : Bool
@@ -45,12 +46,14 @@ pub record Meaning : Type 0 where
   -- An output may have bytes not yet written, or a file fault not yet reported by a call. Report is not an output here.
   pub pending : Bool
 
+-- the state of an input port
 abbrev pub source_at : InPort → Meaning → Source
 source_at ins.Settings m = m.settings
 source_at ins.Hp m = m.hp
 source_at ins.Lp m = m.lp
 source_at ins.Cells m = m.cells
 
+-- the state of an output port
 abbrev pub sink_at : OutPort → Meaning → Sink
 sink_at outs.Cells m = m.cells_out
 sink_at outs.Hp m = m.hp_out
@@ -159,6 +162,7 @@ pub record IsUnasked (s : Source) : Type 0 where
   pub asked : s.asked ≡ None
   pub attached : s.attached ≡ false
 
+-- an output port where no name was requested, and no file was created or closed
 pub record IsUntouched (s : Sink) : Type 0 where
   pub asked : s.asked ≡ None
   pub created : s.created ≡ false

@@ -30,9 +30,11 @@ pub record Comparison : Type 0 where
 abbrev pub carrier_at : Comparison → ℕ → ℕ
 carrier_at x q = slice_index (payload_carriers x.settings.mode x.symbol) q
 
+-- the received cell of payload carrier q
 abbrev pub received : Comparison → ℕ → Cell
 received x q = cell_of x.cells (carrier_at x q)
 
+-- the weight of this cell
 abbrev pub weight_at : Comparison → ℕ → ℕ
 weight_at x q = weight_of_byte (get_or x.weights (carrier_at x q) full_weight)
 
@@ -44,6 +46,7 @@ remade x q = map_cell x.settings.shape x.settings.hierarchy (x.labels q)
 abbrev pub counts : Comparison → ℕ → Bool
 counts x q = nat_lt 0 (weight_at x q)
 
+-- the payload carriers of a symbol
 abbrev pub places : Comparison → List ℕ
 places x = numbers (payload x.settings.mode)
 
@@ -51,35 +54,42 @@ places x = numbers (payload x.settings.mode)
 abbrev pub over_counted : Comparison → (ℕ → ℕ) → ℕ
 over_counted x f = sum_by (λ q. if counts x q then f q else 0) (places x)
 
+-- the number of payload carriers that count
 abbrev pub cells_in : Comparison → ℕ
 cells_in x = count_by (counts x) (places x)
 
+-- the number of the other ones
 abbrev pub muted_in : Comparison → ℕ
 muted_in x = count_by (λ q. not (counts x q)) (places x)
 
--- the power of a cell, and the squared distance between two
+-- the power of a cell
 abbrev pub power_of : Cell → ℕ
 power_of c = nat_abs c.re ^ 2 + nat_abs c.im ^ 2
 
+-- the squared distance between two cells
 abbrev pub squared_distance : Cell → Cell → ℕ
 squared_distance c d = distance c.re d.re ^ 2 + distance c.im d.im ^ 2
 
+-- the power of the remade cells
 abbrev pub power_in : Comparison → ℕ
 power_in x = over_counted x (λ q. power_of (remade x q))
 
+-- the squared error of the received cells
 abbrev pub error_in : Comparison → ℕ
 error_in x = over_counted x (λ q. squared_distance (received x q) (remade x q))
 
--- whether label bit e carries the stream
+-- two streams are the same
 abbrev pub is_same : Stream → Stream → Bool
 is_same Hp Hp = true
 is_same Hp Lp = false
 is_same Lp Hp = false
 is_same Lp Lp = true
 
+-- label bit e carries the stream
 abbrev pub carries : Comparison → Stream → ℕ → Bool
 carries x σ e = is_same (stream_at x.settings.hierarchy e) σ
 
+-- the bits of a label
 abbrev pub label_places : Comparison → List ℕ
 label_places x = numbers (label_bits x.settings.shape)
 

@@ -63,6 +63,7 @@ unfoldable pub root : ℕ → ℕ
 root zero = 0
 root (suc n) = root_up_to (root n) (suc n)
 
+-- no turn, times 2^14
 abbrev pub forward : Complex
 forward = record { re = pos (2 ^ 14); im = pos 0 }
 

@@ -53,12 +53,15 @@ turned_value c m t j = times (c.value t j) (turn c m t)
 
 -- ---- the window of a symbol: the symbols of the file from seven before it to seven after it
 
+-- the end of the window
 abbrev pub window_end : Comb → ℕ → ℕ
 window_end c m = min c.count (m + 8)
 
+-- the symbols of the window
 unfoldable pub window : Comb → ℕ → List ℕ
 window c m = range_with_len (m - 7) (window_end c m - (m - 7))
 
+-- symbol t is in the window
 abbrev pub is_inside : Comb → ℕ → ℕ → Bool
 is_inside c m t = nat_le (m - 7) t && nat_lt t (window_end c m)
 

@@ -58,6 +58,7 @@ noise_share G1of32 = 11
 abbrev pub slow_is_better : Guard → ℕ → ℕ → Bool
 slow_is_better g slow fast = nat_le (16 * slow + 13 * (noise_share g * noise_of slow fast) / 16) (16 * fast + noise_share g * noise_of slow fast / 4)
 
+-- the channel counts as slow if both residues exist and slow interpolation has at most the error of fast
 abbrev pub motion_of : Guard → Option ℕ → Option ℕ → Motion
 motion_of g None fast = Fast
 motion_of g (Some slow) None = Fast

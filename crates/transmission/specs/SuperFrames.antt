@@ -25,11 +25,11 @@ abbrev pub IsLength : Settings → (Stream → ℕ) → Option ℕ → Type 0
 IsLength s counts None = (n : ℕ) → 1 ≤ n → Suffices s counts n → ⊥
 IsLength s counts (Some n) = AreSuperFrames s counts n
 
--- the same by search: after the last change all super-frames are alike, so one super-frame for each packet suffices if
--- any number does
+-- whether n super-frames carry the packets of a stream, if it exists
 abbrev pub carries : Settings → (Stream → ℕ) → ℕ → Stream → Bool
 carries s counts n σ = not (exists_in s σ) || nat_le (counts σ + 11) (words_before s σ n)
 
+-- whether n super-frames suffice
 abbrev pub is_enough : Settings → (Stream → ℕ) → ℕ → Bool
 is_enough s counts n = nat_le 1 n && (carries s counts n Hp && carries s counts n Lp)
 
@@ -37,19 +37,23 @@ is_enough s counts n = nat_le 1 n && (carries s counts n Hp && carries s counts 
 abbrev pub last_change : Settings → ℕ
 last_change s = get_or (map (λ e. e.after) (reverse (entries_of s.plan))) 0 0
 
+-- After the last change all super-frames are alike, so one super-frame for each packet suffices if any number does.
 abbrev pub most_frames : Settings → (Stream → ℕ) → ℕ
 most_frames s counts = last_change s + max (counts Hp) (counts Lp) + 12
 
+-- the number found, or none if it is not below the most
 abbrev pub found_below : ℕ → ℕ → Option ℕ
 found_below most n = if nat_lt n most then Some n else None
 
+-- the number of super-frames, by search
 unfoldable pub super_frames : Settings → (Stream → ℕ) → Option ℕ
 super_frames s counts = found_below (most_frames s counts) (first_below (most_frames s counts) (is_enough s counts))
 
--- without a plan the same by a formula, for one stream and for all, as all super-frames are alike
+-- without a plan the same for one stream, by a formula, as all super-frames are alike
 abbrev pub frames_by_formula_for : Settings → (Stream → ℕ) → Stream → ℕ
 frames_by_formula_for s counts σ = rounded_up (counts σ + 11) (words_per_super_frame s σ)
 
+-- the same for all streams
 abbrev pub frames_by_formula : Settings → (Stream → ℕ) → ℕ
 frames_by_formula s counts = if is_flat s.hierarchy then frames_by_formula_for s counts Hp else max (frames_by_formula_for s counts Hp) (frames_by_formula_for s counts Lp)
 

@@ -20,9 +20,11 @@ hp_count number = count_of (generator number)
 abbrev pub lp_count : Settings → ℕ → ℕ
 lp_count s number = if exists_in s Lp then count_of (after 1 (generator number)) else 0
 
+-- the number of random packets of each stream
 abbrev pub drawn_count : Settings → ℕ → Stream → ℕ
 drawn_count s number = by_stream (hp_count number) (lp_count s number)
 
+-- the number of words used for these counts
 abbrev pub count_words : Settings → ℕ
 count_words s = if exists_in s Lp then 2 else 1
 
@@ -30,6 +32,7 @@ count_words s = if exists_in s Lp then 2 else 1
 abbrev pub trial_frames : Settings → ℕ → Option ℕ
 trial_frames s number = super_frames s (drawn_count s number)
 
+-- the number of symbols of the trial; 0 if no number of super-frames suffices
 abbrev pub trial_symbols : Settings → ℕ → ℕ
 trial_symbols s number = 272 * unwrap_or (trial_frames s number) 0
 
@@ -56,6 +59,7 @@ shifts_from s number m g = after (packet_words * drawn_for s number Lp m) (lp_fr
 abbrev pub pieces_from : Settings → ℕ → ℕ → Lcg → Lcg
 pieces_from s number m g = after (2 * payload s.mode) (shifts_from s number m g)
 
+-- the generator after the values of the symbol
 abbrev pub symbol_from : Settings → ℕ → ℕ → Lcg → Lcg
 symbol_from s number m g = let h = pieces_from s number m g in after (pieces h (symbol_length s)) h
 
@@ -68,6 +72,7 @@ before s number (suc m) = symbol_from s number m (before s number m)
 abbrev pub packets_from : Settings → ℕ → ℕ → Stream → Lcg
 packets_from s number m = by_stream (before s number m) (lp_from s number m (before s number m))
 
+-- these packets
 unfoldable pub packets_of_symbol : Settings → ℕ → Stream → ℕ → List (List ℕ)
 packets_of_symbol s number σ m = map (λ i. packet_of (after (packet_words * i) (packets_from s number m σ))) (numbers (drawn_for s number σ m))
 
