@@ -20,7 +20,7 @@ abbrev pub IsNear : List ℕ → Option (List ℕ) → Type 0
 IsNear word (Some c) = IsCodeword c × (distance word c ≤ 8)
 IsNear word None = (c : List ℕ) → IsCodeword c → 8 < distance word c
 
--- whether it begins a group of eight, with an inverted sync byte
+-- whether a codeword begins a group of eight: its sync byte is inverted
 abbrev pub begins_group : Option (List ℕ) → Bool
 begins_group None = false
 begins_group (Some c) = slice_index c 0 == 0xB8
