@@ -44,6 +44,7 @@ AllGive s bytes given = (found : Found) × IsFoundIn s bytes found × ((port : O
 abbrev pub RefusesAligning : Settings → List ℕ → List ℕ → Written → Refusal → Type 0
 RefusesAligning s bytes left given r = (r ≡ Cells NoPlace) × (left ≡ []) × HasNoPlace s bytes × GivesAt s bytes None given
 
+-- the work of `align`
 abbrev pub aligning_work : Settings → Work
 aligning_work s = record {
   size = symbol_length s;

@@ -94,6 +94,7 @@ pub record HoldEmpty (c : Command) (limit : ℕ) (old mid : Meaning) : Type 0 wh
   pub outputs : AreMadeEmpty c mid
   pub report : old.tells ≡ true → mid.report.written ≡ []
 
+-- what the outputs hold after an end with this refusal, or without one
 abbrev pub Leaves : Command → ℕ → Meaning → Meaning → Option Refusal → Type 0
 Leaves c limit old mid None = Hold c limit old mid
 Leaves c limit old mid (Some (NotSync stream n)) = Hold c limit old mid
@@ -107,6 +108,7 @@ Leaves c limit old mid (Some (Cells Header)) = HoldUnheaded c old mid
 Leaves c limit old mid (Some (Cells NoPlace)) = Hold c limit old mid
 Leaves c limit old mid (Some (Cells AnnouncedForm)) = Hold c limit old mid
 
+-- the work has ended with this refusal, or without one
 pub record Ended (c : Command) (limit : ℕ) (old mid : Meaning) (r : Option Refusal) : Type 0 where
   pub known : is_among (status_of r) c.statuses ≡ true
   pub caused : IsCaused c limit old mid r

@@ -41,6 +41,7 @@ pub record IsUnopened (cells : List ℕ) (header : Option (List ℕ)) (old new :
   pub asked : new.cells.asked ≡ Some cells
   pub taken : (new.cells.attached ≡ false) ⊎ ((new.cells.attached ≡ true) × (old.tells ≡ true → TakesHeader header (old.file cells) new.cells.left))
 
+-- the effect of opening: the header was read and accepted, a read failed, or the header was refused
 abbrev pub Opens : List ℕ → Option (List ℕ) → Meaning → Meaning → Result (Unit {0}) Refusal → Type 0
 Opens cells header old new (Ok u) = (new ≡ opened cells header old) × (old.tells ≡ true → header_refusal header (old.file cells) ≡ None)
 Opens cells header old new (Err ReadFault) = IsUnopened cells header old new × Rose old.read_faults new.read_faults × (old.read_faults ≤ new.read_faults)

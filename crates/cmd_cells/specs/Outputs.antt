@@ -58,6 +58,7 @@ pub record AreClosed (names : Names) (old new : Meaning) : Type 0 where
   pub others : ClosesOnly old new
   pub closed : (port : OutPort) → is_some (names port) ≡ true → (sink_at port new).closed ≡ true
 
+-- success, or a write fault
 abbrev pub IsWriting : Result (Unit {0}) Stop → Type 0
 IsWriting (Ok u) = Unit {0}
 IsWriting (Err stop) = stop ≡ WriteFault

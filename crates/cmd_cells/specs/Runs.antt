@@ -75,6 +75,7 @@ pub record IsWorked (w : Work) (most : ℕ) (names : Names) (old new : Meaning) 
 abbrev pub RanBehind : Work → ℕ → Names → Meaning → Meaning → Result (Unit {0}) Stop → Type 0
 RanBehind w most names old new result = ((result ≡ Err WriteFault) × IsUnmade names old new) ⊎ IsWorked w most names old new result
 
+-- the status of the work: 0, or that of the reason why it stopped
 abbrev pub outcome_status : ℕ → Result (Unit {0}) Stop → ℕ
 outcome_status most (Ok u) = 0
 outcome_status most (Err stop) = refusal_status (stop_refusal most stop)

@@ -12,6 +12,7 @@ use Rattle.cmd_cells.specs.Symbols.{symbols}
 abbrev pub Written : Type 0
 Written = OutPort → List ℕ
 
+-- no bytes at any port
 abbrev pub none_written : Written
 none_written port = []
 

@@ -27,9 +27,11 @@ written_at cells lines outs.Report = lines
 abbrev pub FirstGive : Conversion → List ℕ → Written → Type 0
 FirstGive c bytes given = (port : OutPort) → given port ≡ written_at (new_file c bytes) [] port
 
+-- the output for all bytes is the whole new file and the closing line
 abbrev pub AllGive : Conversion → List ℕ → Written → Type 0
 AllGive c bytes given = (port : OutPort) → given port ≡ written_at (new_file c bytes) (closing_line c bytes) port
 
+-- the work of a conversion
 abbrev pub conversion_work : Conversion → Work
 conversion_work c = record {
   size = c.size;

@@ -24,6 +24,7 @@ texts lines = map (λ (l : ArrayString). l.bytes) lines
 abbrev pub writes_nowhere : OutPort → Bool
 writes_nowhere port = false
 
+-- these lines at Report, and no bytes at any other port
 abbrev pub printed : List ℕ → Written
 printed lines outs.Cells = []
 printed lines outs.Hp = []

@@ -24,6 +24,7 @@ port_of Lp = ins.Lp
 abbrev pub lp_left : Meaning → List ℕ
 lp_left m = if m.lp.attached then m.lp.left else []
 
+-- the bytes left to read of each stream
 abbrev pub left_of : Meaning → Stream → List ℕ
 left_of m = by_stream m.hp.left (lp_left m)
 

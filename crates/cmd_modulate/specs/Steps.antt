@@ -41,6 +41,7 @@ abbrev pub lp_source : Option (List ℕ) → Meaning → Source
 lp_source None m = m.lp
 lp_source (Some name) m = record { asked = Some name; attached = true; left = m.file name }
 
+-- the source of HP once its file is opened
 abbrev pub hp_source : List ℕ → Meaning → Source
 hp_source name m = record { asked = Some name; attached = true; left = m.file name }
 

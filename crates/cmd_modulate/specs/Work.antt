@@ -57,6 +57,7 @@ pub record TellsPut (file left : List ℕ) (input : PacketInput) (put : ℕ) : T
   pub most : (length file - length left) / 188 ≤ put
   pub none : is_some input.tail ≡ true → left ≡ []
 
+-- the same for both streams
 pub record BothTell (files : Stream → List ℕ) (m : Meaning) (inputs : PacketInputs) (t : Seen) : Type 0 where
   pub hp : TellsPut (files Hp) (left_of m Hp) inputs.hp t.hp
   pub lp : TellsPut (files Lp) (left_of m Lp) inputs.lp t.lp
@@ -70,6 +71,7 @@ pub record AreNear (files : Stream → List ℕ) (m : Meaning) (t : Seen) : Type
 abbrev pub TakesFew : ℕ → List ℕ → List ℕ → Type 0
 TakesFew limit file left = (k : ℕ) × (k ≤ most_packets_taken limit file) × (left ≡ drop k file)
 
+-- the same for both files
 pub record TakeFew (limit : ℕ) (files left : Stream → List ℕ) : Type 0 where
   pub hp : TakesFew limit (files Hp) (left Hp)
   pub lp : TakesFew limit (files Lp) (left Lp)

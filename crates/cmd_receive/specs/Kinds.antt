@@ -53,6 +53,7 @@ lines_of k s bytes r = flat_map event_line (events s (symbols s bytes) (k.report
 abbrev pub live_of : (k : Kind) → Settings → Bool → List ℕ → k.Received → Written
 live_of k s two bytes r = written_at two (k.packets r) (lines_of k s bytes r)
 
+-- the output at the end: its lines are those of the reports, then the closing lines
 abbrev pub final_of : (k : Kind) → Settings → Bool → List ℕ → k.Received → Written
 final_of k s two bytes r = written_at two (k.packets r) (lines_of k s bytes r ++ k.closing s bytes r)
 

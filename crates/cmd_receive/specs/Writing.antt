@@ -74,6 +74,7 @@ pub record IsPartlyWritten (two : Bool) (out : Output) (old new : Meaning) : Typ
   pub lp : (k : ℕ) × (new.lp_out.written ≡ old.lp_out.written ++ take k (lp_bytes two out.lp))
   pub report : (k : ℕ) × (new.report.written ≡ old.report.written ++ take k (event_text out.events))
 
+-- a write to the outputs: complete, or stopped by a write fault
 abbrev pub WritesOut : Bool → Output → Meaning → Meaning → Result (Unit {0}) Stop → Type 0
 WritesOut two out old new (Ok u) = IsWritten two out old new
 WritesOut two out old new (Err r) = (r ≡ WriteFault) × IsPartlyWritten two out old new

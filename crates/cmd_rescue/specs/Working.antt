@@ -1,4 +1,4 @@
--- The work of `rescue` on cells, with settings s; `two` says that there are two streams.
+-- The work of `rescue` on cells, with settings s; `two` means that there are two streams.
 use Rattle.std.specs.Prelude.{ℕ, Bool, List}
 use Rattle.mode_set.specs.declared.settings.Settings.{Settings}
 use Rattle.rescue.specs.Streams.{Rescue, RescuesSoFar, RescuesAtEnd}

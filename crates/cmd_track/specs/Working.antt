@@ -30,6 +30,7 @@ FirstGive s bytes given = (port : OutPort) → given port ≡ written_at (live_f
 abbrev pub AllGive : Settings → List ℕ → Written → Type 0
 AllGive s bytes given = (port : OutPort) → given port ≡ written_at (ended_file s bytes) (closing_line s bytes) port
 
+-- the work of `track`
 abbrev pub tracking_work : Settings → Work
 tracking_work s = record {
   size = symbol_length s;

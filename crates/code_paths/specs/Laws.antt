@@ -17,6 +17,7 @@ pub record ExtendsTo (a : Option (List Bool)) (c : List CostPair) (x : CostPair)
   pub only : (z : Bool) (p : List Bool) → LeastTo a c (z ∷ m) p → Unreached a c (not z ∷ m) → LeastTo a (c ++ x ∷ []) (m ++ b ∷ []) (p ++ b ∷ [])
   pub none : Unreached a c (false ∷ m) → Unreached a c (true ∷ m) → Unreached a (c ++ x ∷ []) (m ++ b ∷ [])
 
+-- every least path extends so
 abbrev pub PathsExtend : Type 0
 PathsExtend = (a : Option (List Bool)) (c : List CostPair) (x : CostPair) (m : List Bool) (b : Bool) → ExtendsTo a c x m b
 
@@ -36,9 +37,11 @@ SharedBeginsLeast = (a : Option (List Bool)) (c more : List CostPair) (s p : Lis
 abbrev pub GivenOnce : Type 0
 GivenOnce = (most : ℕ) (a : Option (List Bool)) (c : List CostPair) (g h : List Bool) → Given most a c g → Given most a c h → g ≡ h
 
+-- the bits at the end are unique
 abbrev pub EndedOnce : Type 0
 EndedOnce = (most : ℕ) (a : Option (List Bool)) (c : List CostPair) (g h : List Bool) → Ended most a c g → Ended most a c h → g ≡ h
 
+-- the reports are unique
 abbrev pub ReportsOnce : Type 0
 ReportsOnce = (most : ℕ) (a : Option (List Bool)) (c : List CostPair) (rs ts : List ℕ) → Reports most a c rs → Reports most a c ts → rs ≡ ts
 

@@ -5,6 +5,7 @@ use Rattle.std.specs.declared.option.Option.TheVariants.{None, Some}
 use Rattle.code_paths.specs.declared.costs.CostPair.{CostPair}
 use Rattle.code_paths.specs.Paths.{total, IsPath, Before}
 
+-- a bit as a number
 abbrev pub digit : Bool → ℕ
 digit true = 1
 digit false = 0

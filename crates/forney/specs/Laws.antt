@@ -7,6 +7,7 @@ use Rattle.forney.specs.Interleaving.{delayed, interleaved, deinterleaved, inter
 abbrev pub ElevenWords : Type 0
 ElevenWords = (coded : ℕ → ℕ) (p : ℕ) → deinterleaved (interleaved coded) p ≡ delayed coded p 2244
 
+-- the same for a list of bytes
 abbrev pub ElevenWordsOfBytes : Type 0
 ElevenWordsOfBytes = (coded : List ℕ) (p : ℕ) → p < length coded → deinterleaved (stream_of (interleaved_bytes coded)) p ≡ delayed (stream_of coded) p 2244
 

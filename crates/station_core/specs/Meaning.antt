@@ -87,6 +87,7 @@ with_written outs.Report s m = record m { report = s }
 abbrev pub flushed : Meaning → Meaning
 flushed m = record m { pending = false }
 
+-- the same station with another count of faults
 abbrev pub with_read_faults : ℕ → Meaning → Meaning
 with_read_faults n m = record m { read_faults = n }
 

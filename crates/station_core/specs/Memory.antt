@@ -11,6 +11,7 @@ use Rattle.station_core.specs.Files.{Files, found}
 use Rattle.station_core.specs.Sources.{source_of}
 use Rattle.station_core.specs.Sinks.{sink_of}
 
+-- the state of a station in memory; its contents are known
 unfoldable pub memory_meaning : MemoryStation → Meaning
 memory_meaning m = record {
   tells = true;
@@ -51,12 +52,14 @@ room_of outs.Lp m = m.lp_out.room
 room_of outs.Bytes m = m.bytes_out.room
 room_of outs.Report m = m.report.room
 
+-- the number of an input port
 abbrev pub in_number : InPort → ℕ
 in_number ins.Settings = 0
 in_number ins.Hp = 1
 in_number ins.Lp = 2
 in_number ins.Cells = 3
 
+-- the number of an output port
 abbrev pub out_number : OutPort → ℕ
 out_number outs.Cells = 0
 out_number outs.Hp = 1

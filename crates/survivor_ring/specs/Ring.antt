@@ -46,6 +46,7 @@ pub record IsSplit (set : ℕ) : Type 0 where
   pub low_bit : is_set low 5 ≡ false
   pub high_bit : is_set high 5 ≡ true
 
+-- all states of a set have the same newest bit
 pub record IsUniform (set : ℕ) : Type 0 where
   pub same : (m n : ℕ) → m < 64 → n < 64 → IsTrue (is_set set m) → IsTrue (is_set set n) → is_set m 5 ≡ is_set n 5
 

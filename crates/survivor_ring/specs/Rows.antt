@@ -4,9 +4,11 @@ use Rattle.std.specs.Global.{Vec}
 use Rattle.spec_words.specs.Bits.{is_set}
 use Rattle.code_paths.specs.States.{before}
 
+-- rows of bits
 abbrev pub Rows : Type 0
 Rows = List (Vec Bool)
 
+-- 64 rows of the same length
 pub record AreSized (len : ℕ) (rows : Rows) : Type 0 where
   pub number : length rows ≡ 64
   pub each : (k : ℕ) (d : Vec Bool) → k < 64 → length (slice_index_or rows k d).items ≡ len

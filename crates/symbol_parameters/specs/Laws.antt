@@ -31,6 +31,7 @@ ParametersChange = (s : Settings) (j : ℕ) → settings_in s j ≡ with_entry s
 abbrev pub HpExists : Type 0
 HpExists = (s : Settings) → exists_in s Hp ≡ true
 
+-- LP exists in a transmission exactly if the settings have it
 abbrev pub LpExists : Type 0
 LpExists = (s : Settings) → exists_in s Lp ≡ has_lp s
 
@@ -54,6 +55,7 @@ NoSteps = (s : Settings) (σ : Stream) → steps_before s σ 0 ≡ 0
 abbrev pub StepsOfOneMore : Type 0
 StepsOfOneMore = (s : Settings) (σ : Stream) (m : ℕ) → steps_before s σ (m + 1) ≡ steps_before s σ m + steps_of s σ m
 
+-- the steps before a symbol never decrease
 abbrev pub StepsGrow : Type 0
 StepsGrow = (s : Settings) (σ : Stream) (m n : ℕ) → m ≤ n → steps_before s σ m ≤ steps_before s σ n
 
@@ -61,6 +63,7 @@ StepsGrow = (s : Settings) (σ : Stream) (m n : ℕ) → m ≤ n → steps_befor
 abbrev pub StepsHaveSymbols : Type 0
 StepsHaveSymbols = (s : Settings) (σ : Stream) (n t : ℕ) → t < steps_before s σ n → (m : ℕ) × (m < n) × IsStepOf s σ m t
 
+-- a step belongs to one symbol only
 abbrev pub OneSymbol : Type 0
 OneSymbol = (s : Settings) (σ : Stream) (m n t : ℕ) → IsStepOf s σ m t → IsStepOf s σ n t → m ≡ n
 
@@ -85,6 +88,7 @@ NoWords = (s : Settings) (σ : Stream) → words_before s σ 0 ≡ 0
 abbrev pub WordsOfOneMore : Type 0
 WordsOfOneMore = (s : Settings) (σ : Stream) (n : ℕ) → words_before s σ (n + 1) ≡ words_before s σ n + words_in s σ n
 
+-- the words before a super-frame never decrease
 abbrev pub WordsGrow : Type 0
 WordsGrow = (s : Settings) (σ : Stream) (m n : ℕ) → m ≤ n → words_before s σ m ≤ words_before s σ n
 

@@ -21,6 +21,7 @@ pub record ArePoints (s : Shape) (h : Hierarchy) (n : ℕ) (list : List Cell) : 
   pub long : length list ≡ 64
   pub at : (label : ℕ) (d : Cell) → label < n → slice_index_or list label d ≡ map_cell s h (is_set label)
 
+-- the sum of two counts of bits
 abbrev pub plus_bits : BitSums → BitSums → BitSums
 plus_bits a b = record { bits = a.bits + b.bits; wrong = a.wrong + b.wrong }
 
@@ -35,6 +36,7 @@ plus a b = record {
   lp = plus_bits a.lp b.lp;
 }
 
+-- at most six bits for each of n carriers
 abbrev pub IsLittle : BitSums → ℕ → Type 0
 IsLittle b n = (b.bits ≤ 6 * n) × (b.wrong ≤ 6 * n)
 
@@ -55,6 +57,7 @@ bits_of_label s h σ = count_by (λ e. is_same (stream_at h e) σ) (numbers (lab
 abbrev pub wrong_among : Shape → Hierarchy → Stream → List Bool → List Bool → ℕ
 wrong_among s h σ hard sent = count_by (λ e. is_same (stream_at h e) σ && not (beq (slice_index_or hard e false) (slice_index_or sent e false))) (numbers (label_bits s))
 
+-- the bits of a stream that one payload carrier adds
 abbrev pub counted_bits : Shape → Hierarchy → ℕ → Cell → Stream → BitSums
 counted_bits s h label c σ = record {
   bits = bits_of_label s h σ;
@@ -72,9 +75,11 @@ counted_sums s h label c = record {
   lp = counted_bits s h label c Lp;
 }
 
+-- no bits
 abbrev pub no_bits : BitSums
 no_bits = record { bits = 0; wrong = 0 }
 
+-- no sums
 abbrev pub no_sums : SymbolSums
 no_sums = record { cells = 0; muted = 0; power = 0; error = 0; hp = no_bits; lp = no_bits }
 
@@ -82,6 +87,7 @@ no_sums = record { cells = 0; muted = 0; power = 0; error = 0; hp = no_bits; lp 
 abbrev pub muted_sums : SymbolSums
 muted_sums = record { cells = 0; muted = 1; power = 0; error = 0; hp = no_bits; lp = no_bits }
 
+-- what one payload carrier adds: its sums if its cell counts, otherwise one muted cell
 abbrev pub place_adds : Shape → Hierarchy → ℕ → Cell → ℕ → SymbolSums
 place_adds s h label c weight = if nat_lt 0 weight then counted_sums s h label c else muted_sums
 

@@ -15,6 +15,7 @@ left c f m j = power (minus (c.value m j) (predicted c f m j))
 abbrev pub most_left : ℕ
 most_left = 173946175488
 
+-- the greatest residue
 abbrev pub most_residue : ℕ
 most_residue = 177 * most_left
 

@@ -32,14 +32,17 @@ pub record GoesThrough (s : Settings) (most : ℕ) (inputs : Inputs) : Type 0 wh
 abbrev pub WorkBegins : Type 0
 WorkBegins = (s : Settings) (most : ℕ) (inputs : Inputs) → IsAt s most inputs 0 0 0
 
+-- an accepted packet of HP is taken
 abbrev pub TakesOfHp : Type 0
 TakesOfHp = (s : Settings) (most : ℕ) (inputs : Inputs) (m hp lp : ℕ) → IsAt s most inputs m hp lp
     → next_stream s m hp lp ≡ Some Hp → packet_refusal most inputs Hp hp ≡ None → IsAt s most inputs m (hp + 1) lp
 
+-- an accepted packet of LP is taken
 abbrev pub TakesOfLp : Type 0
 TakesOfLp = (s : Settings) (most : ℕ) (inputs : Inputs) (m hp lp : ℕ) → IsAt s most inputs m hp lp
     → next_stream s m hp lp ≡ Some Lp → packet_refusal most inputs Lp lp ≡ None → IsAt s most inputs m hp (lp + 1)
 
+-- a symbol within the limit is sent
 abbrev pub SendsSymbol : Type 0
 SendsSymbol = (s : Settings) (most : ℕ) (inputs : Inputs) (m hp lp : ℕ) → IsAt s most inputs m hp lp
     → next_stream s m hp lp ≡ None → m < s.max_symbols → IsAt s most inputs (m + 1) hp lp

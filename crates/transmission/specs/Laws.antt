@@ -60,9 +60,11 @@ ConstantFrames = (s : Settings) (counts : Stream → ℕ) → entries_of s.plan 
 abbrev pub ThePacketsAreLeast : Type 0
 ThePacketsAreLeast = (s : Settings) (σ : Stream) (n : ℕ) → ArePacketsFor s σ n (packets_for s σ n)
 
+-- no symbols need no packets
 abbrev pub NoPackets : Type 0
 NoPackets = (s : Settings) (σ : Stream) → packets_for s σ 0 ≡ 0
 
+-- more symbols never need fewer packets
 abbrev pub PacketsGrow : Type 0
 PacketsGrow = (s : Settings) (σ : Stream) (m n : ℕ) → m ≤ n → packets_for s σ m ≤ packets_for s σ n
 

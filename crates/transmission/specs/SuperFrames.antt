@@ -73,6 +73,7 @@ tx s inputs = first_symbols s inputs (symbols_of s inputs)
 abbrev pub packets_for : Settings → Stream → ℕ → ℕ
 packets_for s σ n = rounded_up (steps_before s σ n) 1632
 
+-- `count` is that number
 pub record ArePacketsFor (s : Settings) (σ : Stream) (n count : ℕ) : Type 0 where
   pub enough : steps_before s σ n ≤ 1632 * count
   pub least : (k : ℕ) → steps_before s σ n ≤ 1632 * k → count ≤ k
