@@ -1,4 +1,4 @@
--- What the lanes hold.
+-- The contents of the lanes.
 use Rattle.std.specs.Prelude.{◌≡◌, ℕ, ◌+◌, ◌*◌, ◌^◌, ◌<◌, ◌≤◌, min, Bool, true, false, List, [], ◌∷◌, ◌++◌, length, slice_index, IsTrue}
 use Rattle.std.specs.Bool.{nat_lt}
 use Rattle.spec_words.specs.Bits.{is_set}
@@ -12,22 +12,22 @@ use Rattle.acs_plain.specs.Steps.{alive}
 abbrev pub far : ℕ
 far = 2147483648
 
--- no alive cost is above this, before a step
+-- the highest cost of an alive state before a step
 abbrev pub top : ℕ
 top = 1073872896
 
--- all states are alive, and no step leaves 32 bits
+-- all states are alive, and no step overflows 32 bits
 pub record IsReady (sums : Sums) : Type 0 where
   pub lives : (n : ℕ) → n < 64 → IsTrue (alive sums n)
   pub small : (n : ℕ) → n < 64 → slice_index sums.cost n ≤ top
 
--- alive costs are less by one number and small, and states that are not alive have the cost far above
+-- alive costs are reduced by one number and small; other states have the cost `far`
 pub record IsSettled (old new : Sums) (less : ℕ) : Type 0 where
   pub lives : (n : ℕ) → n < 64 → IsTrue (alive old n) → slice_index new.cost n + less ≡ slice_index old.cost n
   pub small : (n : ℕ) → n < 64 → IsTrue (alive old n) → slice_index new.cost n ≤ top
   pub dead : (n : ℕ) → n < 64 → alive old n ≡ false → slice_index new.cost n ≡ far
 
--- what the step from state 2k or 2k + 1 on an input costs
+-- the cost of the step from state 2k or 2k + 1 on an input
 abbrev pub cost_from : CostPair → ℕ → Bool → ℕ → ℕ
 cost_from pair parity input k = step_cost pair (register (2 * k + parity) ++ input ∷ [])
 
@@ -35,11 +35,12 @@ pub record AreSteps (pair : CostPair) (parity : ℕ) (input : Bool) (k cost : �
   pub is : cost ≡ cost_from pair parity input k
   pub small : cost ≤ 8190
 
--- the costs of the four pairs of an X and a Y
+-- the costs of the four value pairs of X and Y
 abbrev pub four : CostPair → List ℕ
 four pair = (pair.x0 + pair.y0) ∷ (pair.x0 + pair.y1) ∷ (pair.x1 + pair.y0) ∷ (pair.x1 + pair.y1) ∷ []
 
--- the costs of the steps from the states 2k and 2k + 1 for sixteen k: from the even ones on 0, which are those from the odd ones on 1, and the others
+-- the costs of the steps from states 2k and 2k + 1 for sixteen k: `zero` for the even ones on 0 and the odd ones on 1,
+-- `one` for the others
 pub record AreStepCosts (pair : CostPair) (from : ℕ) (zero one : List ℕ) : Type 0 where
   pub zero_len : length zero ≡ 16
   pub one_len : length one ≡ 16
@@ -54,14 +55,15 @@ pub record AreLess (costs steps : List ℕ) : Type 0 where
   pub steps_len : length steps ≡ 16
   pub fits : (k : ℕ) → k < 16 → slice_index costs k + slice_index steps k < 2 ^ 32
 
--- the lesser of the ways from the states 2k and 2k + 1 for sixteen k, and whether it is the odd one alone
+-- the lower cost of the ways from states 2k and 2k + 1 for sixteen k, and whether the odd one is strictly lower
 pub record AreTaken (old even_steps odd_steps costs : List ℕ) (word : ℕ) : Type 0 where
   pub len : length costs ≡ 16
   pub cost : (k : ℕ) → k < 16 → slice_index costs k ≡ min (slice_index old (2 * k) + slice_index even_steps k) (slice_index old (2 * k + 1) + slice_index odd_steps k)
   pub odd : (k : ℕ) → k < 16 → is_set word k ≡ nat_lt (slice_index old (2 * k + 1) + slice_index odd_steps k) (slice_index old (2 * k) + slice_index even_steps k)
   pub small : word < 2 ^ 16
 
--- what comes of 32 states in a row: the costs of sixteen states below 32, from a number on, and of the sixteen states 32 above them
+-- the step of 32 consecutive states: new costs of sixteen states below 32, starting at `from`, and of the sixteen
+-- states 32 above them
 pub record IsHalfStep (pair : CostPair) (from : ℕ) (part : List ℕ) (low_cost high_cost : ℕ → ℕ) (low_word high_word : ℕ) : Type 0 where
   pub zero : List ℕ
   pub one : List ℕ
@@ -73,7 +75,7 @@ pub record IsHalfStep (pair : CostPair) (from : ℕ) (part : List ℕ) (low_cost
   pub low_is : (k : ℕ) → k < 16 → low_cost k ≡ slice_index low k
   pub high_is : (k : ℕ) → k < 16 → high_cost k ≡ slice_index high k
 
--- the step of all states: new state k on the input 0 and new state k + 32 on 1, each from the states 2k and 2k + 1
+-- the step of all states: new state k on input 0 and k + 32 on input 1, both from states 2k and 2k + 1
 pub record IsLaneStep (pair : CostPair) (old new : List ℕ) (low high : ℕ) : Type 0 where
   pub low_cost : (k : ℕ) → k < 32 → slice_index new k ≡ min (slice_index old (2 * k) + cost_from pair 0 false k) (slice_index old (2 * k + 1) + cost_from pair 1 false k)
   pub low_odd : (k : ℕ) → k < 32 → is_set low k ≡ nat_lt (slice_index old (2 * k + 1) + cost_from pair 1 false k) (slice_index old (2 * k) + cost_from pair 0 false k)

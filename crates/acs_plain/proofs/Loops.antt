@@ -1,4 +1,4 @@
--- What the loops over the states keep.
+-- The invariants of the loops over the states.
 use Rattle.std.proofs.Common.{◌≡◌, ℕ, ◌+◌, ◌*◌, ◌%◌, ◌^◌, ◌<◌, ◌≤◌, ◌-◌, Bool, true, false, cond, ◌||◌, List, length, ◌⊎◌, inl, inr, refl, sym, ap, ◌∙◌, arith, eqb, ◌≢◌, below_more, get_or-set_other, get_or-set_same, length-set}
 use Rattle.std.specs.Prelude.{slice_index, slice_set, IsTrue, bit_or}
 use Rattle.std.specs.Int.{w64}
@@ -46,7 +46,7 @@ unset_above word n h = ap (λ b. eqb b 1) (bit_at_above word n n h (omega arith)
 pub below_pow_more : (word n : ℕ) → word < 2 ^ n → word < 2 ^ (n + 1)
 below_pow_more word n h = omega (arith, pow_below n (n + 1) (omega arith))
 
--- one state more
+-- one more state
 pub step_more : (old : Sums) (pair : CostPair) (low n set answer : ℕ) (costs : List ℕ) (set2 answer2 : ℕ) (lives odd : Bool) (cost : ℕ)
     → StepBelow old pair low n set answer costs → n < 64
     → set2 < 2 ^ (n + 1) → ((k : ℕ) → k < n → is_set set2 k ≡ is_set set k) → is_set set2 n ≡ lives
@@ -72,7 +72,7 @@ step_at_end old pair low n set answer costs e h = record {
   cost = λ k w t. h.cost k (omega arith) t;
 }
 
--- where all states are alive all are after a step
+-- if all states are alive, all are after a step
 all_ones : (n : ℕ) → n < 64 → is_set 18446744073709551615 n ≡ true
 all_ones n l = agree_below_at (λ n. is_set 18446744073709551615 n) (λ n. true) 64 n refl l
 

@@ -24,7 +24,7 @@ step_small x p =
 abbrev pub from : ℕ → ℕ → ℕ
 from z n = 2 * (n % 32) + z
 
--- A state before n is alive where n lies in the next set, and its oldest bit is the fixed one.
+-- A state before n is alive if n is in the next set and its oldest bit is the fixed one.
 abbrev pub in_next : ℕ → ℕ → ℕ → Bool
 in_next f s n = eqb (n % 2 ^ (f - 1)) (s / 2)
 
@@ -139,7 +139,7 @@ module _ (old : Sums) (x : CostPair) (new : Sums) (answer : ℕ) (h : IsSpread o
   taken_alive : (n : ℕ) → n < 64 → IsTrue (alive new n) → IsTrue (alive old (from (taken n) n))
   taken_alive n l t = subst (λ k. alive old k ≡ true) (taken_from n) (chosen_alive old x n _ _ refl refl (sym (s.lives n l) ∙ t))
 
-  -- no way that is alive costs less than the one taken
+  -- no alive way costs less than the one taken
   taken_least : (z n : ℕ) → z < 2 → n < 64 → IsTrue (alive old (from z n)) → way old x (from (taken n) n) n ≤ way old x (from z n) n
   taken_least zero n k l t = omega (arith, chosen_even old x n _ _ _ refl refl refl (ap (alive old) (sym (from_even n)) ∙ t), ap (λ z. way old x z n) (from_even n), ap (λ z. way old x z n) (taken_from n))
   taken_least (suc zero) n k l t = omega (arith, chosen_odd old x n _ _ _ refl refl refl t, ap (λ z. way old x z n) (taken_from n))

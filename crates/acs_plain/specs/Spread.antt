@@ -1,11 +1,12 @@
--- Sums that a step keeps close together.
+-- Path metrics that a step keeps close together.
 use Rattle.std.specs.Prelude.{◌≡◌, ℕ, ◌+◌, ◌-◌, ◌*◌, ◌%◌, ◌^◌, ◌<◌, ◌≤◌, ◌==◌, slice_index, IsTrue}
 use Rattle.acs_plain.specs.Steps.{alive}
 use Rattle.acs_plain.specs.declared.sums.Sums.{Sums}
 
--- The alive states are those with the same lowest bits, as many as are fixed: all six at the beginning of a part from one
--- register, one fewer after each step, none from six steps on. Costs of alive states that agree in their lowest 6 - k bits
--- differ by at most k steps, of two costs of 4095 each: no two by more than 49,140. After a step this is so again.
+-- The alive states are those with the same lowest bits. All six bits are fixed at the start of a part from one
+-- register, one fewer after each step, and none from six steps on. Alive states that agree in their lowest 6 - k bits
+-- differ by at most the cost of k steps, each at most 8190; so no two differ by more than 49,140. Each step preserves
+-- this.
 pub record IsSpread (sums : Sums) : Type 0 where
   pub fixed : ℕ
   pub start : ℕ

@@ -1,4 +1,4 @@
--- One step of add, compare and select over the 64 states.
+-- One add-compare-select step over the 64 states.
 use Rattle.std.specs.Prelude.{◌≡◌, ℕ, ◌+◌, ◌<◌, ◌≤◌, Bool, cond, not, ◌&&◌, ◌||◌, List, [], ◌∷◌, ◌++◌, slice_index, IsTrue}
 use Rattle.std.specs.Bool.{nat_lt}
 use Rattle.code_paths.specs.Paths.{step_cost}
@@ -12,23 +12,23 @@ use Rattle.acs_plain.specs.declared.sums.Sums.{Sums}
 abbrev pub alive : Sums → ℕ → Bool
 alive sums n = is_set sums.alive n
 
--- what a state costs that is reached from a state
+-- the cost of state n when reached from state `from`
 abbrev pub way : Sums → CostPair → ℕ → ℕ → ℕ
 way sums pair from n = slice_index sums.cost from + step_cost pair (register from ++ is_set n 5 ∷ [])
 
--- The odd way is taken where the even one is not alive or costs more.
+-- The odd way is taken if the even one is not alive or costs more.
 abbrev pub takes_odd : Sums → CostPair → ℕ → Bool
 takes_odd sums pair n = alive sums (odd_of n) && (not (alive sums (even_of n)) || nat_lt (way sums pair (odd_of n) n) (way sums pair (even_of n) n))
 
--- What a step makes of the sums: which states are alive, which way into each was chosen, and what each costs, less one
--- number that is the same for all.
+-- The result of a step: the alive states, the way chosen into each, and the cost of each, less one number common to
+-- all.
 pub record IsStep (old : Sums) (pair : CostPair) (new : Sums) (answer : ℕ) : Type 0 where
   pub less : ℕ
   pub lives : (n : ℕ) → n < 64 → alive new n ≡ (alive old (even_of n) || alive old (odd_of n))
   pub choice : (n : ℕ) → n < 64 → IsTrue (alive new n) → is_set answer n ≡ takes_odd old pair n
   pub cost : (n : ℕ) → n < 64 → IsTrue (alive new n) → slice_index new.cost n + less ≡ way old pair (cond (takes_odd old pair n) (odd_of n) (even_of n)) n
 
--- the costs of alive states differ by no more
+-- the costs of alive states differ by at most `most`
 pub record Close (most : ℕ) (sums : Sums) : Type 0 where
   pub close : (m n : ℕ) → m < 64 → n < 64 → IsTrue (alive sums m) → IsTrue (alive sums n) → slice_index sums.cost m ≤ slice_index sums.cost n + most
 
@@ -38,15 +38,15 @@ pub record SomeAlive (sums : Sums) : Type 0 where
   pub below : state < 64
   pub lives : IsTrue (alive sums state)
 
--- an alive state costs so much
+-- some alive state has this cost
 pub record HasCost (sums : Sums) (cost : ℕ) : Type 0 where
   pub state : ℕ
   pub below : state < 64
   pub lives : IsTrue (alive sums state)
   pub is : slice_index sums.cost state ≡ cost
 
--- Steps on the pairs in order, a word for each: there are sums between, and each pair's step leads from the sums before it to
--- those after it.
+-- Steps on the pairs in order, one decision word each: intermediate metrics exist, and each step leads from one to the
+-- next.
 abbrev pub AreSteps : Sums → List CostPair → Sums → List ℕ → Type 0
 AreSteps old [] new [] = old ≡ new
 AreSteps old [] new (word ∷ words) = ⊥

@@ -1,4 +1,4 @@
-// What a step of add, compare and select is.
+// One add-compare-select step.
 ghost use Rattle.std.specs.Prelude.{◌≡◌, length};
 ghost use Rattle.acs_plain.specs.Steps.{IsStep, AreSteps, Close, SomeAlive};
 ghost use Rattle.acs_plain.specs.Spread.{IsSpread};
@@ -8,11 +8,11 @@ use conv_code::CostPair;
 
 /// One step of the Viterbi decoder.
 pub trait Acs {
-    /// Adds the costs of a step to the sums, and keeps the lesser way into each state; on a tie it is the way from the
-    /// even state. Bit n of the answer, the decision word, says that state n came from the odd state.
+    /// Adds the costs of a step to the sums, and keeps the lower way into each state; on a tie that from the even
+    /// state. Bit n of the result, the decision word, is set if the odd way was taken to state n.
     ///
-    /// Some state must be alive, and alive costs differ by at most 131,072. State n is alive afterwards where `2 * (n % 32)`
-    /// or the state after it was. One number is subtracted from all alive costs, so that none leaves 32 bits.
+    /// Some state must be alive, and alive costs differ by at most 131,072. Afterwards state n is alive if `2 * (n %
+    /// 32)` or the state after that was. One number is subtracted from all alive costs, so that all fit 32 bits.
     fn step(sums: &mut Sums, pair: CostPair) -> u64
         requires some { SomeAlive sums.old }
         requires close { Close 131072 sums.old }
@@ -20,7 +20,7 @@ pub trait Acs {
 
     /// Takes a step on each of the pairs, in order; the words are the decision words, one for each pair.
     ///
-    /// The sums must be as close together as the steps of a stream leave them, and they are so again.
+    /// The sums must be as close together as the steps of a stream leave them, and they are so afterwards.
     fn run(sums: &mut Sums, pairs: &[CostPair], words: &mut [u64])
         requires spread { IsSpread sums.old }
         requires room { length words.old ≡ length pairs.now }

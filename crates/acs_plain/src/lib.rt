@@ -1,6 +1,6 @@
 //! One step of the Viterbi decoder: add, compare, select over the 64 states of the inner code.
 //!
-//! What a step means is the contract of the trait `Acs`. `PlainAcs` takes one state after another.
+//! The meaning of a step is the contract of the trait `Acs`. `PlainAcs` computes the states one by one.
 #![tactic(auto)]
 
 mod acs;

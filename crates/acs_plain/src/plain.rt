@@ -1,4 +1,4 @@
-// The step state by state.
+// The step computed state by state.
 ghost use Rattle.std.specs.Prelude.{◌≡◌, ◌≤◌, ◌<◌, ℕ, ◌+◌, ◌++◌, ◌∷◌, [], true, IsTrue, ◌||◌, slice_index, if◌then◌else◌};
 ghost use Rattle.code_paths.specs.Paths.{step_cost};
 ghost use Rattle.code_paths.specs.States.{register, even_of, odd_of};
@@ -20,7 +20,7 @@ fn cost_of(pair: CostPair, state: u8, input: bool) -> u32
     cost_x as u32 + cost_y as u32
 }
 
-/// What becomes of one state.
+/// The result for one state.
 #[derive(Drop)]
 struct Choice {
     alive: bool,
@@ -28,7 +28,7 @@ struct Choice {
     cost: u32,
 }
 
-/// A state that is reached from the odd state or from the even one.
+/// A state reached from the odd state or from the even one.
 fn reached(odd: bool, cost: u32) -> Choice
     ensures alive { result.alive ≡ true }
     ensures odd { result.odd ≡ odd }
@@ -41,7 +41,7 @@ fn reached(odd: bool, cost: u32) -> Choice
     }
 }
 
-/// Chooses the way into a state; `low` is the least cost of an alive state.
+/// Selects the way into a state; `low` is the least cost of an alive state.
 fn choose(old: &Sums, low: u32, pair: CostPair, state: u8) -> Choice
     requires state { state < 64 }
     requires low { (n : ℕ) → n < 64 → IsTrue (alive old.now n) → low ≤ slice_index old.now.cost n }

@@ -4,15 +4,15 @@ ghost use Rattle.spec_words.specs.Bits.{is_set};
 ghost use Rattle.code_paths.specs.States.{even_of, odd_of};
 ghost use Rattle.acs_plain.specs.Steps.{SomeAlive, HasCost, alive};
 
-/// The path metrics of the 64 states, up to a number that all alive states have in common.
+/// The path metrics of the 64 states, up to a number common to all alive states.
 ///
-/// A state is the register of the inner code as a number below 64: the newest bit is bit 5, the oldest bit 0. A state
-/// is alive where some path ends in it; the cost of another has no meaning.
+/// A state is the register of the inner code as a number below 64: bit 5 is the newest bit, bit 0 the oldest. A state
+/// is alive if some path ends in it; the cost of another has no meaning.
 #[derive(Clone, Copy, Debug, Drop)]
 pub struct Sums {
     /// The cost of the least path to each state.
     pub cost: [u32; 64],
-    /// Bit n says whether state n is alive.
+    /// Bit n is set if state n is alive.
     pub alive: u64,
 }
 
@@ -28,7 +28,7 @@ pub(crate) fn with_bit(word: u64, place: u8, on: bool) -> u64
 }
 
 impl Sums {
-    /// Is a state, a number below 64, alive?
+    /// Whether a state, a number below 64, is alive.
     pub fn is_alive(&self, state: u8) -> bool
         requires state { state < 64 }
         ensures alive { result ≡ alive self.now state }
@@ -52,7 +52,7 @@ impl Sums {
         low
     }
 
-    /// Is one of the two states alive that lead to a state?
+    /// Whether one of the two predecessors of a state is alive.
     fn is_reached(&self, state: u8) -> bool
         requires { state < 64 }
         ensures { result ≡ (alive self.now (even_of state) || alive self.now (odd_of state)) }

@@ -11,7 +11,7 @@ use Rattle.code_paths.proofs.Extend.{step_front}
 use Rattle.acs_lanes.specs.Totals.{IsBackward}
 use Rattle.bit_margin.specs.Sums.{LeastFrom, AreBackward}
 
--- what the step from a state on a bit costs
+-- the cost of the step from a state on a bit
 abbrev pub way : CostPair → ℕ → Bool → ℕ
 way x n b = step_cost x (register n ++ b ∷ [])
 
@@ -25,7 +25,7 @@ pub total_small : (c : List CostPair) (p : List Bool) → total c p ≤ 8190 * l
 total_small [] p = omega arith
 total_small (x ∷ c) p = omega (arith, step_small x p, total_small c (drop 1 p))
 
--- the state behind a step on a bit
+-- the state after a step on a bit
 abbrev pub next : ℕ → Bool → ℕ
 next n b = n / 2 + cond b 32 0
 
@@ -53,7 +53,7 @@ register_next n false l =
     let e5 : is_set (n / 2 + 0) 5 ≡ false = agree_below_at (λ n. is_set (n / 2 + 0) 5) (λ n. false) 64 n refl l in
     cc
 
--- six bits in front are a register, and the seventh is b
+-- the first six bits are a register, and the seventh is b
 pub seven : (q : List Bool) (n : ℕ) (b : Bool) → 7 ≤ length q → take 6 q ≡ register n → bit q 6 ≡ b → take 7 q ≡ register n ++ b ∷ []
 seven q n b l e f = take_more q 6 false (omega arith) ∙ ap (λ z. z ++ bit q 6 ∷ []) e ∙ ap (λ z. register n ++ z ∷ []) f
 
@@ -61,7 +61,7 @@ pub step_is : (x : CostPair) (q : List Bool) (n : ℕ) (b : Bool) → 7 ≤ leng
 step_is x q n b l e =
     sym (ap (step_cost x) (take-append-drop 7 q)) ∙ step_front x (take 7 q) (drop 7 q) (omega (arith, length-take-le 7 q l)) ∙ ap (step_cost x) e
 
--- m is the least total of the paths over x and d that start in the state n and go on with b
+-- m is the least total of the paths over x and d that start in state n and continue with b
 pub record LeastVia (x : CostPair) (d : List CostPair) (n : ℕ) (b : Bool) (m : ℕ) : Type 0 where
   pub path : List Bool
   pub long : length path ≡ 7 + length d
@@ -127,7 +127,7 @@ backward_none sums h n l = record {
   least = λ q i. omega (arith, h n l);
 }
 
--- one step more
+-- one more step
 pub backward_more : (x : CostPair) (d : List CostPair) (old new : List ℕ) → AreBackward d old → IsBackward x old new → AreBackward (x ∷ d) new
 backward_more x d old new h s n l = go (cases_lt (n % 2) 1)
   where

@@ -29,7 +29,7 @@ start_push : (first : List ℕ) (c : List CostPair) (x : CostPair) (p : List Boo
 start_push first c x p b s l e =
     omega (arith, total_push c x p b l, ap (λ (z : List Bool). slice_index first (weight z)) (take-append-le 6 p (b ∷ []) (omega arith)), ap (λ (z : List Bool). step_cost x (z ++ b ∷ [])) e)
 
--- one step more, to the state n
+-- one more step, to state n
 into_next : (first : List ℕ) (c : List CostPair) (x : CostPair) (n u v : ℕ) → n < 64 → LeastInto first c (even_of n) u → LeastInto first c (odd_of n) v
     → LeastInto first (c ++ x ∷ []) n (min (u + way x (even_of n) (is_set n 5)) (v + way x (odd_of n) (is_set n 5)))
 into_next first c x n u v l h k = go (cases_lt (u + way x (even_of n) (is_set n 5)) (v + way x (odd_of n) (is_set n 5)))

@@ -1,4 +1,4 @@
--- Sums and the lesser of two, lane by lane, and the least of 32 numbers by sixteen lanes.
+-- Sums and minima of two, lane by lane, and the least of 32 numbers in sixteen lanes.
 use Rattle.std.proofs.Common.{◌≡◌, ℕ, ◌+◌, ◌-◌, ◌%◌, ◌^◌, ◌<◌, ◌≤◌, min, Bool, true, false, cond, List, map, length, take, drop, ◌⊎◌, inl, inr, sym, ap, ap₂, ◌∙◌, arith, get_or, ltb, length-take-le, mod-eq_of_lt, w32}
 use Rattle.std.specs.Simd.Lanes.{zip2, sel_l, top}
 use Rattle.std.proofs.lemmas.Simd.{tops_compared, get_or-zip2, get_or-sel_l, length-zip2, length-sel_l}
@@ -25,7 +25,7 @@ module _ (xs ys : List ℕ) (lx : length xs ≡ 16) (ly : length ys ≡ 16) wher
       let h : get_or xs k 0 + get_or ys k 0 < 4294967296 = omega (arith, f k l, g k l) in
       get_or-zip2 (λ a b. (a + b) % 4294967296) (take 16 xs) (take 16 ys) k 0 0 0 (omega (arith, front)) (omega (arith, front_too)) ∙ ap₂ (λ a b. (a + b) % 4294967296) (get_or-take 16 xs k 0 l) (get_or-take 16 ys k 0 l) ∙ mod-eq_of_lt h
 
-  -- where the lanes of one are the lesser ones
+  -- where the lanes of one are the lower ones
   abbrev pub less : List Bool
   less = map (top 31) (zip2 (λ a b. cond (ltb a b) 4294967295 0) xs ys)
 
@@ -52,7 +52,7 @@ module _ (xs ys : List ℕ) (lx : length xs ≡ 16) (ly : length ys ≡ 16) wher
   lesser_at k l =
       get_or-sel_l less xs ys k 0 (omega (arith, less_len)) (omega (arith, lx)) (omega (arith, ly)) ∙ ap (λ b. cond b (get_or xs k 0) (get_or ys k 0)) (less_at k l) ∙ chosen (get_or xs k 0) (get_or ys k 0)
 
--- the least of sixteen numbers, each the lesser of two, is the least of 32
+-- the least of sixteen numbers, each the lower of two, is the least of 32
 pub least_of_both : (f : ℕ → ℕ) (first last lanes : List ℕ) (m : ℕ) → ((k : ℕ) → k < 16 → slice_index first k ≡ f k) → ((k : ℕ) → k < 16 → slice_index last k ≡ f (16 + k)) → ((k : ℕ) → k < 16 → slice_index lanes k ≡ min (slice_index first k) (slice_index last k))
     → IsLeastOf (slice_index lanes) 16 m → IsLeastOf f 32 m
 least_of_both f first last lanes m p q r h = go (cases_lt (f h.place) (f (16 + h.place)))
@@ -84,6 +84,6 @@ part_at n i xs k l = get_or-take n (drop i xs) k 0 l ∙ get_or-drop i xs k 0
 pub rest_at : (i : ℕ) (xs : List ℕ) (k : ℕ) → i + k < length xs → slice_index (take (length xs - i) (drop i xs)) k ≡ slice_index xs (i + k)
 rest_at i xs k l = get_or-take (length xs - i) (drop i xs) k 0 (omega arith) ∙ get_or-drop i xs k 0
 
--- the same function in other words
+-- the same function written differently
 pub least_same : (f g : ℕ → ℕ) (n m : ℕ) → ((k : ℕ) → k < n → f k ≡ g k) → IsLeastOf f n m → IsLeastOf g n m
 least_same f g n m e h = record { place = h.place; within = h.within; is = sym (e h.place h.within) ∙ h.is; least = λ k l. omega (arith, h.least k l, e k l) }

@@ -1,4 +1,4 @@
--- What the loops over the states keep.
+-- The invariants of the loops over the states.
 use Rattle.std.proofs.Common.{◌≡◌, ℕ, ◌+◌, ◌<◌, ◌≤◌, min, List, ◌⊎◌, inl, inr, sym, subst, arith, below_more, slice_index, true, eqb, ◌||◌}
 use Rattle.std.proofs.lemmas.Bool.{cases_lt, eqb-true, or_cases}
 use Rattle.code_paths.proofs.Registers.{all_below, all_below_at}

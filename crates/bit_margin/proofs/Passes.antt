@@ -26,7 +26,7 @@ backward_far c i sums l h n m = omega (arith, backward_small (drop i c) sums h n
 pub backward_fits : (c : List CostPair) (i : ℕ) (sums : List ℕ) → length c ≤ 1280 → AreBackward (drop i c) sums → (n : ℕ) → n < 64 → slice_index sums n + 8190 < 2 ^ 32
 backward_fits c i sums l h n m = omega (arith, backward_far c i sums l h n m)
 
--- over one step more, the one before them
+-- over one more step, the one before them
 pub backward_at : (c : List CostPair) (i j p : ℕ) (x : CostPair) (old new : List ℕ) → i < length c → j ≡ i + 1 → p ≡ i → (d : CostPair) → x ≡ slice_index_or c p d → AreBackward (drop j c) old → IsBackward x old new → AreBackward (drop i c) new
 backward_at c i j p x old new l k q d e h s =
     let g : drop i c ≡ x ∷ drop j c = drop_more c i d l ∙ ap₂ (λ (u : CostPair) (m : ℕ). u ∷ drop m c) (ap (λ (m : ℕ). slice_index_or c m d) (sym q) ∙ sym e) (sym k) in
@@ -53,14 +53,14 @@ rows_more c rows block i j p sums e q w h f t l m = go (cases_eq t p)
 
 -- ---- parts of a block
 
--- the sums behind a part, seen from its beginning
+-- the sums after a part, seen from its start
 pub behind_part : (c : List CostPair) (from n until : ℕ) (sums : List ℕ) → from + n ≡ until → AreBackward (drop until c) sums → AreBackward (drop n (take (length c - from) (drop from c))) sums
 behind_part c from n until sums e h = subst (λ (z : List CostPair). AreBackward z sums) same h
   where
     same : drop until c ≡ drop n (take (length c - from) (drop from c))
     same = ap (λ (m : ℕ). drop m c) (sym e) ∙ sym (drop-drop n from c) ∙ ap (drop n) (sym (take_rest c from))
 
--- its rows, seen from the window's beginning
+-- its rows, seen from the window's start
 pub rows_of_part : (c : List CostPair) (from n : ℕ) (rows : List (List ℕ)) → AreRows (take (length c - from) (drop from c)) n rows → (t : ℕ) → t < n → AreBackward (drop (from + t + 1) c) (row rows t)
 rows_of_part c from n rows h t l = subst (λ (z : List CostPair). AreBackward z (row rows t)) same (h t l)
   where
@@ -134,7 +134,7 @@ appended_more a c n m old mid new h e k = record {
       (subst (IsMargin a c n) (sym (get_or_push h.more m 0 n h.long)) k);
 }
 
--- ---- steps that are passed
+-- ---- completed steps
 
 pub passed_none : (s : StartState) (c : List CostPair) (first old : List ℕ) (n : ℕ) → n ≡ 0 → AreStartCosts s first → Passed s c n first old old
 passed_none s c first old n e f = subst (λ (m : ℕ). Passed s c m first old old) (sym e) (record { first = first; starts = f; forward = forward_none first; appended = appended_none (start_of s) c old })
@@ -148,7 +148,7 @@ passed_fits c n before new l h = forward_fits h.start h.passed.first c n before 
 pub passed_far : (c : List CostPair) (n : ℕ) (before new : List ℕ) (x d : CostPair) (after : List ℕ) → length c ≤ 1280 → n < length c → x ≡ slice_index_or c n d → HavePassed c n before new → IsForward x before after → (k : ℕ) → k < 64 → slice_index after k ≤ 2 ^ 31
 passed_far c n before new x d after l m e h f = forward_far h.start h.passed.first c (n + 1) after h.passed.starts l (forward_at h.passed.first c n x d before after m e h.passed.forward f)
 
--- one step more
+-- one more step
 pub passed_more : (s : StartState) (c : List CostPair) (n j : ℕ) (x d : CostPair) (before after behind old mid new : List ℕ) (u v w : ℕ) → j ≡ n + 1 → length c ≤ 1280 → n < length c → x ≡ slice_index_or c n d
     → IsForward x before after → AreBackward (drop (n + 1) c) behind
     → IsLeastOf (λ k. slice_index after (k + 0) + slice_index behind (k + 0)) 32 u → IsLeastOf (λ k. slice_index after (k + 32) + slice_index behind (k + 32)) 32 v

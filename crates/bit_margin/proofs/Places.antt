@@ -1,4 +1,4 @@
--- There are eight places of least margin.
+-- Eight positions of least margin exist.
 use Rattle.std.proofs.Common.{◌≡◌, ℕ, zero, suc, ◌+◌, ◌-◌, ◌<◌, ◌≤◌, ◌≢◌, List, [], ◌∷◌, ◌++◌, length, take, drop, ◌⊎◌, inl, inr, refl, sym, ap, ◌∙◌, subst, arith, slice_index, length-append, length-drop, length-take-le}
 use Rattle.std.proofs.lemmas.Bool.{cases_lt, cases_eq}
 use Rattle.std.proofs.lemmas.List.{get_or-take, get_or-drop, get_or_append_left, get_or-append_right, get_or-append-add}
@@ -6,7 +6,7 @@ use Rattle.bit_margin.specs.Places.{ComesFirst, AreLeast}
 use Rattle.bit_margin.specs.Laws.{SomeAreLeast}
 use Rattle.bit_margin.proofs.Best.{comes_le, comes_from, least_start, least_kept, least_taken}
 
--- of the first k places the one that comes last
+-- the last of the first k positions
 record Last (m ps : List ℕ) (k : ℕ) : Type 0 where
   at : ℕ
   within : at < k
@@ -34,7 +34,7 @@ last_of : (m ps : List ℕ) → AreRising ps → (k : ℕ) → suc k ≤ 8 → L
 last_of m ps rising zero l = record { at = 0; within = omega arith; last = λ i j out. absurd (omega (arith, j, out)) }
 last_of m ps rising (suc k) l = last_more m ps rising (suc k) (omega (arith, l)) (last_of m ps rising k (omega (arith, l)))
 
--- the places without one of them, and another behind them
+-- the positions without one of them, and another at the end
 abbrev others : List ℕ → ℕ → ℕ → List ℕ
 others ps w n = take w ps ++ (drop (w + 1) ps ++ n ∷ [])
 

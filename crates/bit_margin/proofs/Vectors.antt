@@ -17,7 +17,7 @@ zeros = false ∷ false ∷ false ∷ false ∷ false ∷ false ∷ []
 whole : (q : List Bool) (b : Bool) → length q ≡ 7 → take 6 q ≡ zeros → bit q 6 ≡ b → q ≡ zeros ++ b ∷ []
 whole q b l s e = sym (take_all 7 q (omega (arith, l))) ∙ take_more q 6 false (omega (arith, l)) ∙ ap₂ (λ (z : List Bool) (h : Bool). z ++ h ∷ []) s e
 
--- from 000000 the step on 0 costs nothing, and that on 1 costs 5 and 7
+-- from 000000 the step on 0 costs 0, and that on 1 costs 5 and 7
 from_zero : IsMargin (Some zeros) (pair ∷ []) 0 12
 from_zero = record {
   with_zero = 0;
@@ -33,7 +33,7 @@ from_zero = record {
   is = refl;
 }
 
--- from any register both may cost nothing: on 1 from the one whose oldest bit alone is 1
+-- from any register both may cost 0: on 1 from the register whose only one is the oldest bit
 from_any : IsMargin None (pair ∷ []) 0 0
 from_any = record {
   with_zero = 0;
@@ -43,14 +43,14 @@ from_any = record {
   is = refl;
 }
 
--- the windows of 1300 steps: a block of 1024 with 256 more, and the 276 that are left
+-- the windows of 1300 steps: a block of 1024 with 256 more, and the remaining 276
 first_window : length (window (replicate 1300 pair) 0) ≡ 1280
 first_window = refl
 
 last_window : length (window (replicate 1300 pair) 1) ≡ 276
 last_window = refl
 
--- a known start is that of the first block alone
+-- a known start applies only to the first block
 first_start : window_start (Some zeros) (1023 / 1024) ≡ Some zeros
 first_start = refl
 

@@ -1,4 +1,4 @@
--- Least sums to a state and from a state.
+-- Least totals to a state and from a state.
 use Rattle.std.specs.Prelude.{◌≡◌, ℕ, ◌+◌, ◌*◌, ◌<◌, ◌≤◌, ◌^◌, Bool, min, List, [], ◌++◌, length, take, drop, slice_index, slice_index_or}
 use Rattle.std.specs.declared.option.Option.{Option}
 use Rattle.std.specs.declared.option.Option.TheVariants.{None, Some}
@@ -11,7 +11,7 @@ use Rattle.inner_decoder.specs.declared.decoder.StartState.TheVariants.{Zero, An
 use Rattle.inner_decoder.specs.Starts.{start_of}
 use Rattle.bit_margin.specs.Margin.{IsMargin}
 
--- m is the least total of the paths over the steps d that start in the state n
+-- m is the least total of the paths over the steps d that start in state n
 pub record LeastFrom (d : List CostPair) (n m : ℕ) : Type 0 where
   pub path : List Bool
   pub is_path : IsPath (Some (register n)) d path
@@ -22,11 +22,11 @@ pub record LeastFrom (d : List CostPair) (n m : ℕ) : Type 0 where
 abbrev pub AreBackward : List CostPair → List ℕ → Type 0
 AreBackward d sums = (n : ℕ) → n < 64 → LeastFrom d n (slice_index sums n)
 
--- what a path costs where each start has a cost of its own
+-- the cost of a path if each start has a cost of its own
 abbrev pub with_start : List ℕ → List CostPair → List Bool → ℕ
 with_start first c p = slice_index first (weight (take 6 p)) + total c p
 
--- m is the least of these of the paths over the steps c that end in the state n
+-- m is the least such cost of the paths over the steps c that end in state n
 pub record LeastInto (first : List ℕ) (c : List CostPair) (n m : ℕ) : Type 0 where
   pub path : List Bool
   pub is_path : IsPath None c path
@@ -34,7 +34,7 @@ pub record LeastInto (first : List ℕ) (c : List CostPair) (n m : ℕ) : Type 0
   pub is : with_start first c path ≡ m
   pub least : (q : List Bool) → IsPath None c q → drop (length c) q ≡ register n → m ≤ with_start first c q
 
--- these are the least of these to each state
+-- these are the least such costs to each state
 abbrev pub AreForward : List ℕ → List CostPair → List ℕ → Type 0
 AreForward first c sums = (n : ℕ) → n < 64 → LeastInto first c n (slice_index sums n)
 
@@ -42,12 +42,12 @@ AreForward first c sums = (n : ℕ) → n < 64 → LeastInto first c n (slice_in
 abbrev pub far : ℕ
 far = 2 ^ 30
 
--- the costs of the starts: nothing where a path may start, and far else
+-- the costs of the starts: 0 for an allowed start, `far` for the others
 abbrev pub AreStartCosts : StartState → List ℕ → Type 0
 AreStartCosts Zero first = (slice_index first 0 ≡ 0) × ((n : ℕ) → 0 < n → n < 64 → slice_index first n ≡ far)
 AreStartCosts Any first = (n : ℕ) → n < 64 → slice_index first n ≡ 0
 
--- m is the least number below n of a function
+-- m is the least value of f below n
 pub record IsLeastOf (f : ℕ → ℕ) (n m : ℕ) : Type 0 where
   pub place : ℕ
   pub within : place < n
@@ -58,29 +58,30 @@ pub record IsLeastOf (f : ℕ → ℕ) (n m : ℕ) : Type 0 where
 abbrev pub row : List (List ℕ) → ℕ → List ℕ
 row rows t = slice_index_or rows t []
 
--- the rows below n are the sums backward from the end of the window to the step behind theirs
+-- the rows below n are the backward sums, from the end of the window to the step after each row's own
 abbrev pub AreRows : List CostPair → ℕ → List (List ℕ) → Type 0
 AreRows c n rows = (t : ℕ) → t < n → AreBackward (drop (t + 1) c) (row rows t)
 
--- the margins of the first n steps of the window c are appended
+-- the margins of the first n steps of window c were appended
 pub record Appended (a : Option (List Bool)) (c : List CostPair) (n : ℕ) (old new : List ℕ) : Type 0 where
   pub more : List ℕ
   pub is : new ≡ old ++ more
   pub long : length more ≡ n
   pub each : (t : ℕ) → t < n → IsMargin a c t (slice_index more t)
 
--- the rows are the sums backward from the end of the window to the end of each part of 32 steps of the block of n steps
+-- the rows are the backward sums, from the end of the window to the end of each part of 32 steps of the block of n
+-- steps
 abbrev pub AreMarks : List CostPair → ℕ → List (List ℕ) → Type 0
 AreMarks c n marks = (i : ℕ) → i < 32 → AreBackward (drop (min (32 * (i + 1)) n) c) (row marks i)
 
--- the first n steps of the window c were passed: these are the sums before the next step, and the margins are appended
+-- The first n steps of window c are done: these are the sums before the next step, and the margins were appended.
 pub record Passed (s : StartState) (c : List CostPair) (n : ℕ) (before old new : List ℕ) : Type 0 where
   pub first : List ℕ
   pub starts : AreStartCosts s first
   pub forward : AreForward first (take n c) before
   pub appended : Appended (start_of s) c n old new
 
--- they were passed from some start
+-- the same from some start
 pub record HavePassed (c : List CostPair) (n : ℕ) (before new : List ℕ) : Type 0 where
   pub start : StartState
   pub old : List ℕ

@@ -29,7 +29,7 @@ fn zero_alone() -> States
     costs
 }
 
-/// What each start costs: nothing where a path may start, and far more than any path where it may not.
+/// The cost of each start: 0 for an allowed start, far more than any path for the others.
 pub(crate) fn start_costs(start: StartState) -> States
     ensures { AreStartCosts start result }
 {
@@ -39,7 +39,7 @@ pub(crate) fn start_costs(start: StartState) -> States
     }
 }
 
-/// The sums of sixteen states in a row: what leads to each of them and what leads on from it.
+/// The sums through sixteen consecutive states: the cost up to each plus the cost after it.
 fn both(before: &[u32], behind: &[u32]) -> u32x16
     requires before_len { length before.now ≡ 16 }
     requires behind_len { length behind.now ≡ 16 }
@@ -51,7 +51,7 @@ fn both(before: &[u32], behind: &[u32]) -> u32x16
     u32x16::from_slice(before) + u32x16::from_slice(behind)
 }
 
-/// The lesser one of each two lanes.
+/// The lower one of each two lanes.
 fn lesser(xs: u32x16, ys: u32x16) -> u32x16
     requires xs { length xs ≡ 16 }
     requires ys { length ys ≡ 16 }
@@ -72,7 +72,7 @@ fn least_lane(lanes: [u32; 16]) -> u32
     least
 }
 
-/// The least sum of a path through one of 32 states in a row.
+/// The least sum of a path through one of 32 consecutive states.
 fn least_through(before: &[u32], behind: &[u32]) -> u32
     requires before_len { length before.now ≡ 32 }
     requires behind_len { length behind.now ≡ 32 }
@@ -85,7 +85,7 @@ fn least_through(before: &[u32], behind: &[u32]) -> u32
     least_lane(lesser(first, last).to_array())
 }
 
-/// The least sums of the paths through the states whose newest bit is 0, and 1, by the sums to and from each state.
+/// The least sums of the paths through the states whose newest bit is 0, and 1, from the sums to and from each state.
 pub(crate) fn least_on(before: &States, behind: &States) -> (u32, u32)
     requires small { (n : ℕ) → n < 64 → slice_index before.now n ≤ 2 ^ 31 }
     requires behind { (n : ℕ) → n < 64 → slice_index behind.now n ≤ 2 ^ 30 }

@@ -22,14 +22,14 @@ fn sums_over(pairs: &[CostPair]) -> States
 }
 
 /// The steps of a part of a block.
-// The sums behind each step are kept for one part alone, and those behind each part for the block: with 32 parts of 32 steps
-// that is the least memory. A step goes backward twice for it.
+// The sums after each step are kept for one part only, and those after each part for the block: 32 parts of 32 steps
+// need the least memory. Each backward step is computed twice for that.
 pub(crate) const PART: usize = 32;
 
 /// The parts of a whole block.
 pub(crate) const PARTS: usize = 32;
 
-/// Where part `i` of a block begins, or the block's end.
+/// The start of part `i` of a block, or the block's end.
 fn edge(i: usize, block: usize) -> usize
     requires { i ≤ 32 }
     ensures { result ≡ min (32 * i) block }
@@ -37,7 +37,7 @@ fn edge(i: usize, block: usize) -> usize
     (PART * i).min(block)
 }
 
-/// Writes the sums behind each of the first steps of a window, by those behind the last of them. The answer is the sums
+/// Writes the sums after each of the first steps of a window, from those after the last of them. Returns the sums
 /// before the first.
 fn keep_backward(window: &[CostPair], steps: usize, behind: &States, rows: &mut [States]) -> States
     requires few { length window.now ≤ 1280 }
@@ -57,7 +57,7 @@ fn keep_backward(window: &[CostPair], steps: usize, behind: &States, rows: &mut 
     sums
 }
 
-/// Writes the sums behind each part of a block, over the rest of its window.
+/// Writes the sums after each part of a block, over the rest of its window.
 fn keep_marks(window: &[CostPair], block: usize, marks: &mut [States], rows: &mut [States])
     requires few { length window.now ≤ 1280 }
     requires block { block ≤ length window.now }
@@ -78,7 +78,7 @@ fn keep_marks(window: &[CostPair], block: usize, marks: &mut [States], rows: &mu
     }
 }
 
-/// Appends the margins of the steps of a part, by the sums before it and those behind each of its steps.
+/// Appends the margins of the steps of a part, from the sums before it and those after each of its steps.
 fn push_margins(
     before: &mut States,
     window: &[CostPair],
@@ -105,7 +105,7 @@ fn push_margins(
     }
 }
 
-/// Appends the margins of the steps of a part, by the sums before and behind it.
+/// Appends the margins of the steps of a part, from the sums before and after it.
 fn push_part(
     before: &mut States,
     window: &[CostPair],

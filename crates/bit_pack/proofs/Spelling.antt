@@ -76,7 +76,7 @@ joined_is h l p a b =
     let m : 1 * 2 ^ p % 65536 ≡ 2 ^ p = omega (arith, small_product 1 p (lit< tt) b) in
     ap₂ bit_or e (ap (λ z. bit_and l (z - 1)) m ∙ and_mask l p) ∙ or_shifted h p (l % 2 ^ p) (mod-lt l (pow_pos p))
 
--- the first eight of some bits, and the others
+-- the first eight bits, and the others
 pub first_eight_is : (h m l n w : ℕ) → m < 9 → n < 9 → 8 ≤ m + n → w ≡ h * 2 ^ n + l % 2 ^ n → spelled 8 (bit_and (w / 2 ^ (m + n - 8)) 255) ++ spelled (m + n - 8) l ≡ spelled m h ++ spelled n l
 first_eight_is h m l n w a b c e =
     let k = m + n - 8 in
@@ -115,7 +115,7 @@ length-bits (x ∷ xs) = omega (arith, length-append (spelled 8 x) (bits_of_byte
 pub length-ring : (xs : List ℕ) (f n : ℕ) → f ≤ length xs → n ≤ length xs → length (ring xs f n) ≡ n
 length-ring xs f n l m = length-take-le n (drop f xs ++ xs) (omega (arith, length-append (drop f xs) xs, length-drop f xs))
 
--- where byte k of the ring stands
+-- the position of byte k of the ring
 at_early : (xs : List ℕ) (f k : ℕ) → f + k < length xs → get_or (drop f xs ++ xs) k 0 ≡ get_or xs (f + k) 0
 at_early xs f k l = get_or_append_left (drop f xs) xs 0 k (omega (arith, length-drop f xs)) ∙ get_or-drop f xs k 0
 
@@ -130,7 +130,7 @@ pub length_queue : (bytes : List ℕ) (first count f fl b bl : ℕ) → first �
 length_queue bytes first count f fl b bl h k =
     omega (arith, length-append (spelled fl f) (bits_of_bytes (ring bytes first count) ++ spelled bl b), length-append (bits_of_bytes (ring bytes first count)) (spelled bl b), length-bits (ring bytes first count), length-ring bytes first count h k, length-spelled fl f, length-spelled bl b)
 
--- a whole byte goes in, of the bits behind the ring and of new ones
+-- a whole byte goes in, from the bits after the ring and new ones
 pub queue_push : (front bits : List Bool) (old new : List ℕ) (b whole rest : ℕ) (bl rl : ℕ) → new ≡ old ++ whole ∷ [] → spelled 8 whole ++ spelled rl rest ≡ spelled bl b ++ bits
     → front ++ (bits_of_bytes new ++ spelled rl rest) ≡ (front ++ (bits_of_bytes old ++ spelled bl b)) ++ bits
 queue_push front bits old new b w rest bl rl e h =
@@ -139,7 +139,7 @@ queue_push front bits old new b w rest bl rl e h =
     ∙ ap (λ z. front ++ z) (append_assoc (bits_of_bytes old) (spelled 8 w) (spelled rl rest) ∙ ap (λ z. bits_of_bytes old ++ z) h ∙ sym (append_assoc (bits_of_bytes old) (spelled bl b) bits))
     ∙ sym (append_assoc front (bits_of_bytes old ++ spelled bl b) bits)
 
--- a whole byte comes out, of the bits before the ring and of its first byte
+-- a whole byte comes out, from the bits before the ring and its first byte
 pub queue_take : (old new : List ℕ) (back : List Bool) (f whole byte : ℕ) (fl : ℕ) → old ≡ byte ∷ new → spelled 8 whole ++ spelled fl byte ≡ spelled fl f ++ spelled 8 byte
     → spelled fl f ++ (bits_of_bytes old ++ back) ≡ spelled 8 whole ++ (spelled fl byte ++ (bits_of_bytes new ++ back))
 queue_take old new back f w byte fl e h =

@@ -1,4 +1,4 @@
--- Bits that are put behind those of a word, and taken out of it.
+-- Bits appended to those of a word, and taken out of it.
 use Rattle.std.proofs.Common.{◌≡◌, ℕ, ◌+◌, ◌-◌, ◌*◌, ◌/◌, ◌%◌, ◌^◌, ◌<◌, ◌≤◌, ◌++◌, refl, sym, ap, ap₂, ◌∙◌, arith, bit_and, bit_or, mod-lt}
 use Rattle.std.proofs.Math.Nat.{mod-add-div'}
 use Rattle.std.proofs.Math.Pow.{pow_mono}
@@ -30,7 +30,7 @@ joined_is h l p n small few room =
     below : l % 2 ^ p < 2 ^ p
     below = mod-lt l (pow_pos p)
 
--- the first eight of some bits, and the others
+-- the first eight bits, and the others
 pub byte_first : (x n : ℕ) → 8 ≤ n → spelled n x ≡ spelled 8 (bit_and (x / 2 ^ (n - 8)) 255) ++ spelled (n - 8) x
 byte_first x n some =
     let k = n - 8 in

@@ -1,17 +1,17 @@
--- How a queue of bits is kept: some bits of a first byte, whole bytes in a ring, some bits of a last byte.
+-- The layout of a queue of bits: some bits of a first byte, whole bytes in a ring, some bits of a last byte.
 use Rattle.std.specs.Prelude.{ℕ, ◌+◌, ◌*◌, ◌<◌, ◌≤◌, Bool, List, [], ◌∷◌, ◌++◌, take, drop}
 use Rattle.spec_words.specs.Bits.{spelled}
 
--- the bits of bytes, the most significant of each first
+-- the bits of bytes, each most significant bit first
 abbrev pub bits_of_bytes : List ℕ → List Bool
 bits_of_bytes [] = []
 bits_of_bytes (byte ∷ bytes) = spelled 8 byte ++ bits_of_bytes bytes
 
--- so many bytes of a ring, from the first one on and round the end
+-- `count` bytes of a ring from index `first` on, wrapping at the end
 abbrev pub ring : List ℕ → ℕ → ℕ → List ℕ
 ring bytes first count = take count (drop first bytes ++ bytes)
 
--- the bits that wait
+-- the bits in the queue
 abbrev pub queue : List ℕ → ℕ → ℕ → ℕ → ℕ → ℕ → ℕ → List Bool
 queue bytes first count front front_len back back_len =
     spelled front_len front ++ (bits_of_bytes (ring bytes first count) ++ spelled back_len back)

@@ -5,11 +5,11 @@ ghost use Rattle.bit_pack.specs.Queue.{bits_of_bytes, ring};
 
 use std::marker::Model;
 
-/// Bits that wait, at most `8 * N`, seen as their list: the bit that is taken next comes first.
+/// A queue of at most `8 * N` bits, seen as their list, next bit first.
 ///
-/// Each call is done in constant time.
+/// All calls take constant time.
 // The bits are the lowest `front_len` of `front`, those of `count` whole bytes in a ring, and the lowest `back_len` of
-// `back`, each the most significant first. What stands above them in `front` and `back` is of no meaning.
+// `back`, each most significant first. Higher bits of `front` and `back` mean nothing.
 #[derive(Drop)]
 pub struct BitBuf<const N: usize> {
     bytes: [u8; N],
@@ -21,7 +21,7 @@ pub struct BitBuf<const N: usize> {
     back_len: u8,
 }
 
-/// The bits of a stream that wait to be made into bytes: at most 36,864.
+/// The pending bits of a stream, to be taken as bytes: at most 36,864.
 pub type WaitBuf = BitBuf<4608>;
 
 impl<const N: usize> Model for BitBuf<N> {
@@ -53,7 +53,7 @@ fn first_eight(high: u8, high_len: u8, low: u8, low_len: u8) -> u8
     (joined(high, low, low_len) >> (high_len + low_len - 8) & 0xFF) as u8
 }
 
-/// A byte moved up by one place, and a bit in the place that becomes free.
+/// A byte shifted up by one, with a bit in the free place.
 fn with_bit(byte: u8, bit: bool) -> u8
     ensures { (n : ℕ) → n < 8 → spelled (n + 1) result ≡ spelled n byte ++ bit ∷ [] }
 {
@@ -68,7 +68,7 @@ fn bit_of(byte: u8, place: u8) -> bool
     (byte >> place) & 1 == 1
 }
 
-/// Puts a byte behind the last one of a ring that has room.
+/// Appends a byte to a ring that has room.
 fn push_whole(bytes: &mut [u8], first: usize, count: usize, byte: u8)
     requires first { first ≤ length bytes.old }
     requires room { count < length bytes.old }
@@ -85,7 +85,7 @@ fn push_whole(bytes: &mut [u8], first: usize, count: usize, byte: u8)
     }
 }
 
-/// The first byte of a ring, and the place behind it, from which the others go on.
+/// The first byte of a ring, and the index after it.
 fn pop_whole(bytes: &[u8], first: usize) -> (u8, usize)
     requires some { 0 < length bytes.now }
     requires first { first ≤ length bytes.now }
@@ -118,7 +118,7 @@ fn paste_part(bytes: &mut [u8], first: usize, count: usize, part: &[u8])
 }
 
 impl<const N: usize> BitBuf<N> {
-    /// No bits. `N` is at most 65,536.
+    /// The empty queue. `N` is at most 65,536.
     pub fn new() -> BitBuf<N>
         requires few { N ≤ 65536 }
         ensures empty { result ≡ [] }
@@ -134,7 +134,7 @@ impl<const N: usize> BitBuf<N> {
         }
     }
 
-    /// The number of bits that wait.
+    /// The number of bits in the queue.
     pub fn waiting(&self) -> usize
         ensures number { result ≡ length self.now }
         ensures few { result ≤ 8 * N }
@@ -142,7 +142,7 @@ impl<const N: usize> BitBuf<N> {
         self.front_len as usize + 8 * self.count + self.back_len as usize
     }
 
-    /// Puts a bit behind the others. There must be room for it.
+    /// Appends a bit. There must be room for it.
     pub fn push_bit(&mut self, bit: bool)
         requires room { length self.old < 8 * N }
         ensures bits { self.new ≡ self.old ++ bit ∷ [] }
@@ -159,7 +159,7 @@ impl<const N: usize> BitBuf<N> {
         }
     }
 
-    /// Puts the eight bits of a byte behind the others, the most significant first. There must be room for them.
+    /// Appends the eight bits of a byte, most significant first. There must be room for them.
     pub fn push_byte(&mut self, byte: u8)
         requires room { length self.old + 8 ≤ 8 * N }
         ensures bits { self.new ≡ self.old ++ spelled 8 byte }
@@ -256,8 +256,8 @@ impl<const N: usize> BitBuf<N> {
         None
     }
 
-    /// Takes the first eight bits out and answers them as a byte, the first one the most significant: None exactly where
-    /// fewer than eight bits wait, and then nothing changes.
+    /// Removes the first eight bits and returns them as a byte, first bit most significant; None exactly if there are
+    /// fewer than eight, and then nothing changes.
     pub fn take_byte(&mut self) -> Option<u8>
         ensures none { IsNone result ↔ (length self.old < 8) }
         ensures unchanged { IsNone result → self.new ≡ self.old }

@@ -4,8 +4,8 @@ ghost use Rattle.spec_words.specs.Bits.{spelled};
 
 use std::marker::Model;
 
-/// Bits that wait, at most 32, in one word, seen as their list: the bit that is taken next comes first.
-// They are the lowest `count` of `bits`, the most significant first. What stands above them is of no meaning.
+/// A queue of at most 32 bits in one word, seen as their list, next bit first.
+// The bits are the lowest `count` of `bits`, most significant first. Higher bits mean nothing.
 #[derive(Drop)]
 pub struct BitWord {
     bits: u32,
@@ -32,14 +32,14 @@ fn joined(high: u32, low: u16, places: u8) -> u32
 }
 
 impl BitWord {
-    /// No bits.
+    /// The empty queue.
     pub fn new() -> BitWord
         ensures empty { result ≡ [] }
     {
         BitWord { bits: 0, count: 0 }
     }
 
-    /// The number of bits that wait.
+    /// The number of bits in the queue.
     pub fn waiting(&self) -> usize
         ensures number { result ≡ length self.now }
         ensures few { result ≤ 32 }
@@ -47,8 +47,7 @@ impl BitWord {
         self.count as usize
     }
 
-    /// Puts the lowest `count` bits of a word, at most sixteen, behind the others, the most significant first. There must
-    /// be room for them.
+    /// Appends the lowest `count` bits of a word, at most sixteen, most significant first. There must be room for them.
     pub fn push_bits(&mut self, word: u16, count: u8)
         requires few { count ≤ 16 }
         requires room { length self.old + count ≤ 32 }
@@ -59,8 +58,8 @@ impl BitWord {
         self.count += count;
     }
 
-    /// Takes the first eight bits out and answers them as a byte, the first one the most significant: None exactly where
-    /// fewer than eight bits wait, and then nothing changes.
+    /// Removes the first eight bits and returns them as a byte, first bit most significant; None exactly if there are
+    /// fewer than eight, and then nothing changes.
     pub fn take_byte(&mut self) -> Option<u8>
         ensures none { IsNone result ↔ (length self.old < 8) }
         ensures unchanged { IsNone result → self.new ≡ self.old }

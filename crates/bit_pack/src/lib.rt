@@ -1,6 +1,6 @@
-//! Bits to bytes and back: a queue of bits that wait.
+//! Bits to bytes and back: a queue of bits.
 //!
-//! Bytes are taken apart and put together with the most significant bit first.
+//! Bytes are split and joined most significant bit first.
 #![tactic(auto)]
 
 mod bit_buf;

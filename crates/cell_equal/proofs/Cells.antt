@@ -1,4 +1,4 @@
--- A corrected cell can be written.
+-- A corrected cell is writable.
 use Rattle.std.proofs.Common.{ℕ, ◌≤◌, arith, Bool, true, false}
 use Rattle.std.specs.Prelude.{ℤ, pos, negsuc, ◌==◌, if◌then◌else◌, min}
 use Rattle.std.specs.Int.{saturate_signed, w16}

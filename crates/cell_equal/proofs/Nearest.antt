@@ -1,4 +1,4 @@
--- The whole number nearest to a quotient.
+-- The integer nearest to a quotient.
 use Rattle.std.proofs.Common.{◌≡◌, ℕ, ◌*◌, ◌<◌, ap, ◌∙◌, arith}
 use Rattle.std.specs.Prelude.{ℤ, pos, negsuc, ◌+ℤ◌, ◌-ℤ◌, ◌*ℤ◌, ◌≤ℤ◌, ◌<ℤ◌}
 use Rattle.std.specs.Int.{saturate_signed, w16}
@@ -17,14 +17,14 @@ nearest_is x n some =
 pub same_rest : {r d e g h t u : ℤ} → r ≡ d -ℤ g *ℤ t → d ≡ e → g ≡ h → t ≡ u → r ≡ e -ℤ h *ℤ u
 same_rest {r} {d} {e} {g} {h} {t} {u} is a b c = is ∙ ap (λ (z : ℤ). z -ℤ g *ℤ t) a ∙ ap (λ (z : ℤ). e -ℤ z *ℤ t) b ∙ ap (λ (z : ℤ). e -ℤ h *ℤ z) c
 
--- what leaves a rest below the divisor is the nearest
+-- a guess with a remainder below the divisor is the nearest
 pub tested : (x rest guess : ℤ) (n : ℕ) → 0 < n → rest ≡ (pos 2 *ℤ x +ℤ pos n) -ℤ guess *ℤ pos (2 * n) → pos 0 ≤ℤ rest → rest <ℤ pos (2 * n) → guess ≡ nearest x n
 tested x rest guess n some is low high =
     let p = product_is guess (pos (2 * n)) in
     let g : IsFloor (pos 2 *ℤ x +ℤ pos n) guess (2 * n) = record { low = omega (arith, ints, p, is, low); high = omega (arith, ints, p, is, high) } in
     same_floor g (floor_is (pos 2 *ℤ x +ℤ pos n) (2 * n) (omega (arith, some)))
 
--- a value of a cell stays when it is brought into the range of one
+-- limiting does not change a value of a cell
 stays : (z : ℤ) → FitsSigned w16 z → z ≡ saturate_signed w16 z
 stays (pos n) f = omega (arith, ints, clamps, f)
 stays (negsuc n) f = omega (arith, ints, clamps, f)

@@ -24,7 +24,7 @@ fn multiple(value: i16, divisor: i64) -> i64
     i64::from(value) * divisor
 }
 
-// A value times 21845 and the distance of the pilots.
+// A value times 21845 and the distance between the pilots.
 fn scaled(span: u8, value: i64) -> i64
     requires span { span ≤ 12 }
     requires value { nat_abs value ≤ 2 ^ 35 }
@@ -43,7 +43,7 @@ fn power(gain: Gain) -> u64
     re * re + im * im
 }
 
-// The whole number nearest to a quotient, of two the greater.
+// The integer nearest to a quotient, of two the greater.
 fn nearest(x: i64, n: i64) -> i64
     requires x { nat_abs x ≤ 2 ^ 53 }
     requires some { pos 0 <ℤ n }
@@ -53,7 +53,7 @@ fn nearest(x: i64, n: i64) -> i64
     (2 * x + n).div_euclid(2 * n)
 }
 
-// The same, brought into the range of a cell's value.
+// The same, limited to the range of a cell's value.
 fn value_near(x: i64, n: u64) -> i16
     requires x { nat_abs x ≤ 2 ^ 53 }
     requires some { 0 < n }
@@ -63,7 +63,7 @@ fn value_near(x: i64, n: u64) -> i16
     nearest(x, n as i64).clamp(-32768, 32767) as i16
 }
 
-// Twice a dividend and once its divisor, of which the quotient by twice the divisor is rounded down.
+// Twice a dividend plus its divisor; divided by twice the divisor and rounded down it gives the nearest quotient.
 fn dividend(x: i64, n: i64) -> i64
     requires x { nat_abs x ≤ 2 ^ 53 }
     requires most { nat_abs n ≤ 2 ^ 39 }
@@ -73,7 +73,7 @@ fn dividend(x: i64, n: i64) -> i64
     2 * x + n
 }
 
-// What a guess at a quotient leaves of the dividend.
+// What remains of the dividend after a guess at the quotient.
 fn rest_behind(guess: i16, dividend: i64, divisor: i64) -> i64
     requires dividend { nat_abs dividend ≤ 2 ^ 55 }
     requires divisor { nat_abs divisor ≤ 2 ^ 40 }
@@ -82,7 +82,7 @@ fn rest_behind(guess: i16, dividend: i64, divisor: i64) -> i64
     dividend - multiple(guess, divisor)
 }
 
-// The value of a cell nearest to x / n: the guess where it passes the test, which costs no division.
+// The value of a cell nearest to x / n: the guess if it passes the test, which needs no division.
 fn value_by(guess: i16, x: i64, n: u64) -> i16
     requires x { nat_abs x ≤ 2 ^ 53 }
     requires some { 0 < n }
@@ -97,7 +97,7 @@ fn value_by(guess: i16, x: i64, n: u64) -> i16
     value_near(x, n)
 }
 
-// A quotient by 21845 times the distance of the pilots, by a guess at it.
+// A quotient times 21845 and the distance between the pilots, from a guess.
 fn quotient(guess: i16, value: i64, span: u8, n: u64) -> i16
     requires value { nat_abs value ≤ 2 ^ 35 }
     requires span { span ≤ 12 }
@@ -128,7 +128,7 @@ fn across(re: i16, im: i16, u: i64, v: i64) -> i64
     product(im, u) - product(re, v)
 }
 
-// A digit of a quotient, if the part that it stands for is still in the rest, and what is left then.
+// A digit of a quotient, if its part still fits the remainder, and what then remains.
 fn take(rest: u64, part: u64, digit: u8) -> (u8, u64)
     requires { rest < 2 * part }
     ensures rest { result.1 < part }
@@ -142,7 +142,7 @@ fn take(rest: u64, part: u64, digit: u8) -> (u8, u64)
     }
 }
 
-// The quotient of two powers, 15 at most, digit by digit in place of a division.
+// The quotient of two powers, at most 15, digit by digit instead of a division.
 fn fifteen_at_most(power: u64, unit: u64) -> u8
     requires unit { 0 < unit }
     requires most { unit ≤ 2 ^ 37 }
@@ -158,7 +158,7 @@ fn fifteen_at_most(power: u64, unit: u64) -> u8
     eights + fours + twos + ones
 }
 
-// Whether a number is the quotient of two powers, 15 at most.
+// Whether a number is the quotient of two powers, at most 15.
 fn is_quotient(guess: u8, power: u64, unit: u64) -> bool
     requires guess { guess ≤ 15 }
     requires unit { 0 < unit }
@@ -169,7 +169,7 @@ fn is_quotient(guess: u8, power: u64, unit: u64) -> bool
     part <= power && (guess == 15 || power - part < unit)
 }
 
-// The quotient of two powers, 15 at most: the guess where it passes the test.
+// The quotient of two powers, at most 15: the guess if it passes the test.
 fn fifteen_by(guess: u8, power: u64, unit: u64) -> u8
     requires guess { guess ≤ 15 }
     requires unit { 0 < unit }
@@ -182,7 +182,7 @@ fn fifteen_by(guess: u8, power: u64, unit: u64) -> u8
     fifteen_at_most(power, unit)
 }
 
-// The weight after the correction: 0 stays, else it is sixteen times the power of the gain, 15 at most.
+// The weight after correction: 0 stays, otherwise sixteen times the power of the gain, at most 15.
 fn weight_after(old: u8, span: u8, n: u64) -> u8
     requires some { 1 ≤ span }
     requires span { span ≤ 12 }
@@ -231,7 +231,7 @@ pub(crate) fn corrected(gain: Gain, cell: Cell, weight: u8) -> Equalised
     }
 }
 
-// The cell divided by a gain of this power, by divisions.
+// The cell divided by a gain of this power, with divisions.
 fn plainly_divided(gain: Gain, cell: Cell, n: u64) -> Cell
     requires small { IsSmall gain }
     requires n { n ≡ power gain }
@@ -247,7 +247,7 @@ fn plainly_divided(gain: Gain, cell: Cell, n: u64) -> Cell
     }
 }
 
-// The weight after the correction, by a division.
+// The weight after correction, with a division.
 fn plain_weight(old: u8, span: u8, n: u64) -> u8
     requires some { 1 ≤ span }
     requires span { span ≤ 12 }
@@ -259,7 +259,7 @@ fn plain_weight(old: u8, span: u8, n: u64) -> u8
     if old == 0 { 0 } else { all.min(15) as u8 }
 }
 
-// The cell divided by the gain, and its weight, by divisions.
+// The cell divided by the gain, and its weight, with divisions.
 pub(crate) fn plainly_corrected(gain: Gain, cell: Cell, weight: u8) -> Equalised
     requires { IsSmall gain }
     ensures { result ≡ corrected gain cell weight }

@@ -1,19 +1,19 @@
-// Guesses at a corrected cell and its weight. Nothing is promised of them: whoever takes one tests it.
+// Guesses at a corrected cell and its weight. They have no contract; the caller tests each of them.
 ghost use Rattle.std.specs.Prelude.{◌≤◌};
 ghost use Rattle.cell_equal.specs.State.{IsSmall};
 
 use crate::Gain;
 use qam_map::Cell;
 
-// About 2^60 divided by the square of 21845 times each distance of two pilots.
+// About 2^60 divided by the square of 21845 times each distance between two pilots.
 #[rattlefmt::skip]
 static SHARES: [u64; 13] = [
     0, 2415992834, 603998209, 268443649, 150999553, 96639714,
     67110913, 49305977, 37749889, 29827073, 24159929, 19966883, 16777729,
 ];
 
-// The whole number nearest to a float, if that is a value of a cell.
-// The last digit of the sum is worth 2^-20, so its whole part stands above its last 20 bits.
+// The integer nearest to a float, if it is a value of a cell. The last digit of the sum is worth 2^-20, so its integer
+// part is above its last 20 bits.
 fn near(quotient: f64) -> i16 {
     let sum = quotient + 6442450944.5;
     if sum >= 1.0 {
@@ -23,7 +23,7 @@ fn near(quotient: f64) -> i16 {
     }
 }
 
-// About the parts of the cell divided by the gain.
+// Approximate parts of the cell divided by the gain.
 pub(crate) fn parts(gain: Gain, cell: Cell) -> (i16, i16)
     requires { IsSmall gain }
 {
@@ -36,7 +36,7 @@ pub(crate) fn parts(gain: Gain, cell: Cell) -> (i16, i16)
     )
 }
 
-// About sixteen times the power of a gain divided by that of 21845 times the distance of the pilots, 15 at most.
+// Approximately sixteen times the power of a gain over that of 21845 times the distance between the pilots, at most 15.
 pub(crate) fn weight(power: u64, span: u8) -> u8
     requires { span ≤ 12 }
     ensures { result ≤ 15 }

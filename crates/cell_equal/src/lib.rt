@@ -1,7 +1,7 @@
-//! Cells corrected by the pilots of their own symbol: the gain of the channel at each carrier is taken
-//! from the line between the pilots around it, and each cell is divided by it.
+//! Cells corrected by the pilots of their own symbol: the gain of the channel at each carrier is interpolated linearly
+//! between the pilots around it, and each cell is divided by it.
 //!
-//! EN 300 744, 4.5, has the pilots; the rule is this project's own.
+//! The pilots are those of EN 300 744, 4.5; the rule is this project's own.
 #![tactic(auto)]
 
 mod divide;

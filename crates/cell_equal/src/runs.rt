@@ -24,7 +24,7 @@ fn push_corrected(gain: Gain, cell: Cell, weight: u8, to: &mut Vec<u8>)
     push_five(cell_bytes(restored.cell, restored.weight), to);
 }
 
-// Appends the corrected cells from carrier `from` up to the first pilot at or above it.
+// Appends the corrected cells from carrier `from` up to the next pilot, which may be `from` itself.
 pub(crate) fn push_run(
     mode: Mode,
     l: u8,

@@ -1,4 +1,4 @@
--- What a call of the work gave, and what it wrote.
+-- The output of a call of the work, and what it wrote.
 use Rattle.std.proofs.Common.{◌≡◌, ℕ, ◌+◌, Bool, true, List, [], ◌++◌, length, take, Result, Ok, Err, if◌then◌else◌, refl, ◌∙◌, sym, ap, subst, append_assoc}
 use Rattle.std.proofs.Math.Seq.{take-append-add}
 use Rattle.std.proofs.lemmas.List.{append-nil}
@@ -16,7 +16,7 @@ use Rattle.cmd_cells.proofs.Fronts.{front_of, none_of}
 use Rattle.cmd_convert.specs.Working.{written_at}
 use Rattle.cmd_align.specs.Working.{Appends, ReportOnly}
 
--- what was given is given in other words
+-- the same output stated differently
 pub does_as : (S S' I I' : Written → Type 0) (Its Its' : Refusal → Type 0) (before : Written) (m m' : Meaning) (result : Result (Unit {0}) Stop)
     → ((after : Written) → S after → I after → S' after) → ((after : Written) → I after → I' after) → ((r : Refusal) → Its r → Its' r)
     → Does S I Its before m m' result → Does S' I' Its' before m m' result
@@ -36,7 +36,7 @@ does_nothing S I Its before m stands gives = record {
   written = λ t port. sym (append-nil (sink_at port m).written);
 }
 
--- more cells and more lines behind those before
+-- more cells and more lines after the earlier ones
 pub follow : (cells more_cells lines more_lines cells' lines' : List ℕ) (before : Written) → ((port : OutPort) → before port ≡ written_at cells lines port) → cells' ≡ cells ++ more_cells → lines' ≡ lines ++ more_lines
     → Follows before (written_at more_cells more_lines) (written_at cells' lines')
 follow cells more_cells lines more_lines cells' lines' before gives is_cells is_lines port = go port ∙ ap (λ (l : List ℕ). l ++ written_at more_cells more_lines port) (sym (gives port))
@@ -48,7 +48,7 @@ follow cells more_cells lines more_lines cells' lines' before gives is_cells is_
     go outs.Bytes = refl
     go outs.Report = is_lines
 
--- lines were written, or a front of them
+-- lines were written, or a prefix of them
 module _ (m m' : Meaning) (lines : List ℕ) (only : ReportOnly m m') where
   told_all : m'.report.written ≡ m.report.written ++ lines → Holds m m' (written_at [] lines)
   told_all is outs.Cells = ap (λ (x : Meaning). x.cells_out.written) only ∙ sym (append-nil m.cells_out.written)
@@ -78,7 +78,7 @@ report_only m m' p = go m'.report.written m'.write_faults m'.report_faults p
     go : (l : List ℕ) (n k : ℕ) → m' ≡ record m { report = record m.report { written = l }; write_faults = n; report_faults = k } → WritesOnly m m'
     go l n k p = subst (λ (x : Meaning). WritesOnly m x) (sym p) refl
 
--- what is written where contents are told, or not
+-- the content, if contents are known or not
 abbrev at_told : Bool → List ℕ → List ℕ → List ℕ
 at_told tells before bytes = if tells then before ++ bytes else before
 
@@ -93,11 +93,11 @@ pub report_appends : (bytes : List ℕ) (m m' : Meaning) (r : Result (Unit {0}) 
 report_appends bytes m m' (Ok u) t w = ap (λ (x : Meaning). x.report.written) w ∙ ap (λ (b : Bool). at_told b m.report.written bytes) t
 report_appends bytes m m' (Err r) t w = (w.0, w.1, ap (λ (x : Meaning). x.report.written) w.2 ∙ ap (λ (b : Bool). at_told b m.report.written (take w.1 bytes)) t)
 
--- a front of the first line is a front of both
+-- a prefix of the first line is a prefix of both
 pub first_front : (a b before after : List ℕ) (stop : Stop) → Appends a before after (Err stop) → Appends (a ++ b) before after (Err stop)
 first_front a b before after stop w = let f = front_of a b w.1 in (w.0, f.0, w.2 ∙ ap (λ (l : List ℕ). before ++ l) f.1)
 
--- and so is the first line with a front of the second
+-- and so is the first line with a prefix of the second
 pub both_lines : (a b before mid after : List ℕ) (result : Result (Unit {0}) Stop) → mid ≡ before ++ a → Appends b mid after result → Appends (a ++ b) before after result
 both_lines a b before mid after (Ok u) is w = w ∙ ap (λ (l : List ℕ). l ++ b) is ∙ append_assoc before a b
 both_lines a b before mid after (Err r) is w = (

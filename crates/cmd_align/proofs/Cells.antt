@@ -1,4 +1,4 @@
--- The aligned cells of bytes, and of bytes that go on.
+-- The aligned cells of bytes, and of bytes that continue.
 use Rattle.std.proofs.Common.{◌≡◌, ℕ, ◌+◌, ◌-◌, ◌*◌, ◌%◌, ◌<◌, ◌≤◌, List, [], ◌++◌, ◌⊎◌, inl, inr, length, take, drop, ◌∙◌, sym, ap, arith, append_assoc, take-append-drop, length-take-le}
 use Rattle.std.proofs.lemmas.Bool.{cases_lt}
 use Rattle.std.proofs.lemmas.List.{length-append, take_all, take-append-le}
@@ -39,7 +39,7 @@ module _ (s : Settings) where
   pub whole_none : whole_symbols s [] ≡ []
   whole_none = take_all (symbols s [] * size) [] (omega arith)
 
-  -- bytes that end no symbol add none
+  -- bytes that do not complete a symbol add none
   whole_part : SameSymbols → (bytes more : List ℕ) → IsWithin s bytes more → whole_symbols s (bytes ++ more) ≡ whole_symbols s bytes
   whole_part same bytes more within =
       ap (λ (n : ℕ). take (n * size) (bytes ++ more)) (same s bytes more within) ∙ take-append-le (symbols s bytes * size) bytes more (omega (arith, cut bytes))
@@ -56,7 +56,7 @@ module _ (s : Settings) where
       let is : bytes ++ more ≡ w ++ (a ++ more) = ap (λ (l : List ℕ). l ++ more) (sym (take-append-drop (symbols s bytes * size) bytes)) ∙ append_assoc w a more in
       (take d (a ++ more), ap (λ (n : ℕ). take n (bytes ++ more)) split ∙ ap (take (length w + d)) is ∙ take-append-add w (a ++ more) d)
 
--- a part of a symbol behind whole ones
+-- part of a symbol after whole ones
 part_behind : (m : Mode) (n k : ℕ) → n % (5 * carriers m) ≡ 0 → k < 5 * carriers m → (n + k) % (5 * carriers m) ≡ k
 part_behind M2k n k none few = omega (arith, none, few)
 part_behind M8k n k none few = omega (arith, none, few)
@@ -70,7 +70,7 @@ module _ (s : Settings) (found : Found) where
   abbrev cells : List ℕ → List ℕ
   cells bytes = whole_symbols s (rest s bytes found)
 
-  -- a whole symbol more
+  -- one more whole symbol
   pub next_symbol : OneSymbolMore → (bytes piece : List ℕ) → tail s bytes ≡ 0 → begin found ≤ symbols s bytes → length piece ≡ symbol_length s
       → (cells (bytes ++ piece) ≡ cells bytes ++ piece) × (symbols s (rest s (bytes ++ piece) found) ≡ symbols s (rest s bytes found) + 1) × (tail s (rest s (bytes ++ piece) found) ≡ 0) × (tail s (rest s bytes found) ≡ 0)
   next_symbol more bytes piece none reached long =
@@ -85,11 +85,11 @@ module _ (s : Settings) (found : Found) where
         r_whole,
       )
 
-  -- before it nothing
+  -- before it there are none
   pub before_it : (bytes piece : List ℕ) → tail s bytes ≡ 0 → symbols s bytes + 1 ≤ begin found → length piece ≤ symbol_length s → rest s (bytes ++ piece) found ≡ rest s bytes found
   before_it bytes piece none l few = no_rest_yet s found bytes piece none l few ∙ sym (no_rest s found bytes l)
 
-  -- bytes that end no symbol
+  -- bytes that do not complete a symbol
   pub part_symbol : SameSymbols → (bytes more : List ℕ) → IsWithin s bytes more → cells (bytes ++ more) ≡ cells bytes
   part_symbol same bytes more within = go (cases_lt (symbols s bytes) (begin found))
     where

@@ -1,4 +1,4 @@
--- `align` is a command on cells: what it comes to is what its work gives.
+-- `align` is a command on cells: its output is that of its work.
 use Rattle.std.proofs.Common.{◌≡◌, ◌⊎◌, inl, inr, true, ℕ, zero, suc, ◌*◌, ◌≤◌, ◌<◌, Bool, List, [], ◌∷◌, ◌++◌, take, drop, Option, Some, None, refl, ◌∙◌, sym, ap, subst, arith, append_assoc, if◌then◌else◌}
 use Rattle.std.proofs.lemmas.Bool.{cases_lt, le-ltb, lt-ltb, true≢false}
 use Rattle.std.proofs.lemmas.List.{append-nil, drop_all, length-take, take-append-drop}
@@ -58,7 +58,7 @@ words = record {
   guard = elim [ G1of32 ↦ refl | G1of16 ↦ refl | G1of8 ↦ refl | G1of4 ↦ refl ];
 }
 
--- whole symbols are the same by settings of the same mode
+-- whole symbols are the same with settings of the same mode
 same_whole : (a s : TheSettings) (bytes : List ℕ) → a.mode ≡ s.mode → whole_symbols a bytes ≡ whole_symbols s bytes
 same_whole a s bytes same = ap (λ (m : Mode). whole_symbols (record s { mode = m }) bytes) same
 
@@ -71,9 +71,9 @@ own_laws laws stated file = record {
   words = words;
 }
 
--- ---- where no more than the header is taken of the cells there are no lines
+-- ---- if nothing past the header is taken of the cells, there are no lines
 
--- within the header no byte is behind it
+-- within the header no byte follows it
 none_behind : (file : List ℕ) (k : ℕ) → k ≤ 8 → cells_in (take k file) ≡ []
 none_behind file k few = drop_all 8 (take k file) (let some = length-take k file in omega (arith, some, few))
 
@@ -92,7 +92,7 @@ no_lines laws (Some s) file left k few is = (
   sym (ap (λ (l : List ℕ). lines_at (place_of s l)) (none_behind file k few) ∙ ap lines_at (nowhere laws s)),
 )
 
--- the header, and what was taken behind it
+-- the header, and the bytes taken after it
 behind : (n : ℕ) (file taken left : List ℕ) → drop n file ≡ taken ++ left → drop n (take n file ++ taken) ≡ taken
 behind zero file taken left e = refl
 behind (suc n) [] [] left e = refl
@@ -106,7 +106,7 @@ module _ (laws : Laws) (limit : ℕ) (settings old new : List ℕ) (file : Files
   abbrev bytes : List ℕ
   bytes = cells_in (file old)
 
-  -- what is written at the one output is the new file
+  -- the bytes written at the one output are the new file
   at_output : (cells lines : List ℕ) (port : OutPort) → IsOutput c port → written_at cells lines port ≡ cells
   at_output cells lines outs.Cells is = refl
   at_output cells lines outs.Hp is = absurd (true≢false (sym is))
@@ -129,12 +129,12 @@ module _ (laws : Laws) (limit : ℕ) (settings old new : List ℕ) (file : Files
   passed : s.max_symbols < symbols s bytes → limit_refusal s bytes ≡ Some (Limit s.max_symbols)
   passed more = ap (λ (b : Bool). if b then Some (Limit s.max_symbols) else None) (lt-ltb s.max_symbols (symbols s bytes) more)
 
-  -- ---- the place of first bytes
+  -- ---- the place of a prefix
 
   at_found : (taken left : List ℕ) (found : Found) → bytes ≡ taken ++ left → symbols s taken ≤ s.max_symbols → IsFoundIn s taken found → place_of s bytes ≡ Some found
   at_found taken left found are few is = (laws.finds s bytes).finds found (held_place laws.stays laws.tps s bytes taken left found are few is)
 
-  -- where they have all symbols within the limit it is the place of all
+  -- if it has all symbols within the limit, it is the place of all
   place_is : (taken left : List ℕ) (place : Option Found) → bytes ≡ taken ++ left → symbols s taken ≤ s.max_symbols → held s bytes ≤ symbols s taken → PlaceIs s taken place → place_of s bytes ≡ place
   place_is taken left None are few long is = finds_none laws.stays laws.tps s bytes (laws.finds s bytes) (held_none laws.stays laws.tps s bytes taken left are long is)
   place_is taken left (Some found) are few long is = at_found taken left found are few is
@@ -199,7 +199,7 @@ module _ (laws : Laws) (limit : ℕ) (settings old new : List ℕ) (file : Files
       → ComesRefused c limit file unread given r
   refused unread taken given r are few reason is = subst (ComesRefused c limit file unread given) (sym reason) (without unread taken given are few is.1 is.2 is.3)
 
-  -- ---- so far as a failed read
+  -- ---- up to a failed read
 
   so_far : (unread : Unread) (taken : List ℕ) (given : Written) → bytes ≡ taken ++ unread ins.Cells → symbols s taken ≤ s.max_symbols → FirstGive s taken given → ComeSoFar c limit file unread given
   so_far unread taken given are few gives =
@@ -217,7 +217,7 @@ module _ (laws : Laws) (limit : ℕ) (settings old new : List ℕ) (file : Files
         report = subst (λ (o : Option TheSettings). LinesSoFar o (file old) (unread ins.Cells) (given outs.Report)) (sym stated) (all, taken_are, gives.2 outs.Report ∙ lines_are);
       }
 
-  -- ---- what first bytes give begins what all come to
+  -- ---- the output of a prefix is a prefix of the output
 
   continued : (cells lines all_cells all_lines : List ℕ) (given : Written) → ((port : OutPort) → given port ≡ written_at cells lines port)
       → (more : List ℕ) × (all_cells ≡ cells ++ more) → (more : List ℕ) × (all_lines ≡ lines ++ more) → FileComes s bytes all_cells → LinesCome s bytes all_lines → Continues c limit file given
@@ -234,7 +234,7 @@ module _ (laws : Laws) (limit : ℕ) (settings old new : List ℕ) (file : Files
       more_at outs.Bytes = ([], refl)
       more_at outs.Report = more_lines
 
-  -- behind the header
+  -- after the header
   headed : (cells all : List ℕ) → (more : List ℕ) × (all ≡ cells ++ more) → (more : List ℕ) × (header s.mode ++ all ≡ (header s.mode ++ cells) ++ more)
   headed cells all b = (b.0, ap (λ (l : List ℕ). header s.mode ++ l) b.1 ∙ sym (append_assoc (header s.mode) cells b.0))
 

@@ -1,4 +1,4 @@
--- What a call of the work gives behind a place, and at one.
+-- The output of a call of the work after a place, and at one.
 use Rattle.std.proofs.Common.{◌≡◌, ◌≢◌, ℕ, ◌+◌, ◌<◌, ◌≤◌, ◌⊎◌, inl, inr, List, [], ◌++◌, length, true, Some, None, Result, Ok, refl, ◌∙◌, sym, ap, arith, append_assoc}
 use Rattle.std.proofs.lemmas.List.{append-nil}
 use Rattle.station_core.specs.Meaning.{Meaning}
@@ -35,7 +35,7 @@ module _ (s : Settings) (found : Found) (c c' : Copying) (bytes piece : List ℕ
   abbrev Is : Written → Type 0
   Is = GivesAt s (bytes ++ piece) (Some found)
 
-  -- a symbol before the next super-frame is passed over, or what there is of one
+  -- a symbol before the next super-frame is skipped, or the part there is of one
   pub passed : SameSymbols → OneSymbolMore → (m : Meaning) → length piece ≤ symbol_length s → 0 < c.skip → ((length piece ≡ symbol_length s) × (c'.skip + 1 ≡ c.skip)) ⊎ ((length piece ≢ symbol_length s) × (c'.skip ≡ c.skip))
       → c'.symbols ≡ c.symbols → c'.tail ≡ c.tail → Does Stands Is (λ r. ⊥) given m m (Ok tt)
   passed same more m few some cases symbols_are tail_is =
@@ -65,7 +65,7 @@ module _ (s : Settings) (found : Found) (c c' : Copying) (bytes piece : List ℕ
   later : c.skip ≡ 0 → c'.skip ≡ c.skip → (c'.skip + symbols s (bytes ++ piece) ≡ begin found) ⊎ ((c'.skip ≡ 0) × (begin found ≤ symbols s (bytes ++ piece)))
   later no_skip kept = inr (kept ∙ no_skip, (let g = symbols_grow s bytes piece in let r = reached no_skip in omega (arith, g, r)))
 
-  -- what there is of a symbol is counted
+  -- part of a symbol is counted
   pub counted : SameSymbols → (m : Meaning) → length piece < symbol_length s → c.skip ≡ 0 → c'.skip ≡ c.skip → c'.symbols ≡ c.symbols → c'.tail ≡ length piece → Does Stands Is (λ r. ⊥) given m m (Ok tt)
   counted same m few no_skip kept symbols_are tail_is =
       let within : IsWithin s bytes piece = omega (arith, none, few) in
@@ -73,7 +73,7 @@ module _ (s : Settings) (found : Found) (c c' : Copying) (bytes piece : List ℕ
       does_nothing Stands Is (λ (r : Refusal). ⊥) given m (record { counts = later no_skip kept; copied = symbols_are ∙ is.copied ∙ sym p.0; after = tail_is ∙ sym p.1 })
       (same_gives s bytes (bytes ++ piece) (Some found) given (part_symbol s found same bytes piece within) gives)
 
-  -- and a whole one is handed on
+  -- and a whole one is copied
   pub handed : OneSymbolMore → (m m' : Meaning) (result : Result (Unit {0}) Stop) → length piece ≡ symbol_length s → c.skip ≡ 0 → c'.skip ≡ c.skip → c'.symbols ≡ c.symbols + 1 → c'.tail ≡ c.tail → WritesAt outs.Cells piece m m' result
       → Does Stands Is (λ r. ⊥) given m m' result
   handed more m m' result long no_skip kept symbols_are tail_is writes =

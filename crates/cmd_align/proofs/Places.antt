@@ -1,4 +1,4 @@
--- What the work stands for, by whether a place is found; and the place of first bytes.
+-- The state of the work, with a place found or not; and the place of a prefix.
 use Rattle.std.proofs.Common.{◌≡◌, ℕ, ◌+◌, List, [], ◌++◌, Option, Some, None, inl, ◌∙◌, sym, ap, subst, arith}
 use Rattle.mode_set.specs.declared.settings.Settings.{Settings}
 use Rattle.reception.specs.Cells.{symbols, tail}
@@ -18,7 +18,7 @@ use Rattle.cmd_align.specs.Working.{AligningStands, FirstGive, GivesAt, IsCopyin
 use Rattle.cmd_align.specs.declared.copying.Copying.{Copying}
 use Rattle.cmd_align.proofs.Cells.{part_symbol, whole_none}
 
--- ---- by whether a place is found
+-- ---- with a place found or not
 
 module _ (searching : Settings → List ℕ → Type 0) (s : Settings) (bytes : List ℕ) (given : Written) where
   pub searching_stands : (copying : Option Copying) → copying ≡ None → searching s bytes → HasNoPlace s bytes → GivesAt s bytes None given → AligningStands searching s copying bytes given
@@ -35,7 +35,7 @@ module _ (searching : Settings → List ℕ → Type 0) (s : Settings) (bytes : 
   pub stands_copying : (copying : Option Copying) (c : Copying) → copying ≡ Some c → AligningStands searching s copying bytes given → AligningStands searching s (Some c) bytes given
   stands_copying copying c e stands = subst (λ (o : Option Copying). AligningStands searching s o bytes given) e stands
 
--- ---- what is given by the cells alone
+-- ---- the output from the cells only
 
 -- the same cells are the same file
 pub same_gives : (s : Settings) (bytes longer : List ℕ) (place : Option Found) (given : Written) → aligned_cells s longer place ≡ aligned_cells s bytes place → GivesAt s bytes place given → GivesAt s longer place given
@@ -43,7 +43,7 @@ same_gives s bytes longer place given same gives port = gives port ∙ ap (λ (l
 
 -- ---- at a place
 
--- none of the bytes are behind the next super-frame's beginning
+-- none of the bytes are after the start of the next super-frame
 pub none_behind : (s : Settings) (bytes : List ℕ) (found : Found) → IsAtPlace s bytes found → rest s bytes found ≡ []
 none_behind s bytes found at = no_rest_whole s found bytes at.whole (let v = at.valid in omega (arith, at.last, v.last, v.first))
 
@@ -59,7 +59,7 @@ begins_copying s bytes found c at skip none no_tail =
       after = no_tail ∙ sym (ap (tail s) empty ∙ tail_none s);
     }
 
--- ---- bytes that end no symbol
+-- ---- bytes that do not complete a symbol
 
 pub part_gives : SameSymbols → TpsCellsStay → FoundStaysInBytes → (s : Settings) (bytes more : List ℕ) (given : Written) → IsWithin s bytes more → FirstGive s bytes given → FirstGive s (bytes ++ more) given
 part_gives same tps stays s bytes more given within gives = go gives.0 gives.1 gives.2

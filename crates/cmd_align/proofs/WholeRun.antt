@@ -30,7 +30,7 @@ module _ (limit : ℕ) (name cells out : List ℕ) (start mid new : Meaning) (la
   abbrev c : Command
   c = align_command name cells out
 
-  -- ---- refused before another port is asked
+  -- ---- refused before another port is requested
   early : (r : Refusal) → RefusedEarly c limit start mid r → is_among (status_of (Some r)) c.statuses ≡ true → Ended c limit start mid (Some r)
   early = early_ended c limit name start mid refl (inr (refl, refl)) nothing (λ file. own_laws laws (settings_of (file name)) (file cells)) fresh asks
     where
@@ -69,7 +69,7 @@ module _ (limit : ℕ) (name cells out : List ℕ) (start mid new : Meaning) (la
       accepted = λ t. (reads.3 t).1.1;
     }
 
-    -- the run has ended with its outcome, and then a text was written or not
+    -- the run ended with its outcome, and then a text was written or not
     finished : (old : Meaning) → old ≡ record start { settings = mid.settings } → (status : ℕ) → RunsCells (aligning_work s) s.max_symbols cells (Some (header s.mode)) (cell_names out) old new status → Run c limit start new status
     finished old same status runs =
         run_of c limit name cells (Some (header s.mode)) (cell_names out) (aligning_work s) s.max_symbols start new mid.settings status fresh settings

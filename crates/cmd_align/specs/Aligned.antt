@@ -1,4 +1,6 @@
--- A file of cells that begins anywhere, aligned: it begins with the super-frame after the one found (the cell file is this project's own; EN 300 744, 4.6.2: a frame signals the parameters of the next super-frame). `bytes` are those behind the header of the file.
+-- A file of cells that begins anywhere, aligned to the super-frame after the one found (the cell file is this project's
+-- own; EN 300 744, 4.6.2: a frame signals the parameters of the next super-frame). `bytes` are those after the header
+-- of the file.
 use Rattle.std.specs.Prelude.{◌≡◌, ◌⊎◌, ℕ, ◌*◌, ◌<◌, ◌≤◌, nat_lt, if◌then◌else◌, List, [], ◌++◌, take, drop, Option, Some, None}
 use Rattle.std.specs.Option.{option_or}
 use Rattle.mode_set.specs.declared.settings.Settings.{Settings}
@@ -15,16 +17,16 @@ use Rattle.tune_in.specs.OfBytes.{rest}
 use Rattle.tune_in.specs.declared.frame.Found.{Found}
 use Rattle.cmd_align.specs.Announcement.{AreSettingsWords, found_lines}
 
--- the bytes of a cell file behind its header of eight bytes
+-- the bytes of a cell file after its header of eight bytes
 abbrev pub cells_in : List ℕ → List ℕ
 cells_in file = drop 8 file
 
--- the aligned cells: the whole symbols from the next super-frame on, byte for byte, or none where there is no place
+-- the aligned cells: the whole symbols from the next super-frame on, byte for byte, or none if no place is found
 abbrev pub aligned_cells : Settings → List ℕ → Option Found → List ℕ
 aligned_cells s bytes None = []
 aligned_cells s bytes (Some found) = whole_symbols s (rest s bytes found)
 
--- the file of them: the header of the mode stands in it also where there is no place
+-- the aligned file, which has the header of the mode even if no place is found
 abbrev pub aligned_file : Settings → List ℕ → Option Found → List ℕ
 aligned_file s bytes place = header s.mode ++ aligned_cells s bytes place
 
@@ -42,19 +44,20 @@ closing_at s bytes (Some found) = counts_line (symbols s (rest s bytes found)) (
 abbrev pub within_limit : Settings → List ℕ → List ℕ
 within_limit s bytes = take (s.max_symbols * symbol_length s) bytes
 
--- The new file comes to the aligned file of all cells or, where they are more whole symbols than the limit, of those within it. The place is the least one within the limit.
+-- The new file is the aligned file of all cells or, if they have more whole symbols than the limit, of those within it.
+-- The place is the least one within the limit.
 abbrev pub FileComes : Settings → List ℕ → List ℕ → Type 0
 FileComes s bytes output =
     ((symbols s bytes ≤ s.max_symbols) × (output ≡ aligned_file s bytes (place_of s bytes)))
     ⊎ ((s.max_symbols < symbols s bytes) × (output ≡ aligned_file s (within_limit s bytes) (place_of s bytes)))
 
--- The report comes to the lines of the place and the closing line, or past the limit to the lines of the place.
+-- The report is the lines of the place and the closing line, or past the limit only the lines of the place.
 abbrev pub LinesCome : Settings → List ℕ → List ℕ → Type 0
 LinesCome s bytes lines =
     ((symbols s bytes ≤ s.max_symbols) × (lines ≡ lines_at (place_of s bytes) ++ closing_at s bytes (place_of s bytes)))
     ⊎ ((s.max_symbols < symbols s bytes) × (lines ≡ lines_at (place_of s bytes)))
 
--- After a failed read these first bytes of the file were taken. They are at most as many whole symbols as the limit.
+-- After a failed read these bytes, a prefix of the file within the limit, were taken.
 pub record AreTaken (s : Settings) (file left taken : List ℕ) : Type 0 where
   pub are : file ≡ taken ++ left
   pub within : symbols s (cells_in taken) ≤ s.max_symbols
@@ -63,28 +66,30 @@ pub record AreTaken (s : Settings) (file left taken : List ℕ) : Type 0 where
 abbrev pub FileSoFar : Settings → List ℕ → List ℕ → List ℕ → Type 0
 FileSoFar s file left output = (taken : List ℕ) × AreTaken s file left taken × (output ≡ aligned_file s (cells_in taken) (place_of s (cells_in taken)))
 
--- and the report has the lines of their place, if they hold one; where no settings are stated there are none
+-- and the report has the lines of their place, if there is one; none if no settings are stated
 abbrev pub LinesSoFar : Option Settings → List ℕ → List ℕ → List ℕ → Type 0
 LinesSoFar None file left lines = lines ≡ []
 LinesSoFar (Some s) file left lines = (taken : List ℕ) × AreTaken s file left taken × (lines ≡ lines_at (place_of s (cells_in taken)))
 
--- why it is refused, if it is: past the limit or, within it, where there is no place
+-- the refusal past the limit of symbols, if any
 abbrev pub limit_refusal : Settings → List ℕ → Option Refusal
 limit_refusal s bytes = if nat_lt s.max_symbols (symbols s bytes) then Some (Limit s.max_symbols) else None
 
+-- within the limit, cells without a place are refused
 abbrev pub refusal_at : Option Refusal → Option Found → Option Refusal
 refusal_at limit None = option_or limit (Some (Cells NoPlace))
 refusal_at limit (Some found) = limit
 
+-- the refusal of the cells, if any
 abbrev pub align_refusal : Settings → List ℕ → Option Refusal
 align_refusal s bytes = refusal_at (limit_refusal s bytes) (place_of s bytes)
 
--- the laws of what it comes to, by the settings that are stated, if any are, and the file of cells
+-- the laws, from the stated settings, if any, and the file of cells
 pub record AlignLaws (stated : Option Settings) (file : List ℕ) : Type 0 where
   -- The place is the least one by its definition.
   pub searches : (s : Settings) → stated ≡ Some s → Searches s (cells_in file)
-  -- By the settings that the place announces the aligned cells are received as the bytes from the next super-frame on are.
+  -- With the announced settings, the aligned cells have the same reception as the bytes from the next super-frame on.
   pub received : (s : Settings) → stated ≡ Some s → (found : Found) → HoldsPlace s (cells_in file) found → (announced : Settings) → IsAnnounced found.word s announced
       → AreReceivedAlike announced (rest s (cells_in file) found) (aligned_cells s (cells_in file) (Some found))
-  -- The words of the announced parameters are those of the settings file.
+  -- The names of the announced parameters are those of the settings file.
   pub words : AreSettingsWords

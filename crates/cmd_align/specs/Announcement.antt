@@ -1,4 +1,5 @@
--- The lines of a place: where the frame is, and what its TPS word announces (EN 300 744, 4.6.2), in the words of the settings file.
+-- The lines of a place: the position of the frame, and the parameters announced in its TPS word (EN 300 744, 4.6.2), as
+-- the settings file names them.
 use Rattle.std.specs.Prelude.{◌≡◌, ℕ, List, [], ◌++◌, codes, Some, if◌then◌else◌}
 use Rattle.mode_set.specs.Kept.{is_flat}
 use Rattle.mode_set.specs.Values.{chosen, guard_words, hierarchy_words, rate_words, shape_words}
@@ -38,21 +39,22 @@ guard_word G1of16 = codes "1/16"
 guard_word G1of8 = codes "1/8"
 guard_word G1of4 = codes "1/4"
 
--- Each word is the one by which a settings file chooses that value.
+-- Each name selects the same value in a settings file.
 pub record AreSettingsWords : Type 0 where
   pub shape : (x : Shape) → chosen shape_words (shape_word x) ≡ Some x
   pub hierarchy : (x : Hierarchy) → chosen hierarchy_words (hierarchy_word x) ≡ Some x
   pub rate : (x : Rate) → chosen rate_words (rate_word x) ≡ Some x
   pub guard : (x : Guard) → chosen guard_words (guard_word x) ≡ Some x
 
--- the rate of LP, where the word has a hierarchy
+-- the rate of LP, if the word has a hierarchy
 abbrev pub low_rate : TpsWord → List ℕ
 low_rate word = if is_flat word.hierarchy then [] else codes " rate_lp " ++ rate_word word.rate_lp
 
+-- the line of the announced parameters
 abbrev pub announced_line : TpsWord → List ℕ
 announced_line word =
     codes "announced constellation " ++ shape_word word.shape ++ codes " hierarchy " ++ hierarchy_word word.hierarchy ++ codes " rate_hp " ++ rate_word word.rate_hp ++ low_rate word ++ codes " guard " ++ guard_word word.guard ++ codes "\n"
 
--- the lines at the last symbol of a place
+-- the lines printed at the last symbol of a place
 abbrev pub found_lines : Found → List ℕ
 found_lines found = place_line found ++ announced_line found.word

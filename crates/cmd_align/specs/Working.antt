@@ -1,4 +1,4 @@
--- The work of `align` on cells, by settings s.
+-- The work of `align` on cells, with settings s.
 use Rattle.std.specs.Prelude.{◌≡◌, ◌⊎◌, ℕ, ◌+◌, ◌≤◌, List, [], ◌++◌, take, Option, Some, None, Result, Ok, Err}
 use Rattle.mode_set.specs.declared.settings.Settings.{Settings}
 use Rattle.reception.specs.Cells.{symbol_length, symbols, tail}
@@ -32,18 +32,19 @@ PlaceIs s bytes (Some found) = IsFoundIn s bytes found
 abbrev pub GivesAt : Settings → List ℕ → Option Found → Written → Type 0
 GivesAt s bytes place given = (port : OutPort) → given port ≡ written_at (aligned_file s bytes place) (lines_at place) port
 
--- first bytes give those of their place
+-- the output for a prefix is that of its place
 abbrev pub FirstGive : Settings → List ℕ → Written → Type 0
 FirstGive s bytes given = (place : Option Found) × PlaceIs s bytes place × GivesAt s bytes place given
 
--- and all bytes in the end the closing line as well: they hold a place
+-- and for all bytes, which must hold a place, also the closing line
 abbrev pub AllGive : Settings → List ℕ → Written → Type 0
 AllGive s bytes given = (found : Found) × IsFoundIn s bytes found × ((port : OutPort) → given port ≡ written_at (aligned_file s bytes (Some found)) (found_lines found ++ closing_at s bytes (Some found)) port)
 
--- The cells are refused where they end without a place. The header was given before.
+-- The cells are refused if they end without a place. The header was given before.
 abbrev pub RefusesAligning : Settings → List ℕ → List ℕ → Written → Refusal → Type 0
 RefusesAligning s bytes left given r = (r ≡ Cells NoPlace) × (left ≡ []) × HasNoPlace s bytes × GivesAt s bytes None given
 
+-- the work of `align`
 abbrev pub aligning_work : Settings → Work
 aligning_work s = record {
   size = symbol_length s;
@@ -53,18 +54,18 @@ aligning_work s = record {
   Reasons = λ r. r ≡ Cells NoPlace;
 }
 
--- Behind a place: so many symbols are still to be passed over, so many were handed on, and so many bytes are after them.
+-- After a place: the number of symbols still to skip, of those copied, and of bytes after them.
 pub record IsCopying (s : Settings) (found : Found) (bytes : List ℕ) (c : Copying) : Type 0 where
   pub counts : (c.skip + symbols s bytes ≡ begin found) ⊎ ((c.skip ≡ 0) × (begin found ≤ symbols s bytes))
   pub copied : c.symbols ≡ symbols s (rest s bytes found)
   pub after : c.tail ≡ tail s (rest s bytes found)
 
--- what the work stands for: a search, or behind a place the symbols that were handed on
+-- the state of the work: searching, or after a place the symbols copied
 abbrev pub AligningStands : (Settings → List ℕ → Type 0) → Settings → Option Copying → List ℕ → Written → Type 0
 AligningStands searching s None bytes given = searching s bytes × HasNoPlace s bytes × GivesAt s bytes None given
 AligningStands searching s (Some c) bytes given = (found : Found) × IsFoundIn s bytes found × IsCopying s found bytes c × GivesAt s bytes (Some found) given
 
--- lines follow what stood in Report, or a front of them
+-- lines were appended to Report, or a prefix of them
 abbrev pub Appends : List ℕ → List ℕ → List ℕ → Result (Unit {0}) Stop → Type 0
 Appends lines before after (Ok u) = after ≡ before ++ lines
 Appends lines before after (Err r) = (r ≡ WriteFault) × (k : ℕ) × (after ≡ before ++ take k lines)
@@ -73,7 +74,7 @@ Appends lines before after (Err r) = (r ≡ WriteFault) × (k : ℕ) × (after �
 abbrev pub ReportOnly : Meaning → Meaning → Type 0
 ReportOnly old new = new ≡ record old { report = record old.report { written = new.report.written }; write_faults = new.write_faults; report_faults = new.report_faults }
 
--- the work was done on the cells, or memory was wanting before a port was asked
+-- the work was done on the cells, or memory was lacking before a port was requested
 abbrev pub RunsOrLacks : Settings → List ℕ → List ℕ → Meaning → Meaning → ℕ → Type 0
 RunsOrLacks s old_name new_name old new status =
     RunsCells (aligning_work s) s.max_symbols old_name (Some (header s.mode)) (cell_names new_name) old new status ⊎ ((status ≡ 7) × WritesText (refusal_text Memory) old new)

@@ -17,7 +17,7 @@ use station_core::{OutPort, Station};
 use tune_in::{Found, begin};
 use tune_search::{PlaceSearch, place_line};
 
-// Writes the lines of a place, each by one write.
+// Writes the lines of a place, one write for each.
 fn write_found<'a, S: Station<'a>>(found: &Found, station: &mut S) -> Result<(), Stop>
     requires created { (S.meaning station.old).report.created ≡ true }
     requires open { (S.meaning station.old).report.closed ≡ false }
@@ -33,7 +33,7 @@ fn write_found<'a, S: Station<'a>>(found: &Found, station: &mut S) -> Result<(),
     write_some(OutPort::Report, announced.as_str().as_bytes(), station)
 }
 
-// What there is to be done behind a place: the symbols before the next super-frame are passed over.
+// The state after a place is found: the symbols before the next super-frame are skipped.
 fn copying_from(found: &Found) -> Copying
     requires place { found.now.place < 2 ^ 32 }
     requires valid { IsValid found.now.word }
@@ -48,14 +48,14 @@ fn copying_from(found: &Found) -> Copying
     }
 }
 
-/// A search for a place, and behind it what is handed on.
+/// A search for a place, and the copying after it.
 #[derive(Drop)]
 pub(crate) struct AligningWork<T> {
     /// The settings of the command.
     pub settings: Settings,
     /// The search.
     pub search: T,
-    /// What is handed on, once a place is found.
+    /// The copying, once a place is found.
     pub copying: Option<Copying>,
 }
 

@@ -57,7 +57,7 @@ fn guard_word(guard: Guard) -> &'static str
     }
 }
 
-// Adds a name and a word. There must be room for the name and five bytes.
+// Appends a name and a word. There must be room for the name and five bytes.
 fn push_word(line: &mut Line, name: &str, word: &str)
     requires room { array_string_len line.old + length name.now ≤ 250 }
     requires short { length word.now ≤ 5 }
@@ -68,7 +68,7 @@ fn push_word(line: &mut Line, name: &str, word: &str)
     line.push_str(word);
 }
 
-// Adds the rate of LP, if the word has a hierarchy.
+// Appends the rate of LP, if the word has a hierarchy.
 fn push_low_rate(line: &mut Line, word: &TpsWord)
     requires room { array_string_len line.old ≤ 230 }
     ensures bytes { line.new.bytes ≡ line.old.bytes ++ low_rate word.now }
@@ -79,8 +79,8 @@ fn push_low_rate(line: &mut Line, word: &TpsWord)
     }
 }
 
-/// The line of the announced parameters, in the words of the settings file, as
-/// `announced constellation qpsk hierarchy none rate_hp 1/2 guard 1/32`.
+/// The line of the announced parameters, in the words of the settings file, such as `announced constellation qpsk
+/// hierarchy none rate_hp 1/2 guard 1/32`.
 pub(crate) fn announced_line(word: &TpsWord) -> Line
     ensures { result.bytes ≡ line_of_word word.now }
 {

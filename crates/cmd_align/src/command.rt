@@ -19,7 +19,7 @@ use station_core::Station;
 use std::alloc::Global;
 use tune_search::{PlaceSearch, Search};
 
-// Runs the work by a search that has had no byte. `symbol` has the size of a symbol.
+// Runs the work with a search that has had no byte. `symbol` has the size of a symbol.
 fn align_by<'a, T: PlaceSearch + Drop, S: Station<'a>>(
     search: T,
     settings: &Settings,
@@ -51,7 +51,7 @@ fn align_by<'a, T: PlaceSearch + Drop, S: Station<'a>>(
     )
 }
 
-// Takes the memory of a mode's search and of one symbol, and runs the work.
+// Allocates the memory for a mode's search and one symbol, and runs the work.
 fn align_in<'a, M: Carriers, S: Station<'a>>(
     alloc: Global,
     settings: &Settings,
@@ -73,7 +73,7 @@ fn align_in<'a, M: Carriers, S: Station<'a>>(
     align_by(search, settings, &mut symbol, old_cells, new_cells, station)
 }
 
-// The same in the mode that is set.
+// The same in the mode of the settings.
 fn align_accepted<'a, S: Station<'a>>(
     alloc: Global,
     settings: &Settings,
@@ -90,17 +90,16 @@ fn align_accepted<'a, S: Station<'a>>(
     }
 }
 
-/// Runs `align SETTINGS IN OUT` and gives its status: from the super-frame after the first readable frame on,
-/// the whole symbols of IN are handed on to OUT, byte for byte. Both are cell files of version 2, and IN begins
-/// at any symbol.
+/// Runs `align SETTINGS IN OUT` and returns its status: from the super-frame after the first readable frame on, the
+/// whole symbols of IN are copied to OUT, byte for byte. Both are cell files of version 2, and IN begins at any symbol.
 ///
-/// What it promises is `Run` of its definition, `align_command`. The settings are read and checked, of which
-/// the mode and the limit of symbols have an effect, and then all memory is taken, before another port is asked.
-/// IN is opened, and its header is read, before OUT is made. If IN holds no place the status is 10, and OUT
-/// holds the header alone. The limits of packets have no effect.
+/// Its promise is `Run` of its definition, `align_command`. The settings are read and checked; only the mode and the
+/// limit of symbols matter. Then all memory is allocated, before another port is requested. IN is opened, and its
+/// header is read, before OUT is created. If IN holds no place the status is 10, and OUT holds only the header. The
+/// limits of packets have no effect.
 ///
-/// Its own laws: the place is the least one, and by the settings that it announces a receiver has of OUT what
-/// it has of IN from the next super-frame on.
+/// Its own laws: the place is the least one, and with the announced settings a receiver gives for OUT what it gives for
+/// IN from the next super-frame on.
 pub fn align<'a, S: Station<'a>>(
     alloc: Global,
     settings: &'a str,

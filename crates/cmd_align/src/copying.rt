@@ -1,4 +1,4 @@
-// The symbols behind a place, which are handed on.
+// Copying the symbols after a place.
 ghost use Rattle.std.specs.Prelude.{◌≡◌, ◌≤◌, ◌<◌, ◌^◌, ◌++◌, ℕ, List, length, Some};
 ghost use Rattle.mode_set.specs.declared.settings.Settings.{Settings as AnySettings};
 ghost use Rattle.reception.specs.Cells.{symbol_length, tail};
@@ -14,20 +14,20 @@ use cmd_cells::{Stop, write_some};
 use rx_report::{Line, push_count};
 use station_core::{OutPort, Station};
 
-/// What was counted of the symbols behind a place.
+/// The counts of the symbols after a place.
 #[derive(Clone, Copy, Debug)]
 pub(crate) struct Copying {
-    /// The symbols that are still to be passed over.
+    /// The number of symbols still to skip.
     pub skip: u64,
-    /// The whole symbols that were handed on.
+    /// The number of whole symbols copied.
     pub symbols: u64,
-    /// The bytes after them.
+    /// The number of bytes after them.
     pub tail: u64,
 }
 
 impl Copying {
-    /// Takes the next symbol of `size` bytes, or what there is of it. It is passed over before the next
-    /// super-frame; from there on it is handed on if it is whole.
+    /// Takes the next symbol of `size` bytes, or the part there is of it. Before the next super-frame it is skipped;
+    /// from there on it is copied if it is whole.
     pub(crate) fn take<'a, S: Station<'a>>(
         &mut self,
         size: usize,

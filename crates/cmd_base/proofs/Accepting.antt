@@ -1,4 +1,4 @@
--- How many packets of an input are accepted, and the refusal of the next one.
+-- The number of accepted packets of an input, and the refusal of the next one.
 use Rattle.std.proofs.Common.{◌≡◌, ℕ, ◌<◌, ◌≤◌, Bool, true, false, not, List, refl, ◌∙◌, ap, arith, None, Some, inl, inr, ◌⊎◌}
 use Rattle.std.specs.Prelude.{◌&&◌, nat_lt, ◌==◌, if◌then◌else◌}
 use Rattle.std.proofs.lemmas.Bool.{lt-ltb, le-ltb, eq-eqb, eqb-true}

@@ -1,5 +1,5 @@
--- What a run leaves that was refused before another port than Settings was asked: for its settings, for want
--- of memory, or where they could not be read.
+-- The state after a run that was refused before another port than Settings was requested: for its settings, for lack of
+-- memory, or because they could not be read.
 use Rattle.std.proofs.Common.{◌≡◌, ◌≢◌, ◌⊎◌, inl, inr, true, false, ℕ, ◌≤◌, Bool, List, [], drop, refl, ◌∙◌, sym, ap, subst, arith, Option, None, Some, Err, ◌+◌}
 use Rattle.std.specs.Prelude.{is_some, if◌then◌else◌}
 use Rattle.std.specs.Option.{option_or}
@@ -22,8 +22,8 @@ use Rattle.cmd_base.specs.SettingsStep.{AsksSettings, ReadsSettings}
 use Rattle.cmd_base.specs.Causes.{IsSettled}
 use Rattle.cmd_base.specs.Ended.{Ended, IsCaused, IsExact, IsSettledAt, Leaves, HoldNothing}
 
--- how a run is refused before another port is asked: for its words or settings, for want of memory, or where
--- the settings could not be read; where reading stops and no other input was opened, no line was printed
+-- A run is refused before another port is requested: for its arguments or settings, for lack of memory, or because the
+-- settings could not be read. If reading stops before another input was opened, no line was printed.
 abbrev pub RefusedEarly : Command → ℕ → Meaning → Meaning → Refusal → Type 0
 RefusedEarly c limit old mid Usage = (mid.read_faults ≡ old.read_faults) × (old.tells ≡ true → c.early_refusal old.file ≡ Some Usage)
 RefusedEarly c limit old mid (Settings reason) = (mid.read_faults ≡ old.read_faults) × (old.tells ≡ true → c.early_refusal old.file ≡ Some (Settings reason))
@@ -34,7 +34,7 @@ RefusedEarly c limit old mid Memory = mid.read_faults ≡ old.read_faults
 RefusedEarly c limit old mid (Limit n) = ⊥
 RefusedEarly c limit old mid (Cells reason) = ⊥
 
--- what the settings are refused for is a refusal of the run
+-- a refusal of the settings is a refusal of the run
 pub refused_early : (c : Command) (limit : ℕ) (name : List ℕ) (old mid : Meaning) (r : Refusal)
     → ((reason : SettingsRefusal) → settings_refusal (old.file name) ≡ Some (Settings reason) → c.early_refusal old.file ≡ Some (Settings reason))
     → old.read_faults ≤ mid.read_faults → ReadsSettings name old mid (Err r) → RefusedEarly c limit old mid r
@@ -51,7 +51,7 @@ module _ (c : Command) (limit : ℕ) (name : List ℕ) (old mid : Meaning) (no_r
     (reads : (mid.settings ≡ old.settings) ⊎ ((c.reads ins.Settings ≡ Some name) × (c.most_taken limit old.file ins.Settings ≡ most_settings + 1)))
     (nothing : (u : Unread) → ((port : InPort) → port ≢ ins.Settings → u port ≡ input_file old.file c port) → c.PrintsSoFar limit old.file u []) (own : (file : Files) → c.Own limit file)
     (fresh : IsFresh old) (asks : AsksSettings name old mid) where
-  -- the ports but Settings are as before
+  -- the ports except Settings are unchanged
   hp_same : mid.hp ≡ old.hp
   hp_same = ap (λ (x : Meaning). x.hp) asks.others
 
@@ -106,7 +106,7 @@ module _ (c : Command) (limit : ℕ) (name : List ℕ) (old mid : Meaning) (no_r
   files_same : mid.file ≡ old.file
   files_same = ap (λ (x : Meaning). x.file) asks.others
 
-  -- of the other inputs nothing was taken
+  -- nothing was taken of the other inputs
   whole : (port : InPort) → port ≢ ins.Settings → unread c mid port ≡ input_file old.file c port
   whole port other =
       ap (λ (b : Bool). if b then (source_at port mid).left else input_file mid.file c port) (unopened port other)
@@ -170,7 +170,7 @@ module _ (c : Command) (limit : ℕ) (name : List ℕ) (old mid : Meaning) (no_r
   later (Limit n) h = absurd h
   later (Cells reason) h = absurd h
 
-  -- what is refused for the settings is what the run comes to
+  -- a refusal of the settings is the refusal of the run
   comes_to : (reason : Refusal) → c.early_refusal old.file ≡ Some reason → refusal_of limit old.file c ≡ Some reason
   comes_to reason is = ap (λ (x : Option Refusal). option_or x (option_or (header_refusal (c.header old.file) (input_file old.file c ins.Cells)) (c.work_refusal limit old.file))) is
 
@@ -230,7 +230,7 @@ module _ (c : Command) (limit : ℕ) (name : List ℕ) (old mid : Meaning) (no_r
     own = own;
   }
 
--- the same of a run that has asked for nothing
+-- the same for a run that has requested nothing
 pub unstarted_ended : (c : Command) (limit : ℕ) (old : Meaning) → c.writes outs.Report ≡ None
     → ((u : Unread) → ((port : InPort) → port ≢ ins.Settings → u port ≡ input_file old.file c port) → c.PrintsSoFar limit old.file u [])
     → ((file : Files) → c.Own limit file) → IsFresh old → (r : Refusal) → RefusedEarly c limit old old r → is_among (status_of (Some r)) c.statuses ≡ true → Ended c limit old old (Some r)

@@ -1,4 +1,4 @@
--- The cause of a whole run's answer, from the causes of its parts: the work, and the closing of the output behind it.
+-- The cause of a whole run's result, from the causes of its parts: the work, and closing the output after it.
 use Rattle.std.proofs.Common.{◌≡◌, ◌≤◌, ◌⊎◌, inl, inr, ◌∙◌, ap, sym, subst, arith, false, Result, Ok, Err}
 use Rattle.station_core.specs.Meaning.{Meaning}
 use Rattle.station_core.specs.Causes.{Rose}
@@ -6,7 +6,7 @@ use Rattle.cmd_base.specs.declared.work.Refusal.{Refusal}
 use Rattle.cmd_base.specs.declared.work.Refusal.TheVariants.{Usage, Settings, ReadFault, WriteFault, NotSync, Memory, Limit, Cells}
 use Rattle.cmd_base.specs.Causes.{AreReadsKept, HasCause, HasEndCause, IsFaultless, IsSettled, Settles}
 
--- the work was refused, the outputs were flushed or had nothing to be flushed, and closed, however that went
+-- the work was refused, the outputs were flushed or had nothing pending, and closed, with any result
 pub refused_cause : (T U : Type 0) (whole : Type 0) (old done fin new : Meaning) (r : Refusal) → IsFaultless old done → HasCause {T = T} done fin (Err r)
     → new.read_faults ≡ fin.read_faults → new.write_faults ≡ fin.write_faults → new.pending ≡ false → HasEndCause {T = U} whole old new (Err r)
 refused_cause T U whole old done fin new ReadFault before cause reads writes settled =
@@ -41,7 +41,7 @@ later_reads T done fin (Cells reason) cause = absurd cause
 later_reads T done fin (Settings reason) cause = absurd cause
 later_reads T done fin Memory cause = absurd cause
 
--- the work was refused, and the outputs were flushed and then closed, however that went
+-- the work was refused, and the outputs were flushed and then closed, with any result
 pub settled_cause : (T U : Type 0) (whole : Type 0) (old done fin sett new : Meaning) (r r' : Refusal) → IsFaultless old done → HasCause {T = T} done fin (Err r)
     → Settles r fin sett r' → new.read_faults ≡ sett.read_faults → new.write_faults ≡ sett.write_faults → new.pending ≡ sett.pending → HasEndCause {T = U} whole old new (Err r')
 settled_cause T U whole old done fin sett new r r' before cause settles reads writes pending = go settles
@@ -58,7 +58,7 @@ settled_cause T U whole old done fin sett new r r' before cause settles reads wr
       omega (arith, before.writes, later_writes T done fin r cause, failed.2, writes),
     )
 
--- the work was done, so that the whole of it is known, and the output closed behind its last lines
+-- the work was complete, and the output closed after its last lines
 pub finished_cause : (T whole : Type 0) (old fin new : Meaning) (o : Result T Refusal) → IsFaultless old fin → fin.close_faults ≡ old.close_faults → whole
     → HasEndCause (Unit {0}) fin new o → HasEndCause whole old new o
 finished_cause T whole old fin new (Ok value) before closes all cause = (record { reads = cause.0.reads ∙ before.reads; writes = cause.0.writes ∙ before.writes }, cause.1 ∙ closes)

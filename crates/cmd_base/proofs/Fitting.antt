@@ -1,4 +1,4 @@
--- Settings that do not fit the form of their command.
+-- Settings that do not fit the arguments of their command.
 use Rattle.std.proofs.Common.{◌≡◌, Bool, true, false, not, if◌then◌else◌, ℕ, List, Option, None, Some, refl, ◌∙◌, sym, ap}
 use Rattle.std.specs.Prelude.{is_some}
 use Rattle.std.specs.Bool.{beq}

@@ -1,4 +1,4 @@
--- An error that a function hands on by `?` is the error that it was given.
+-- An error propagated by `?` is the original one.
 use Rattle.std.proofs.Common.{◌≡◌, Result, Ok, Err, sym, subst}
 use Rattle.std.specs.Result.{IsErrAnd}
 

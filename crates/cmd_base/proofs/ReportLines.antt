@@ -7,7 +7,7 @@ use Rattle.station_core.specs.Meaning.{Meaning}
 use Rattle.cmd_base.specs.declared.work.Refusal.{Refusal}
 use Rattle.cmd_base.specs.Lines.{IsFrontOf, WritesLines}
 
--- a front of a text is a front of a longer one
+-- a prefix of a text is a prefix of a longer one
 front_of : (few rest : List ℕ) (k : ℕ) → (j : ℕ) × (take k few ≡ take j (few ++ rest))
 front_of few rest k = elim (cases_lt k (length few)) [
   | inl lt ↦ (k, sym (take-append-le k few rest (omega (arith, lt))))

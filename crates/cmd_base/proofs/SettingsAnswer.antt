@@ -1,4 +1,4 @@
--- From what was read of the settings file to the answer of the step.
+-- From the bytes read of the settings file to the result of the step.
 use Rattle.std.proofs.Common.{◌≡◌, ◌+◌, true, ℕ, List, length, drop, ◌∙◌, arith, Result, Ok, Err, Some}
 use Rattle.std.proofs.lemmas.List.{drop_all}
 use Rattle.station_core.specs.Meaning.{Meaning}

@@ -1,4 +1,4 @@
--- The settings that a file states are one.
+-- The settings that a file states are unique.
 use Rattle.std.proofs.Common.{◌≡◌, ℕ, List, Some}
 use Rattle.mode_set.specs.Document.{IsStatedBy}
 use Rattle.mode_set.specs.declared.settings.Settings.{Settings}

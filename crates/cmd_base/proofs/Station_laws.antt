@@ -1,11 +1,11 @@
--- How the meaning of a station goes on from call to call.
+-- How the meaning of a station changes from call to call.
 use Rattle.std.proofs.Common.{◌≡◌, ℕ, ◌+◌, List, drop, refl, ◌∙◌, ap}
 use Rattle.std.proofs.lemmas.List.{drop-drop}
 use Rattle.station_core.specs.declared.ports.InPort.{InPort}
 use Rattle.station_core.specs.declared.ports.InPort.TheVariants as ins
 use Rattle.station_core.specs.Meaning.{Meaning, source_at, with_source, read_source}
 
--- reading on at a port
+-- continued reading at a port
 pub read_again : (port : InPort) (m m' m'' : Meaning) (a b : ℕ)
     → m' ≡ with_source port (read_source a (source_at port m)) m
     → m'' ≡ with_source port (read_source b (source_at port m')) m'
@@ -18,7 +18,7 @@ read_again port m m' m'' a b p q = q ∙ ap (λ (x : Meaning). with_source port 
     twice ins.Lp = ap (λ (l : List ℕ). record m { lp = record m.lp { left = l } }) (drop-drop b a m.lp.left)
     twice ins.Cells = ap (λ (l : List ℕ). record m { cells = record m.cells { left = l } }) (drop-drop b a m.cells.left)
 
--- the port that was read is still attached, with what is left
+-- the port that was read is still attached, with the bytes left
 pub still_attached : (port : InPort) (m : Meaning) (n : ℕ) → (source_at port (with_source port (read_source n (source_at port m)) m)).attached ≡ (source_at port m).attached
 still_attached ins.Settings m n = refl
 still_attached ins.Hp m n = refl

@@ -1,4 +1,4 @@
--- From what a command leaves to the promise of its run: the text of a refusal changes Report alone.
+-- From the state that a command leaves to the promise of its run: the text of a refusal changes only Report.
 use Rattle.std.proofs.Common.{◌≡◌, ◌≢◌, ◌⊎◌, inl, inr, true, false, ℕ, ◌≤◌, Bool, List, [], ◌∷◌, ◌++◌, take, drop, refl, ◌∙◌, sym, ap, subst, arith, Option, None, Some}
 use Rattle.std.specs.Prelude.{is_some, if◌then◌else◌, ◌==◌, ◌||◌}
 use Rattle.std.proofs.lemmas.Bool.{eqb-true, true≢false}
@@ -140,7 +140,7 @@ module _ (c : Command) (limit : ℕ) (old mid new : Meaning) (text : List ℕ) (
   all_attached : ((port : InPort) → IsInput c port → (source_at port mid).attached ≡ true) → (port : InPort) → IsInput c port → (source_at port new).attached ≡ true
   all_attached h port is = ap (λ (s : Source). s.attached) (source_same port) ∙ h port is
 
-  -- the report behind the lines that stood there
+  -- the report after its earlier lines
   told_after : old.tells ≡ true → mid.tells ≡ old.tells → old.report_faults ≤ mid.report_faults → (lines : List ℕ) → mid.report.written ≡ lines
       → (named : List ℕ) → text ≡ named → Reports old new lines named
   told_after t telling later lines is named same =
@@ -155,7 +155,7 @@ module _ (c : Command) (limit : ℕ) (old mid new : Meaning) (text : List ℕ) (
     made_same : AreMade c mid → AreMade c new
     made_same h out is = ap (λ (s : Sink). s.created) (sink_same e.no_report out is) ∙ h out is
 
-    -- the promise at a status, from what each status says
+    -- the promise at a status, from the facts on each status
     run_at : (status : ℕ) → is_among status c.statuses ≡ true
         → (status ≡ 5 → Rose old.read_faults mid.read_faults)
         → (status ≡ 6 → IsWriteFault c limit old mid)
@@ -303,7 +303,7 @@ module _ (c : Command) (limit : ℕ) (old mid new : Meaning) (text : List ℕ) (
             ap (λ (s : Sink). s.closed) same ∙ e.closed out is (ap (λ (s : Sink). s.created) (sym same) ∙ made)
 
 module _ (c : Command) (limit : ℕ) (old mid new : Meaning) where
-  -- what the files come to is no refusal, and yet it is one
+  -- the files give no refusal, and yet there is one
   refuted : (r : Refusal) → refusal_of limit old.file c ≡ Some r → refusal_of limit old.file c ≡ None → ⊥
   refuted r is none = let e : Some r ≡ None = sym is ∙ none in cc
 

@@ -1,4 +1,4 @@
--- Settings that fit the form of a command are read: there is a file of LP exactly where LP exists in them.
+-- Reading settings that fit a command's arguments: a file for LP is given exactly if LP exists.
 use Rattle.std.specs.Prelude.{◌≡◌, ℕ, true, List, Result, Ok, Err, Option, Some}
 use Rattle.station_core.specs.Meaning.{Meaning}
 use Rattle.station_core.specs.Causes.{Rose}
@@ -8,7 +8,7 @@ use Rattle.cmd_base.specs.declared.work.Refusal.TheVariants.{Settings, ReadFault
 use Rattle.cmd_base.specs.StreamForm.{fits_form, fitting_refusal}
 use Rattle.cmd_base.specs.SettingsStep.{ReadsSettings}
 
--- settings that fit the form, or why there are none
+-- settings that fit the arguments, or the reason why there are none
 abbrev pub Accepts : List ℕ → Option (List ℕ) → Meaning → Meaning → Result TheSettings Refusal → Type 0
 Accepts name lp old new (Ok s) = ReadsSettings name old new (Ok s) × (fits_form s lp ≡ true)
 Accepts name lp old new (Err ReadFault) = Rose old.read_faults new.read_faults

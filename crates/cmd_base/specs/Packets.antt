@@ -1,4 +1,4 @@
--- The whole packets of a transport file, and the first of them that a run refuses.
+-- The whole packets of a transport file, and the first one that a run rejects.
 use Rattle.std.specs.Prelude.{◌≡◌, ◌<◌, ◌+◌, ◌*◌, ◌/◌, ◌%◌, ◌==◌, ℕ, zero, suc, Bool, not, List, [], ◌∷◌, ◌++◌, length, take, drop, slice_index, nat_lt, ◌&&◌, true, Option, None, Some, codes, decimal, if◌then◌else◌}
 use Rattle.spec_words.specs.Words.{first_below}
 use Rattle.mode_set.specs.declared.modes.Stream.{Stream}
@@ -12,10 +12,11 @@ use Rattle.cmd_base.specs.declared.work.Refusal.TheVariants.{NotSync, Limit}
 abbrev pub file_packet : List ℕ → ℕ → List ℕ
 file_packet bytes i = take 188 (drop (188 * i) bytes)
 
--- how many whole packets the file holds; what is behind them is the tail
+-- the number of whole packets in a file; the tail follows them
 abbrev pub whole_packets : List ℕ → ℕ
 whole_packets bytes = length bytes / 188
 
+-- the number of bytes after the last whole packet
 abbrev pub tail_of : List ℕ → ℕ
 tail_of bytes = length bytes % 188
 
@@ -27,7 +28,7 @@ is_sync bytes i = slice_index (file_packet bytes i) 0 == 0x47
 abbrev pub is_accepted : ℕ → List ℕ → ℕ → Bool
 is_accepted limit bytes i = nat_lt i limit && is_sync bytes i
 
--- the packets before the first one that is not accepted, or all
+-- the number of packets before the first rejected one, or of all
 unfoldable pub accepted : ℕ → List ℕ → ℕ
 accepted limit bytes = first_below (whole_packets bytes) (λ i. not (is_accepted limit bytes i))
 
@@ -52,13 +53,13 @@ AcceptsFirst limit input n = (i : ℕ) → i < n → is_accepted limit input i �
 abbrev pub counts_of : List ℕ → Counts
 counts_of input = record { packets = whole_packets input; tail = tail_of input }
 
--- the refusal of the first packet of HP that is not accepted, if there is one: past the limit before no sync byte
+-- the refusal of the first rejected packet of HP, if any; the limit is checked before the sync byte
 abbrev pub packet_refusal : ℕ → List ℕ → Option Refusal
 packet_refusal limit input = let n = accepted limit input in
     if n == whole_packets input then None else if nat_lt n limit then Some (NotSync Hp n) else Some (Limit limit)
 
--- The most bytes that are taken of a transport file: those of the packets that are accepted and one packet
--- more. So it is at most one packet past the limit, and nothing behind a packet without its sync byte.
+-- The most bytes taken from a transport file: the accepted packets and one more. So at most one packet past the limit
+-- is taken, and nothing after a packet without its sync byte.
 abbrev pub most_packets_taken : ℕ → List ℕ → ℕ
 most_packets_taken limit input = 188 * (accepted limit input + 1)
 
@@ -66,5 +67,6 @@ most_packets_taken limit input = 188 * (accepted limit input + 1)
 abbrev pub packets_line : Stream → Counts → List ℕ
 packets_line σ counts = stream_text σ ++ codes " packets " ++ decimal counts.packets ++ codes " tail " ++ decimal counts.tail ++ codes "\n"
 
+-- the closing line of a command with one transport file
 abbrev pub closing_line : Counts → List ℕ
 closing_line = packets_line Hp

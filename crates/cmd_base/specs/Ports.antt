@@ -1,11 +1,11 @@
--- What a command has at its ports: tables that commands share.
+-- The files of a command at its ports: tables shared by commands.
 use Rattle.std.specs.Prelude.{ℕ, List, Option, Some, None}
 use Rattle.station_core.specs.declared.ports.InPort.{InPort}
 use Rattle.station_core.specs.declared.ports.InPort.TheVariants as ins
 use Rattle.station_core.specs.declared.ports.OutPort.{OutPort}
 use Rattle.station_core.specs.declared.ports.OutPort.TheVariants as outs
 
--- one thing for each input: for Settings, Hp, Lp and Cells
+-- one value for each input: Settings, Hp, Lp and Cells
 abbrev pub by_input : {T : Type 0} → (settings hp lp cells : T) → InPort → T
 by_input settings hp lp cells ins.Settings = settings
 by_input settings hp lp cells ins.Hp = hp
@@ -17,7 +17,7 @@ abbrev pub cell_names : List ℕ → OutPort → Option (List ℕ)
 cell_names name outs.Cells = Some name
 cell_names name port = None
 
--- a transport file is written for each stream
+-- one transport file is written for each stream
 abbrev pub stream_names : List ℕ → Option (List ℕ) → OutPort → Option (List ℕ)
 stream_names hp lp outs.Hp = Some hp
 stream_names hp lp outs.Lp = lp

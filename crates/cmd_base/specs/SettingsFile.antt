@@ -1,4 +1,4 @@
--- What a settings file comes to, from its bytes alone.
+-- The result of reading a settings file, from its bytes alone.
 use Rattle.std.specs.Prelude.{ℕ, List, length, nat_lt, if◌then◌else◌, Option, Some, option_map}
 use Rattle.mode_set.specs.declared.error.SettingsError.{SettingsError}
 use Rattle.mode_set.specs.declared.error.SettingsError.TheVariants as error
@@ -7,11 +7,11 @@ use Rattle.cmd_base.specs.declared.work.SettingsRefusal.TheVariants.{TooLong, No
 use Rattle.cmd_base.specs.declared.work.Refusal.{Refusal}
 use Rattle.cmd_base.specs.declared.work.Refusal.TheVariants.{Settings, Memory}
 
--- the most bytes that a settings file may have
+-- the greatest length of a settings file
 abbrev pub most_settings : ℕ
 most_settings = 65536
 
--- how a run is refused for the settings' own reason
+-- the refusal of a run because of its settings
 abbrev pub refused_as : SettingsError → Refusal
 refused_as error.NotToml = Settings NotToml
 refused_as (error.Unknown place) = Settings (Unknown place)
@@ -20,6 +20,6 @@ refused_as (error.Value key) = Settings (Value key)
 refused_as (error.Clash key) = Settings (Clash key)
 refused_as error.Memory = Memory
 
--- the refusal of a settings file, if it is refused: too long before what its document says
+-- the refusal of a settings file, if any: its length is checked before its document
 abbrev pub settings_refusal : List ℕ → Option Refusal
 settings_refusal bytes = if nat_lt most_settings (length bytes) then Some (Settings TooLong) else option_map refused_as (refusal bytes)

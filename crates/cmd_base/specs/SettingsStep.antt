@@ -1,4 +1,4 @@
--- The settings of a command are read, before anything else is asked.
+-- Reading the settings of a command, before anything else is requested.
 use Rattle.std.specs.Prelude.{◌≡◌, ◌⊎◌, ◌≤◌, ◌+◌, ℕ, true, List, [], length, drop, Result, Ok, Err, Some, None, ⊤}
 use Rattle.station_core.specs.Meaning.{Meaning}
 use Rattle.station_core.specs.Causes.{Rose}
@@ -8,29 +8,29 @@ use Rattle.cmd_base.specs.declared.work.Refusal.{Refusal}
 use Rattle.cmd_base.specs.declared.work.Refusal.TheVariants.{Settings, ReadFault, Memory}
 use Rattle.cmd_base.specs.SettingsFile.{most_settings, settings_refusal}
 
--- Only the port of the settings and the count of read faults have changed. This name was asked there, or
--- none, and the file was read to its end, or as far as shows that it is too long.
+-- Only the port of the settings and the count of read faults have changed. This name was requested there, or none. The
+-- file was read to its end, or far enough to show that it is too long.
 pub record AsksSettings (name : List ℕ) (old new : Meaning) : Type 0 where
   pub others : new ≡ record old { settings = new.settings; read_faults = new.read_faults }
   pub later : old.read_faults ≤ new.read_faults
   pub asked : new.settings ≡ old.settings ⊎ (new.settings.asked ≡ Some name)
   pub read : old.tells ≡ true → new.settings.attached ≡ true → (k : ℕ) × (k ≤ most_settings + 1) × (new.settings.left ≡ drop k (old.file name))
 
--- settings are only refused for a reason of their own, or for want of memory
+-- settings are rejected only for a reason of their own or lack of memory
 abbrev pub IsCheck : Result TheSettings Refusal → Type 0
 IsCheck (Ok settings) = ⊤
 IsCheck (Err Memory) = ⊤
 IsCheck (Err (Settings reason)) = ⊤
 IsCheck (Err refusal) = ⊥
 
--- these bytes are the settings file, and they are accepted, or refused
+-- these bytes are the settings file, which is accepted or rejected
 abbrev pub Checks : List ℕ → Result TheSettings Refusal → Type 0
 Checks bytes (Ok settings) = (length bytes ≤ most_settings) × (settings_refusal bytes ≡ None) × IsStatedBy settings bytes
 Checks bytes (Err Memory) = ⊤
 Checks bytes (Err (Settings reason)) = settings_refusal bytes ≡ Some (Settings reason)
 Checks bytes (Err refusal) = ⊥
 
--- the answer, and what it says of the file; nothing is left of settings that are accepted
+-- the result, and what it means for the file; accepted settings are read to their end
 abbrev pub ReadsSettings : List ℕ → Meaning → Meaning → Result TheSettings Refusal → Type 0
 ReadsSettings name old new (Ok settings) =
     (new.read_faults ≡ old.read_faults) × (new.settings.asked ≡ Some name) × (new.settings.attached ≡ true)

@@ -1,2 +1,2 @@
--- The settings that the bytes of a file state, if they state any.
+-- The settings that the bytes of a file state, if any.
 pub use Rattle.mode_set.specs.StatedSettings.{settings_of}

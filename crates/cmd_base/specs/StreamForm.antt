@@ -1,4 +1,4 @@
--- A form of the words with one stream or two, and the settings that fit it.
+-- Arguments with one stream or two, and the settings that fit them.
 use Rattle.std.specs.Prelude.{ℕ, Bool, if◌then◌else◌, List, Option, Some, None, is_some}
 use Rattle.std.specs.Bool.{beq}
 use Rattle.std.specs.Option.{option_or}
@@ -10,14 +10,15 @@ use Rattle.cmd_base.specs.declared.work.SettingsRefusal.TheVariants.{Form}
 use Rattle.cmd_base.specs.SettingsFile.{settings_refusal}
 use Rattle.cmd_base.specs.StatedSettings.{settings_of}
 
--- the form has LP exactly where LP exists in the settings
+-- an LP file is given exactly if LP exists in the settings
 abbrev pub fits_form : TheSettings → Option (List ℕ) → Bool
 fits_form s lp = beq (is_some lp) (has_lp s)
 
+-- settings that do not fit the arguments are refused
 abbrev pub form_refusal : Option TheSettings → Option (List ℕ) → Option Refusal
 form_refusal None lp = None
 form_refusal (Some s) lp = if fits_form s lp then None else Some (Settings Form)
 
--- why settings are refused by a form with this file of LP, if they are: for a reason of their own before the form
+-- the refusal of settings with these arguments, if any: a reason of their own comes before the form
 abbrev pub fitting_refusal : List ℕ → Option (List ℕ) → Option Refusal
 fitting_refusal bytes lp = option_or (settings_refusal bytes) (form_refusal (settings_of bytes) lp)

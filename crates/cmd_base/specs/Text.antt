@@ -10,7 +10,7 @@ use Rattle.cmd_base.specs.declared.work.Refusal.TheVariants.{Usage, Settings, Re
 use Rattle.cmd_base.specs.declared.work.CellsRefusal.{CellsRefusal}
 use Rattle.cmd_base.specs.declared.work.CellsRefusal.TheVariants as cells
 
--- what is wrong with refused settings
+-- the text for rejected settings
 abbrev pub settings_text : SettingsRefusal → List ℕ
 settings_text settings.TooLong = codes "too long"
 settings_text settings.NotToml = codes "not toml"
@@ -20,7 +20,7 @@ settings_text (settings.Value key) = codes "value " ++ key_text key
 settings_text (settings.Clash key) = codes "clash " ++ key_text key
 settings_text settings.Form = codes "form"
 
--- what is wrong with refused cells
+-- the text for rejected cells
 abbrev pub cells_text : CellsRefusal → List ℕ
 cells_text cells.Header = codes "cells header"
 cells_text cells.NoPlace = codes "tune none"
@@ -37,16 +37,18 @@ refusal_text Memory = codes "memory\n"
 refusal_text (Limit n) = codes "limit " ++ decimal n ++ codes "\n"
 refusal_text (Cells reason) = cells_text reason ++ codes "\n"
 
--- the text of a run that may have been refused
+-- the text of a refusal, or none
 abbrev pub text_if_refused : Option Refusal → List ℕ
 text_if_refused None = []
 text_if_refused (Some refusal) = refusal_text refusal
 
+-- the status if cells are refused
 abbrev pub cells_status : CellsRefusal → ℕ
 cells_status cells.Header = 9
 cells_status cells.NoPlace = 10
 cells_status cells.AnnouncedForm = 11
 
+-- the status of a refusal
 abbrev pub refusal_status : Refusal → ℕ
 refusal_status Usage = 2
 refusal_status (Settings reason) = 3
@@ -57,12 +59,13 @@ refusal_status Memory = 7
 refusal_status (Limit n) = 8
 refusal_status (Cells reason) = cells_status reason
 
--- the status of a run that was refused, or done
+-- the status of a run, by its refusal
 abbrev pub status_of : Option Refusal → ℕ
 status_of None = 0
 status_of (Some refusal) = refusal_status refusal
 
--- the text that ends the report at a status: of a fault, of want of memory, or else of what the words and files come to
+-- the text at the end of the report for a status: of a fault, of lack of memory, or of the refusal that the arguments
+-- and files give
 abbrev pub text_at : Command → ℕ → Files → ℕ → List ℕ
 text_at c limit file status =
     if status == 5 then refusal_text ReadFault else if status == 6 then refusal_text WriteFault

@@ -1,4 +1,4 @@
-// The settings of a command with two streams or one, which fit its form.
+// The settings of a command with one stream or two, which fit its arguments.
 ghost use Rattle.std.specs.Option.{option_copied};
 ghost use Rattle.station_core.specs.Meaning.{IsUnasked};
 ghost use Rattle.cmd_base.specs.FittingStep.{Accepts};
@@ -10,8 +10,8 @@ use crate::{Refusal, SettingsRefusal};
 use station_core::Station;
 use std::alloc::Global;
 
-/// Reads the settings file of this name, as [`read_settings`] does, and refuses settings that do not fit
-/// the form of the command: there is a file of LP exactly where LP exists in the settings.
+/// Reads the settings file of this name, as [`read_settings`] does, and rejects settings that do not fit the arguments:
+/// an LP file is given exactly if LP exists in the settings.
 pub fn read_fitting<'a, S: Station<'a>>(
     alloc: Global,
     name: &'a str,

@@ -1,12 +1,11 @@
-//! What a run of a command promises, whatever the command is, and the steps that commands share.
+//! The promise of a run, for any command, and the steps that commands share.
 //!
-//! `specs/Command.antt` says what a command is: the files that it reads and writes, and what they come to.
-//! `specs/Run.antt` is the promise of a run of any command, in one record. The values that they speak of: why a
-//! run stops ([`Refusal`]), what it counts in a transport file ([`Counts`]), its [`Limits`], and the lines of its
-//! report that commands share.
+//! `specs/Command.antt` defines a command: the files that it reads and writes, and their contents. `specs/Run.antt` is
+//! the promise of a run of any command, in one record. Its values: why a run stops ([`Refusal`]), the counts of a
+//! transport file ([`Counts`]), its [`Limits`], and the lines of the report that commands share.
 //!
-//! The steps over a station: reading into a buffer ([`fill`]), the settings ([`read_settings`], [`read_fitting`]),
-//! a line of the report ([`write_line`]), and the end of a refused run ([`settle`], [`refuse`]).
+//! The steps over a station: reading into a buffer ([`fill`]), the settings ([`read_settings`], [`read_fitting`]), a
+//! line of the report ([`write_line`]), and the end of a refused run ([`settle`], [`refuse`]).
 #![tactic(auto)]
 
 mod fitting_step;

@@ -6,7 +6,7 @@ ghost use Rattle.cmd_base.specs.Lines.{IsWriting, WritesLines};
 use crate::{Line, Refusal};
 use station_core::{OutPort, Station};
 
-/// Writes a line to Report, by one write. The only refusal is that it has failed.
+/// Writes a line to Report, in one write. The only refusal is that it failed.
 pub fn write_line<'a, S: Station<'a>>(line: &Line, station: &mut S) -> Result<(), Refusal>
     requires some { 0 < length line.now.bytes }
     requires created { (S.meaning station.old).report.created ≡ true }

@@ -6,8 +6,8 @@ ghost use Rattle.cmd_base.specs.Reading.{ReadsFront};
 
 use station_core::{Failed, InPort, Station};
 
-/// Reads bytes at the port until the buffer is full or the input ends, and gives how many. Each read
-/// asks for the bytes that the buffer lacks.
+/// Reads bytes at the port until the buffer is full or the input ends, and returns their number. Each read requests the
+/// bytes still missing.
 pub fn fill<'a, S: Station<'a>>(
     station: &mut S,
     port: InPort,

@@ -1,4 +1,4 @@
-// The end of a run that was refused.
+// The end of a refused run.
 ghost use Rattle.std.specs.Prelude.{◌≡◌, true, false};
 ghost use Rattle.cmd_base.specs.Text.{refusal_text, refusal_status};
 ghost use Rattle.cmd_base.specs.Causes.{FlushesOnly, Settles};
@@ -7,8 +7,8 @@ ghost use Rattle.cmd_base.specs.Report.{WritesText};
 use crate::{CellsRefusal, Refusal, text_of};
 use station_core::{OutPort, Station};
 
-/// The refusal of a run whose work has stopped: the outputs are flushed, and if that fails it is a write
-/// fault, since that write came first.
+/// The refusal of a run whose work has stopped: the outputs are flushed, and if that fails it is a write fault, as that
+/// write was given first.
 pub fn settle<'a, S: Station<'a>>(refusal: Refusal, station: &mut S) -> Refusal
     ensures others { FlushesOnly (S.meaning station.old) (S.meaning station.new) }
     ensures settles { Settles refusal (S.meaning station.old) (S.meaning station.new) result }
@@ -19,7 +19,7 @@ pub fn settle<'a, S: Station<'a>>(refusal: Refusal, station: &mut S) -> Refusal
     }
 }
 
-/// Writes the text of a refusal and gives its status, which stays where the writing fails.
+/// Writes the text of a refusal and returns its status, even if the writing fails.
 pub fn refuse<'a, S: Station<'a>>(refusal: &Refusal, station: &mut S) -> u8
     requires created { (S.meaning station.old).report.created ≡ true }
     requires report_open { (S.meaning station.old).report.closed ≡ false }

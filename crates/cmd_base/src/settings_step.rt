@@ -1,4 +1,4 @@
-// The settings of a command, read before anything else is asked.
+// Reading the settings of a command, before anything else is requested.
 ghost use Rattle.std.specs.Prelude.{◌≡◌, ◌≤◌, ◌+◌, ℕ, List, length, drop, true, IfOk, IsTrue, Some, OnOk, OnErr};
 ghost use Rattle.station_core.specs.Causes.{Rose};
 ghost use Rattle.station_core.specs.Meaning.{IsUnasked};
@@ -12,10 +12,10 @@ use crate::{Refusal, SettingsRefusal};
 use station_core::{Failed, InPort, Station};
 use std::alloc::Global;
 
-// The most bytes that a settings file may have.
+// The greatest length of a settings file.
 const MOST: usize = 65_536;
 
-// Opens the file and reads it to its end, or one byte further than it may go.
+// Opens the file and reads it to its end, or to one byte past the limit.
 fn read_bytes<'a, S: Station<'a>>(
     name: &'a str,
     bytes: &mut [u8],
@@ -37,7 +37,7 @@ fn read_bytes<'a, S: Station<'a>>(
     fill(station, InPort::Settings, bytes)
 }
 
-// What the first bytes of a buffer state as settings, if they are not too many.
+// The settings that the first bytes of a buffer state, if there are not too many.
 fn check(alloc: Global, bytes: &[u8], filled: usize) -> Result<Settings, Refusal>
     requires size { length bytes.now ≡ most_settings + 1 }
     requires within { filled ≤ most_settings + 1 }
@@ -71,11 +71,10 @@ fn read_into<'a, S: Station<'a>>(
     }
 }
 
-/// Reads the settings file of this name at the port Settings, where nothing was asked before.
+/// Reads the settings file of this name at the port Settings, where no name was requested before.
 ///
-/// At most 65,537 bytes are read of it. A file of more than 65,536 is refused as too long, and a shorter
-/// one for what its document says; both are refusals by its bytes alone. Memory is taken before the file
-/// is opened, and for the document.
+/// At most 65,537 bytes of it are read. A file of more than 65,536 is rejected as too long, a shorter one because of
+/// its document; both depend on its bytes alone. Memory is allocated before the file is opened, and for the document.
 pub fn read_settings<'a, S: Station<'a>>(
     alloc: Global,
     name: &'a str,

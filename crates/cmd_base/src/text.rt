@@ -9,7 +9,7 @@ use crate::{CellsRefusal, Counts, Refusal, SettingsRefusal};
 use mode_set::{Key, Stream};
 use rx_report::{Line, name_of, push_count};
 
-// Adds what stands before a key, and the key.
+// Appends the text before a key, and the key.
 fn push_key(line: &mut Line, before: &str, key: Key)
     requires room { array_string_len line.old ≤ 100 }
     requires short { length before.now ≤ 20 }
@@ -20,7 +20,7 @@ fn push_key(line: &mut Line, before: &str, key: Key)
     line.push_str(key.text());
 }
 
-// Adds what is wrong with refused settings.
+// Appends the reason for rejecting settings.
 fn push_settings(line: &mut Line, reason: &SettingsRefusal)
     requires { array_string_len line.old ≤ 100 }
     ensures bytes { line.new.bytes ≡ line.old.bytes ++ settings_text reason.now }
@@ -65,7 +65,7 @@ pub fn text_of(refusal: &Refusal) -> Line
     line
 }
 
-/// The closing line of a transport input that was taken whole.
+/// The closing line of a transport input taken to its end.
 pub fn closing_line_of(counts: &Counts) -> Line
     ensures text { result.bytes ≡ closing_line counts.now }
     ensures some { 0 < length result.bytes }
@@ -73,7 +73,7 @@ pub fn closing_line_of(counts: &Counts) -> Line
     packets_line_of(Stream::Hp, counts)
 }
 
-/// The closing line of the input of a stream that was taken whole.
+/// The closing line of the input of a stream taken to its end.
 pub fn packets_line_of(stream: Stream, counts: &Counts) -> Line
     ensures text { result.bytes ≡ packets_line stream counts.now }
     ensures some { 0 < length result.bytes }

@@ -1,4 +1,4 @@
-// What a run counts, and why it stops.
+// The counts of a run, and why it stops.
 ghost use Rattle.std.specs.Prelude.{◌≡◌};
 ghost use Rattle.cmd_base.specs.SettingsFile.{refused_as};
 
@@ -7,67 +7,67 @@ use mode_set::{Key, SettingsError, Stream};
 /// The limits of a run that are not settings.
 #[derive(Clone, Copy, Debug, PartialEq, Eq)]
 pub struct Limits {
-    /// The most packets that are taken of a transport input, 1 to 100,000,000.
+    /// The most packets taken from a transport input, 1 to 100,000,000.
     pub packets: u64,
 }
 
-/// What was counted in a transport input.
+/// The counts of a transport input.
 #[derive(Clone, Copy, Debug, PartialEq, Eq)]
 pub struct Counts {
     /// The whole packets.
     pub packets: u64,
-    /// The bytes behind them, fewer than 188.
+    /// The bytes after them, fewer than 188.
     pub tail: u64,
 }
 
-/// Why a settings file is refused. All of them have status 3.
+/// Why a settings file is rejected. All reasons have status 3.
 #[derive(Clone, Copy, Debug, PartialEq, Eq)]
 pub enum SettingsRefusal {
     /// It has more than 65,536 bytes.
     TooLong,
-    /// It is no TOML document.
+    /// It is not a TOML document.
     NotToml,
-    /// A key is none of the table; its place among all keys in byte order, from 0.
+    /// An unknown key; its index among all keys in byte order, from 0.
     Unknown(u32),
-    /// A key that has to be there is absent.
+    /// A mandatory key is absent.
     Missing(Key),
-    /// A key stands with another type or value than the table's.
+    /// The value of a key has the wrong type or is not allowed.
     Value(Key),
-    /// Two keys contradict each other, the later of them in the table's order is named.
+    /// Two keys contradict each other; the later of them in the table's order is named.
     Clash(Key),
-    /// The words name a file of LP where LP does not exist in the settings, or none where it exists.
+    /// An LP file is given but LP does not exist in the settings, or the reverse.
     Form,
 }
 
-/// Why a file of cells is refused. Each reason has a status of its own.
+/// Why a file of cells is rejected. Each reason has a status of its own.
 #[derive(Clone, Copy, Debug, PartialEq, Eq)]
 pub enum CellsRefusal {
     /// It does not begin with the header of the settings' mode: status 9.
     Header,
-    /// It ends, and no frame of a transmission was found in it: status 10.
+    /// It ends without a frame of a transmission: status 10.
     NoPlace,
-    /// It announces a hierarchy and the words have no LP file, or the reverse: status 11.
+    /// It announces a hierarchy and no LP file is given, or the reverse: status 11.
     AnnouncedForm,
 }
 
-/// Why a run has stopped, each with its status and its text in the report.
+/// Why a run has stopped. Each reason has a status and a text in the report.
 #[derive(Clone, Copy, Debug, PartialEq, Eq)]
 pub enum Refusal {
-    /// The words are of no form: status 2.
+    /// Invalid command line: status 2.
     Usage,
-    /// The settings are refused: status 3.
+    /// The settings are rejected: status 3.
     Settings(SettingsRefusal),
     /// A file could not be opened or read: status 5.
     ReadFault,
-    /// A file could not be made, written or closed: status 6.
+    /// A file could not be created, written or closed: status 6.
     WriteFault,
     /// The packet of this number, from 0, does not begin with the sync byte: status 4.
     NotSync(Stream, u64),
-    /// There is no memory for the work: status 7.
+    /// Lack of memory: status 7.
     Memory,
-    /// There are more packets of an input, or more symbols, than this limit: status 8.
+    /// An input has more packets, or there are more symbols, than this limit: status 8.
     Limit(u64),
-    /// The cells are refused.
+    /// The cells are rejected.
     Cells(CellsRefusal),
 }
 
@@ -83,7 +83,7 @@ impl Limits {
 }
 
 impl From<SettingsError> for Refusal {
-    /// Want of memory is no fault of the settings, and is refused as such.
+    /// Lack of memory is no fault of the settings, and has its own refusal.
     fn from(error: SettingsError) -> Refusal
         ensures refusal { result ≡ refused_as error }
     {

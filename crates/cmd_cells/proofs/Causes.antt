@@ -1,4 +1,4 @@
--- The cause of the answer of a run on cells, from the causes of its parts.
+-- The cause of the result of a run on cells, from the causes of its parts.
 use Rattle.std.proofs.Common.{◌≡◌, inl, inr, ℕ, ◌≤◌, true, Result, Ok, Err, ◌∙◌, sym, ap, subst, arith}
 use Rattle.std.specs.Result.{result_and}
 use Rattle.station_core.specs.Causes.{Rose}
@@ -12,14 +12,14 @@ use Rattle.cmd_cells.specs.Work.{Work}
 use Rattle.cmd_cells.specs.Outputs.{AreMade, ClosesOnly, IsWriting, Names}
 use Rattle.cmd_cells.specs.Cells.{EndsWithin, KeepsOthers, Works}
 
--- an output was not made
+-- an output was not created
 pub unmade_cause : (whole : Type 0) (old new : Meaning) (stop : Stop) → stop ≡ WriteFault → HasCause {T = Unit {0}} old new (Err stop) → HasEndCause {T = Unit {0}} whole old new (Err stop)
 unmade_cause whole old new stop kind cause = subst (λ (s : Stop). HasEndCause {T = Unit {0}} whole old new (Err s)) (sym kind) (made (subst (λ (s : Stop). HasCause {T = Unit {0}} old new (Err s)) kind cause))
   where
     made : HasCause {T = Unit {0}} old new (Err WriteFault) → HasEndCause {T = Unit {0}} whole old new (Err WriteFault)
     made cause = (inl cause.0, inl cause.1, cause.2)
 
--- the outputs were made, the work was done as far as it went, and then the outputs were flushed and closed
+-- the outputs were created, the work was done as far as it went, and the outputs were flushed and closed
 module _ (w : Work) (most : ℕ) (names : Names) (old m1 m2 m3 new : Meaning) (made : HasCause {T = Unit {0}} old m1 (Ok tt)) (makes : AreMade names old m1) (keeps : KeepsOthers m1 m2) (closes : ClosesOnly m3 new) where
   abbrev whole : Type 0
   whole = old.tells ≡ true → EndsWithin w most old.cells.left
@@ -38,7 +38,7 @@ module _ (w : Work) (most : ℕ) (names : Names) (old m1 m2 m3 new : Meaning) (m
       let d = works (ap (λ (x : Meaning). x.tells) keeps ∙ ap (λ (x : Meaning). x.tells) makes.others ∙ t) in
       subst (EndsWithin w most) (ap (λ (x : Meaning). x.cells.left) makes.others) (d.1, (d.2.given, d.2.ends))
 
-  -- the work is whole
+  -- the work is complete
   done_cause : m3 ≡ m2 → (closing : Result (Unit {0}) Stop) → IsWriting closing → HasCause {T = Unit {0}} m1 m2 (Ok tt) → Works w most m1.cells.left m1 m2 (Ok tt) → HasCloseCause m3 new closing → HasEndCause whole old new closing
   done_cause same (Ok v) kind cause works shut = (
     reads_same ∙ ap (λ (x : Meaning). x.read_faults) same ∙ cause.0 ∙ made.0,
@@ -51,7 +51,7 @@ module _ (w : Work) (most : ℕ) (names : Names) (old m1 m2 m3 new : Meaning) (m
     omega (arith, writes_same, ap (λ (x : Meaning). x.write_faults) same, cause.1, made.1),
   )
 
-  -- it has stopped, and the flush has not failed
+  -- it stopped, and the flush did not fail
   module _ (same : m3 ≡ flushed m2) where
     reads_are : new.read_faults ≡ m2.read_faults
     reads_are = reads_same ∙ ap (λ (x : Meaning). x.read_faults) same
@@ -68,7 +68,7 @@ module _ (w : Work) (most : ℕ) (names : Names) (old m1 m2 m3 new : Meaning) (m
     kept_cause Limit cause = (reads_are ∙ cause.0 ∙ made.0, settled_by cause.1)
     kept_cause (stops.Work r) cause = (reads_are ∙ cause.0 ∙ made.0, settled_by cause.1)
 
-  -- no count has fallen in the work
+  -- no count fell in the work
   later_reads : (stop : Stop) → HasCause {T = Unit {0}} m1 m2 (Err stop) → m1.read_faults ≤ m2.read_faults
   later_reads ReadFault cause = cause.1
   later_reads WriteFault cause = omega (arith, cause.0)
@@ -81,7 +81,7 @@ module _ (w : Work) (most : ℕ) (names : Names) (old m1 m2 m3 new : Meaning) (m
   later_writes Limit cause = omega (arith, cause.1)
   later_writes (stops.Work r) cause = omega (arith, cause.1)
 
-  -- it has stopped, and the flush has failed
+  -- it stopped, and the flush failed
   lost_cause : (stop : Stop) → HasCause {T = Unit {0}} m1 m2 (Err stop) → Rose m2.write_faults m3.write_faults → m2.write_faults ≤ m3.write_faults → m3 ≡ with_write_faults m3.write_faults m2
       → HasEndCause {T = Unit {0}} whole old new (Err WriteFault)
   lost_cause stop cause rose later lost =

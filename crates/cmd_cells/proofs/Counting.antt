@@ -1,4 +1,4 @@
--- Whole symbols, and bytes that end none.
+-- Whole symbols, and bytes that do not complete one.
 use Rattle.std.proofs.Common.{◌≡◌, ℕ, ◌+◌, ◌*◌, ◌/◌, ◌%◌, ◌<◌, ◌≤◌, true, false, List, ◌++◌, inl, inr, length, take, ◌∙◌, sym, ap, arith, length-append}
 use Rattle.std.specs.Prelude.{◌==◌}
 use Rattle.std.proofs.lemmas.Bool.{cases_lt, eq-eqb, eqb-true, true≢false}
@@ -20,14 +20,14 @@ whole_or_less k l le = (
 )
 
 module _ (size : ℕ) (some : 0 < size) where
-  -- n symbols are n symbols, with no byte behind them
+  -- n symbols are n symbols, with no byte after them
   pub symbols_are : (bytes : List ℕ) (n : ℕ) → length bytes ≡ n * size → symbols size bytes ≡ n
   symbols_are bytes n e = ap (λ (k : ℕ). k / size) e ∙ mul-div_cancel n some
 
   pub no_tail : (bytes : List ℕ) (n : ℕ) → length bytes ≡ n * size → tail size bytes ≡ 0
   no_tail bytes n e = ap (λ (k : ℕ). k % size) e ∙ mul-mod_left n size
 
-  -- one symbol more, and less than one more
+  -- one more symbol, and less than one more
   pub longer : (bytes piece : List ℕ) (n : ℕ) → length bytes ≡ n * size → length piece ≡ size → length (bytes ++ piece) ≡ (n + 1) * size
   longer bytes piece n e p = length-append bytes piece ∙ (λ i. e i + p i) ∙ sym (one_more n size)
 
@@ -56,7 +56,7 @@ module _ (size : ℕ) (some : 0 < size) where
     | inr more ↦ omega (arith, more)
   ]
 
-  -- the bytes within a limit are no more symbols than it
+  -- the bytes within a limit have at most that many symbols
   pub few_within : (most : ℕ) (bytes : List ℕ) → symbols size (take (most * size) bytes) ≤ most
   few_within most bytes =
       let few : length (take (most * size) bytes) ≤ most * size = omega (arith, length-take (most * size) bytes) in

@@ -1,5 +1,5 @@
--- What a run on cells leaves whose settings were accepted, before the text of a refusal is written; and from it
--- the promise of the run.
+-- The state after a run on cells with accepted settings, before the text of a refusal is written; and the promise of
+-- the run.
 use Rattle.std.proofs.Common.{◌≡◌, ◌≢◌, ◌⊎◌, inl, inr, true, false, ℕ, ◌+◌, ◌*◌, ◌≤◌, Bool, List, [], ◌++◌, length, take, drop, Option, Some, None, Result, Ok, Err, refl, ◌∙◌, sym, ap, subst, arith, append_assoc, if◌then◌else◌}
 use Rattle.std.specs.Prelude.{is_some, bytes_eq}
 use Rattle.std.specs.Option.{option_or}
@@ -42,7 +42,7 @@ use Rattle.cmd_cells.proofs.Runs.{name_at}
 no_refusal : (r : Refusal) → Some r ≡ None → ⊥
 no_refusal r e = cc
 
--- no port is written at the beginning
+-- no port is written at the start
 pub untouched : (m : Meaning) → IsFresh m → (port : OutPort) → port ≢ outs.Report → IsUntouched (sink_at port m)
 untouched m fresh outs.Cells other = fresh.cells_out
 untouched m fresh outs.Hp other = fresh.hp_out
@@ -50,7 +50,7 @@ untouched m fresh outs.Lp other = fresh.lp_out
 untouched m fresh outs.Bytes other = fresh.bytes_out
 untouched m fresh outs.Report other = absurd (other refl)
 
--- nor was any asked for
+-- and none was requested
 pub unasked : (m : Meaning) → IsFresh m → (port : OutPort) → (sink_at port m).asked ≡ None
 unasked m fresh outs.Cells = fresh.cells_out.asked
 unasked m fresh outs.Hp = fresh.hp_out.asked
@@ -58,7 +58,7 @@ unasked m fresh outs.Lp = fresh.lp_out.asked
 unasked m fresh outs.Bytes = fresh.bytes_out.asked
 unasked m fresh outs.Report = fresh.report_asked
 
--- the settings alone change no output
+-- the settings change no output
 pub settings_sink : (m : Meaning) (source : Source) (port : OutPort) → sink_at port (record m { settings = source }) ≡ sink_at port m
 settings_sink m source outs.Cells = refl
 settings_sink m source outs.Hp = refl
@@ -73,7 +73,7 @@ opened_sink cells header m outs.Lp = refl
 opened_sink cells header m outs.Bytes = refl
 opened_sink cells header m outs.Report = refl
 
--- nor does what was asked at Cells
+-- nor does the port Cells
 cells_sink : (m m' : Meaning) → CellsOnly m m' → (port : OutPort) → sink_at port m' ≡ sink_at port m
 cells_sink m m' p outs.Cells = ap (λ (x : Meaning). x.cells_out) p
 cells_sink m m' p outs.Hp = ap (λ (x : Meaning). x.hp_out) p
@@ -84,7 +84,7 @@ cells_sink m m' p outs.Report = ap (λ (x : Meaning). x.report) p
 cells_ports : (m m' : Meaning) → CellsOnly m m' → PortsOnly m m'
 cells_ports m m' p = subst (λ (x : Meaning). PortsOnly m x) (sym p) refl
 
--- a file that has its header is that, what was taken behind it, and the rest
+-- a file with its header is the header, the bytes taken after it, and the rest
 header_taken : (header : Option (List ℕ)) (file left : List ℕ) (k : ℕ) → header_refusal header file ≡ None → left ≡ drop k (behind_header header file) → IsHeaderTaken header file left
 header_taken None file left k fits is = tt
 header_taken (Some h) file left k fits is =
@@ -99,7 +99,7 @@ header_taken (Some h) file left k fits is =
     front true same e = (bytes_eq-Decides (take (length h) file) h).0 same
     front false same e = absurd (no_refusal (refusals.Cells Header) e)
 
--- what lies behind a header and more
+-- the bytes after a header and more
 behind_more : (header : Option (List ℕ)) (file : List ℕ) (k : ℕ) → drop k (behind_header header file) ≡ drop (header_size header + k) file
 behind_more None file k = let same : k ≡ 0 + k = omega arith in ap (λ (n : ℕ). drop n file) same
 behind_more (Some h) file k = drop-drop k (length h) file
@@ -108,7 +108,7 @@ behind_more (Some h) file k = drop-drop k (length h) file
 pub not_report : (names : Names) → names outs.Report ≡ None → (port : OutPort) → is_some (names port) ≡ true → port ≢ outs.Report
 not_report names none port is e = true≢false (sym is ∙ ap (λ (p : OutPort). is_some (names p)) e ∙ ap (λ (o : Option (List ℕ)). is_some o) none)
 
--- behind the settings a run on cells is ready
+-- after the settings a run on cells is ready
 pub ready : (names : Names) → names outs.Report ≡ None → (start : Meaning) (at : Source) → IsFresh start → IsReady names (record start { settings = at })
 ready names none start at fresh = record {
   cells = fresh.cells;
@@ -126,7 +126,7 @@ module _ (c : Command) (limit : ℕ) (name cells : List ℕ) (header : Option (L
   abbrev old : Meaning
   old = record start { settings = at }
 
-  -- the cells behind their header
+  -- the cells after their header
   abbrev file : List ℕ
   file = behind_header header (start.file cells)
 
@@ -189,7 +189,7 @@ module _ (c : Command) (limit : ℕ) (name cells : List ℕ) (header : Option (L
   all_opened : mid.cells.attached ≡ true → (port : InPort) → IsInput c port → (source_at port mid).attached ≡ true
   all_opened is_open = both (λ port. (source_at port mid).attached ≡ true) (ap (λ (x : Source). x.attached) settings_is ∙ settings.attached) is_open
 
-  -- what is unread of the cells, where they are open or not
+  -- the unread cells, whether they are open or not
   unread_open : mid.cells.attached ≡ true → unread c mid ins.Cells ≡ mid.cells.left
   unread_open is_open = ap (λ (b : Bool). if b then mid.cells.left else input_file mid.file c ins.Cells) is_open
 
@@ -202,7 +202,7 @@ module _ (c : Command) (limit : ℕ) (name cells : List ℕ) (header : Option (L
       (λ is_open. let r = settings.read t in (r.0, r.1, ap (λ (x : Source). x.left) settings_is ∙ r.2 ∙ ap (drop r.0) (sym (input_settings start.file))))
       (λ is_open. let r = taken t is_open in (r.0, omega (arith, r.1, command.most_taken t), r.2 ∙ ap (drop r.0) (sym (input_cells start.file))))
 
-  -- ---- the order, and the closing, however far the run came
+  -- ---- the order, and the closing, at any point of the run
   record InOrder : Type 0 where
     behind_inputs : (out : OutPort) → ((sink_at out mid).asked ≡ None) ⊎ ((port : InPort) → IsInput c port → (source_at port mid).attached ≡ true)
     behind_header : start.tells ≡ true → (out : OutPort) → ((sink_at out mid).asked ≡ None) ⊎ IsHeaderTaken (c.header start.file) (input_file start.file c ins.Cells) (unread c mid ins.Cells)
@@ -211,7 +211,7 @@ module _ (c : Command) (limit : ℕ) (name cells : List ℕ) (header : Option (L
     behind_outputs : start.tells ≡ true → IsUntaken c mid ins.Cells ⊎ AreMade c mid
     closed : (out : OutPort) → IsOutput c out → (sink_at out mid).created ≡ true → (sink_at out mid).closed ≡ true
 
-  -- an output that was asked for has its name
+  -- a requested output has its name
   asked_for : (out : OutPort) → IsOutput c out → (sink_at out mid).asked ≡ names out → (sink_at out mid).asked ≡ None → ⊥
   asked_for out is asked absent = true≢false (sym (is_output out is) ∙ ap (λ (o : Option (List ℕ)). is_some o) (sym asked ∙ absent))
 
@@ -230,7 +230,7 @@ module _ (c : Command) (limit : ℕ) (name cells : List ℕ) (header : Option (L
   unasked_yet : IsUnopened cells header old mid → (out : OutPort) → (sink_at out mid).asked ≡ None
   unasked_yet none out = ap (λ (x : Sink). x.asked) (same_sink none out) ∙ unasked start fresh out
 
-  -- no more than the header was taken
+  -- nothing past the header was taken
   header_alone : IsUnopened cells header old mid → start.tells ≡ true → TakesHeader header (start.file cells) (unread c mid ins.Cells)
   header_alone none t = elim none.taken [
     | inl shut ↦ (0, omega arith, unread_shut shut ∙ input_cells mid.file ∙ ap (λ (f : Files). f cells) files_same)
@@ -300,7 +300,7 @@ module _ (c : Command) (limit : ℕ) (name cells : List ℕ) (header : Option (L
   settled_yet : IsUnopened cells header old mid → IsSettled start mid
   settled_yet none = record { settled = ap (λ (x : Meaning). x.pending) none.others ∙ fresh.settled; writes = ap (λ (x : Meaning). x.write_faults) none.others }
 
-  -- the settings change nothing of that
+  -- the settings do not change that
   settled_is : IsSettled old mid → IsSettled start mid
   settled_is s = record { settled = s.settled; writes = s.writes }
 
@@ -311,7 +311,7 @@ module _ (c : Command) (limit : ℕ) (name cells : List ℕ) (header : Option (L
   later_reads (inl same) = omega (arith, same)
   later_reads (inr both) = both.0
 
-  -- ---- the cells were not opened, or have not their header
+  -- ---- the cells were not opened, or do not have their header
   shut_left : IsUnopened cells header old mid → HoldSoFar c limit start mid
   shut_left none = record {
     outputs = λ t out is made. absurd (unmade_yet none out is made);
@@ -340,7 +340,7 @@ module _ (c : Command) (limit : ℕ) (name cells : List ℕ) (header : Option (L
   unopened_ended refusals.Memory opens = absurd opens
   unopened_ended (refusals.Limit n) opens = absurd opens
 
-  -- ---- behind the opening of the cells
+  -- ---- after opening the cells
   module _ (fits : start.tells ≡ true → header_refusal header (start.file cells) ≡ None) (taken_so : TakesAtMost ((most + 1) * w.size) (opened cells header old) mid) where
     -- the header was read
     taken_behind : start.tells ≡ true → (k : ℕ) → mid.cells.left ≡ drop k file → mid.cells.attached ≡ true → IsHeaderTaken (c.header start.file) (input_file start.file c ins.Cells) (unread c mid ins.Cells)
@@ -383,7 +383,7 @@ module _ (c : Command) (limit : ℕ) (name cells : List ℕ) (header : Option (L
     order : (result : Result (Unit {0}) Stop) → RanBehind w most names (opened cells header old) mid result → InOrder
     order result ran = elim ran [ inl p ↦ unmade_order p.1 | inr p ↦ worked_order result p ]
 
-    -- the first of what the cells give begins what the command comes to
+    -- the output of a prefix of the cells is a prefix of the command's output
     first_of : start.tells ≡ true → (given : Written) × Continues c limit start.file given
     first_of t = (
       (command.comes t).first.0,
@@ -396,7 +396,7 @@ module _ (c : Command) (limit : ℕ) (name cells : List ℕ) (header : Option (L
       }),
     )
 
-    -- so does what was given before the cells are refused
+    -- so is the output before the cells are refused
     refused_continues : start.tells ≡ true → (left : Unread) (given : Written) (r : Refusal) → ComesRefused c limit start.file left given r → Continues c limit start.file given
     refused_continues t left given refusals.Memory came =
         let all = (first_of t).1 in
@@ -413,7 +413,7 @@ module _ (c : Command) (limit : ℕ) (name cells : List ℕ) (header : Option (L
     continues t given (inl up) = (command.comes t).begun given up
     continues t given (inr b) = refused_continues t (λ port. b.rest) given b.refusal ((command.comes t).refused (λ port. b.rest) b.taken given b.refusal b.are b.within b.its b.refuses)
 
-    -- ---- what is left by each outcome
+    -- ---- the state after each outcome
     module _ (result : Result (Unit {0}) Stop) (done : IsWorked w most names (opened cells header old) mid result) where
       -- the outputs were empty before the work, and so was Report
       base : (out : OutPort) → IsOutput c out → (sink_at out done.start).written ≡ []
@@ -446,7 +446,7 @@ module _ (c : Command) (limit : ℕ) (name cells : List ℕ) (header : Option (L
           come t = let p = stopped t in
               (command.comes t).so_far (unread c mid) p.taken p.given (p.are ∙ ap (λ (l : List ℕ). p.taken ++ l) (sym (unread_open done.attached))) p.within p.gives
 
-      -- a front of what was given is a front of what begins with it
+      -- a prefix of the output is a prefix of what begins with it
       front_at : (base given all w : List ℕ) (k : ℕ) → base ≡ [] → (rest : List ℕ) × (all ≡ given ++ rest) → w ≡ base ++ take k given → (j : ℕ) × (w ≡ take j all)
       front_at base given all w k none more is =
           let f = front_of given more.0 k in (f.0, is ∙ ap (λ (l : List ℕ). l ++ take k given) none ∙ f.1 ∙ ap (take f.0) (sym more.1))
@@ -459,7 +459,7 @@ module _ (c : Command) (limit : ℕ) (name cells : List ℕ) (header : Option (L
             (all.all outs.Report, all.come.report, front_at done.start.report.written (p.given outs.Report) (all.all outs.Report) mid.report.written (p.holds outs.Report).0 (base_report t) (all.begins outs.Report) (p.holds outs.Report).1);
       }
 
-    -- where an output was not made nothing was written
+    -- if an output was not created, nothing was written
     unmade_left : IsUnmade names (opened cells header old) mid → HoldFronts c limit start mid
     unmade_left none = record {
       outputs = λ t out is made. let all = (first_of t).1 in (all.all out, all.come.outputs out is, (0, (none.shut out (is_output out is) made).1));
@@ -518,7 +518,7 @@ module _ (c : Command) (limit : ℕ) (name cells : List ℕ) (header : Option (L
     left_by (refusals.NotSync stream n) done may came = absurd may
     left_by (refusals.Limit n) done may came = absurd may
 
-    -- an output that failed to close behind the whole work is no refusal's
+    -- a failure to close after complete work does not come with a refusal
     fault_by : Rose start.write_faults mid.write_faults ⊎ (Rose start.close_faults mid.close_faults × (start.tells ≡ true → EndsWithin w most file)) → IsWriteFault c limit start mid
     fault_by (inl rose) = inl rose
     fault_by (inr shut) = inr (shut.0, λ t. let e = shut.1 t in refusal_by None None (fits t) ((command.comes t).whole e.1.0 e.0 e.1.1).1 t)
@@ -566,13 +566,13 @@ module _ (c : Command) (limit : ℕ) (name cells : List ℕ) (header : Option (L
         ended_by (Some r) its.1 (caused_by r its.0 cause.0) (settled_by r its.0 (settled_is cause.1)) (omega (arith, cause.0)) (later_writes cause.1) (exact_by r its.0 (λ t. let p = came t in (p.0, p.1))) (order (Err (stops.Work r)) ran)
         (λ is. absurd (no_refusal _ is)) (λ is t. absurd (no_refusal _ is)) (left_by r done its.0 came)
 
--- the promise of a run on cells, behind its settings
+-- the promise of a run on cells, after its settings
 module _ (c : Command) (limit : ℕ) (name cells : List ℕ) (header : Option (List ℕ)) (names : Names) (w : Work) (most : ℕ) (start new : Meaning) (at : Source) (status : ℕ) (fresh : IsFresh start)
     (settings : SettingsDone c limit name start at) (command : CellCommand c limit name cells header names w most start) where
   abbrev accepted : Meaning
   accepted = record start { settings = at }
 
-  -- no more was taken than the command says
+  -- at most as many bytes were taken as the command says
   few_taken : (m : Meaning) → m.cells.attached ≡ true → (m.cells.attached ≡ false) ⊎ ((m.cells.attached ≡ true) × (start.tells ≡ true → TakesHeader header (start.file cells) m.cells.left)) → start.tells ≡ true
       → (k : ℕ) × (k ≤ header_size header + (most + 1) * w.size) × (m.cells.left ≡ drop k (start.file cells))
   few_taken m is (inl shut) t = absurd (true≢false (sym is ∙ shut))
@@ -600,7 +600,7 @@ module _ (c : Command) (limit : ℕ) (name cells : List ℕ) (header : Option (L
           (unopened_ended c limit name cells header names w most start m at fresh settings command (cells_ports accepted m none.others) none.asked (λ port. inl (ap (λ (x : Sink). x.asked) (cells_sink accepted m none.others port)))
           (λ t is. few_taken m is none.taken t) (omega (arith, same)) r opens) tells
 
-  -- the opening of the cells changes none of the counts
+  -- opening the cells changes none of the counts
   same_cause : (whole : Type 0) (m : Meaning) (o : Result (Unit {0}) Stop) → HasEndCause whole (opened cells header accepted) m o → HasEndCause whole accepted m o
   same_cause whole m (Ok u) h = h
   same_cause whole m (Err ReadFault) h = (h.0, h.1, record { settled = h.2.settled; writes = h.2.writes })

@@ -1,4 +1,4 @@
--- The beginning and the end of the work.
+-- The start and the end of the work.
 use Rattle.std.proofs.Common.{◌≡◌, ℕ, ◌+◌, ◌*◌, ◌<◌, ◌≤◌, true, List, [], ◌++◌, inl, inr, length, drop, refl, ◌∙◌, sym, ap, subst, arith, Result, Ok, Err}
 use Rattle.std.proofs.lemmas.List.{append-nil, drop-drop, drop_at}
 use Rattle.std.proofs.lemmas.Nat.{mul-le}
@@ -25,7 +25,7 @@ module _ (w : Work) (most : ℕ) (standing' : List ℕ → Written → Type 0) (
       let none : symbols w.size [] ≡ 0 = symbols_are w.size some [] 0 (let e : 0 ≡ 0 * w.size = omega arith in e) in
       fails w most m.cells.left [] none_written standing' m m m m' 0 (λ t. refl) held refl [] (λ t. refl) writes stop (omega (arith, none)) takes
 
--- behind the cells the work has ended, or has not
+-- after the cells the work has ended, or has not
 module _ (w : Work) (most : ℕ) (file bytes : List ℕ) (given : Written) (standing : List ℕ → Written → Type 0) (start m m' : Meaning)
     (was : IsWorking w standing file start m bytes given) (few : symbols w.size bytes ≤ most) (left : m.tells ≡ true → m.cells.left ≡ []) (writes : WritesOnly m m') where
   before : m'.tells ≡ true → m.tells ≡ true
@@ -59,9 +59,9 @@ module _ (w : Work) (most : ℕ) (file bytes : List ℕ) (given : Written) (stan
   ended (Ok u) f = λ t. subst (λ (l : List ℕ). (m'.cells.left ≡ []) × (symbols w.size l ≤ most) × IsWhole w l start m') (sym (all t)) (whole_by (Ok u) f t)
   ended (Err stop) f = λ t. subst (λ (l : List ℕ). Stopped w most l start m' stop) (sym (all t)) (whole_by (Err stop) f t)
 
--- ---- how much of the cells is taken
+-- ---- the number of bytes taken of the cells
 
--- behind n symbols, no more than the limit, one more was taken at most
+-- after n symbols within the limit, at most one more was taken
 pub few_more : (n l most : ℕ) (bytes : List ℕ) (m m' m'' : Meaning) → m'.tells ≡ m.tells → (m'.tells ≡ true → m.cells.left ≡ bytes ++ m'.cells.left) → length bytes ≡ n * l → n ≤ most
     → TakesAtMost l m' m'' → TakesAtMost ((most + 1) * l) m m''
 few_more n l most bytes m m' m'' tells are size within takes t =

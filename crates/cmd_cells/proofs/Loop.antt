@@ -1,4 +1,4 @@
--- The loop over the symbols: what stands in its midst.
+-- The loop over the symbols: its state in the middle.
 use Rattle.std.proofs.Common.{◌≡◌, ℕ, ◌*◌, ◌<◌, ◌^◌, List, length, arith}
 use Rattle.station_core.specs.Meaning.{Meaning}
 use Rattle.cmd_cells.specs.Symbols.{symbols}
@@ -6,7 +6,7 @@ use Rattle.cmd_cells.specs.Work.{GoesOn, Work, Written}
 use Rattle.cmd_cells.specs.Cells.{IsWorking}
 use Rattle.cmd_cells.proofs.Counting.{symbols_are}
 
--- behind fewer than 2^32 symbols the work goes on
+-- after fewer than 2^32 symbols the work continues
 pub goes : (w : Work) → 0 < w.size → (standing : List ℕ → Written → Type 0) (file : List ℕ) (start m : Meaning) (bytes : List ℕ) (given : Written) (n : ℕ)
     → IsWorking w standing file start m bytes given → length bytes ≡ n * w.size → n < 2 ^ 32 → GoesOn w standing
 goes w some standing file start m bytes given n was size few = record {

@@ -1,4 +1,4 @@
--- The ports of a run, from the making of the outputs to their closing.
+-- The ports of a run, from creating the outputs to closing them.
 use Rattle.std.proofs.Common.{◌≡◌, inl, inr, ℕ, ◌*◌, ◌<◌, Bool, true, List, [], ◌++◌, drop, Option, Some, None, Result, Ok, Err, refl, ◌∙◌, sym, ap, subst}
 use Rattle.std.specs.Prelude.{◌⊎◌, is_some}
 use Rattle.std.specs.Result.{result_and}
@@ -21,7 +21,7 @@ use Rattle.cmd_cells.proofs.Fronts.{all_of}
 use Rattle.cmd_cells.proofs.Counting.{few_within}
 use Rattle.cmd_cells.proofs.Sinks.{keeps_again, kept_sink}
 
--- the name of a port that is written
+-- the name of an output port
 pub name_at : (names : Names) (port : OutPort) → is_some (names port) ≡ true → (name : List ℕ) × (names port ≡ Some name)
 name_at names port is = go (names port) is
   where
@@ -29,7 +29,7 @@ name_at names port is = go (names port) is
     go None e = absurd (true≢false (sym e))
     go (Some name) e = (name, refl)
 
--- closing changes only what is closed
+-- closing changes only the closed flags
 pub closed_sink : (m m' : Meaning) → ClosesOnly m m' → (port : OutPort) → sink_at port m' ≡ record (sink_at port m) { closed = (sink_at port m').closed }
 closed_sink m m' p outs.Cells = ap (λ (x : Meaning). x.cells_out) p
 closed_sink m m' p outs.Hp = ap (λ (x : Meaning). x.hp_out) p
@@ -50,7 +50,7 @@ flushed_written m m' p outs.Lp = ap (λ (x : Meaning). x.lp_out.written) p
 flushed_written m m' p outs.Bytes = ap (λ (x : Meaning). x.bytes_out.written) p
 flushed_written m m' p outs.Report = ap (λ (x : Meaning). x.report.written) p
 
--- where no more is taken or written, all that was done stays so
+-- if no more is taken or written, all work done stays
 module _ (w : Work) (most : ℕ) (file : List ℕ) (start m m' : Meaning) (tells_same : m'.tells ≡ m.tells) (left_is : m'.cells.left ≡ m.cells.left) (written : (port : OutPort) → (sink_at port m').written ≡ (sink_at port m).written) where
   tells_are : m'.tells ≡ true → m.tells ≡ true
   tells_are t = sym tells_same ∙ t
@@ -72,11 +72,11 @@ module _ (w : Work) (most : ℕ) (file : List ℕ) (start m m' : Meaning) (tells
   works_kept (Ok u) f = λ t. let d = f (tells_are t) in (left_is ∙ d.0, d.1, record { given = d.2.given; ends = d.2.ends; holds = λ port. written port ∙ d.2.holds port })
   works_kept (Err stop) f = λ t. stop_kept stop (f (tells_are t))
 
-  -- what was given is a front of itself
+  -- the output is a prefix of itself
   all_held : (given : Written) → Holds start m given → HoldsFront start m' given
   all_held given holds port = all_of (sink_at port start).written (given port) (sink_at port m').written (written port ∙ holds port)
 
-  -- whatever the work has stopped at, it is cut short by a write that has failed
+  -- whatever the work stopped at, a failed write cuts it short
   stop_cut : 0 < w.size → (stop : Stop) → HasReason {T = Unit {0}} w (Err stop) → Stopped w most file start m stop → IsCutShort w most file start m'
   stop_cut some ReadFault reason s = record {
     given = s.given;
@@ -104,7 +104,7 @@ module _ (w : Work) (most : ℕ) (file : List ℕ) (start m m' : Meaning) (tells
   pub works_cut : 0 < w.size → (stop : Stop) → HasReason {T = Unit {0}} w (Err stop) → Works w most file start m (Err stop) → Works w most file start m' (Err WriteFault)
   works_cut some stop reason f = λ t. stop_cut some stop reason (f (tells_are t))
 
-  -- the whole is a front of itself
+  -- the whole is a prefix of itself
   whole_cut : Works w most file start m (Ok tt) → m'.tells ≡ true → IsCutShort w most file start m'
   whole_cut f t = let d = f (tells_are t) in record {
     given = d.2.given;
@@ -116,17 +116,17 @@ module _ (w : Work) (most : ℕ) (file : List ℕ) (start m m' : Meaning) (tells
   works_unclosed (Ok u) kind f = works_kept (Ok u) f
   works_unclosed (Err stop) kind f = λ t. subst (Stopped w most file start m') (sym kind) (whole_cut f t)
 
-  -- the outputs were closed behind the work, whatever it came to
+  -- the outputs were closed after the work, with any result
   pub works_then : (worked closing : Result (Unit {0}) Stop) → IsWriting closing → Works w most file start m worked → Works w most file start m' (result_and worked closing)
   works_then (Ok u) closing kind f = works_unclosed closing kind f
   works_then (Err stop) closing kind f = works_kept (Err stop) f
 
--- behind the closing
+-- after the closing
 pub works_then_closed : (w : Work) (most : ℕ) (file : List ℕ) (start m m' : Meaning) → ClosesOnly m m' → (worked closing : Result (Unit {0}) Stop) → IsWriting closing
     → Works w most file start m worked → Works w most file start m' (result_and worked closing)
 works_then_closed w most file start m m' p = works_then w most file start m m' (ap (λ (x : Meaning). x.tells) p) (ap (λ (x : Meaning). x.cells.left) p) (closed_written m m' p)
 
--- behind the flush
+-- after the flush
 pub works_settled : (w : Work) (most : ℕ) (file : List ℕ) (start m m' : Meaning) → 0 < w.size → FlushesOnly m m' → (worked settled : Result (Unit {0}) Stop) → Settles worked m m' settled → HasReason w worked
     → Works w most file start m worked → Works w most file start m' settled
 works_settled w most file start m m' some p = go
@@ -142,7 +142,7 @@ works_settled w most file start m m' some p = go
     go (Err stop) settled (inl same) reason f = subst (Works w most file start m') (sym same.0) (works_kept w most file start m m' tells_same left_is (flushed_written m m' p) (Err stop) f)
     go (Err stop) settled (inr lost) reason f = subst (Works w most file start m') (sym lost.0) (works_cut w most file start m m' tells_same left_is (flushed_written m m' p) some stop reason f)
 
--- a reason of the work stays its own
+-- a reason of the work stays one
 pub settled_reason : (w : Work) (m m' : Meaning) (worked settled closing : Result (Unit {0}) Stop) → Settles worked m m' settled → HasReason w worked → IsWriting closing → HasReason w (result_and settled closing)
 settled_reason w m m' (Ok u) settled closing s reason kind = subst (λ (r : Result (Unit {0}) Stop). HasReason w (result_and r closing)) (sym s.0) (closed closing kind)
   where
@@ -152,7 +152,7 @@ settled_reason w m m' (Ok u) settled closing s reason kind = subst (λ (r : Resu
 settled_reason w m m' (Err stop) settled closing (inl same) reason kind = subst (λ (r : Result (Unit {0}) Stop). HasReason w (result_and r closing)) (sym same.0) reason
 settled_reason w m m' (Err stop) settled closing (inr lost) reason kind = subst (λ (r : Result (Unit {0}) Stop). HasReason w (result_and r closing)) (sym lost.0) tt
 
--- flushing keeps what the work keeps
+-- flushing preserves what the work preserves
 pub keeps_flushed : (m1 m2 m3 : Meaning) → KeepsOthers m1 m2 → FlushesOnly m2 m3 → KeepsOthers m1 m3
 keeps_flushed m1 m2 m3 keeps p = keeps_again m1 m2 m3 keeps (subst (λ (x : Meaning). KeepsOthers m2 x) (sym p) refl)
 
@@ -176,7 +176,7 @@ module _ (names : Names) (old m1 : Meaning) (makes : AreMade names old m1) (begi
       go None e = inl (ap (λ (x : Sink). x.asked) (makes.kept port e))
       go (Some name) e = inr (ap (λ (x : Sink). x.asked) (makes.are port name e) ∙ sym e)
 
-  -- behind the work and the closing
+  -- after the work and the closing
   module _ (w : Work) (most : ℕ) (m2 new : Meaning) (keeps : KeepsOthers m1 m2) (closed : AreClosed names m2 new) where
     abbrev sinks : (port : OutPort) → sink_at port new ≡ record (sink_at port m1) { written = (sink_at port m2).written; closed = (sink_at port new).closed }
     sinks port = closed_sink m2 new closed.others port ∙ ap (λ (x : Sink). record x { closed = (sink_at port new).closed }) (kept_sink m1 m2 keeps port)
@@ -213,7 +213,7 @@ module _ (names : Names) (old m1 : Meaning) (makes : AreMade names old m1) (begi
       works = subst (λ (l : List ℕ). Works w most l m1 new result) left_same works;
     })
 
--- an output was not made
+-- an output was not created
 pub unmade : (w : Work) (most : ℕ) (names : Names) (old new : Meaning) (stop : Stop) → (stop ≡ WriteFault) × AreUnmade names old new → RanBehind w most names old new (Err stop)
 unmade w most names old new stop p = inl (
   ap (λ (x : Stop). Err x) p.0,

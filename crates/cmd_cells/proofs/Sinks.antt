@@ -1,4 +1,4 @@
--- What the calls of the work leave of the ports that are written.
+-- The effect of the work's calls on the output ports.
 use Rattle.std.proofs.Common.{◌≡◌, ℕ, Bool, refl, ◌∙◌, sym, ap, subst}
 use Rattle.station_core.specs.Meaning.{Meaning, Source, Sink, sink_at}
 use Rattle.station_core.specs.declared.ports.OutPort.{OutPort}
@@ -21,7 +21,7 @@ fault_sink m source n outs.Lp = refl
 fault_sink m source n outs.Bytes = refl
 fault_sink m source n outs.Report = refl
 
--- the work changes only what is written there
+-- the work changes only their content
 pub kept_sink : (m m' : Meaning) → KeepsOthers m m' → (port : OutPort) → sink_at port m' ≡ record (sink_at port m) { written = (sink_at port m').written }
 kept_sink m m' p outs.Cells = ap (λ (x : Meaning). x.cells_out) p
 kept_sink m m' p outs.Hp = ap (λ (x : Meaning). x.hp_out) p
@@ -44,7 +44,7 @@ keeps_again a b c p q =
       pending = c.pending;
     }) p
 
--- writing alone
+-- only writing
 pub keeps_written : (a b : Meaning) → WritesOnly a b → KeepsOthers a b
 keeps_written a b p = subst (λ (x : Meaning). KeepsOthers a x) (sym p) refl
 

@@ -1,4 +1,4 @@
--- A symbol more of the cells, or the rest of them.
+-- One more symbol of the cells, or the rest of them.
 use Rattle.std.proofs.Common.{◌≡◌, ℕ, ◌+◌, ◌*◌, ◌<◌, ◌≤◌, Bool, true, false, List, [], ◌++◌, inl, length, take, drop, refl, ◌∙◌, sym, ap, subst, arith, length-append, append_assoc, Result, Ok, Err}
 use Rattle.std.proofs.lemmas.List.{take-append-drop, drop_all, length-take-le}
 use Rattle.std.proofs.Math.Seq.{take-append_seam, take-append-add}
@@ -12,7 +12,7 @@ use Rattle.cmd_cells.specs.Cells.{IsPast, IsStopped, IsWorking, Next, Stopped, T
 use Rattle.cmd_cells.proofs.Counting.{at_least, longer, no_tail, not_longer, one_more}
 use Rattle.cmd_cells.proofs.Sinks.{fault_sink, read_sink}
 
--- bytes that end no symbol give no more
+-- bytes that do not complete a symbol add no output
 abbrev pub PartLaw : Work → Type 0
 PartLaw w = (bytes more : List ℕ) (given : Written) → tail w.size bytes + length more < w.size → w.Gives bytes given → w.Gives (bytes ++ more) given
 
@@ -20,13 +20,13 @@ PartLaw w = (bytes more : List ℕ) (given : Written) → tail w.size bytes + le
 abbrev pub IsRead : ℕ → Meaning → Meaning → Type 0
 IsRead n m m' = m' ≡ record m { cells = record m.cells { left = drop n m.cells.left } }
 
--- what was read and what is left then are what was left before
+-- the bytes read and those then left are what was left before
 rejoined : (bytes left : List ℕ) (n : ℕ) (file piece : List ℕ) → file ≡ bytes ++ left → piece ≡ take n left → file ≡ (bytes ++ piece) ++ drop n left
 rejoined bytes left n file piece e p =
     e ∙ ap (λ (l : List ℕ). bytes ++ l) (sym (take-append-drop n left))
     ∙ ap (λ (l : List ℕ). bytes ++ (l ++ drop n left)) (sym p) ∙ sym (append_assoc bytes piece (drop n left))
 
--- what a call gave follows what was written before it
+-- the output of a call follows the earlier output
 pub holds_more : (start m' m'' : Meaning) (given : Written) (Is : Written → Type 0) → Holds start m' given → m'.tells ≡ true → (g : Gave Is given m' m'') → Holds start m'' g.after
 holds_more start m' m'' given Is held t g port =
     g.written t port ∙ ap (λ (l : List ℕ). l ++ g.more port) (held port) ∙ append_assoc (sink_at port start).written (given port) (g.more port)
@@ -95,11 +95,11 @@ module _ (w : Work) (most : ℕ) (file bytes : List ℕ) (given : Written) (stan
   rest_of (Ok u) few end takes = (bytes ++ piece, takes.after, goes_on takes, few, end)
   rest_of (Err stop) few end takes = fails stop few takes
 
-  -- where the cells ended nothing is left
+  -- once the cells ended, nothing is left
   pub at_end : (m.tells ≡ true → n ≡ length m.cells.left) → m''.tells ≡ true → m''.cells.left ≡ []
   at_end all t = let e : n ≡ length m.cells.left = all (before t) in left_is ∙ drop_all n m.cells.left (omega (arith, e))
 
--- a read has failed after k bytes of the symbol
+-- a read failed after k bytes of the symbol
 pub stopped : (w : Work) → 0 < w.size → PartLaw w → (most : ℕ) (file bytes : List ℕ) (given : Written) (standing : List ℕ → Written → Type 0) (start m m' : Meaning) (n k : ℕ) → n ≤ most
     → IsWorking w standing file start m bytes given → length bytes ≡ n * w.size → k < w.size → (m.tells ≡ true → k ≤ length m.cells.left)
     → m' ≡ record m { cells = record m.cells { left = drop k m.cells.left }; read_faults = m'.read_faults }
@@ -120,7 +120,7 @@ stopped w some part most file bytes given standing start m m' n k few was size s
       holds = λ port. ap (λ (x : Sink). x.written) (ap (sink_at port) read ∙ fault_sink m (record m.cells { left = drop k m.cells.left }) m'.read_faults port) ∙ was.holds t0 port;
     }
 
--- a symbol more, or the rest of the cells
+-- one more symbol, or the rest of the cells
 pub next_of : (w : Work) → 0 < w.size → (standing : List ℕ → Written → Type 0) (most : ℕ) (file : List ℕ) (n k : ℕ) (start m : Meaning) (bytes piece : List ℕ) (given : Written)
     → length bytes ≡ n * w.size → length piece ≡ k → IsWorking w standing file start m (bytes ++ piece) given → (k < w.size → m.tells ≡ true → m.cells.left ≡ [])
     → (b : Bool) → (b ≡ true → k ≡ w.size) → (b ≡ false → k < w.size) → Next w standing most file n start m (Ok b)
@@ -129,7 +129,7 @@ next_of w some standing most file n k start m bytes piece given size part is end
     let short : k < w.size = less refl in
     (bytes ++ piece, given, is, not_longer w.size some bytes piece n size (omega (arith, part, short)), end short)
 
--- a whole symbol more than the limit was read
+-- a whole symbol past the limit was read
 pub past : (w : Work) → 0 < w.size → (standing : List ℕ → Written → Type 0) (most : ℕ) (file bytes : List ℕ) (given : Written) (start m m' : Meaning)
     → IsWorking w standing file start m bytes given → length bytes ≡ most * w.size → m.tells ≡ true → w.size ≤ length m.cells.left
     → (n : ℕ) → IsRead n m m' → IsPast w most file start m'
@@ -144,6 +144,6 @@ past w some standing most file bytes given start m m' was size t more n read =
       holds = λ port. ap (λ (x : Sink). x.written) (ap (sink_at port) read ∙ read_sink m (record m.cells { left = drop n m.cells.left }) port) ∙ was.holds t port;
     }
 
--- what is said of the work by its setup is said by the same setup later
+-- a fact on the work's setup holds for the same setup later
 pub moved : {T : Type 0} (s s' : T) (P : T → Type 0) → s' ≡ s → P s' → P s
 moved s s' P e p = subst P e p

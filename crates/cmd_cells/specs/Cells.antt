@@ -1,5 +1,5 @@
--- The work on cells from their beginning: what is left, what was written, by how far it came. `file` are the
--- bytes that the work may take, `start` is what the station stood for before it.
+-- The work on cells: the bytes left, the output written, and how far it got. `file` is the bytes that the work may
+-- take, `start` is the state of the station before it.
 use Rattle.std.specs.Prelude.{◌≡◌, ◌⊎◌, ℕ, ◌+◌, ◌*◌, ◌<◌, ◌≤◌, Bool, true, false, List, [], ◌++◌, length, drop, Result, Ok, Err}
 use Rattle.station_core.specs.Meaning.{Meaning}
 use Rattle.cmd_base.specs.declared.work.Refusal.{Refusal}
@@ -9,7 +9,7 @@ use Rattle.cmd_cells.specs.declared.stop.Stop.TheVariants as stops
 use Rattle.cmd_cells.specs.Symbols.{symbols, within_limit}
 use Rattle.cmd_cells.specs.Work.{Work, Written, Holds, HoldsFront}
 
--- only what is left of the cells, what is written, whether it waits, and the counts of faults have changed
+-- only the cells left, the bytes written and pending, and the counts of faults have changed
 abbrev pub KeepsOthers : Meaning → Meaning → Type 0
 KeepsOthers old new = new ≡ record old {
   cells = record old.cells { left = new.cells.left };
@@ -24,18 +24,18 @@ KeepsOthers old new = new ≡ record old {
   pending = new.pending;
 }
 
--- at most n bytes were taken of the cells
+-- at most n bytes of the cells were taken
 abbrev pub TakesAtMost : ℕ → Meaning → Meaning → Type 0
 TakesAtMost n old new = old.tells ≡ true → (k : ℕ) × (k ≤ n) × (new.cells.left ≡ drop k old.cells.left)
 
--- the work stands for the bytes taken, and what it gave was written
+-- the state of the work matches the bytes taken, and its output was written
 pub record IsWorking (w : Work) (standing : List ℕ → Written → Type 0) (file : List ℕ) (start m : Meaning) (bytes : List ℕ) (given : Written) : Type 0 where
   pub stands : standing bytes given
   pub gives : w.Gives bytes given
   pub are : m.tells ≡ true → file ≡ bytes ++ m.cells.left
   pub holds : m.tells ≡ true → Holds start m given
 
--- Some first bytes give this: as if more might follow or, where they are all, in the end.
+-- This is the output for some prefix: as if more might follow or, if the prefix is the whole file, at the end.
 pub record GivenUpTo (w : Work) (most : ℕ) (file : List ℕ) (given : Written) : Type 0 where
   pub taken : List ℕ
   pub rest : List ℕ
@@ -43,7 +43,7 @@ pub record GivenUpTo (w : Work) (most : ℕ) (file : List ℕ) (given : Written)
   pub within : symbols w.size taken ≤ most
   pub gives : w.Gives taken given ⊎ ((rest ≡ []) × w.Ends taken given)
 
--- The work refuses the cells behind some first bytes, and had given this before.
+-- The work refuses the cells after some prefix, and had given this before.
 pub record GivenBefore (w : Work) (most : ℕ) (file : List ℕ) (given : Written) : Type 0 where
   pub taken : List ℕ
   pub rest : List ℕ
@@ -53,13 +53,13 @@ pub record GivenBefore (w : Work) (most : ℕ) (file : List ℕ) (given : Writte
   pub its : w.Reasons refusal
   pub refuses : w.Refuses taken rest given refusal
 
--- a failed write: fronts of what some first bytes give were written, or of what was given before the work refuses them
+-- a failed write: a prefix of the output for some prefix of the file was written, or of the output before a refusal
 pub record IsCutShort (w : Work) (most : ℕ) (file : List ℕ) (start m : Meaning) : Type 0 where
   pub given : Written
   pub up : GivenUpTo w most file given ⊎ GivenBefore w most file given
   pub holds : HoldsFront start m given
 
--- a failed read: what the bytes taken give was written, and they are no more whole symbols than the limit
+-- a failed read: the output for the bytes taken was written, and they are within the limit
 pub record IsStopped (w : Work) (most : ℕ) (file : List ℕ) (start m : Meaning) : Type 0 where
   pub taken : List ℕ
   pub given : Written
@@ -68,14 +68,14 @@ pub record IsStopped (w : Work) (most : ℕ) (file : List ℕ) (start m : Meanin
   pub gives : w.Gives taken given
   pub holds : Holds start m given
 
--- more symbols than the limit: what those within it give was written
+-- more symbols than the limit: the output for those within it was written
 pub record IsPast (w : Work) (most : ℕ) (file : List ℕ) (start m : Meaning) : Type 0 where
   pub given : Written
   pub past : most < symbols w.size file
   pub gives : w.Gives (within_limit most w.size file) given
   pub holds : Holds start m given
 
--- the work refuses the cells: what it gave before was written
+-- the work refuses the cells: its output before that was written
 pub record IsRefused (w : Work) (most : ℕ) (file : List ℕ) (start m : Meaning) (r : Refusal) : Type 0 where
   pub taken : List ℕ
   pub given : Written
@@ -84,24 +84,24 @@ pub record IsRefused (w : Work) (most : ℕ) (file : List ℕ) (start m : Meanin
   pub refuses : w.Refuses taken m.cells.left given r
   pub holds : Holds start m given
 
--- all cells: what they give in the end was written
+-- all cells: their final output was written
 pub record IsWhole (w : Work) (file : List ℕ) (start m : Meaning) : Type 0 where
   pub given : Written
   pub ends : w.Ends file given
   pub holds : Holds start m given
 
--- The cells are no more whole symbols than the limit, and the work comes to an end on them.
+-- The cells have no more whole symbols than the limit, and the work completes on them.
 abbrev pub EndsWithin : Work → ℕ → List ℕ → Type 0
 EndsWithin w most file = (symbols w.size file ≤ most) × ((given : Written) × w.Ends file given)
 
--- what is left where the work stops
+-- what is left if the work stops
 abbrev pub Stopped : Work → ℕ → List ℕ → Meaning → Meaning → Stop → Type 0
 Stopped w most file start m ReadFault = IsStopped w most file start m
 Stopped w most file start m WriteFault = IsCutShort w most file start m
 Stopped w most file start m Limit = IsPast w most file start m
 Stopped w most file start m (stops.Work r) = IsRefused w most file start m r
 
--- Behind n symbols one more was taken, or the rest of the cells, or the work stopped.
+-- After n symbols one more was taken, or the rest of the cells, or the work stopped.
 abbrev pub Next : Work → (List ℕ → Written → Type 0) → ℕ → List ℕ → ℕ → Meaning → Meaning → Result Bool Stop → Type 0
 Next w standing most file n start m (Ok true) =
     (bytes : List ℕ) × (given : Written) × IsWorking w standing file start m bytes given × (length bytes ≡ (n + 1) * w.size)
@@ -109,7 +109,7 @@ Next w standing most file n start m (Ok false) =
     (bytes : List ℕ) × (given : Written) × IsWorking w standing file start m bytes given × (symbols w.size bytes ≤ n) × (m.tells ≡ true → m.cells.left ≡ [])
 Next w standing most file n start m (Err stop) = m.tells ≡ true → Stopped w most file start m stop
 
--- All cells were taken, no more symbols than the limit, or the work stopped.
+-- All cells were taken, within the limit, or the work stopped.
 abbrev pub TakesAll : Work → (List ℕ → Written → Type 0) → ℕ → List ℕ → Meaning → Meaning → Result (Unit {0}) Stop → Type 0
 TakesAll w standing most file start m (Ok u) =
     (bytes : List ℕ) × (given : Written) × IsWorking w standing file start m bytes given × (symbols w.size bytes ≤ most) × (m.tells ≡ true → m.cells.left ≡ [])

@@ -1,5 +1,4 @@
--- What makes a command one that reads cells: its settings and its cells are read, and what it comes to is what
--- its work gives.
+-- Commands that read cells: settings and cells are read, and the outputs are those of the work on the cells.
 use Rattle.std.specs.Prelude.{◌≡◌, ◌<◌, ◌≤◌, ◌+◌, ◌*◌, ⊤, ℕ, true, List, [], ◌++◌, drop, Option, None, Some, is_some}
 use Rattle.station_core.specs.Meaning.{Meaning, Source}
 use Rattle.station_core.specs.declared.ports.InPort.{InPort}
@@ -26,7 +25,7 @@ reads_at settings cells ins.Hp = None
 reads_at settings cells ins.Lp = None
 reads_at settings cells ins.Cells = Some cells
 
--- what was done at the port of the settings before the cells: they were read to their end, and accepted
+-- the state of the settings' port before the cells are opened: they were read to their end and accepted
 pub record SettingsDone (c : Command) (limit : ℕ) (name : List ℕ) (start : Meaning) (at : Source) : Type 0 where
   pub asked : at.asked ≡ Some name
   pub attached : at.attached ≡ true
@@ -34,24 +33,24 @@ pub record SettingsDone (c : Command) (limit : ℕ) (name : List ℕ) (start : M
   pub read : start.tells ≡ true → (k : ℕ) × (k ≤ c.most_taken limit start.file ins.Settings) × (at.left ≡ drop k (start.file name))
   pub accepted : start.tells ≡ true → c.early_refusal start.file ≡ None
 
--- each output comes to what was given there, and Report to its lines
+-- each output is what was given there, and Report has its lines
 pub record Come (c : Command) (limit : ℕ) (file : Files) (given : Written) : Type 0 where
   pub outputs : (port : OutPort) → IsOutput c port → c.Comes limit file port (given port)
   pub report : c.Prints limit file (given outs.Report)
 
--- the same so far as a failed read
+-- the same up to a failed read
 pub record ComeSoFar (c : Command) (limit : ℕ) (file : Files) (unread : Unread) (given : Written) : Type 0 where
   pub outputs : (port : OutPort) → IsOutput c port → c.ComesSoFar limit file unread port (given port)
   pub report : c.PrintsSoFar limit file unread (given outs.Report)
 
--- what begins with this
+-- outputs that begin with these
 pub record Continues (c : Command) (limit : ℕ) (file : Files) (given : Written) : Type 0 where
   pub all : Written
   pub come : Come c limit file all
   pub begins : (port : OutPort) → (rest : List ℕ) × (all port ≡ given port ++ rest)
 
--- the reasons for which a work may refuse its cells: what is found in them and, where the command takes memory
--- within its work, want of memory
+-- the reasons for which work may refuse its cells: their content and, if the command allocates memory within its work,
+-- lack of memory
 abbrev pub MayRefuse : Command → Refusal → Type 0
 MayRefuse c refusals.Usage = ⊥
 MayRefuse c (refusals.Settings reason) = ⊥
@@ -64,8 +63,8 @@ MayRefuse c (refusals.Cells Header) = ⊥
 MayRefuse c (refusals.Cells NoPlace) = ⊤
 MayRefuse c (refusals.Cells AnnouncedForm) = ⊤
 
--- What was given before the cells are refused for this reason is what the command comes to, and this is its
--- refusal. At want of memory nothing was given, and the files with what is unread are such that it may be wanting.
+-- The output before a refusal is what the command defines, and the refusal is the command's. At lack of memory nothing
+-- was given, and the files and unread bytes allow it.
 abbrev pub ComesRefused : Command → ℕ → Files → Unread → Written → Refusal → Type 0
 ComesRefused c limit file unread given refusals.Memory = c.LacksAtWork limit file unread × ((port : OutPort) → given port ≡ [])
 ComesRefused c limit file unread given refusals.Usage = ⊥
@@ -76,22 +75,22 @@ ComesRefused c limit file unread given (refusals.NotSync stream n) = ⊥
 ComesRefused c limit file unread given (refusals.Limit n) = ⊥
 ComesRefused c limit file unread given (refusals.Cells reason) = Come c limit file given × (c.work_refusal limit file ≡ Some (refusals.Cells reason))
 
--- What the files come to by the command is what the cells, `bytes` behind their header, give by the work.
+-- The outputs of the command are those of the work on the cells, `bytes` after their header.
 pub record ComesTo (c : Command) (limit : ℕ) (file : Files) (w : Work) (most : ℕ) (bytes : List ℕ) : Type 0 where
-  -- all cells, where they hold no more symbols than the limit
+  -- all cells, if they are within the limit
   pub whole : (given : Written) → symbols w.size bytes ≤ most → w.Ends bytes given → Come c limit file given × (c.work_refusal limit file ≡ None)
-  -- the cells within the limit, where they hold more
+  -- the cells within the limit, if there are more
   pub past : (given : Written) → most < symbols w.size bytes → w.Gives (within_limit most w.size bytes) given → Come c limit file given × (c.work_refusal limit file ≡ Some (Limit most))
-  -- the cells that the work refuses
+  -- the cells up to a refusal by the work
   pub refused : (unread : Unread) (taken : List ℕ) (given : Written) (r : Refusal) → bytes ≡ taken ++ unread ins.Cells → symbols w.size taken ≤ most → w.Reasons r → w.Refuses taken (unread ins.Cells) given r
       → ComesRefused c limit file unread given r
-  -- the cells so far as a failed read
+  -- the cells up to a failed read
   pub so_far : (unread : Unread) (taken : List ℕ) (given : Written) → bytes ≡ taken ++ unread ins.Cells → symbols w.size taken ≤ most → w.Gives taken given → ComeSoFar c limit file unread given
-  -- first cells give what begins that
+  -- the output of a prefix is a prefix of the output
   pub begun : (given : Written) → GivenUpTo w most bytes given → Continues c limit file given
   pub first : (given : Written) × w.Gives [] given
 
--- a command on cells that must begin with this header, if with any
+-- a command on cells that must begin with this header, if any
 pub record CellCommand (c : Command) (limit : ℕ) (settings cells : List ℕ) (header : Option (List ℕ)) (names : Names) (w : Work) (most : ℕ) (start : Meaning) : Type 0 where
   pub reads : (port : InPort) → c.reads port ≡ reads_at settings cells port
   pub writes : (port : OutPort) → c.writes port ≡ names port
@@ -105,7 +104,7 @@ pub record CellCommand (c : Command) (limit : ℕ) (settings cells : List ℕ) (
   pub limit_passed : is_among 8 c.statuses ≡ true
   pub most_taken : start.tells ≡ true → header_size header + (most + 1) * w.size ≤ c.most_taken limit start.file ins.Cells
   pub comes : start.tells ≡ true → ComesTo c limit start.file w most (behind_header header (start.file cells))
-  -- where the reading stops within the header no line is printed
+  -- if reading stops within the header, no line is printed
   pub unread : start.tells ≡ true → (unread : Unread) → TakesHeader header (start.file cells) (unread ins.Cells) → c.PrintsSoFar limit start.file unread []
   pub its : (r : Refusal) → w.Reasons r → MayRefuse c r × (is_among (refusal_status r) c.statuses ≡ true)
   pub own : (file : Files) → c.Own limit file

@@ -1,5 +1,4 @@
--- The opening of a file of cells, up to its first symbol: `header` are the bytes with which it must begin, if it
--- must begin with some.
+-- Opening a file of cells, up to its first symbol; `header` is the header required, if any.
 use Rattle.std.specs.Prelude.{◌≡◌, ◌⊎◌, ◌≤◌, ℕ, true, false, List, drop, Option, None, Some, is_some, Result, Ok, Err}
 use Rattle.station_core.specs.Meaning.{Meaning}
 use Rattle.station_core.specs.Causes.{Rose}
@@ -12,7 +11,7 @@ use Rattle.cmd_base.specs.Header.{behind_header, header_refusal, header_size}
 abbrev pub CellsOnly : Meaning → Meaning → Type 0
 CellsOnly old new = new ≡ record old { cells = new.cells; read_faults = new.read_faults }
 
--- of what was left of the cells no more was taken than the header
+-- nothing past the header was taken of the cells left
 abbrev pub TakesHeader : Option (List ℕ) → List ℕ → List ℕ → Type 0
 TakesHeader header before left = (k : ℕ) × (k ≤ header_size header) × (left ≡ drop k before)
 
@@ -23,7 +22,7 @@ pub record IsRead (header : Option (List ℕ)) (old new : Meaning) : Type 0 wher
   pub attached : new.cells.attached ≡ old.cells.attached
   pub taken : old.tells ≡ true → TakesHeader header old.cells.left new.cells.left
 
--- it is the header; or it is not, or the reading has failed
+-- it is the header; or it is not; or the read failed
 abbrev pub ReadsHeader : Option (List ℕ) → Meaning → Meaning → Result (Unit {0}) Refusal → Type 0
 ReadsHeader header old new (Ok u) =
     (new ≡ record old { cells = record old.cells { left = behind_header header old.cells.left } }) × (old.tells ≡ true → header_refusal header old.cells.left ≡ None)
@@ -36,12 +35,13 @@ ReadsHeader header old new (Err refusal) = ⊥
 abbrev pub opened : List ℕ → Option (List ℕ) → Meaning → Meaning
 opened cells header m = record m { cells = record { asked = Some cells; attached = true; left = behind_header header (m.file cells) } }
 
--- They were not opened, or no more than the header was read. Nothing else was asked for.
+-- They were not opened, or nothing past the header was read. Nothing else was requested.
 pub record IsUnopened (cells : List ℕ) (header : Option (List ℕ)) (old new : Meaning) : Type 0 where
   pub others : CellsOnly old new
   pub asked : new.cells.asked ≡ Some cells
   pub taken : (new.cells.attached ≡ false) ⊎ ((new.cells.attached ≡ true) × (old.tells ≡ true → TakesHeader header (old.file cells) new.cells.left))
 
+-- the effect of opening: the header was read and accepted, a read failed, or the header was refused
 abbrev pub Opens : List ℕ → Option (List ℕ) → Meaning → Meaning → Result (Unit {0}) Refusal → Type 0
 Opens cells header old new (Ok u) = (new ≡ opened cells header old) × (old.tells ≡ true → header_refusal header (old.file cells) ≡ None)
 Opens cells header old new (Err ReadFault) = IsUnopened cells header old new × Rose old.read_faults new.read_faults × (old.read_faults ≤ new.read_faults)

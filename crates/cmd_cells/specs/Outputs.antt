@@ -1,5 +1,5 @@
--- The outputs of a command that reads cells: made before the work, and closed behind it. `names` has the file
--- that is written at each port, if there is one.
+-- The outputs of a command that reads cells: created before the work, closed after it. `names` has the file written at
+-- each port, if any.
 use Rattle.std.specs.Prelude.{◌≡◌, ◌⊎◌, ℕ, Bool, true, false, List, [], Option, Some, None, is_some, if◌then◌else◌, Result, Ok, Err}
 use Rattle.station_core.specs.Meaning.{Meaning, Sink, sink_at, IsUntouched}
 use Rattle.station_core.specs.declared.ports.OutPort.{OutPort}
@@ -7,15 +7,15 @@ pub use Rattle.cmd_base.specs.Ports.{cell_names, stream_names}
 use Rattle.cmd_cells.specs.declared.stop.Stop.{Stop}
 use Rattle.cmd_cells.specs.declared.stop.Stop.TheVariants.{WriteFault}
 
--- the name of the file that is written at each port
+-- the name of the file written at each port
 abbrev pub Names : Type 0
 Names = OutPort → Option (List ℕ)
 
--- nothing was asked at these ports
+-- nothing was requested at these ports
 abbrev pub AreUntouched : Names → Meaning → Type 0
 AreUntouched names m = (port : OutPort) → is_some (names port) ≡ true → IsUntouched (sink_at port m)
 
--- an output that was made
+-- an output that was created
 abbrev pub made : List ℕ → Sink
 made name = record { asked = Some name; created = true; closed = false; written = [] }
 
@@ -23,7 +23,7 @@ made name = record { asked = Some name; created = true; closed = false; written 
 abbrev pub SinksOnly : Meaning → Meaning → Type 0
 SinksOnly old new = new ≡ record old { cells_out = new.cells_out; hp_out = new.hp_out; lp_out = new.lp_out; bytes_out = new.bytes_out; write_faults = new.write_faults; close_faults = new.close_faults }
 
--- the outputs were made, LP behind HP
+-- the outputs were created, LP after HP
 pub record AreMade (names : Names) (old new : Meaning) : Type 0 where
   pub others : SinksOnly old new
   pub unfailed : new.close_faults ≡ old.close_faults
@@ -31,19 +31,19 @@ pub record AreMade (names : Names) (old new : Meaning) : Type 0 where
   pub kept : (port : OutPort) → names port ≡ None → sink_at port new ≡ sink_at port old
   pub lp_behind : (new.lp_out ≡ old.lp_out) ⊎ (new.hp_out.created ≡ true)
 
--- An output was not made: none is open, and none holds a byte. LP was asked for only where HP was made.
+-- An output was not created: none is open, and all are empty. LP was requested only if HP was created.
 pub record AreUnmade (names : Names) (old new : Meaning) : Type 0 where
   pub others : SinksOnly old new
   pub asked : (port : OutPort) → (sink_at port new ≡ sink_at port old) ⊎ ((sink_at port new).asked ≡ names port)
   pub shut : (port : OutPort) → is_some (names port) ≡ true → (sink_at port new).created ≡ true → ((sink_at port new).closed ≡ true) × ((sink_at port new).written ≡ [])
   pub lp_behind : (new.lp_out ≡ old.lp_out) ⊎ (new.hp_out.created ≡ true)
 
--- the outputs were made, or one was not
+-- the outputs were created, or one was not
 abbrev pub Makes : Names → Meaning → Meaning → Result (Unit {0}) Stop → Type 0
 Makes names old new (Ok u) = AreMade names old new
 Makes names old new (Err stop) = (stop ≡ WriteFault) × AreUnmade names old new
 
--- only what is closed and the count of failed closes have changed
+-- only the closed flags and the count of failed closes have changed
 abbrev pub ClosesOnly : Meaning → Meaning → Type 0
 ClosesOnly old new = new ≡ record old {
   cells_out = record old.cells_out { closed = new.cells_out.closed };
@@ -53,11 +53,12 @@ ClosesOnly old new = new ≡ record old {
   close_faults = new.close_faults;
 }
 
--- the outputs are closed, also where a close has failed
+-- the outputs are closed, even if a close failed
 pub record AreClosed (names : Names) (old new : Meaning) : Type 0 where
   pub others : ClosesOnly old new
   pub closed : (port : OutPort) → is_some (names port) ≡ true → (sink_at port new).closed ≡ true
 
+-- success, or a write fault
 abbrev pub IsWriting : Result (Unit {0}) Stop → Type 0
 IsWriting (Ok u) = Unit {0}
 IsWriting (Err stop) = stop ≡ WriteFault

@@ -1,5 +1,5 @@
--- The steps of a run on cells behind its settings, each as a relation of what the station stood for before and
--- after it. The promise of the run as a whole follows from them.
+-- The steps of a run on cells after its settings, each as a relation of the station before and after it. They imply the
+-- promise of the run.
 use Rattle.std.specs.Prelude.{◌≡◌, ◌⊎◌, ◌≤◌, ◌+◌, ◌*◌, ℕ, true, false, List, [], Option, Result, Ok, Err, Some, None, is_some}
 use Rattle.station_core.specs.Meaning.{Meaning, IsUnasked, sink_at}
 use Rattle.station_core.specs.declared.ports.OutPort.{OutPort}
@@ -16,19 +16,19 @@ use Rattle.cmd_cells.specs.Outputs.{AreUntouched, Names, made}
 use Rattle.cmd_cells.specs.Cells.{EndsWithin, TakesAtMost, Works}
 use Rattle.cmd_cells.specs.Opening.{Opens, opened}
 
--- the outputs can be made, and Report is open; none of them is written at Report
+-- the outputs can be created, and Report is open and not one of them
 pub record CanBegin (names : Names) (m : Meaning) : Type 0 where
   pub outputs : AreUntouched names m
   pub apart : names outs.Report ≡ None
   pub report : m.report.created ≡ true
   pub report_open : m.report.closed ≡ false
 
--- and nothing was asked on Cells
+-- and nothing was requested at Cells
 pub record IsReady (names : Names) (m : Meaning) : Type 0 where
   pub cells : IsUnasked m.cells
   pub begin : CanBegin names m
 
--- only Cells, the outputs, whether bytes wait there, what is written to Report and the counts have changed
+-- only Cells, the outputs, their pending flag, what is written to Report and the counts have changed
 abbrev pub PortsOnly : Meaning → Meaning → Type 0
 PortsOnly old new = new ≡ record old {
   cells = new.cells;
@@ -44,11 +44,11 @@ PortsOnly old new = new ≡ record old {
   pending = new.pending;
 }
 
--- and only these names were asked for at the outputs
+-- and only these names were requested at the outputs
 abbrev pub AsksOutputs : Names → Meaning → Meaning → Type 0
 AsksOutputs names old new = (port : OutPort) → ((sink_at port new).asked ≡ (sink_at port old).asked) ⊎ ((sink_at port new).asked ≡ names port)
 
--- an output was not made: nothing was taken of the cells, and no output is open or holds a byte
+-- an output was not created: nothing was taken of the cells, no output is open, and all are empty
 pub record IsUnmade (names : Names) (old new : Meaning) : Type 0 where
   pub cells : new.cells ≡ old.cells
   pub shut : (port : OutPort) → is_some (names port) ≡ true → (sink_at port new).created ≡ true → ((sink_at port new).closed ≡ true) × ((sink_at port new).written ≡ [])
@@ -56,14 +56,14 @@ pub record IsUnmade (names : Names) (old new : Meaning) : Type 0 where
   pub lp_behind : (new.lp_out ≡ old.lp_out) ⊎ (new.hp_out.created ≡ true)
   pub report : new.report ≡ old.report
 
--- the outputs were made, the work was done as far as it went, and then the outputs were closed
+-- the outputs were created, the work was done as far as it went, and the outputs were closed
 pub record IsWorked (w : Work) (most : ℕ) (names : Names) (old new : Meaning) (result : Result (Unit {0}) Stop) : Type 0 where
   -- before the work
   pub start : Meaning
   pub tells : start.tells ≡ old.tells
   pub made : (port : OutPort) (name : List ℕ) → names port ≡ Some name → sink_at port start ≡ made name
   pub report : start.report ≡ old.report
-  -- and behind it
+  -- and after it
   pub attached : new.cells.attached ≡ old.cells.attached
   pub asked : (port : OutPort) → is_some (names port) ≡ true → (sink_at port new).asked ≡ names port
   pub created : (port : OutPort) → is_some (names port) ≡ true → (sink_at port new).created ≡ true
@@ -71,20 +71,21 @@ pub record IsWorked (w : Work) (most : ℕ) (names : Names) (old new : Meaning) 
   pub lp_behind : (new.lp_out.asked ≡ old.lp_out.asked) ⊎ (new.hp_out.created ≡ true)
   pub works : Works w most old.cells.left start new result
 
--- an output was not made, or the work was done
+-- an output was not created, or the work was done
 abbrev pub RanBehind : Work → ℕ → Names → Meaning → Meaning → Result (Unit {0}) Stop → Type 0
 RanBehind w most names old new result = ((result ≡ Err WriteFault) × IsUnmade names old new) ⊎ IsWorked w most names old new result
 
+-- the status of the work: 0, or that of the reason why it stopped
 abbrev pub outcome_status : ℕ → Result (Unit {0}) Stop → ℕ
 outcome_status most (Ok u) = 0
 outcome_status most (Err stop) = refusal_status (stop_refusal most stop)
 
--- what is left after the work is the end, or a text is written after it
+-- the state after the work is the end, or the text of a refusal is written after it
 abbrev pub Tells : ℕ → Meaning → Meaning → Result (Unit {0}) Stop → Type 0
 Tells most mid new (Ok u) = new ≡ mid
 Tells most mid new (Err stop) = WritesText (refusal_text (stop_refusal most stop)) mid new
 
--- a run has one outcome behind the opening of the cells: the status, the ports and the report are that outcome's
+-- after opening the cells a run has one outcome, which determines the status, the ports and the report
 pub record RunsBehind (w : Work) (most : ℕ) (names : Names) (old new : Meaning) (status : ℕ) : Type 0 where
   pub outcome : Result (Unit {0}) Stop
   pub mid : Meaning
@@ -99,7 +100,7 @@ pub record RunsBehind (w : Work) (most : ℕ) (names : Names) (old new : Meaning
   pub taken : TakesAtMost ((most + 1) * w.size) old mid
   pub tells : Tells most mid new outcome
 
--- the cells could not be opened, or their header not read, or they have none
+-- the cells could not be opened, their header could not be read, or it is missing
 pub record RefusesCells (cells : List ℕ) (header : Option (List ℕ)) (old new : Meaning) (status : ℕ) : Type 0 where
   pub refusal : Refusal
   pub mid : Meaning

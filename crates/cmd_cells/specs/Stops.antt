@@ -1,4 +1,4 @@
--- Why the work on cells stops, and the counts of faults then.
+-- Why the work on cells stops, and the counts of faults at that point.
 use Rattle.std.specs.Prelude.{◌≡◌, ◌≤◌, ◌⊎◌, ℕ, Option, None, Some, Result, Ok, Err}
 use Rattle.station_core.specs.Causes.{Rose}
 use Rattle.station_core.specs.Meaning.{Meaning, flushed, with_write_faults}
@@ -8,19 +8,19 @@ use Rattle.cmd_base.specs.Causes.{AreReadsKept, IsSettled}
 use Rattle.cmd_cells.specs.declared.stop.Stop.{Stop}
 use Rattle.cmd_cells.specs.declared.stop.Stop.TheVariants.{ReadFault, WriteFault, Limit, Work}
 
--- the refusal of a run that has stopped so
+-- the refusal of a run that stopped like this
 abbrev pub stop_refusal : ℕ → Stop → Refusal
 stop_refusal most ReadFault = refusals.ReadFault
 stop_refusal most WriteFault = refusals.WriteFault
 stop_refusal most Limit = refusals.Limit most
 stop_refusal most (Work refusal) = refusal
 
--- the same of an outcome, if it is one
+-- the refusal of a result, if it has one
 abbrev pub refusal_in : ℕ → Result (Unit {0}) Stop → Option Refusal
 refusal_in most (Ok u) = None
 refusal_in most (Err stop) = Some (stop_refusal most stop)
 
--- A fault is answered only where its count rose. Where the work goes on no count has changed.
+-- A fault is only reported if its count rose. If the work continues, no count has changed.
 abbrev pub HasCause : {T : Type 0} → Meaning → Meaning → Result T Stop → Type 0
 HasCause old new (Ok value) = (new.read_faults ≡ old.read_faults) × (new.write_faults ≡ old.write_faults)
 HasCause old new (Err ReadFault) = Rose old.read_faults new.read_faults × (old.read_faults ≤ new.read_faults) × (new.write_faults ≡ old.write_faults)
@@ -28,17 +28,16 @@ HasCause old new (Err WriteFault) = (new.read_faults ≡ old.read_faults) × Ros
 HasCause old new (Err Limit) = (new.read_faults ≡ old.read_faults) × (new.write_faults ≡ old.write_faults)
 HasCause old new (Err (Work refusal)) = (new.read_faults ≡ old.read_faults) × (new.write_faults ≡ old.write_faults)
 
--- The outputs were flushed behind work that has stopped: it has stopped so where that has not failed, and else at a
--- write fault, since that write came first.
+-- The outputs were flushed after the work stopped. The reason stays unless a write failed in the flush; then it becomes
+-- a write fault, as that write was given first.
 abbrev pub Settles : Result (Unit {0}) Stop → Meaning → Meaning → Result (Unit {0}) Stop → Type 0
 Settles (Ok u) old new settled = (settled ≡ Ok u) × (new ≡ old)
 Settles (Err stop) old new settled =
     ((settled ≡ Err stop) × (new ≡ flushed old))
     ⊎ ((settled ≡ Err WriteFault) × Rose old.write_faults new.write_faults × (old.write_faults ≤ new.write_faults) × (new ≡ with_write_faults new.write_faults old))
 
--- The same behind the closing of the outputs: it may fail, and is counted. A write fault is answered where a write has
--- failed or, behind work that is whole, where an output could not be closed. Behind another stop the outputs were
--- flushed before.
+-- The same after closing the outputs, which may fail and is counted. A write fault is reported if a write failed or,
+-- after complete work, if an output could not be closed. After another stop the outputs were flushed first.
 abbrev pub HasEndCause : {T : Type 0} → Type 0 → Meaning → Meaning → Result T Stop → Type 0
 HasEndCause whole old new (Ok value) = (new.read_faults ≡ old.read_faults) × (new.write_faults ≡ old.write_faults) × (new.close_faults ≡ old.close_faults)
 HasEndCause whole old new (Err ReadFault) = Rose old.read_faults new.read_faults × (old.read_faults ≤ new.read_faults) × IsSettled old new
@@ -47,7 +46,7 @@ HasEndCause whole old new (Err WriteFault) =
 HasEndCause whole old new (Err Limit) = (new.read_faults ≡ old.read_faults) × IsSettled old new
 HasEndCause whole old new (Err (Work refusal)) = (new.read_faults ≡ old.read_faults) × IsSettled old new
 
--- a closing fails only where its count rose
+-- closing only fails if its count rose
 abbrev pub HasCloseCause : {T : Type 0} → Meaning → Meaning → Result T Stop → Type 0
 HasCloseCause old new (Ok value) = new.close_faults ≡ old.close_faults
 HasCloseCause old new (Err stop) = Rose old.close_faults new.close_faults

@@ -1,4 +1,4 @@
--- What a command does with cells, and what each of its calls does.
+-- The work of a command on cells, and the effect of each of its calls.
 use Rattle.std.specs.Prelude.{⊤, ◌≡◌, ℕ, ◌^◌, ◌<◌, Bool, true, false, List, [], ◌++◌, take, Result, Ok, Err}
 use Rattle.station_core.specs.Meaning.{Meaning, sink_at}
 use Rattle.station_core.specs.declared.ports.OutPort.{OutPort}
@@ -8,27 +8,28 @@ use Rattle.cmd_cells.specs.declared.stop.Stop.TheVariants.{ReadFault, WriteFault
 use Rattle.cmd_cells.specs.declared.stop.Stop.TheVariants as stops
 use Rattle.cmd_cells.specs.Symbols.{symbols}
 
--- the bytes at each port that is written; those at Report are the lines of the report
+-- the bytes written at each port; those at Report are the lines of the report
 abbrev pub Written : Type 0
 Written = OutPort → List ℕ
 
+-- no bytes at any port
 abbrev pub none_written : Written
 none_written port = []
 
--- The work on cells: what it comes to, by the bytes of the cells.
+-- The work on cells: its outputs, as relations to the bytes of the cells.
 pub record Work : Type 1 where
   -- the bytes of a symbol
   pub size : ℕ
-  -- what these first bytes of the cells give, as if more might follow
+  -- the output for a prefix of the cells, as if more might follow
   pub Gives : List ℕ → Written → Type 0
-  -- what all bytes of the cells give, at their end
+  -- the output for all bytes of the cells, at their end
   pub Ends : List ℕ → Written → Type 0
-  -- Behind these bytes, with those left, the work refuses the cells for this reason. This had been given before.
+  -- After these bytes, with those left, the work refuses the cells for this reason. This output had been given before.
   pub Refuses : List ℕ → List ℕ → Written → Refusal → Type 0
-  -- the reasons for which it may refuse at all
+  -- the possible reasons of a refusal
   pub Reasons : Refusal → Type 0
 
--- the work refuses only for reasons of its own
+-- the work refuses only for its own reasons
 abbrev pub HasReason : {T : Type 0} → Work → Result T Stop → Type 0
 HasReason w (Ok value) = ⊤
 HasReason w (Err ReadFault) = ⊤
@@ -36,19 +37,19 @@ HasReason w (Err WriteFault) = ⊤
 HasReason w (Err Limit) = ⊤
 HasReason w (Err (stops.Work r)) = w.Reasons r
 
--- at each port these bytes were written behind what stood there
+-- at each port these bytes were appended
 abbrev pub Holds : Meaning → Meaning → Written → Type 0
 Holds old new more = (port : OutPort) → (sink_at port new).written ≡ (sink_at port old).written ++ more port
 
--- at each port a front of them was
+-- at each port a prefix of them was
 abbrev pub HoldsFront : Meaning → Meaning → Written → Type 0
 HoldsFront old new more = (port : OutPort) → (k : ℕ) × ((sink_at port new).written ≡ (sink_at port old).written ++ take k (more port))
 
--- what is given then is what was given before and this
+-- the total output is the earlier output and this
 abbrev pub Follows : Written → Written → Written → Type 0
 Follows before more after = (port : OutPort) → after port ≡ before port ++ more port
 
--- a call gave this more, and wrote it
+-- a call gave this additional output, and wrote it
 pub record Gave (Is : Written → Type 0) (before : Written) (old new : Meaning) : Type 0 where
   pub after : Written
   pub more : Written
@@ -56,7 +57,7 @@ pub record Gave (Is : Written → Type 0) (before : Written) (old new : Meaning)
   pub follows : Follows before more after
   pub written : old.tells ≡ true → Holds old new more
 
--- a call gave this more, and wrote a front of it
+-- a call gave this additional output, and wrote a prefix of it
 pub record GaveFront (Is : Written → Type 0) (before : Written) (old new : Meaning) : Type 0 where
   pub after : Written
   pub more : Written
@@ -64,8 +65,8 @@ pub record GaveFront (Is : Written → Type 0) (before : Written) (old new : Mea
   pub follows : Follows before more after
   pub written : old.tells ≡ true → HoldsFront old new more
 
--- What a call of the work did: it gave something that `Is` so, and the work then `Stands` for it; or a write
--- failed; or the work refuses the cells for a reason that is `Its`, and nothing was written.
+-- The effect of a call of the work: it gave output that satisfies `Is`, and the new state satisfies `Stands`; or a
+-- write failed; or the work refuses the cells for a reason in `Its`, and nothing was written.
 abbrev pub Does : (Written → Type 0) → (Written → Type 0) → (Refusal → Type 0) → Written → Meaning → Meaning → Result (Unit {0}) Stop → Type 0
 Does Stands Is Its before old new (Ok u) = Gave (λ after. Stands after × Is after) before old new
 Does Stands Is Its before old new (Err WriteFault) = GaveFront Is before old new
@@ -73,23 +74,23 @@ Does Stands Is Its before old new (Err (stops.Work r)) = Its r × (old.tells ≡
 Does Stands Is Its before old new (Err ReadFault) = ⊥
 Does Stands Is Its before old new (Err Limit) = ⊥
 
--- a piece more of the cells was taken; `standing` says what the work stands for then
+-- one more piece of the cells was taken; `standing` is the meaning of the state then
 abbrev pub Takes : Work → (List ℕ → Written → Type 0) → List ℕ → List ℕ → Written → Meaning → Meaning → Result (Unit {0}) Stop → Type 0
 Takes w standing bytes piece before =
     Does (standing (bytes ++ piece)) (w.Gives (bytes ++ piece)) (λ r. (left : List ℕ) → w.Refuses (bytes ++ piece) left before r) before
 
--- the cells were all taken
+-- all cells were taken
 abbrev pub Finishes : Work → List ℕ → Written → Meaning → Meaning → Result (Unit {0}) Stop → Type 0
 Finishes w bytes before = Does (λ after. Unit {0}) (w.Ends bytes) (w.Refuses bytes [] before) before
 
--- work that may take another piece: it stands for fewer than 2^32 symbols
+-- work that may take another piece: it has had fewer than 2^32 symbols
 pub record GoesOn (w : Work) (standing : List ℕ → Written → Type 0) : Type 0 where
   pub bytes : List ℕ
   pub given : Written
   pub stands : standing bytes given
   pub few : symbols w.size bytes < 2 ^ 32
 
--- only what is written, whether it waits, and the counts of write faults have changed
+-- only the bytes written and pending, and the counts of write faults have changed
 abbrev pub WritesOnly : Meaning → Meaning → Type 0
 WritesOnly old new = new ≡ record old {
   cells_out = record old.cells_out { written = new.cells_out.written };
@@ -102,7 +103,7 @@ WritesOnly old new = new ≡ record old {
   pending = new.pending;
 }
 
--- the outputs of the work, and Report, are made and not closed
+-- the outputs of the work, and Report, are created and not closed
 pub record AreOpen (outputs : OutPort → Bool) (m : Meaning) : Type 0 where
   pub made : (port : OutPort) → outputs port ≡ true → (sink_at port m).created ≡ true
   pub opened : (port : OutPort) → outputs port ≡ true → (sink_at port m).closed ≡ false

@@ -11,8 +11,8 @@ use crate::work::SymbolWork;
 use cmd_base::fill;
 use station_core::{Failed, InPort, Station};
 
-// Hands in the symbol of this number, or the bytes that are left of the cells; whether the symbol was whole.
-// Each read asks for the bytes that the symbol lacks.
+// Passes on the symbol of this number, or the remaining bytes of the cells. Returns whether the symbol was whole. Each
+// read requests the bytes still missing.
 fn take_next<'a, X: SymbolWork<'a, S>, S: Station<'a>>(
     number: u32,
     work: &mut X,
@@ -45,8 +45,7 @@ fn take_next<'a, X: SymbolWork<'a, S>, S: Station<'a>>(
     Ok(filled == symbol.len())
 }
 
-// Behind as many symbols as the limit: hands in the bytes that are left of the cells, where they are no whole
-// symbol.
+// After as many symbols as the limit: passes on the remaining bytes of the cells, if they are no whole symbol.
 fn take_rest<'a, X: SymbolWork<'a, S>, S: Station<'a>>(
     max_symbols: u32,
     work: &mut X,
@@ -81,7 +80,7 @@ fn take_rest<'a, X: SymbolWork<'a, S>, S: Station<'a>>(
     work.take(rest, station)
 }
 
-// Begins the work and hands in the cells to their end. It refuses one more whole symbol than the limit.
+// Begins the work and passes on all cells. One whole symbol more than the limit is refused.
 fn take_all<'a, X: SymbolWork<'a, S>, S: Station<'a>>(
     max_symbols: u32,
     work: &mut X,
@@ -112,7 +111,7 @@ fn take_all<'a, X: SymbolWork<'a, S>, S: Station<'a>>(
     take_rest(max_symbols, work, symbol, station)
 }
 
-// Ends the work behind the cells that were taken.
+// Ends the work after the cells taken.
 fn end<'a, X: SymbolWork<'a, S>, S: Station<'a>>(work: &mut X, station: &mut S) -> Result<(), Stop>
     requires able { X.able }
     requires open { AreOpen (X.outputs (X.setup work.old)) (S.meaning station.old) }
@@ -132,7 +131,7 @@ fn end<'a, X: SymbolWork<'a, S>, S: Station<'a>>(work: &mut X, station: &mut S) 
 
 /// Does the work on the cells, from their first symbol to their end, and ends it.
 ///
-/// It stops at one more whole symbol than the limit, at a fault, and where the work refuses the cells.
+/// It stops at one whole symbol more than the limit, at a fault, or if the work refuses the cells.
 pub(crate) fn work_on_cells<'a, X: SymbolWork<'a, S>, S: Station<'a>>(
     max_symbols: u32,
     work: &mut X,

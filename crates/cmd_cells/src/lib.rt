@@ -1,8 +1,8 @@
-//! The loop of every command that reads cells: symbol after symbol, whatever is done with a symbol.
+//! The loop of every command that reads cells, symbol by symbol.
 //!
-//! A command supplies its work, a [`SymbolWork`], and the files that it writes, [`OutputFiles`]. A run of it
-//! ([`run_cells`]) opens Cells, reads their header, makes the outputs, hands the cells to the work symbol by symbol up to a limit,
-//! and closes the outputs. What the work says of its own calls becomes the promise of the run.
+//! A command supplies its work, a [`SymbolWork`], and the files that it writes, [`OutputFiles`]. A run ([`run_cells`])
+//! opens Cells, reads their header, creates the outputs, passes the cells to the work symbol by symbol up to a limit,
+//! and closes the outputs. The contracts of the work's calls become the promise of the run.
 #![tactic(auto)]
 
 mod cells;

@@ -1,4 +1,4 @@
-// The opening of a file of cells, up to its first symbol.
+// Opening a file of cells, up to its first symbol.
 ghost use Rattle.std.specs.Prelude.{◌≡◌, true};
 ghost use Rattle.station_core.specs.Meaning.{IsUnasked};
 ghost use Rattle.cmd_cells.specs.Opening.{Opens, ReadsHeader};
@@ -7,7 +7,7 @@ use cmd_base::{CellsRefusal, Refusal};
 use cmd_base::fill;
 use station_core::{InPort, Station};
 
-// Reads the header, where the cells must begin with one. Each read asks for the bytes that it lacks.
+// Reads the header, if the cells must have one. Each read requests the bytes still missing.
 fn read_header<'a, S: Station<'a>>(header: Option<[u8; 8]>, station: &mut S) -> Result<(), Refusal>
     requires attached { (S.meaning station.old).cells.attached ≡ true }
     ensures reads { ReadsHeader header (S.meaning station.old) (S.meaning station.new) result }
@@ -29,7 +29,7 @@ fn read_header<'a, S: Station<'a>>(header: Option<[u8; 8]>, station: &mut S) -> 
     }
 }
 
-/// Opens the file of cells of this name and, where it must begin with a header, reads that.
+/// Opens the file of cells of this name and reads its header, if it must have one.
 pub(crate) fn open_cells<'a, S: Station<'a>>(
     cells: &'a str,
     header: Option<[u8; 8]>,

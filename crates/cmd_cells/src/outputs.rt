@@ -8,18 +8,18 @@ ghost use Rattle.cmd_cells.specs.Outputs.{AreClosed, AreUntouched, ClosesLp, IsW
 use crate::stop::Stop;
 use station_core::{OutPort as Port, Station};
 
-/// The files that a command writes beside its report.
+/// The files that a command writes in addition to its report.
 pub trait OutputFiles<'a, S: Station<'a>> {
-    /// The name of the file at each port, if there is one.
+    /// The name of the file at each port, if any.
     ghost names: { Self → Names };
 
-    /// Makes them all, HP before LP. Where one can't be made those before it are closed again.
+    /// Creates them all, HP before LP. If one cannot be created, the earlier ones are closed again.
     fn create(&self, station: &mut S) -> Result<(), Stop>
         requires untouched { AreUntouched (names self.now) (S.meaning station.old) }
         ensures cause { HasCause (S.meaning station.old) (S.meaning station.new) result }
         ensures makes { Makes (names self.now) (S.meaning station.old) (S.meaning station.new) result };
 
-    /// Closes them all, also where one was not closed well.
+    /// Closes them all, even if one could not be closed cleanly.
     fn close(&self, station: &mut S) -> Result<(), Stop>
         requires open { AreOpen (λ port. is_some (names self.now port)) (S.meaning station.old) }
         ensures cause { HasCloseCause (S.meaning station.old) (S.meaning station.new) result }

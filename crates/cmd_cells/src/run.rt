@@ -1,4 +1,4 @@
-// A run of a command that reads cells, behind its settings.
+// A run of a command that reads cells, after its settings.
 ghost use Rattle.std.specs.Prelude.{◌≡◌, ◌≤◌, ◌<◌, ◌+◌, ◌*◌, true, length, is_some};
 ghost use Rattle.station_core.specs.declared.ports.OutPort.{OutPort};
 ghost use Rattle.cmd_base.specs.Causes.{FlushesOnly};
@@ -15,7 +15,7 @@ use crate::work::SymbolWork;
 use cmd_base::refuse;
 use station_core::Station;
 
-// Flushes the outputs if the work has stopped. If that fails it is a write fault, since that write came first.
+// Flushes the outputs if the work has stopped. If that fails it is a write fault, as that write was given first.
 fn settle<'a, S: Station<'a>>(worked: Result<(), Stop>, station: &mut S) -> Result<(), Stop>
     ensures others { FlushesOnly (S.meaning station.old) (S.meaning station.new) }
     ensures settles { Settles worked (S.meaning station.old) (S.meaning station.new) result }
@@ -29,8 +29,8 @@ fn settle<'a, S: Station<'a>>(worked: Result<(), Stop>, station: &mut S) -> Resu
     }
 }
 
-// Makes the outputs, does the work on what is left of Cells, and closes the outputs, whatever the work came to.
-// Where it has stopped they are flushed before.
+// Creates the outputs, does the work on the rest of Cells, and closes the outputs, whatever the result. If the work has
+// stopped they are flushed first.
 fn run_behind<'a, F: OutputFiles<'a, S>, X: SymbolWork<'a, S>, S: Station<'a>>(
     max_symbols: u32,
     files: &F,
@@ -61,7 +61,7 @@ fn run_behind<'a, F: OutputFiles<'a, S>, X: SymbolWork<'a, S>, S: Station<'a>>(
     settled.and(closed)
 }
 
-// The run behind the opening of the cells, to its status.
+// The run after opening the cells, to its status.
 fn run_opened<'a, F: OutputFiles<'a, S>, X: SymbolWork<'a, S>, S: Station<'a>>(
     max_symbols: u32,
     files: &F,
@@ -84,12 +84,11 @@ fn run_opened<'a, F: OutputFiles<'a, S>, X: SymbolWork<'a, S>, S: Station<'a>>(
     }
 }
 
-/// Runs a command on the cells of the file of this name, by its work and with its outputs, and gives the
-/// status.
+/// Runs a command on the cells of the file of this name, with its work and its outputs, and returns the status.
 ///
-/// The cells are opened and, where they must begin with a header, that is read before an output is made:
-/// cells that do not begin with it are refused. `symbol` has the size of a symbol of the work, and the
-/// limit is in whole symbols behind the header. The outputs are those that the work writes.
+/// The cells are opened and their header, if one is required, is read before an output is created: cells that do not
+/// begin with it are rejected. `symbol` has the size of a symbol of the work, and the limit is in whole symbols after
+/// the header. The outputs are those that the work writes.
 pub fn run_cells<'a, F: OutputFiles<'a, S>, X: SymbolWork<'a, S>, S: Station<'a>>(
     max_symbols: u32,
     cells: &'a str,

@@ -9,16 +9,16 @@ use cmd_base::Refusal;
 pub enum Stop {
     /// The cells could not be opened or read.
     ReadFault,
-    /// An output could not be made, written or closed, or a write to the report failed.
+    /// An output could not be created, written or closed, or a write to the report failed.
     WriteFault,
-    /// The cells hold one more whole symbol than the limit.
+    /// The cells have one whole symbol more than the limit.
     Limit,
     /// The work itself refuses the cells, for this reason.
     Work(Refusal),
 }
 
 impl Stop {
-    /// The refusal of a run that has stopped so, where this many symbols are the limit.
+    /// The refusal of a run that stopped like this, for this limit of symbols.
     pub fn refusal(self, max_symbols: u32) -> Refusal
         ensures { result ≡ stop_refusal max_symbols self }
     {

@@ -8,7 +8,7 @@ ghost use Rattle.cmd_cells.specs.Writing.{WritesAt};
 use crate::stop::Stop;
 use station_core::{OutPort, Station};
 
-/// Writes the bytes at the port by one write, if there are any. It stops only where that has failed.
+/// Writes the bytes at the port in one write, if there are any. It stops only if that failed.
 pub fn write_some<'a, S: Station<'a>>(
     port: OutPort,
     bytes: &[u8],

@@ -1,4 +1,4 @@
--- What the calls of the work give, and write.
+-- The output of the work's calls, and what they write.
 use Rattle.std.proofs.Common.{◌≡◌, ℕ, Bool, true, List, [], ◌++◌, take, refl, ◌∙◌, sym, ap, subst, if◌then◌else◌, Result, Ok, Err}
 use Rattle.std.proofs.lemmas.List.{append-nil}
 use Rattle.station_core.specs.Meaning.{Meaning, sink_at}
@@ -12,7 +12,7 @@ use Rattle.cmd_cells.proofs.Fronts.{none_of}
 use Rattle.cmd_convert.specs.Conversion.{Conversion, new_file}
 use Rattle.cmd_convert.specs.Working.{FirstGive, written_at}
 
--- bytes were written at Cells, or a front of them
+-- bytes were written at Cells, or a prefix of them
 module _ (m m' : Meaning) (bytes : List ℕ) (t : m.tells ≡ true) where
   abbrev told : List ℕ → List ℕ → Bool → List ℕ
   told before more tells = if tells then before ++ more else before
@@ -45,7 +45,7 @@ module _ (m m' : Meaning) (bytes : List ℕ) (t : m.tells ≡ true) where
   line_begun r w outs.Bytes = none_of m.bytes_out.written [] m'.bytes_out.written (ap (λ (x : Meaning). x.bytes_out.written) w.2)
   line_begun r w outs.Report = (w.1, ap (λ (x : Meaning). x.report.written) w.2 ∙ ap (told m.report.written (take w.1 bytes)) t)
 
--- so that is what a call has done
+-- so this is the effect of a call
 module _ (Stands Is : Written → Type 0) (Its : Refusal → Type 0) (before after : Written) (stands : Stands after) (is : Is after) (m m' : Meaning) (bytes : List ℕ) where
   pub wrote_cells : Follows before (written_at bytes []) after → (result : Result (Unit {0}) Stop) → WritesAt outs.Cells bytes m m' result → Does Stands Is Its before m m' result
   wrote_cells follows (Ok u) w = record { after = after; more = written_at bytes []; is = (stands, is); follows = follows; written = λ t. cells_held m m' bytes t w }
@@ -57,7 +57,7 @@ module _ (Stands Is : Written → Type 0) (Its : Refusal → Type 0) (before aft
   wrote_line follows (Err r) w = subst (λ (stop : Stop). Does Stands Is Its before m m' (Err stop)) (sym w.0)
       (record { after = after; more = written_at [] bytes; is = is; follows = follows; written = λ t. line_begun m m' bytes t r w })
 
--- a call that gives nothing more writes nothing
+-- a call without output writes nothing
 pub nothing_wrote : (Is : Written → Type 0) (before after : Written) (m : Meaning) → Is after → ((port : OutPort) → after port ≡ before port) → Gave Is before m m
 nothing_wrote Is before after m is same = record {
   after = after;
@@ -67,8 +67,8 @@ nothing_wrote Is before after m is same = record {
   written = λ t port. sym (append-nil (sink_at port m).written);
 }
 
--- ---- what follows what
--- more cells behind those of first bytes
+-- ---- outputs that follow
+-- more cells after the first ones
 pub cells_follow : (c : Conversion) (bytes : List ℕ) (before : Written) (all more : List ℕ) → FirstGive c bytes before → all ≡ new_file c bytes ++ more → Follows before (written_at more []) (written_at all [])
 cells_follow c bytes before all more gives is port = go port ∙ ap (λ (l : List ℕ). l ++ written_at more [] port) (sym (gives port))
   where
@@ -79,7 +79,7 @@ cells_follow c bytes before all more gives is port = go port ∙ ap (λ (l : Lis
     go outs.Bytes = refl
     go outs.Report = refl
 
--- the header behind nothing
+-- the header with nothing before it
 pub header_follows : (all more : List ℕ) (before : Written) → ((port : OutPort) → before port ≡ []) → all ≡ more → Follows before (written_at more []) (written_at all [])
 header_follows all more before none is port = go port ∙ ap (λ (l : List ℕ). l ++ written_at more [] port) (sym (none port))
   where
@@ -90,7 +90,7 @@ header_follows all more before none is port = go port ∙ ap (λ (l : List ℕ).
     go outs.Bytes = refl
     go outs.Report = refl
 
--- the closing line behind all cells
+-- the closing line after all cells
 pub line_follows : (c : Conversion) (bytes : List ℕ) (before : Written) (line : List ℕ) → FirstGive c bytes before → Follows before (written_at [] line) (written_at (new_file c bytes) line)
 line_follows c bytes before line gives port = go port ∙ ap (λ (l : List ℕ). l ++ written_at [] line port) (sym (gives port))
   where

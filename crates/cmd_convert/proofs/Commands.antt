@@ -1,4 +1,4 @@
--- A conversion is a command on cells: what it comes to is what its work gives.
+-- A conversion is a command on cells: its output is that of its work.
 use Rattle.std.proofs.Common.{◌≡◌, inl, inr, true, ℕ, ◌<◌, ◌≤◌, Bool, List, [], ◌++◌, Option, Some, None, refl, ◌∙◌, sym, ap, subst, arith, if◌then◌else◌}
 use Rattle.std.specs.Prelude.{◌⊎◌, is_some, option_and_then}
 use Rattle.std.proofs.lemmas.Bool.{cases_lt, lt-ltb, le-ltb, true≢false}
@@ -23,7 +23,7 @@ use Rattle.cmd_convert.specs.ConversionCommand.{FileComes, LinesCome, conversion
 use Rattle.cmd_convert.specs.Working.{conversion_work, writes_at, written_at}
 use Rattle.cmd_convert.proofs.Files.{begins, begins_limited}
 
--- what a conversion is by its mode: it reads some bytes a symbol, and its statuses are those that may come
+-- the facts on a conversion in each mode: a symbol has some bytes, and the statuses are possible ones
 pub record IsSound (by : Mode → Conversion) (statuses : List ℕ) : Type 0 where
   pub some : (mode : Mode) → 0 < (by mode).size
   pub done : is_among 0 statuses ≡ true
@@ -34,7 +34,7 @@ pub record IsSound (by : Mode → Conversion) (statuses : List ℕ) : Type 0 whe
   pub limit_passed : is_among 8 statuses ≡ true
   pub unheaded : (mode : Mode) → is_some (by mode).old_header ≡ true → is_among 9 statuses ≡ true
 
--- the work writes where the new file is made
+-- the work writes where the new file is created
 pub outputs_are : (name : List ℕ) (port : OutPort) → writes_at port ≡ is_some (cell_names name port)
 outputs_are name outs.Cells = refl
 outputs_are name outs.Hp = refl
@@ -58,7 +58,7 @@ module _ (by : Mode → Conversion) (statuses : List ℕ) (sound : IsSound by st
   some : 0 < v.size
   some = sound.some s.mode
 
-  -- what is written at the one output is the new file
+  -- the bytes written at the one output are the new file
   at_output : (cells lines : List ℕ) (port : OutPort) → IsOutput c port → written_at cells lines port ≡ cells
   at_output cells lines outs.Cells is = refl
   at_output cells lines outs.Hp is = absurd (true≢false (sym is))
@@ -75,7 +75,7 @@ module _ (by : Mode → Conversion) (statuses : List ℕ) (sound : IsSound by st
   refusal_is : (o : Option Refusal) → limit_refusal v most bytes ≡ o → c.work_refusal limit file ≡ o
   refusal_is o is = ap (λ (x : Option TheSettings). option_and_then (λ y. limit_refusal (by y.mode) y.max_symbols (old_cells (by y.mode) (file old))) x) stated ∙ is
 
-  -- what first bytes give begins what all come to
+  -- the output of a prefix is a prefix of the output
   continued : (cells lines all_cells all_lines : List ℕ) (given : Written) → ((port : OutPort) → given port ≡ written_at cells lines port)
       → (more : List ℕ) × (all_cells ≡ cells ++ more) → (more : List ℕ) × (all_lines ≡ lines ++ more) → FileComes v most bytes all_cells → LinesCome v most bytes all_lines → Continues c limit file given
   continued cells lines all_cells all_lines given is more_cells more_lines comes prints = record {

@@ -15,7 +15,7 @@ pub record Laws : Type 0 where
   pub within : FilesAreWithin
   pub returned : FilesAreReturned
 
--- the cells of OUT are the symbols of which they speak
+-- the cells of OUT are the symbols that the laws are about
 same : (s : Settings) (bytes : List ℕ) → equalised_symbols s bytes ≡ new_cells (equalisation s.mode) bytes
 unfolding equalised_symbols bytes_of_symbol new_symbols
 same s bytes = refl

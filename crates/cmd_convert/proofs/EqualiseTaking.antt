@@ -1,4 +1,4 @@
--- A symbol that is taken whole.
+-- A symbol taken whole.
 use Rattle.std.proofs.Common.{◌≡◌, ◌-◌, ◌*◌, ◌≤◌, ◌++◌, ◌%◌, ℕ, List, [], length, take, ap, ap₂, ◌∙◌, arith}
 use Rattle.std.specs.Prelude.{min}
 use Rattle.std.proofs.lemmas.List.{take_all}
@@ -9,7 +9,7 @@ use Rattle.frame_build.specs.Symbol.{cells_from, weights_from}
 use Rattle.cell_equal.specs.Equal.{equalised_bytes}
 use Rattle.cell_equal.specs.Files.{equalised_symbol}
 
--- where nothing was taken before, a whole symbol is taken as it is
+-- if nothing was taken before, a whole symbol is taken unchanged
 pub all_taken : (k : ℕ) (old bytes : List ℕ) (count : ℕ) (new : List ℕ) → old ≡ [] → length bytes ≡ 5 * k → count ≡ min (length bytes) (5 * k - length old) → new ≡ old ++ take count bytes → new ≡ bytes
 all_taken k old bytes count new empty whole counted taken =
     let none : length old ≡ 0 = ap length empty in

@@ -1,4 +1,4 @@
--- The new file of old cells, and of old cells that go on.
+-- The new file of old cells, and of old cells that continue.
 use Rattle.std.proofs.Common.{◌≡◌, ℕ, zero, suc, ◌+◌, ◌-◌, ◌*◌, ◌/◌, ◌%◌, ◌<◌, ◌≤◌, List, [], ◌∷◌, ◌++◌, length, take, drop, refl, ◌∙◌, sym, ap, arith, append_assoc}
 use Rattle.std.specs.Prelude.{flat_map}
 use Rattle.std.proofs.Math.Nat.{add-mul, div-eq_of_lt}
@@ -16,7 +16,7 @@ pub no_symbols : (c : Conversion) (bytes : List ℕ) → new_symbols c 0 bytes �
 unfolding new_symbols numbers
 no_symbols c bytes = refl
 
--- one symbol more
+-- one more symbol
 pub one_symbol : (c : Conversion) (n : ℕ) (bytes : List ℕ) → new_symbols c (n + 1) bytes ≡ new_symbols c n bytes ++ c.new_symbol n (old_symbol c.size bytes n)
 unfolding new_symbols
 one_symbol c n bytes =
@@ -24,7 +24,7 @@ one_symbol c n bytes =
     ∙ flat_map-append (λ k. c.new_symbol k (old_symbol c.size bytes k)) (numbers n) (n ∷ [])
     ∙ ap (λ (l : List ℕ). flat_map (λ k. c.new_symbol k (old_symbol c.size bytes k)) (numbers n) ++ l) (append-nil (c.new_symbol n (old_symbol c.size bytes n)))
 
--- a symbol of first bytes, and the one behind whole symbols
+-- a symbol of a prefix, and the one after whole symbols
 symbol_before : (size n : ℕ) (bytes more : List ℕ) → (n + 1) * size ≤ length bytes → old_symbol size (bytes ++ more) n ≡ old_symbol size bytes n
 symbol_before size n bytes more l =
     let next : (n + 1) * size ≡ n * size + size = one_more n size in
@@ -36,7 +36,7 @@ symbol_behind size n bytes piece e l =
     let place : n * size ≡ length bytes + 0 = omega (arith, e) in
     ap (λ (z : ℕ). take size (drop z (bytes ++ piece))) place ∙ ap (take size) (drop-append-add bytes piece 0) ∙ take_all size piece (omega (arith, l))
 
--- the symbols of first bytes
+-- the symbols of a prefix
 pub symbols_before : (c : Conversion) (bytes more : List ℕ) (n : ℕ) → n * c.size ≤ length bytes → new_symbols c n (bytes ++ more) ≡ new_symbols c n bytes
 symbols_before c bytes more zero l = no_symbols c (bytes ++ more) ∙ sym (no_symbols c bytes)
 symbols_before c bytes more (suc n) l =
@@ -50,7 +50,7 @@ symbols_before c bytes more (suc n) l =
     ∙ sym (one_symbol c n bytes)
     ∙ ap (λ (z : ℕ). new_symbols c z bytes) (sym next)
 
--- first symbols begin more of them
+-- first symbols are a prefix of more symbols
 symbols_begin : (c : Conversion) (bytes : List ℕ) (n k : ℕ) → (rest : List ℕ) × (new_symbols c (n + k) bytes ≡ new_symbols c n bytes ++ rest)
 symbols_begin c bytes n zero = let none : n + 0 ≡ n = omega arith in ([], ap (λ (z : ℕ). new_symbols c z bytes) none ∙ sym (append-nil (new_symbols c n bytes)))
 symbols_begin c bytes n (suc k) =
@@ -94,7 +94,7 @@ module _ (c : Conversion) (some : 0 < c.size) where
         ap (λ (z : ℕ). c.new_header ++ new_symbols c z []) nought ∙ ap (λ (s : List ℕ). c.new_header ++ s) (no_symbols c []) ∙ append-nil c.new_header,
       )
 
-  -- bytes that end no symbol
+  -- bytes that do not complete a symbol
   pub part : (bytes more : List ℕ) → tail size bytes + length more < size
       → (symbols size (bytes ++ more) ≡ symbols size bytes) × (tail size (bytes ++ more) ≡ tail size bytes + length more) × (new_file c (bytes ++ more) ≡ new_file c bytes)
   part bytes more l =
@@ -124,7 +124,7 @@ module _ (c : Conversion) (some : 0 < c.size) where
             ∙ sym (append_assoc c.new_header (new_symbols c n bytes) (c.new_symbol n piece)),
       )
 
-  -- n symbols of first bytes begin those of more
+  -- n symbols of a prefix are a prefix of those of more bytes
   from_first : (taken rest : List ℕ) (n : ℕ) → symbols size taken ≤ n → (more : List ℕ) × (c.new_header ++ new_symbols c n (taken ++ rest) ≡ new_file c taken ++ more)
   from_first taken rest n few =
       let m : ℕ = symbols size taken in
@@ -137,11 +137,11 @@ module _ (c : Conversion) (some : 0 < c.size) where
             ∙ sym (append_assoc c.new_header (new_symbols c m taken) b.0),
       )
 
-  -- the file of first bytes begins the file of more
+  -- the file of a prefix is a prefix of the file of more bytes
   pub begins : (bytes more : List ℕ) → (rest : List ℕ) × (new_file c (bytes ++ more) ≡ new_file c bytes ++ rest)
   begins bytes more = from_first bytes more (symbols size (bytes ++ more)) (no_fewer bytes more)
 
-  -- and the file of the symbols within a limit begins with that of first bytes with no more
+  -- and of the file of the symbols within a limit, if the prefix is within it
   pub begins_limited : (taken rest : List ℕ) (most : ℕ) → symbols size taken ≤ most → most < symbols size (taken ++ rest) → (more : List ℕ) × (new_file c (take (most * size) (taken ++ rest)) ≡ new_file c taken ++ more)
   begins_limited taken rest most few past =
       let file : List ℕ = taken ++ rest in

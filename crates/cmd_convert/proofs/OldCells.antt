@@ -1,4 +1,4 @@
--- Old cells one after another, and what they are upgraded to.
+-- Old cells in order, and their upgrade.
 use Rattle.std.proofs.Common.{◌≡◌, ℕ, zero, suc, ◌+◌, ◌*◌, ◌<◌, ◌≤◌, List, [], ◌∷◌, ◌++◌, length, take, drop, refl, ◌∙◌, sym, ap, arith, append_assoc}
 use Rattle.std.specs.Prelude.{flat_map}
 use Rattle.std.proofs.lemmas.List.{append-nil, drop-append-le, take-append-le, length-drop, length-take-le, length-append}
@@ -15,7 +15,7 @@ pub no_cells : (bytes : List ℕ) → upgraded_cells 0 bytes ≡ []
 unfolding upgraded_cells numbers
 no_cells bytes = refl
 
--- one cell more
+-- one more cell
 pub one_cell : (n : ℕ) (bytes : List ℕ) → upgraded_cells (n + 1) bytes ≡ upgraded_cells n bytes ++ upgraded_cell bytes n
 unfolding upgraded_cells
 one_cell n bytes =
@@ -23,7 +23,7 @@ one_cell n bytes =
     ∙ flat_map-append (upgraded_cell bytes) (numbers n) (n ∷ [])
     ∙ ap (λ (l : List ℕ). flat_map (upgraded_cell bytes) (numbers n) ++ l) (append-nil (upgraded_cell bytes n))
 
--- a cell of first bytes, and one of the bytes behind them
+-- a cell of a prefix, and one of the bytes after it
 cell_before : (bytes more : List ℕ) (k : ℕ) → 4 * k + 4 ≤ length bytes → upgraded_cell (bytes ++ more) k ≡ upgraded_cell bytes k
 cell_before bytes more k l =
     let long = length-drop (4 * k) bytes in
@@ -35,7 +35,7 @@ cell_behind bytes more n k l =
     let place : 4 * (n + k) ≡ length bytes + 4 * k = omega (arith, l) in
     ap (λ (c : List ℕ). take 4 c ++ full_weight ∷ []) (ap (λ (z : ℕ). drop z (bytes ++ more)) place ∙ drop-append-add bytes more (4 * k))
 
--- the cells of first bytes
+-- the cells of a prefix
 pub cells_before : (bytes more : List ℕ) (n : ℕ) → 4 * n ≤ length bytes → upgraded_cells n (bytes ++ more) ≡ upgraded_cells n bytes
 cells_before bytes more zero l = no_cells (bytes ++ more) ∙ sym (no_cells bytes)
 cells_before bytes more (suc n) l =
@@ -47,7 +47,7 @@ cells_before bytes more (suc n) l =
     ∙ sym (one_cell n bytes)
     ∙ ap (λ (z : ℕ). upgraded_cells z bytes) (sym next)
 
--- the cells of first bytes that end no cell, and those of the bytes behind them
+-- the cells of a prefix of whole cells, and those of the bytes after it
 pub cells_behind : (bytes more : List ℕ) (n k : ℕ) → length bytes ≡ 4 * n → upgraded_cells (n + k) (bytes ++ more) ≡ upgraded_cells n bytes ++ upgraded_cells k more
 cells_behind bytes more n zero l =
     let none : n + 0 ≡ n = omega arith in
@@ -66,7 +66,7 @@ cells_behind bytes more n (suc k) l =
     ∙ ap (λ (c : List ℕ). upgraded_cells n bytes ++ c) (sym (one_cell k more))
     ∙ ap (λ (z : ℕ). upgraded_cells n bytes ++ upgraded_cells z more) (sym last)
 
--- a room that begins with n new cells, into which one more was put
+-- a space that begins with n new cells, after one more was written
 pub put_one : (bytes room cell : List ℕ) (n count four five : ℕ) → n < count → length bytes ≡ 4 * count → length room ≡ 5 * count → four ≡ 4 → five ≡ 5
     → take (5 * n) room ≡ upgraded_cells n bytes → cell ≡ take four (drop (4 * n) bytes) ++ full_weight ∷ []
     → (length (put_mid (5 * n) five room cell) ≡ 5 * count) × (take (5 * (n + 1)) (put_mid (5 * n) five room cell) ≡ upgraded_cells (n + 1) bytes)

@@ -1,4 +1,4 @@
--- The cells of all whole symbols are those of symbol after symbol.
+-- The cells of all whole symbols are those of the symbols in order.
 use Rattle.std.proofs.Common.{◌≡◌, ℕ, zero, suc, ◌+◌, ◌-◌, ◌*◌, ◌/◌, ◌≤◌, List, ◌++◌, length, take, drop, ◌∙◌, sym, ap, arith}
 use Rattle.std.proofs.lemmas.List.{length-drop, length-take-le, take-append-drop}
 use Rattle.mode_set.specs.StreamTable.{carriers}
@@ -28,7 +28,7 @@ one_held : (mode : Mode) (n k : ℕ) → suc n * old_symbol_length mode ≤ k �
 one_held M2k n k l = (omega (arith, l), omega (arith, l))
 one_held M8k n k l = (omega (arith, l), omega (arith, l))
 
--- ---- the cells behind the first n symbols
+-- ---- the cells after the first n symbols
 symbol_more : (mode : Mode) (bytes : List ℕ) (n : ℕ) → suc n * old_symbol_length mode ≤ length bytes
     → upgraded_cells (suc n * carriers mode) bytes ≡ upgraded_cells (n * carriers mode) bytes ++ upgraded_cells (carriers mode) (old_symbol (old_symbol_length mode) bytes n)
 symbol_more mode bytes n l = joined

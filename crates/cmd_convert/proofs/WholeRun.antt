@@ -30,7 +30,7 @@ module _ (by : Mode → Conversion) (statuses : List ℕ) (sound : IsSound by st
   abbrev c : Command
   c = conversion_command by statuses laws name old_name new_name
 
-  -- ---- refused before another port is asked
+  -- ---- refused before another port is requested
   early : (r : Refusal) → RefusedEarly c limit start mid r → is_among (status_of (Some r)) c.statuses ≡ true → Ended c limit start mid (Some r)
   early = early_ended c limit name start mid refl (inr (refl, refl)) (λ u whole. refl) own fresh asks
 
@@ -66,7 +66,7 @@ module _ (by : Mode → Conversion) (statuses : List ℕ) (sound : IsSound by st
       accepted = λ t. (reads.3 t).1.1;
     }
 
-    -- the run has ended with its outcome, and then a text was written or not
+    -- the run ended with its outcome, and then a text was written or not
     finished : (old : Meaning) → old ≡ record start { settings = mid.settings } → (status : ℕ) → RunsConversion (by s.mode) s.max_symbols old_name new_name old new status → Run c limit start new status
     finished old same status runs =
         run_of c limit name old_name (by s.mode).old_header (cell_names new_name) (conversion_work (by s.mode)) s.max_symbols start new mid.settings status fresh settings

@@ -1,4 +1,4 @@
--- The command of a conversion, `NAME SETTINGS OLD NEW`: what it comes to, from its settings and the old file alone.
+-- The command of a conversion, `NAME SETTINGS OLD NEW`: its outputs, from its settings and the old file alone.
 use Rattle.std.specs.Prelude.{◌≡◌, ◌⊎◌, ℕ, ◌+◌, ◌*◌, ◌<◌, ◌≤◌, nat_lt, if◌then◌else◌, List, [], ◌++◌, Option, None, Some, option_and_then, false}
 use Rattle.station_core.specs.declared.ports.InPort.TheVariants as ins
 use Rattle.mode_set.specs.declared.modes.Mode.{Mode}
@@ -18,27 +18,27 @@ use Rattle.cmd_convert.specs.Conversion.{Conversion, closing_line, new_file, old
 abbrev pub limit_refusal : Conversion → ℕ → List ℕ → Option Refusal
 limit_refusal c most bytes = if nat_lt most (symbols c.size bytes) then Some (Limit most) else None
 
--- The new file comes to that of all old cells or, where they hold more whole symbols than the limit, of those within it.
+-- The new file is that of all old cells or, if they have more whole symbols than the limit, of those within it.
 abbrev pub FileComes : Conversion → ℕ → List ℕ → List ℕ → Type 0
 FileComes c most bytes output = ((symbols c.size bytes ≤ most) × (output ≡ new_file c bytes)) ⊎ ((most < symbols c.size bytes) × (output ≡ new_file c (within_limit most c.size bytes)))
 
--- The report comes to the closing line, or to nothing past the limit.
+-- The report is the closing line, or is empty past the limit.
 abbrev pub LinesCome : Conversion → ℕ → List ℕ → List ℕ → Type 0
 LinesCome c most bytes lines = ((symbols c.size bytes ≤ most) × (lines ≡ closing_line c bytes)) ⊎ ((most < symbols c.size bytes) × (lines ≡ []))
 
--- After a failed read the new file is that of the old cells taken, no more whole symbols than the limit.
+-- After a failed read the new file is that of the old cells taken, within the limit.
 pub record FileSoFar (c : Conversion) (most : ℕ) (bytes left output : List ℕ) : Type 0 where
   pub taken : List ℕ
   pub are : bytes ≡ taken ++ left
   pub within : symbols c.size taken ≤ most
   pub is : output ≡ new_file c taken
 
--- of the old file no more is taken than its header, the limit and one symbol
+-- at most the header, the limit and one symbol are taken from the old file
 abbrev pub most_old : (Mode → Conversion) → Option Settings → ℕ
 most_old by None = 0
 most_old by (Some s) = header_size (by s.mode).old_header + (s.max_symbols + 1) * (by s.mode).size
 
--- the command, by the conversion of each mode, the statuses with which it may end, and the laws of its own
+-- the command, from the conversion of each mode, the possible statuses, and its own laws
 abbrev pub conversion_command : (Mode → Conversion) → List ℕ → (Files → Type 0) → List ℕ → List ℕ → List ℕ → Command
 conversion_command by statuses laws settings old new = record {
   reads = by_input (Some settings) None None (Some old);

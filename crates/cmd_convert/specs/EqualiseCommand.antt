@@ -6,10 +6,10 @@ use Rattle.cmd_convert.specs.ConversionCommand.{conversion_command}
 use Rattle.cmd_convert.specs.Equalising.{equalisation}
 use Rattle.cmd_convert.specs.EqualiseLaws.{EqualiseLaws}
 
--- the statuses with which it may end
+-- the possible statuses
 abbrev pub statuses : List ℕ
 statuses = 0 ∷ 3 ∷ 5 ∷ 6 ∷ 7 ∷ 8 ∷ 9 ∷ []
 
--- OUT comes to the header and the corrected cells of IN, by the mode that the settings state; its law is of both files
+-- OUT is the header and the corrected cells of IN, for the mode in the settings; its law relates both files
 abbrev pub equalise_command : List ℕ → List ℕ → List ℕ → Command
 equalise_command settings old new = conversion_command equalisation statuses (λ file. EqualiseLaws (settings_of (file settings)) (file old)) settings old new

@@ -1,5 +1,5 @@
 -- The cells of a file, corrected by the pilots of their own symbols (EN 300 744, 4.5; the cell file is this project's
--- own). A file begins at the first symbol of a super-frame, so symbol n of it is symbol n mod 68 of its frame.
+-- own). A file begins at the first symbol of a super-frame, so its symbol n is symbol n mod 68 of a frame.
 use Rattle.std.specs.Prelude.{◌≡◌, ◌≤◌, ℕ, ◌*◌, List, [], Some}
 use Rattle.mode_set.specs.StreamTable.{carriers}
 use Rattle.mode_set.specs.declared.modes.Mode.{Mode}
@@ -16,7 +16,7 @@ equalisation mode = record {
   new_symbol = equalised_symbol mode;
 }
 
--- no byte of the next symbol was taken, and there is room for it when it is corrected
+-- no byte of the next symbol was taken, and there is space for it after correction
 pub record IsEmpty (mode : Mode) (taken : List ℕ) (capacity : ℕ) : Type 0 where
   pub none : taken ≡ []
   pub room : 5 * carriers mode ≤ capacity

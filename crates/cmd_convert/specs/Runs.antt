@@ -1,4 +1,4 @@
--- A run of a conversion behind its settings.
+-- A run of a conversion after its settings.
 use Rattle.std.specs.Prelude.{◌≡◌, ◌⊎◌, ℕ, List}
 use Rattle.station_core.specs.Meaning.{Meaning}
 use Rattle.cmd_base.specs.declared.work.Refusal.TheVariants.{Memory}
@@ -13,6 +13,6 @@ use Rattle.cmd_convert.specs.Working.{conversion_work}
 abbrev pub RunsConversion : Conversion → ℕ → List ℕ → List ℕ → Meaning → Meaning → ℕ → Type 0
 RunsConversion c most old_name new_name old new status = RunsCells (conversion_work c) most old_name c.old_header (cell_names new_name) old new status
 
--- or memory was wanting before a port was asked
+-- or memory was lacking before a port was requested
 abbrev pub RunsOrLacks : Conversion → ℕ → List ℕ → List ℕ → Meaning → Meaning → ℕ → Type 0
 RunsOrLacks c most old_name new_name old new status = RunsConversion c most old_name new_name old new status ⊎ ((status ≡ 7) × WritesText (refusal_text Memory) old new)

@@ -6,14 +6,14 @@ use Rattle.cmd_convert.specs.ConversionCommand.{conversion_command}
 use Rattle.cmd_convert.specs.Upgrading.{upgrading}
 use Rattle.cmd_convert.specs.UpgradeLaws.{UpgradeLaws}
 
--- the statuses with which it may end
+-- the possible statuses
 abbrev pub statuses : List ℕ
 statuses = 0 ∷ 3 ∷ 5 ∷ 6 ∷ 7 ∷ 8 ∷ []
 
--- its laws, of the settings and the old cells that lie in the files
+-- its laws, from the settings and the old cells in the files
 abbrev pub laws : List ℕ → List ℕ → Files → Type 0
 laws settings old file = UpgradeLaws (settings_of (file settings)) (file old)
 
--- NEW comes to the header and the upgraded cells of OLD, by the mode that the settings state
+-- NEW is the header and the upgraded cells of OLD, for the mode in the settings
 abbrev pub upgrade_command : List ℕ → List ℕ → List ℕ → Command
 upgrade_command settings old new = conversion_command upgrading statuses (laws settings old) settings old new

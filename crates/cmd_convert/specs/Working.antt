@@ -22,14 +22,16 @@ written_at cells lines outs.Lp = []
 written_at cells lines outs.Bytes = []
 written_at cells lines outs.Report = lines
 
--- first bytes of the old cells give the file of their whole symbols, and in the end the closing line as well; a
--- conversion itself refuses none
+-- a prefix of the old cells gives the file of its whole symbols, and the end also the closing line; a conversion
+-- refuses no cells
 abbrev pub FirstGive : Conversion → List ℕ → Written → Type 0
 FirstGive c bytes given = (port : OutPort) → given port ≡ written_at (new_file c bytes) [] port
 
+-- the output for all bytes is the whole new file and the closing line
 abbrev pub AllGive : Conversion → List ℕ → Written → Type 0
 AllGive c bytes given = (port : OutPort) → given port ≡ written_at (new_file c bytes) (closing_line c bytes) port
 
+-- the work of a conversion
 abbrev pub conversion_work : Conversion → Work
 conversion_work c = record {
   size = c.size;
@@ -39,14 +41,14 @@ conversion_work c = record {
   Reasons = λ r. ⊥;
 }
 
--- the whole symbols of these bytes were counted, and those behind them, and this is what they give
+-- the whole symbols of these bytes and the bytes after them were counted, and this is their output
 pub record Counts (c : Conversion) (counted rest : ℕ) (bytes : List ℕ) (given : Written) : Type 0 where
   pub some : 0 < c.size
   pub whole : counted ≡ symbols c.size bytes
   pub behind : rest ≡ tail c.size bytes
   pub gives : FirstGive c bytes given
 
--- nothing was counted yet
+-- nothing is counted yet
 pub record CountsNone (c : Conversion) (counted rest : ℕ) : Type 0 where
   pub some : 0 < c.size
   pub whole : counted ≡ 0

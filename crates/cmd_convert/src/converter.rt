@@ -1,10 +1,10 @@
-// What turns the symbols of a file of cells into those of another.
+// Conversion of the symbols of a file of cells to those of another.
 ghost use Rattle.std.specs.Prelude.{◌≡◌, ℕ, List, length};
 ghost use Rattle.cmd_convert.specs.Conversion.{Conversion};
 
-/// A converter of symbols, with room for one that was converted.
+/// A converter of symbols, with space for one converted symbol.
 ///
-/// `conversion` is what it does, `is_ready` that it may take a symbol, and `converted` what stands in its room.
+/// `conversion` is its definition, `is_ready` says that it may take a symbol, and `converted` is its output.
 pub trait Converter {
     ghost conversion: { Self → Conversion };
 
@@ -20,7 +20,7 @@ pub trait Converter {
     fn header(&self) -> [u8; 8]
         ensures { result ≡ (conversion self.now).new_header };
 
-    /// Converts the symbol of this number, counted from the first symbol of the file. It is whole.
+    /// Converts the symbol of this number, counted from the first symbol of the file. The symbol is whole.
     fn convert(&mut self, number: u64, symbol: &[u8])
         requires ready { is_ready self.old }
         requires whole { length symbol.now ≡ (conversion self.old).size }
@@ -28,7 +28,7 @@ pub trait Converter {
         ensures same { conversion self.new ≡ conversion self.old }
         ensures bytes { converted self.new ≡ (conversion self.old).new_symbol number symbol.now };
 
-    /// The bytes of the symbol that was converted last.
+    /// The bytes of the symbol converted last.
     fn bytes(&self) -> &[u8]
         ensures { result.now ≡ converted self.now };
 }

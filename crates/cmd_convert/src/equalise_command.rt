@@ -17,7 +17,7 @@ use cmd_base::{read_settings, refuse};
 use station_core::Station;
 use std::alloc::Global;
 
-// Takes the memory of a symbol as bytes, as cells and corrected, and corrects the cells.
+// Allocates the memory for a symbol as bytes, as cells and corrected, and corrects the cells.
 fn equalise_in<'a, M: Carriers, S: Station<'a>>(
     alloc: Global,
     settings: &Settings,
@@ -50,7 +50,7 @@ fn equalise_in<'a, M: Carriers, S: Station<'a>>(
     )
 }
 
-// The same in the mode that is set.
+// The same in the mode of the settings.
 fn equalise_accepted<'a, S: Station<'a>>(
     alloc: Global,
     settings: &Settings,
@@ -67,16 +67,16 @@ fn equalise_accepted<'a, S: Station<'a>>(
     }
 }
 
-/// Runs `equalise SETTINGS IN OUT` and gives its status: the cells of IN are corrected by the pilots of their
-/// own symbols (EN 300 744, 4.5), and written to OUT. Both are cell files of version 2, and IN begins at the
-/// first symbol of a super-frame.
+/// Runs `equalise SETTINGS IN OUT` and returns its status: the cells of IN are corrected by the pilots of their own
+/// symbols (EN 300 744, 4.5), and written to OUT. Both are cell files of version 2, and IN begins at the first symbol
+/// of a super-frame.
 ///
-/// What it promises is `Run` of its definition, `equalise_command`. The settings are read and checked, of which
-/// the mode and the limit of symbols have an effect, and then all memory is taken, before another port is asked.
-/// IN is opened, and its header is read, before OUT is made. The limits of packets do not bound a correction.
+/// Its promise is `Run` of its definition, `equalise_command`. The settings are read and checked; only the mode and the
+/// limit of symbols matter. Then all memory is allocated, before another port is requested. IN is opened, and its
+/// header is read, before OUT is created. The limits of packets do not apply.
 ///
-/// Its own law: where the cells of IN are those of a transmission that came through a channel of one gain, each
-/// cell of OUT is near to the one that was sent, and what a receiver gives of OUT are the packets.
+/// Its own law: if the cells of IN are a transmission received through a flat channel, each cell of OUT is close to the
+/// one sent, and a receiver gives the packets for OUT.
 pub fn equalise<'a, S: Station<'a>>(
     alloc: Global,
     settings: &'a str,

@@ -1,4 +1,4 @@
-// What corrects a symbol.
+// Correction of a symbol.
 ghost use Rattle.std.specs.Prelude.{◌≡◌, ◌≤◌, ◌*◌, [], length, vec_capacity};
 ghost use Rattle.cell_equal.specs.Files.{equalised_symbol};
 
@@ -7,7 +7,7 @@ use cell_equal::equalise;
 use frame_build::{SymbolIn, header};
 use mode_set::Carriers;
 
-// Corrects a whole symbol of this number and puts it into the room, in place of what was there.
+// Corrects the whole symbol of this number, and replaces the content of `room` by it.
 fn equalise_symbol<M: Carriers>(
     number: u64,
     bytes: &[u8],
@@ -28,12 +28,12 @@ fn equalise_symbol<M: Carriers>(
     symbol.next();
 }
 
-/// The symbol that is read, and room for it when it is corrected.
+/// The symbol being read, and space for the corrected one.
 #[derive(Drop)]
 pub(crate) struct Equaliser<M: Carriers> {
     /// The bytes of the symbol as cells and weights.
     pub symbol: SymbolIn<M>,
-    /// Room for a corrected symbol.
+    /// Space for a corrected symbol.
     pub room: Vec<u8>,
 }
 

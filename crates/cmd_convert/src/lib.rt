@@ -1,12 +1,12 @@
-//! The commands that turn a file of cells into another one: symbol after symbol, whatever becomes of a symbol.
+//! The commands that convert a file of cells to another one, symbol by symbol.
 //!
-//! A command supplies a [`Converter`]. The new file has the header that this names, and after it each whole
-//! symbol, converted; the report counts the symbols, and the bytes after them ([`run_conversion`]). The
-//! promise of such a command follows from what its converter says of one symbol.
+//! A command supplies a [`Converter`]. The new file has the converter's header, then each whole symbol, converted; the
+//! report counts the symbols, and the bytes after them ([`run_conversion`]). The promise of such a command follows from
+//! the contract of its converter for one symbol.
 //!
-//! [`upgrade`]: a file of cells of version 1 becomes one of version 2; each old cell stands with its four bytes
-//! and the weight that lets it count whole. [`equalise`]: each symbol is corrected by its own pilots, by its place
-//! in its frame, with the weights that the correction gives.
+//! [`upgrade`]: a file of cells of version 1 becomes one of version 2; each old cell keeps its four bytes and gets full
+//! weight. [`equalise`]: each symbol is corrected by its own pilots, by its number in its frame, with the weights of
+//! the correction.
 #![tactic(auto)]
 
 mod converter;

@@ -1,12 +1,12 @@
-// Cells of version 1 become cells of version 2.
+// Upgrade of cells of version 1 to version 2.
 ghost use Rattle.std.specs.Prelude.{◌≡◌, ◌*◌, ◌++◌, [], ◌∷◌, length};
 ghost use Rattle.soft_metric.specs.Weights.{full_weight};
 ghost use Rattle.law_link.specs.OldCells.{upgraded_cells};
 
-// The weight of a cell that counts whole.
+// The full weight of a cell.
 const FULL_WEIGHT: u8 = 15;
 
-// Puts the four bytes of an old cell and its weight in place of five bytes.
+// Replaces five bytes by the four bytes of an old cell and its weight.
 fn put_cell(old_cell: &[u8], new_cell: &mut [u8])
     requires four { length old_cell.now ≡ 4 }
     requires five { length new_cell.old ≡ 5 }
@@ -16,7 +16,7 @@ fn put_cell(old_cell: &[u8], new_cell: &mut [u8])
     new_cell[4] = FULL_WEIGHT;
 }
 
-// Puts as many old cells, each with its weight, in place of all that the room holds.
+// Fills the space with as many old cells, each with its weight.
 fn upgrade_cells(count: u32, old_cells: &[u8], room: &mut [u8])
     requires cells { length old_cells.now ≡ 4 * count }
     requires long { length room.old ≡ 5 * count }
@@ -27,7 +27,7 @@ fn upgrade_cells(count: u32, old_cells: &[u8], room: &mut [u8])
     }
 }
 
-/// The same in the room of a symbol, whatever stood there.
+/// The same in the space of a symbol, whatever its content.
 pub(crate) fn upgrade_symbol(carriers: u32, symbol: &[u8], room: &mut Vec<u8>)
     requires cells { length symbol.now ≡ 4 * carriers }
     requires long { length room.old.items ≡ 5 * carriers }

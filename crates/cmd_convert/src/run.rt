@@ -1,4 +1,4 @@
-// A run of a conversion behind its settings.
+// A run of a conversion after its settings.
 ghost use Rattle.std.specs.Prelude.{◌≡◌, ◌<◌, length};
 ghost use Rattle.cmd_cells.specs.Outputs.{cell_names};
 ghost use Rattle.cmd_cells.specs.Runs.{IsReady};
@@ -9,8 +9,8 @@ use crate::work::ConversionWork;
 use station_core::Station;
 use cmd_cells::{CellFile, run_cells};
 
-/// Converts the cells of the old file, which must begin with this header if with one, and gives the status.
-/// `symbol` has the size of an old symbol, and the limit is in whole symbols.
+/// Converts the cells of the old file, which must begin with this header, if any, and returns the status. `symbol` has
+/// the size of an old symbol, and the limit is in whole symbols.
 pub fn run_conversion<'a, C: Converter + Drop, S: Station<'a>>(
     max_symbols: u32,
     header: Option<[u8; 8]>,

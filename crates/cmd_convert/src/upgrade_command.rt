@@ -15,7 +15,7 @@ use cmd_base::{read_settings, refuse};
 use station_core::Station;
 use std::alloc::Global;
 
-// Takes the memory of a symbol of each version, and upgrades the old cells.
+// Allocates the memory for a symbol of each version, and upgrades the old cells.
 fn upgrade_accepted<'a, S: Station<'a>>(
     alloc: Global,
     settings: &Settings,
@@ -48,12 +48,12 @@ fn upgrade_accepted<'a, S: Station<'a>>(
     )
 }
 
-/// Runs `upgrade SETTINGS OLD NEW` and gives its status: the cells of OLD, a file of version 1, are written to
-/// NEW as a file of version 2.
+/// Runs `upgrade SETTINGS OLD NEW` and returns its status: the cells of OLD, a file of version 1, are written to NEW as
+/// a file of version 2.
 ///
-/// What it promises is `Run` of its definition, `upgrade_command`. The settings are read and checked, of which
-/// the mode and the limit of symbols have an effect, and then all memory is taken, before another port is asked.
-/// OLD is opened before NEW is made. The limits of packets do not bound an upgrade.
+/// Its promise is `Run` of its definition, `upgrade_command`. The settings are read and checked; only the mode and the
+/// limit of symbols matter. Then all memory is allocated, before another port is requested. OLD is opened before NEW is
+/// created. The limits of packets do not apply.
 pub fn upgrade<'a, S: Station<'a>>(
     alloc: Global,
     settings: &'a str,

@@ -1,16 +1,16 @@
-// What upgrades a symbol.
+// Upgrade of a symbol.
 
 use crate::old_cells::upgrade_symbol;
 use crate::Converter;
 use frame_build::header;
 use mode_set::Mode;
 
-/// The mode, and room for a symbol of version 2.
+/// The mode, and space for a symbol of version 2.
 #[derive(Drop)]
 pub(crate) struct Upgrader {
     /// The mode that the settings state.
     pub mode: Mode,
-    /// Room for a symbol of version 2.
+    /// Space for a symbol of version 2.
     pub room: Vec<u8>,
 }
 

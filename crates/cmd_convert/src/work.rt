@@ -7,14 +7,14 @@ use rx_report::{Line, push_count};
 use station_core::{OutPort, Station};
 use cmd_cells::{Stop, SymbolWork, write_some};
 
-/// A converter, with what was counted of the old cells.
+/// A converter, with the counts of the old cells.
 #[derive(Drop)]
 pub(crate) struct ConversionWork<C> {
-    /// What converts a symbol.
+    /// The converter of a symbol.
     pub converter: C,
-    /// The whole symbols that were taken.
+    /// The number of whole symbols taken.
     pub symbols: u64,
-    /// The bytes that were taken behind them.
+    /// The number of bytes taken after them.
     pub tail: u64,
 }
 

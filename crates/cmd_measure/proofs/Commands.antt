@@ -1,4 +1,4 @@
--- `measure` is a command on cells: what it comes to is what its work gives.
+-- `measure` is a command on cells: its output is that of its work.
 use Rattle.std.proofs.Common.{◌≡◌, ◌⊎◌, inl, inr, true, ℕ, ◌<◌, ◌≤◌, Bool, List, [], ◌++◌, take, drop, Option, Some, None, refl, ◌∙◌, sym, ap, subst, arith, append_assoc, if◌then◌else◌}
 use Rattle.std.specs.Prelude.{option_and_then}
 use Rattle.std.proofs.lemmas.Bool.{cases_lt, le-ltb, lt-ltb, true≢false}
@@ -90,7 +90,7 @@ own_laws laws stated file = record {
   noise = laws.noise;
 }
 
--- ---- if no more than the header is taken of the cells there are no lines
+-- ---- if nothing past the header is taken of the cells, there are no lines
 
 none_behind : (file : List ℕ) (k : ℕ) → k ≤ 8 → cells_in (take k file) ≡ []
 none_behind file k few = drop_all 8 (take k file) (let some = length-take k file in omega (arith, some, few))
@@ -120,7 +120,7 @@ module _ (laws : Laws) (limit : ℕ) (settings cells : List ℕ) (file : Files) 
   refusal_is : (o : Option Refusal) → reception_refusal s bytes ≡ o → c.work_refusal limit file ≡ o
   refusal_is o is = ap (λ (x : Option TheSettings). option_and_then (λ y. reception_refusal y bytes) x) stated ∙ is
 
-  -- ---- what first bytes give begins what all come to
+  -- ---- the output of a prefix is a prefix of the output
 
   continued : (lines all_lines : List ℕ) (given : Written) → ((port : OutPort) → given port ≡ printed lines port) → (more : List ℕ) × (all_lines ≡ lines ++ more) → LinesCome s bytes all_lines → Continues c limit file given
   continued lines all_lines given is more prints = record {
@@ -163,7 +163,7 @@ module _ (laws : Laws) (limit : ℕ) (settings cells : List ℕ) (file : Files) 
     | inr all ↦ final_continues up.taken all.1.0 given (up.are ∙ ap (λ (l : List ℕ). up.taken ++ l) all.0 ∙ append-nil up.taken) up.within all.1.1 all.1.2
   ]
 
-  -- ---- so far as a failed read
+  -- ---- up to a failed read
 
   so_far : (unread : Unread) (taken : List ℕ) (given : Written) → bytes ≡ taken ++ unread ins.Cells → symbols s taken ≤ s.max_symbols → Prints (MeasureLive s taken) given → ComeSoFar c limit file unread given
   so_far unread taken given are few gives =

@@ -1,4 +1,4 @@
--- Bytes have a measurement at each moment: the definitions reject no input.
+-- Bytes have a measurement at every moment: the definitions reject no input.
 use Rattle.std.proofs.Common.{◌⊎◌, inl, inr, ℕ, zero, suc, ◌+◌, ◌-◌, ◌*◌, ◌/◌, ◌<◌, ◌≤◌, min, Bool, true, false, cond, List, ◌++◌, Some, None, refl, arith, if◌then◌else◌}
 use Rattle.std.specs.Prelude.{◌&&◌, not, count_by, sum_by}
 use Rattle.std.proofs.lemmas.Bool.{cases_lt}
@@ -33,7 +33,7 @@ count_most f (suc n) = go (f n) (count_most f n)
 frame_within : (n j i : ℕ) → i < min 4 (n / 68 - 4 * j) → 4 * j + i < n / 68
 frame_within n j i l = omega (arith, l)
 
--- bits that are known for a symbol of a stream, with a tally of their words
+-- the bits known for a symbol of a stream, with a tally of their words
 record KnownBits (s : Settings) (bytes : List ℕ) (σ : Stream) (m : ℕ) : Type 0 where
   bits : List Bool
   known : IsKnown s bytes σ m bits
@@ -160,7 +160,7 @@ module _ (live : SomeLive) (final : SomeFinal) (s : Settings) (bytes : List ℕ)
         };
       }
 
-  -- so bytes have lines so far, and in the end
+  -- so bytes have lines so far, and at the end
   pub some_lines : (out : List ℕ) × MeasureLive s bytes out
   some_lines =
       let frames : ℕ → SuperFrame = λ j. (frame_of j).frame in

@@ -1,4 +1,4 @@
--- A piece that goes no further than the symbol is taken whole, and what a measurer gives are the lines of a measurement.
+-- A piece that does not exceed the symbol is taken whole, and the output of a measurer is the lines of a measurement.
 use Rattle.std.proofs.Common.{◌≡◌, ℕ, ◌+◌, ◌*◌, ◌≤◌, List, ◌++◌, length, ap, ◌∙◌, subst, arith}
 use Rattle.std.specs.List.{concat}
 use Rattle.std.proofs.lemmas.List.{length-drop, take_all}

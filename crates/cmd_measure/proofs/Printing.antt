@@ -1,4 +1,4 @@
--- What the calls of the work print.
+-- The lines printed by the work's calls.
 use Rattle.std.proofs.Common.{◌≡◌, ℕ, zero, suc, ◌+◌, ◌<◌, List, [], ◌∷◌, ◌++◌, length, get_or, take, true, refl, ◌∙◌, sym, ap, subst, arith, append_assoc, Result, Ok, Err}
 use Rattle.std.specs.List.{concat}
 use Rattle.std.proofs.lemmas.List.{append-nil}
@@ -22,7 +22,7 @@ report_only m m' p = go m'.report.written m'.write_faults m'.report_faults p
     go : (l : List ℕ) (n k : ℕ) → m' ≡ record m { report = record m.report { written = l }; write_faults = n; report_faults = k } → WritesOnly m m'
     go l n k p = subst (λ (x : Meaning). WritesOnly m x) (sym p) refl
 
--- lines were written after what stood there, or a front of them
+-- lines were appended, or a prefix of them
 module _ (m m' : Meaning) (lines : List ℕ) (only : ReportOnly m m') where
   told_all : m'.report.written ≡ m.report.written ++ lines → Holds m m' (printed lines)
   told_all is outs.Cells = ap (λ (x : Meaning). x.cells_out.written) only ∙ sym (append-nil m.cells_out.written)
@@ -38,7 +38,7 @@ module _ (m m' : Meaning) (lines : List ℕ) (only : ReportOnly m m') where
   told_front k is outs.Bytes = none_of m.bytes_out.written [] m'.bytes_out.written (ap (λ (x : Meaning). x.bytes_out.written) only)
   told_front k is outs.Report = (k, is)
 
--- more lines after those before
+-- more lines after the earlier ones
 pub follows : (given more : List ℕ) (before : Written) → ((port : OutPort) → before port ≡ printed given port) → Follows before (printed more) (printed (given ++ more))
 follows given more before is port = go port ∙ ap (λ (l : List ℕ). l ++ printed more port) (sym (is port))
   where
@@ -57,7 +57,7 @@ prints S I Its given more before m m' (Err r) was stands gives only kind is =
     subst (λ (stop : Stop). Does S I Its before m m' (Err stop)) (sym kind)
     (record { after = printed (given ++ more); more = printed more; is = gives; follows = follows given more before was; written = λ t. let a = is t in told_front m m' more only a.1 a.2 })
 
--- ---- lines one after another
+-- ---- lines in order
 
 -- the lines before one, and that line
 line_next : (lines : List ArrayString) (n : ℕ) (d : ArrayString) (x : List ℕ) → n < length lines → x ≡ (get_or lines n d).bytes → concat (texts (take (suc n) lines)) ≡ concat (texts (take n lines)) ++ x
@@ -68,7 +68,7 @@ line_next (y ∷ ys) (suc n) d x l e = ap (λ (z : List ℕ). y.bytes ++ z) (lin
 pub line_more : (lines : List ArrayString) (n : ℕ) (d : ArrayString) (x : List ℕ) → n < length lines → x ≡ (get_or lines n d).bytes → concat (texts (take (n + 1) lines)) ≡ concat (texts (take n lines)) ++ x
 line_more lines n d x l e = let one : n + 1 ≡ suc n = omega arith in ap (λ (k : ℕ). concat (texts (take k lines))) one ∙ line_next lines n d x l e
 
--- nothing is printed of no line
+-- no lines print nothing
 pub nothing_printed : (port : OutPort) → printed [] port ≡ []
 nothing_printed outs.Cells = refl
 nothing_printed outs.Hp = refl
@@ -76,7 +76,7 @@ nothing_printed outs.Lp = refl
 nothing_printed outs.Bytes = refl
 nothing_printed outs.Report = refl
 
--- the lines before one begin all
+-- the lines before one are a prefix of all
 pub lines_begin : (lines : List ArrayString) (n : ℕ) → (rest : List ℕ) × (concat (texts lines) ≡ concat (texts (take n lines)) ++ rest)
 lines_begin [] zero = ([], refl)
 lines_begin [] (suc n) = ([], refl)
@@ -85,7 +85,7 @@ lines_begin (y ∷ ys) (suc n) =
     let r = lines_begin ys n in
     (r.0, ap (λ (l : List ℕ). y.bytes ++ l) r.1 ∙ sym (append_assoc y.bytes (concat (texts (take n ys))) r.0))
 
--- the lines before one, and a front of it, are a front of all
+-- the lines before one, and a prefix of it, are a prefix of all
 pub line_front : (lines : List ArrayString) (n : ℕ) (d : ArrayString) (x before after : List ℕ) (k : ℕ) → n < length lines → x ≡ (get_or lines n d).bytes → after ≡ (before ++ concat (texts (take n lines))) ++ take k x
     → (j : ℕ) × (after ≡ before ++ take j (concat (texts lines)))
 line_front lines n d x before after k l e p =

@@ -1,4 +1,4 @@
--- The lines of bytes are one list, and bytes that end no symbol leave them.
+-- The lines of bytes are unique, and bytes that do not complete a symbol leave them.
 use Rattle.std.proofs.Common.{◌≡◌, ℕ, ◌+◌, ◌-◌, ◌*◌, ◌<◌, ◌≤◌, List, [], ◌++◌, length, take, drop, ◌∙◌, sym, ap, ap₂, subst, arith, append_assoc, take-append-drop, length-take-le}
 use Rattle.std.specs.Prelude.{None, flat_map}
 use Rattle.std.specs.List.{concat}
@@ -36,9 +36,9 @@ one_final one closing s bytes a b x y =
     ∙ ap₂ (λ (p q : List ℕ). p ++ q) (same_lines y.frames x.frames (begun_by (symbols s bytes)) (λ j l. one s bytes j (y.frames j) (x.frames j) (y.are j l) (x.are j l))) (closing s bytes b y x.reception x.final)
     ∙ sym x.is
 
--- ---- bytes that end no symbol
+-- ---- bytes that do not complete a symbol
 
--- the sums of no symbol
+-- the sums of no symbols
 no_frame : SuperFrame
 no_frame = record { number = 0; symbols = 0; cells = 0; muted = 0; power = 0; error = 0; tps_read = 0; tps_bad = 0; hp = nothing; lp = None }
 
@@ -49,7 +49,7 @@ no_lines_of : (frames : ℕ → SuperFrame) (n : ℕ) → n ≡ 0 → lines_of f
 unfolding lines_of
 no_lines_of frames n e = ap (λ (k : ℕ). flat_map (λ j. concat (lines (frames j))) (numbers k)) e ∙ no_parts (λ j. concat (lines (frames j)))
 
--- no bytes define no line
+-- no bytes define no lines
 pub no_lines_yet : (s : Settings) → MeasureLive s [] []
 no_lines_yet s =
     let none : defined_by (symbols s []) ≡ 0 = none_defined (symbols s []) (symbols_are s [] 0 (omega arith)) in
@@ -74,7 +74,8 @@ module _ (some_live : SomeLive) (some_final : SomeFinal) (same : SameSymbols) (s
 
 -- ---- the limit
 
--- Bytes within the limit are whole symbols and bytes that end none, and the symbols within the limit are those and others.
+-- Bytes within the limit are whole symbols and bytes that do not complete one, and the symbols within the limit are
+-- those and others.
 pub record IsWithinLimit (s : Settings) (taken rest : List ℕ) : Type 0 where
   pub whole : List ℕ
   pub after : List ℕ

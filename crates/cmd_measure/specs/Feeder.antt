@@ -1,4 +1,4 @@
--- What feeds a measurer: a call that does what `Measurer::feed_gated` does, by whatever gate.
+-- A function that feeds a measurer like `Measurer::feed_gated`, with any gate.
 use Rattle.std.specs.Prelude.{◌≡◌, ℕ, ◌-◌, ◌^◌, ◌<◌, ◌++◌, min, false, List, length, take}
 use Rattle.std.specs.List.{concat}
 use denote.Ref.{Bor, MutBor}
@@ -14,7 +14,7 @@ pub record IsFed (size : ℕ) (old : MeasurerState) (piece : List ℕ) (new : Me
   pub fed : (bytes given : List ℕ) → StandsFor so_far old bytes given → StandsFor so_far new (bytes ++ take n piece) (given ++ concat lines)
 
 module _ {F T : Type 0} (size : ℕ) (state : T → MeasurerState) (g : Shared F (MutBor T × (Bor (List ℕ) × (MutBor (List (List ℕ)) × Unit {0}))) (ℕ × (MutBor T × (MutBor (List (List ℕ)) × Unit {0})))) (f : F) where
-  -- f may feed each measurer that has not ended and has had fewer than 2^32 symbols, and does so
+  -- f may feed every measurer that has not ended and has had fewer than 2^32 symbols, and does so
   pub record IsFeeder : Type 0 where
     pub may : (x : MutBor T) (piece : Bor (List ℕ)) (out : MutBor (List (List ℕ))) → (state x.now).ended ≡ false → (state x.now).taken < 2 ^ 32 → g.pre f (x, (piece, (out, tt)))
     pub feeds : (x y : MutBor T) (piece : Bor (List ℕ)) (out made : MutBor (List (List ℕ))) (n : ℕ) → g.post f (x, (piece, (out, tt))) (n, (y, (made, tt))) → IsFed size (state x.now) piece.now (state y.now) made.now n

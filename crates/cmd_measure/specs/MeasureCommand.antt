@@ -1,4 +1,5 @@
--- The command `measure SETTINGS CELLS`: the files that it reads, and the lines that it comes to, from its settings and the file of cells alone. It writes nothing but its report.
+-- The command `measure SETTINGS CELLS`: its files and its lines, from its settings and the file of cells alone. It
+-- writes only its report.
 use Rattle.std.specs.Prelude.{◌≡◌, ℕ, ◌+◌, List, [], ◌∷◌, Option, None, Some, option_and_then, false}
 use Rattle.station_core.specs.declared.ports.InPort.TheVariants as ins
 use Rattle.station_core.specs.declared.ports.OutPort.{OutPort}
@@ -16,6 +17,7 @@ use Rattle.cmd_measure.specs.Measured.{LinesCome, LinesSoFar}
 abbrev pub no_names : OutPort → Option (List ℕ)
 no_names port = None
 
+-- the command with these names of its files
 abbrev pub measure_command : List ℕ → List ℕ → Command
 measure_command settings cells = record {
   reads = by_input (Some settings) None None (Some cells);

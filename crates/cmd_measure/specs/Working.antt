@@ -1,4 +1,4 @@
--- The work of `measure` on cells, by settings s.
+-- The work of `measure` on cells, with settings s.
 use Rattle.std.specs.Prelude.{◌≡◌, ◌⊎◌, ℕ, ◌^◌, ◌<◌, Bool, false, List, [], ◌++◌, map, Some}
 use Rattle.std.specs.List.{concat}
 use Rattle.arrayvec.specs.ArrayString.{ArrayString}
@@ -20,10 +20,11 @@ use Rattle.cmd_measure.specs.MeasureCommand.{no_names}
 abbrev pub texts : List ArrayString → List (List ℕ)
 texts lines = map (λ (l : ArrayString). l.bytes) lines
 
--- nothing is written but the lines at Report
+-- only the lines at Report are written
 abbrev pub writes_nowhere : OutPort → Bool
 writes_nowhere port = false
 
+-- these lines at Report, and no bytes at any other port
 abbrev pub printed : List ℕ → Written
 printed lines outs.Cells = []
 printed lines outs.Hp = []
@@ -31,11 +32,11 @@ printed lines outs.Lp = []
 printed lines outs.Bytes = []
 printed lines outs.Report = lines
 
--- lines that are so are printed
+-- lines that satisfy `Is` are printed
 abbrev pub Prints : (List ℕ → Type 0) → Written → Type 0
 Prints Is given = (lines : List ℕ) × Is lines × ((port : OutPort) → given port ≡ printed lines port)
 
--- Bytes give the lines that they define so far, and in the end all lines. No cells are rejected.
+-- The output for bytes is the lines they define so far, and at the end all lines. No cells are refused.
 abbrev pub measuring_work : Settings → Work
 measuring_work s = record {
   size = symbol_length s;
@@ -52,12 +53,12 @@ pub record GoesOn (s : Settings) (standing : List ℕ → List ℕ → Type 0) :
   pub stands : standing bytes given
   pub few : symbols s bytes < 2 ^ 32
 
--- after a piece more the measurer stands for all bytes and for the lines given before and now
+-- after one more piece the measurer matches all bytes and the lines given before and now
 pub record Takes (standing : List ℕ → List ℕ → Type 0) (s : Settings) (bytes piece given : List ℕ) (lines : List (List ℕ)) : Type 0 where
   pub stands : standing (bytes ++ piece) (given ++ concat lines)
   pub live : MeasureLive s (bytes ++ piece) (given ++ concat lines)
 
--- the work was done on the cells, or memory was wanting before a port was asked
+-- the work was done on the cells, or memory was lacking before a port was requested
 abbrev pub RunsOrLacks : Settings → List ℕ → Meaning → Meaning → ℕ → Type 0
 RunsOrLacks s cells old new status =
     RunsCells (measuring_work s) s.max_symbols cells (Some (header s.mode)) no_names old new status ⊎ ((status ≡ 7) × WritesText (refusal_text Memory) old new)

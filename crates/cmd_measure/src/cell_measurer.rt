@@ -1,4 +1,4 @@
-// What the work asks of a measurer.
+// The measurer, as the work uses it.
 ghost use Rattle.std.specs.Prelude.{◌≡◌, ◌≤◌, ◌+◌, ◌++◌, ℕ, List, length};
 ghost use Rattle.std.specs.List.{concat};
 ghost use Rattle.mode_set.specs.declared.settings.Settings.{Settings};
@@ -9,9 +9,9 @@ ghost use Rattle.cmd_measure.specs.Working.{GoesOn, Takes, texts};
 
 use measure_report::Line;
 
-/// A measurer with the lines that its last call gave.
+/// A measurer with the lines of its last call.
 ///
-/// `stands moment bytes lines` says that it has had these bytes of cells and has given these lines of them, so far or at the
+/// `stands moment bytes lines` says that it has had these bytes of cells and has given these lines, so far or at the
 /// end; `has_threads`, that its runtime's threads may be used.
 pub(crate) trait CellMeasurer {
     ghost settings: { Self → Settings };
@@ -22,7 +22,7 @@ pub(crate) trait CellMeasurer {
 
     ghost has_threads: { Type 0 };
 
-    /// Takes a piece of the cells that goes no further than the current symbol, whole.
+    /// Takes a whole piece of the cells, which does not exceed the current symbol.
     fn feed(&mut self, piece: &[u8])
         requires threads { has_threads }
         requires going { GoesOn (settings self.old) (stands self.old so_far) }
@@ -38,7 +38,7 @@ pub(crate) trait CellMeasurer {
         ensures finishes { (bytes given : List ℕ) → stands self.old so_far bytes given
             → MeasureFinal (settings self.old) bytes (given ++ concat (gave self.new)) };
 
-    /// The lines that the last call gave.
+    /// The lines of the last call.
     fn lines(&self) -> &[Line]
         ensures { texts result.now ≡ gave self.now };
 }

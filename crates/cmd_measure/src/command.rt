@@ -26,7 +26,7 @@ use std::thread::Threads;
 use cmd_cells::run_cells;
 use word_workers::Gate;
 
-// Runs the work by a measurer that has had no byte and is fed so. `symbol` has the size of a symbol.
+// Runs the work with a measurer that has had no byte, fed by this feeder. `symbol` has the size of a symbol.
 fn measure_by<
     'a,
     'r,
@@ -61,7 +61,7 @@ fn measure_by<
     )
 }
 
-// Takes the memory of a mode's measurer and of one symbol, and runs the work through this gate.
+// Allocates the memory for a mode's measurer and one symbol, and runs the work through this gate.
 fn measure_in<'a, M: Carriers, R: Threads + Sync, G: Gate, S: Station<'a>>(
     rt: &R,
     gate: &G,
@@ -97,7 +97,7 @@ fn measure_in<'a, M: Carriers, R: Threads + Sync, G: Gate, S: Station<'a>>(
     measure_by(measurer, settings, &mut symbol, cells, station)
 }
 
-// The same in the mode that is set.
+// The same in the mode of the settings.
 fn measure_accepted<'a, R: Threads + Sync, G: Gate, S: Station<'a>>(
     rt: &R,
     gate: &G,
@@ -115,13 +115,13 @@ fn measure_accepted<'a, R: Threads + Sync, G: Gate, S: Station<'a>>(
     }
 }
 
-/// Runs `measure SETTINGS CELLS` and gives its status: the sums of each super-frame are reported with the symbol that defines
-/// them, and at the end those that are left and the closing lines of `receive`. CELLS is a cell file of version 2 that begins
-/// at the first symbol of a super-frame. The measurements are those of ETSI TR 101 290, 9.15 to 9.18.
+/// Runs `measure SETTINGS CELLS` and returns its status: the sums of each super-frame are reported with the symbol that
+/// defines them, and at the end the remaining sums and the closing lines of `receive`. CELLS is a cell file of version
+/// 2 that begins at the first symbol of a super-frame. The measurements are those of ETSI TR 101 290, 9.15 to 9.18.
 ///
-/// What it promises is `Run` of its definition, `measure_command`. The settings are read and checked, and then all memory is
-/// taken, before CELLS is opened. There is no output but the report. The measurer is fed through the gate; no clause depends on
-/// it.
+/// Its promise is `Run` of its definition, `measure_command`. The settings are read and checked, and then all memory is
+/// allocated, before CELLS is opened. The report is the only output. The measurer is fed through the gate; no clause
+/// depends on it.
 pub fn measure<'a, R: Threads + Sync, G: Gate, S: Station<'a>>(
     rt: &R,
     alloc: Global,

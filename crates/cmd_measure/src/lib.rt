@@ -1,7 +1,7 @@
-//! The command [`measure`]: what a monitoring receiver reports of cells, super-frame by super-frame, while they come.
+//! The command [`measure`]: a monitoring receiver's report on cells, super-frame by super-frame, as they arrive.
 //!
-//! The cells are read symbol by symbol and given to a measurer. The lines of a super-frame are written with the symbol that
-//! defines them, each by one write. There is no output but the report. The call carries the promise of a run.
+//! The cells are read symbol by symbol and passed to a measurer. The lines of a super-frame are written with the symbol
+//! that defines them, one write for each. The report is the only output. The call has the promise of a run.
 #![tactic(auto)]
 
 mod cell_measurer;

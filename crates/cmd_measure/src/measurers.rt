@@ -14,7 +14,7 @@ use std::thread::Threads;
 
 /// The measurer of a mode.
 pub(crate) trait ModeMeasurer {
-    /// What is seen of it, and the bytes of a symbol.
+    /// Its visible state, and the bytes of a symbol.
     ghost state: { Self → MeasurerState };
 
     ghost size: { ℕ };
@@ -40,16 +40,16 @@ impl<M: Carriers> ModeMeasurer for Measurer<M> {
     }
 }
 
-/// A measurer of a mode, with the lines that its last call gave, the runtime whose threads it may use, and what feeds it.
+/// A measurer of a mode, with the lines of its last call, the runtime whose threads it may use, and its feeder.
 #[derive(Drop)]
 pub(crate) struct MeasurerWithLines<'r, R, F, T> {
     /// The runtime.
     pub rt: &'r R,
-    /// What feeds the measurer.
+    /// The function that feeds the measurer.
     pub feeder: &'r F,
     /// The measurer.
     pub measurer: T,
-    /// The lines that its last call gave.
+    /// The lines of its last call.
     pub out: MeasureOut,
 }
 

@@ -1,4 +1,4 @@
-// The outputs of a command that writes nothing but its report.
+// The outputs of a command that writes only its report.
 
 use station_core::Station;
 use cmd_cells::{OutputFiles, Stop};

@@ -1,4 +1,4 @@
-// The lines that a measurer gave are written.
+// Writing the lines of a measurer.
 ghost use Rattle.std.specs.Prelude.{◌≡◌, ◌≤◌, IsTrue};
 ghost use Rattle.std.specs.List.{concat};
 ghost use Rattle.cmd_cells.specs.Outputs.{IsWriting};
@@ -10,7 +10,7 @@ use measure_report::Line;
 use station_core::{OutPort, Station};
 use cmd_cells::{Stop, write_some};
 
-/// Writes lines to Report, each by one write.
+/// Writes lines to Report, one write for each.
 pub(crate) fn write_lines<'a, S: Station<'a>>(lines: &[Line], station: &mut S) -> Result<(), Stop>
     requires printing { IsPrinting (S.meaning station.old) }
     ensures kind { IsWriting result }

@@ -1,4 +1,4 @@
--- What a run of `modulate` leaves whose settings were accepted and whose memory was there.
+-- The state after a run of `modulate` with accepted settings and allocated memory.
 use Rattle.std.proofs.Common.{◌≡◌, ◌≢◌, ◌⊎◌, inl, inr, true, false, ℕ, ◌+◌, ◌≤◌, Bool, if◌then◌else◌, List, [], ◌++◌, take, drop, Option, Some, None, Result, Ok, Err, refl, ◌∙◌, sym, ap, subst, arith}
 use Rattle.std.specs.Prelude.{IsTrue, is_some, option_and_then}
 use Rattle.std.specs.Option.{option_or}
@@ -30,7 +30,7 @@ use Rattle.cmd_modulate.specs.Inputs.{left_of, lp_left}
 use Rattle.cmd_modulate.specs.Work.{Modulates, TakeFew, TakesFew}
 use Rattle.cmd_modulate.specs.Steps.{FailsAtCells, FailsAtHp, FailsAtLp, IsAccepted, OpensAll, Ran, Worked, lp_source}
 
--- what was done at the port of the settings before the work
+-- the state of the settings' port before the work
 pub record SettingsDone (name : List ℕ) (lp : Option (List ℕ)) (s : TheSettings) (start : Meaning) (at : Source) : Type 0 where
   pub asked : at.asked ≡ Some name
   pub attached : at.attached ≡ true
@@ -40,7 +40,7 @@ pub record SettingsDone (name : List ℕ) (lp : Option (List ℕ)) (s : TheSetti
   pub stated : start.tells ≡ true → settings_of (start.file name) ≡ Some s
   pub fits : fits_form s lp ≡ true
 
--- why a run was refused, if it was
+-- the refusal of a run, if any
 abbrev pub refusal_in : Result TransmissionCounts Refusal → Option Refusal
 refusal_in (Ok counts) = None
 refusal_in (Err r) = Some r
@@ -71,7 +71,7 @@ KeepsElse old end = end ≡ record old {
   pending = end.pending;
 }
 
--- the ports as a run leaves them
+-- the ports after a run
 record Ports (limit : ℕ) (hp : List ℕ) (lp : Option (List ℕ)) (cells : List ℕ) (start : Meaning) (at : Source) (end : Meaning) : Type 0 where
   others : KeepsElse (record start { settings = at }) end
   later_report : start.report_faults ≤ end.report_faults
@@ -102,7 +102,7 @@ module _ (limit : ℕ) (hp : List ℕ) (lp : Option (List ℕ)) (cells : List �
   lp_whole_of None is = inl (ap (λ (x : Source). x.attached) is ∙ fresh.lp.attached)
   lp_whole_of (Some name) is = inr (ap (λ (x : Source). x.attached) is, ap (λ (x : Source). x.left) is)
 
-  -- ---- the output was not made
+  -- ---- the output was not created
   module _ (unmade : end.cells_out.created ≡ false) (hp_whole : IsWhole end.hp (start.file hp)) (lp_whole : IsWhole end.lp (named start.file lp)) where
     ports_unmade : KeepsElse old end → start.report_faults ≤ end.report_faults → end.hp.asked ≡ Some hp → (end.lp.asked ≡ None) ⊎ (end.lp.asked ≡ lp)
         → (end.lp.asked ≡ None) ⊎ (end.hp.attached ≡ true) → IsUntouched end.cells_out ⊎ (end.cells_out.asked ≡ Some cells)
@@ -188,7 +188,7 @@ module _ (limit : ℕ) (name hp : List ℕ) (lp : Option (List ℕ)) (cells : Li
   abbrev files : Stream → List ℕ
   files = files_of start.file hp lp
 
-  -- ---- what the files come to, by the settings that are stated
+  -- ---- the outputs for the files, with the stated settings
   early_none : start.tells ≡ true → c.early_refusal start.file ≡ None
   early_none t =
       ap (λ (o : Option Refusal). option_or o (form_refusal (settings_of (start.file name)) lp)) (settings.accepted t)
@@ -300,13 +300,13 @@ module _ (limit : ℕ) (name hp : List ℕ) (lp : Option (List ℕ)) (cells : Li
       own = λ file. tt;
     }
 
-    -- the same of a run that was refused
+    -- the same for a refused run
     refused : (r : Refusal) → is_among (status_of (Some r)) c.statuses ≡ true → IsCaused c limit start end (Some r) → IsSettledAt start end (Some r) → start.read_faults ≤ end.read_faults → start.write_faults ≤ end.write_faults
         → IsExact c limit start (Some r) → Leaves c limit start end (Some r) → Ended c limit start end (Some r)
     refused r known caused settled reads writes exact leaves =
         ended (Some r) known caused settled reads writes exact (λ none. absurd (let e : Some r ≡ None = none in cc)) (λ none. absurd (let e : Some r ≡ None = none in cc)) leaves
 
-  -- ---- what stands by the outcome
+  -- ---- the state for each outcome
   module _ (end : Meaning) where
     empty : (text : List ℕ) → start.tells ≡ true → start.report.written ++ text ≡ text
     empty text t = ap (λ (l : List ℕ). l ++ text) (fresh.report_empty t)
@@ -327,7 +327,7 @@ module _ (limit : ℕ) (name hp : List ℕ) (lp : Option (List ℕ)) (cells : Li
       lp_open : IsTrue (is_some lp) → end.lp.attached ≡ true
       lp_open = lp_open_of limit hp lp cells start at fresh end lp (ap (λ (x : Meaning). x.lp.attached) w.ports.others)
 
-      -- what is left of the streams is what is left unread
+      -- the bytes left of the streams are the unread ones
       left_same : left_of end ≡ left_unread (unread c end)
       left_same = λ i σ. at_stream σ i
         where
@@ -350,12 +350,12 @@ module _ (limit : ℕ) (name hp : List ℕ) (lp : Option (List ℕ)) (cells : Li
       report = λ t. (s, settings.stated t, printed t ∙ fresh.report_empty t ∙ sym (no_lines r (ends t).0));
     }
 
-    -- an output that failed to close behind the whole work is no refusal's
+    -- a failure to close after complete work does not come with a refusal
     fault : Rose start.write_faults end.write_faults ⊎ (Rose start.close_faults end.close_faults × (start.tells ≡ true → IsAccepted s limit files)) → IsWriteFault c limit start end
     fault (inl rose) = inl rose
     fault (inr shut) = inr (shut.0, λ t. refusal_is t ∙ shut.1 t)
 
-    -- the settings change nothing of what waits
+    -- the settings do not change the pending flag
     settled_is : IsSettled before end → IsSettled start end
     settled_is x = record { settled = x.settled; writes = x.writes }
 

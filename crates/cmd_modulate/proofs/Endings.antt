@@ -1,4 +1,4 @@
--- What the parts of a run leave together, from the opening of the ports to their closing.
+-- The joint effect of the parts of a run, from opening the ports to closing them.
 use Rattle.std.proofs.Common.{◌≡◌, ◌≤◌, ◌<◌, ◌+◌, inl, inr, ℕ, Bool, true, false, if◌then◌else◌, List, [], ◌++◌, length, take, Option, Some, None, Result, Ok, Err, refl, ap, sym, subst, ◌∙◌, arith}
 use Rattle.std.specs.Prelude.{is_some, IsTrue}
 use Rattle.std.proofs.lemmas.List.{append-nil, take_all}
@@ -32,7 +32,7 @@ use Rattle.cmd_modulate.specs.Reporting.{Finishes, IsFinish}
 use Rattle.cmd_base.specs.Causes.{Settles}
 use Rattle.cmd_modulate.specs.Steps.{ClosesOutput, ClosesRefused, HasPrinted, IsClosed, IsNew, OpensAll, Ran, first_inputs, lp_source}
 
--- Cells is closed; what is left of the inputs, what was written and the counts may differ
+-- Cells is closed; the bytes left of the inputs, those written and the counts may differ
 abbrev closed_as : Meaning → Meaning → Meaning
 closed_as new m = record m {
   hp = record m.hp { left = new.hp.left };
@@ -49,8 +49,8 @@ closed_as new m = record m {
 abbrev ClosedSince : Meaning → Meaning → Type 0
 ClosedSince m new = new ≡ closed_as new m
 
--- ---- fronts of the cells that are sent
--- the symbols so far are
+-- ---- prefixes of the cells sent
+-- the symbols so far are one
 front_so_far : PartOfSymbols → (s : TheSettings) (limit : ℕ) (inputs : Inputs) (m : ℕ) → m < symbols_of s inputs → m ≤ symbols_sent s limit inputs → (j : ℕ) × (file_of_symbols s inputs m ≡ take j (cells_sent s limit inputs))
 front_so_far part s limit inputs m more sent = go (first_refusal s limit inputs)
   where
@@ -76,7 +76,7 @@ front_of_sent : (written sent : List ℕ) → written ≡ sent → (k : ℕ) × 
 front_of_sent written sent is = (length written, sym (take_all (length written) written (omega arith)) ∙ ap (λ (l : List ℕ). take (length written) l) is)
 
 -- ---- before the first symbol
--- the file of LP is there to be read from its beginning, or there is none
+-- the file of LP can be read from its start, or there is none
 lp_reads : (lp : Option (List ℕ)) (old mid : Meaning) (put : ℕ) → put ≡ 0 → old.lp.attached ≡ false → mid.lp ≡ lp_source lp old
     → Reads (named old.file lp) (lp_left mid) (first_inputs (is_some lp)).lp put
 lp_reads None old mid put none closed is =
@@ -130,7 +130,7 @@ module _ (s : TheSettings) (limit : ℕ) (hp : List ℕ) (lp : Option (List ℕ)
     is_closed : ClosedSince fin new → old.report_faults ≤ new.report_faults → IsClosed hp lp cells old new
     is_closed since later = record { others = since ∙ ap (closed_as new) keeps ∙ ap (closed_as new) opened; later_report = later }
 
-    -- what holds of the cells and of what is left holds also when Cells is closed
+    -- the facts on the cells and on the bytes left also hold when Cells is closed
     ends_same : (n : ℕ) (r : Refusal) → Ends s limit files fin r → Ends s limit files (record fin { cells_out = record fin.cells_out { closed = true }; close_faults = n }) r
     ends_same n Usage e = e
     ends_same n (Cells reason) e = e
@@ -220,7 +220,7 @@ module _ (s : TheSettings) (limit : ℕ) (hp : List ℕ) (lp : Option (List ℕ)
 
   -- ---- the work was refused, and the output was then flushed and closed
   module _ (part : PartOfSymbols) (fin new : Meaning) (keeps : KeepsOthers mid fin) where
-    -- flushing changes nothing of what stands
+    -- flushing changes no output
     ends_flushed : (n : ℕ) (waits : Bool) (r : Refusal) → Ends s limit files fin r → Ends s limit files (record fin { write_faults = n; pending = waits }) r
     ends_flushed n waits Usage e = e
     ends_flushed n waits (Cells reason) e = e
@@ -231,7 +231,7 @@ module _ (s : TheSettings) (limit : ℕ) (hp : List ℕ) (lp : Option (List ℕ)
     ends_flushed n waits Memory e = e
     ends_flushed n waits (Limit most) e = e
 
-    -- what stands is a front of the cells that are sent
+    -- the output is a prefix of the cells sent
     lost : (m : Meaning) (r : Refusal) → Ends s limit files m r → Ends s limit files m WriteFault
     lost m Usage e = front_of_sent m.cells_out.written (cells_sent s limit (inputs_of files)) e.1
     lost m (Cells reason) e = front_of_sent m.cells_out.written (cells_sent s limit (inputs_of files)) e.1
@@ -258,7 +258,7 @@ module _ (s : TheSettings) (limit : ℕ) (hp : List ℕ) (lp : Option (List ℕ)
         by (inr failed) = subst (λ (x : Refusal). Ran s limit hp lp cells old new (Err x)) (sym failed.0)
             (shut_with closes.flushed new keeps' WriteFault (λ t. let w = work' t in (lost closes.flushed r w.0, w.1)) closes.closes)
 
--- where a port was not opened nothing was given to the output
+-- if a port was not opened, nothing was given to the output
 pub unopened_waits : (hp : List ℕ) (lp : Option (List ℕ)) (cells : List ℕ) (old mid : Meaning) (r : Refusal) → OpensAll hp lp cells old mid (Err r) → mid.pending ≡ old.pending
 unopened_waits hp lp cells old mid ReadFault (inl e) = ap (λ (x : Meaning). x.pending) e
 unopened_waits hp None cells old mid ReadFault (inr e) = absurd e
@@ -271,8 +271,8 @@ unopened_waits hp lp cells old mid (Cells reason) e = absurd e
 unopened_waits hp lp cells old mid (Settings reason) e = absurd e
 unopened_waits hp lp cells old mid Memory e = absurd e
 
--- ---- what the work asks of the form
--- where LP is read it exists in the transmission
+-- ---- the conditions of the work on the arguments
+-- if LP is read, it exists in the transmission
 pub lp_exists : (s : TheSettings) (lp : Option (List ℕ)) → fits_form s lp ≡ true → (first_inputs (is_some lp)).lp.tail ≡ None → IsTrue (exists_in s Lp)
 unfolding exists_in
 lp_exists s None fits none = absurd (let e : Some 0 ≡ None = none in cc)
@@ -282,7 +282,7 @@ lp_exists s (Some name) fits none = go (has_lp s) fits
     go true e = refl
     go false e = e
 
--- before the first packet the inputs that are read are open, and nothing was taken of them
+-- before the first packet the inputs are open, and nothing was taken of them
 pub first_open : (hp : List ℕ) (lp : Option (List ℕ)) (cells : List ℕ) (old mid : Meaning) → OpensAll hp lp cells old mid (Ok tt) → AreOpen (first_inputs (is_some lp)) mid
 first_open hp None cells old mid opened = record { hp = λ e. ap (λ (x : Meaning). x.hp.attached) opened; lp = λ none. absurd (let e : Some 0 ≡ None = none in cc) }
 first_open hp (Some name) cells old mid opened = record { hp = λ e. ap (λ (x : Meaning). x.hp.attached) opened; lp = λ e. ap (λ (x : Meaning). x.lp.attached) opened }

@@ -1,4 +1,4 @@
--- How much was taken of the inputs, by the packets that were put.
+-- The bytes taken of the inputs, compared with the packets put.
 use Rattle.std.proofs.Common.{◌≡◌, inl, inr, ℕ, ◌+◌, ◌*◌, ◌<◌, ◌≤◌, Bool, true, false, List, length, Option, Some, None, Result, Ok, Err, refl, ap, sym, subst, ◌∙◌, arith, length-drop}
 use Rattle.std.specs.Prelude.{◌&&◌, ◌==◌, is_some, slice_index}
 use Rattle.std.proofs.lemmas.Bool.{cases_lt, lt-ltb, false≢true}
@@ -22,7 +22,7 @@ use Rattle.cmd_modulate.specs.Work.{AreNear, BothRead, GivesOf, IsAtWork, TakeFe
 use Rattle.cmd_modulate.proofs.Refusing.{packet_within, refused_past, refused_unsynced}
 
 -- ---- one input
--- an input that was read so far is near the packets that were put of it, and tells how many they are
+-- an input read so far is close to the packets put of it, and gives their number
 near_of : (file left : List ℕ) (input : PacketInput) (put : ℕ) → Reads file left input put → IsNear file left put
 near_of file left input put reads = go input.tail reads.rest
   where
@@ -98,7 +98,7 @@ few_at_work limit files m inputs t put work = few_near limit files m t work.at.a
   lp = near_of (files Lp) (left_of m Lp) inputs.lp t.lp work.read.lp;
 })
 
--- ---- the next packet of a stream, where the other input stays as it was
+-- ---- the next packet of a stream, with the other input unchanged
 module _ (limit : ℕ) (files : Stream → List ℕ) (t : Seen) (m m' : Meaning) (inputs inputs' : PacketInputs) (read : BothRead files m inputs t) where
   module _ (reads : ReadsAt Hp m m') (same : inputs'.lp ≡ inputs.lp) where
     lp_read : Reads (files Lp) (left_of m' Lp) inputs'.lp t.lp

@@ -1,4 +1,4 @@
--- A front of a list is a front of a longer one.
+-- A prefix of a list is a prefix of a longer one.
 use Rattle.std.proofs.Common.{◌≡◌, ℕ, List, ◌++◌, length, take, inl, inr, ◌∙◌, sym, arith}
 use Rattle.std.proofs.lemmas.Bool.{cases_lt}
 use Rattle.std.proofs.lemmas.List.{take_all, take-append-le}

@@ -19,7 +19,7 @@ use Rattle.cmd_modulate.specs.Work.{BothRead, Ends, IsAtWork, IsWritten, KeepsOt
 use Rattle.cmd_modulate.proofs.Few.{few_at_work}
 use Rattle.cmd_modulate.proofs.Fronts.{front_of}
 
--- writing to Cells alone
+-- writing only to Cells
 pub keeps_cells : (m m' m'' : Meaning) → WritesCells m m' → KeepsOthers m' m'' → KeepsOthers m m''
 keeps_cells m m' m'' p q =
     q ∙ ap (λ (x : Meaning). record x {
@@ -31,7 +31,7 @@ keeps_cells m m' m'' p q =
       pending = m''.pending;
     }) p
 
--- a front of the header is a front of the cells that are sent
+-- a prefix of the header is a prefix of the cells sent
 front_sent : (s : TheSettings) (limit : ℕ) (inputs : Inputs) (k : ℕ) → (j : ℕ) × (take k (header s.mode) ≡ take j (cells_sent s limit inputs))
 front_sent s limit inputs k = go (first_refusal s limit inputs)
   where

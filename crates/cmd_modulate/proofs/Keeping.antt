@@ -1,4 +1,4 @@
--- How the meaning of a station goes on from step to step of a modulation.
+-- How the meaning of a station changes from step to step of a modulation.
 use Rattle.std.proofs.Common.{◌∙◌, ap}
 use Rattle.station_core.specs.Meaning.{Meaning}
 use Rattle.cmd_modulate.specs.Work.{KeepsOthers}

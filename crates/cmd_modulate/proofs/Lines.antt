@@ -1,4 +1,4 @@
--- The end of a modulation: its lines, and the closing of its output.
+-- The end of a modulation: its lines, and closing its output.
 use Rattle.std.proofs.Common.{◌≡◌, ℕ, Bool, true, false, if◌then◌else◌, List, [], ◌++◌, length, Ok, Err, refl, ap, sym, ◌∙◌, arith}
 use Rattle.std.proofs.lemmas.List.{append-nil, take_all}
 use Rattle.station_core.specs.Meaning.{Meaning, with_sink, closed_sink, with_close_faults}

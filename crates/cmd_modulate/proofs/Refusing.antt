@@ -1,4 +1,4 @@
--- How a packet of a file is refused.
+-- The refusal of a packet of a file.
 use Rattle.std.proofs.Common.{◌≡◌, ℕ, ◌<◌, ◌≤◌, true, false, List, length, Some, None, refl, arith}
 use Rattle.std.specs.Prelude.{slice_index, ◌==◌}
 use Rattle.std.proofs.lemmas.Bool.{le-leb, lt-leb}
@@ -11,7 +11,7 @@ use Rattle.cmd_base.proofs.FilePackets.{count_is, packet_is}
 use Rattle.std.proofs.lemmas.List.{get_or_past}
 use Rattle.ts_packet.specs.Packet.{null_packet}
 
--- the packets of a file are its whole packets, and then null packets
+-- the packets of a file are its whole packets, then null packets
 pub packet_within : (file : List ℕ) (p : ℕ) → p < whole_packets file → packet_at (packets_of file) p ≡ file_packet file p
 packet_within file p lt = packet_is (whole_packets file) p file null_packet lt
 

@@ -1,4 +1,4 @@
--- A symbol more is written, or the work ends before it is.
+-- One more symbol is written, or the work ends before it.
 use Rattle.std.proofs.Common.{◌≡◌, ℕ, ◌+◌, ◌<◌, ◌≤◌, List, ◌++◌, length, take, Option, Some, None, Result, Ok, Err, ap, sym, subst, ◌∙◌, arith, append_assoc}
 use Rattle.std.proofs.Math.Seq.{take-append-add}
 use Rattle.station_core.specs.Meaning.{Meaning}
@@ -20,7 +20,7 @@ use Rattle.cmd_modulate.specs.Work.{BothRead, Ends, IsAtWork, IsDue, KeepsOutput
 use Rattle.cmd_modulate.specs.Inputs.{left_of}
 use Rattle.cmd_modulate.proofs.Few.{few_at_work}
 
--- the symbols before one, and a part of it, are a front of the cells that are sent
+-- the symbols before one, and part of it, are a prefix of the cells sent
 pub front_cells : PartOfSymbols → (s : TheSettings) (limit : ℕ) (inputs : Inputs) (m k : ℕ) → m < symbols_of s inputs → m < symbols_sent s limit inputs
     → (j : ℕ) × (file_of_symbols s inputs m ++ take k (tx_symbol s inputs m) ≡ take j (cells_sent s limit inputs))
 front_cells part s limit inputs m k more sent = go (first_refusal s limit inputs)
@@ -36,7 +36,7 @@ front_cells part s limit inputs m k more sent = go (first_refusal s limit inputs
     go None = behind (symbols_of s inputs) (part s inputs m (symbols_of s inputs) k more)
     go (Some r) = behind (symbols_sent s limit inputs) (part s inputs m (symbols_sent s limit inputs) k sent)
 
--- the same point, as the transmitter is seen after packets were put
+-- the same point, in terms of the transmitter after packets were put
 pub still_due : (files : Stream → List ℕ) (t t' : Seen) → t'.settings ≡ t.settings → t'.made ≡ t.made → IsDue files t → IsDue files t'
 still_due files t t' settings made due = record {
   more = subst (λ (s : TheSettings). t'.made < symbols_of s (inputs_of files)) (sym settings) (subst (λ (m : ℕ). m < symbols_of t.settings (inputs_of files)) (sym made) due.more);

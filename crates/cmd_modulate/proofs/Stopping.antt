@@ -1,4 +1,4 @@
--- A packet more of a stream, or the stop of the work before its symbol.
+-- One more packet of a stream, or the stop of the work before its symbol.
 use Rattle.std.proofs.Common.{◌≡◌, ℕ, ◌+◌, ◌<◌, ◌≤◌, Bool, true, false, cond, List, [], ◌∷◌, ◌⊎◌, inl, inr, Option, Some, None, Ok, Err, refl, ap, sym, subst, ◌∙◌, arith}
 use Rattle.std.specs.Prelude.{◌&&◌, is_some, IfSome, nat_lt}
 use Rattle.std.specs.Option.{option_map}
@@ -32,7 +32,7 @@ lp_only true c e = cc
 lp_only false true e = refl
 lp_only false false e = cc
 
--- fewer packets of the stream were put than its next symbol wants
+-- fewer packets of the stream were put than its next symbol needs
 pub is_short : (s : TheSettings) (m hp lp : ℕ) (σ : Stream) → next_stream s m hp lp ≡ Some σ → by_stream hp lp σ < packets_for s σ (m + 1)
 is_short s m hp lp Hp e = ltb-true hp (packets_for s Hp (m + 1)) (hp_only (nat_lt hp (packets_for s Hp (m + 1))) (nat_lt lp (packets_for s Lp (m + 1))) e)
 is_short s m hp lp Lp e = ltb-true lp (packets_for s Lp (m + 1)) (lp_only (nat_lt hp (packets_for s Hp (m + 1))) (nat_lt lp (packets_for s Lp (m + 1))) e)
@@ -46,7 +46,7 @@ not_write_fault : (a : agenda.Refusal) → Some (refused_by a) ≡ Some WriteFau
 not_write_fault (agenda.Limit n) e = cc
 not_write_fault (agenda.NotSync σ p) e = cc
 
--- ---- the streams whose end was met, where the read of one has failed
+-- ---- the streams whose end was reached, if the read of one failed
 abbrev empty : List ℕ → Bool
 empty [] = true
 empty (x ∷ l) = false
@@ -57,7 +57,7 @@ other Hp Lp = true
 other Lp Hp = true
 other Lp Lp = false
 
--- another stream, of which nothing is left
+-- another stream with nothing left
 abbrev met_of : Stream → Stream → List ℕ → Bool
 met_of σ τ l = other σ τ && empty l
 
@@ -85,7 +85,7 @@ unmet_own σ τ l none e = elim (unmet_is σ τ l e) [
 module _ (at_packet : StopsAtPacket) (so_far : SentSoFar) (at_fault : SentAtFault)
     (limit : ℕ) (files : Stream → List ℕ) (σ : Stream) (t : Seen) (is_wanted : wanted t ≡ Some σ) (due : IsDue files t)
     (at : IsAt t.settings limit (inputs_of files) t.made t.hp t.lp) where
-  -- a packet that is refused
+  -- a refused packet
   refused : (r : Refusal) → option_map refused_by (packet_refusal limit (inputs_of files) σ (by_stream t.hp t.lp σ)) ≡ Some r
       → (modulation_refusal t.settings limit (inputs_of files) ≡ Some r) × (cells_sent t.settings limit (inputs_of files) ≡ file_of_symbols t.settings (inputs_of files) t.made)
   refused r is = go (packet_refusal limit (inputs_of files) σ (by_stream t.hp t.lp σ)) refl is
@@ -108,7 +108,7 @@ module _ (at_packet : StopsAtPacket) (so_far : SentSoFar) (at_fault : SentAtFaul
     abbrev met : Stream → Bool
     met τ = met_of σ τ (left_of m τ)
 
-    -- of a stream of which something is left the end was not met
+    -- the end of a stream with bytes left was not reached
     not_ended : (o : Option ℕ) (l : List ℕ) → (is_some o ≡ true → l ≡ []) → empty l ≡ false → o ≡ None
     not_ended None l none some = refl
     not_ended (Some n) l none some = absurd (true≢false (ap empty (sym (none refl)) ∙ some))
@@ -147,7 +147,7 @@ module _ (at_packet : StopsAtPacket) (so_far : SentSoFar) (at_fault : SentAtFaul
     at_end : (τ : Stream) → met τ ≡ true → left_of m τ ≡ []
     at_end τ e = none_left (other σ τ) (left_of m τ) e
 
-    -- a read that has failed
+    -- a failed read
     failed : HoldsSymbolsSoFar t.settings limit files (left_of m) (file_of_symbols t.settings (inputs_of files) t.made)
     failed = record {
       met = met;
@@ -175,7 +175,7 @@ module _ (at_packet : StopsAtPacket) (so_far : SentSoFar) (at_fault : SentAtFaul
   stops m inputs Memory g = refused Memory g.0
   stops m inputs (Limit n) g = refused (Limit n) g.0
 
--- whatever the reason, no more than one packet was taken behind those that were put
+-- for any reason, at most one packet was taken after those put
 pub are_near : (limit : ℕ) (files : Stream → List ℕ) (σ : Stream) (t : Seen) (m : Meaning) (inputs : PacketInputs) (r : Refusal) → GivesOf limit files σ t m inputs (Err r) → AreNear files m t
 are_near limit files σ t m inputs Usage g = g.1
 are_near limit files σ t m inputs (Cells reason) g = g.1

@@ -1,4 +1,4 @@
--- What the bytes that were read for the next packet are.
+-- The bytes read for the next packet.
 use Rattle.std.proofs.Common.{◌≡◌, ◌≢◌, ℕ, ◌+◌, ◌*◌, ◌<◌, ◌≤◌, Bool, true, false, List, [], length, take, drop, if◌then◌else◌, Option, Some, None, Ok, Err, refl, ap, sym, subst, ◌∙◌, arith, length-drop}
 use Rattle.std.specs.Prelude.{slice_index, ◌==◌, is_some}
 use Rattle.std.specs.Option.{option_map}
@@ -25,7 +25,7 @@ module _ (limit : ℕ) (files : Stream → List ℕ) (σ : Stream) (put : ℕ) (
   size : length left + 188 * input.taken ≡ length (files σ)
   size = omega (arith, ap length open_is.0, length-drop (188 * input.taken) (files σ), reads.within)
 
-  -- no more than one packet is behind those that were put
+  -- at most one packet follows those put
   near : (k : ℕ) → k ≤ 188 → IsNear (files σ) (drop k left) put
   near k few = record {
     bytes = 188 * input.taken + k;
@@ -36,7 +36,7 @@ module _ (limit : ℕ) (files : Stream → List ℕ) (σ : Stream) (put : ℕ) (
     left_is = ap (λ (l : List ℕ). drop k l) open_is.0 ∙ drop-drop k (188 * input.taken) (files σ) ∙ ap (λ (j : ℕ). drop j (files σ)) (omega arith);
   }
 
-  -- the read has failed: the whole packets taken are those that were put
+  -- the read failed: the whole packets taken are those put
   pub fails : (k : ℕ) → k < 188 → k ≤ length left → Gives limit files σ put (drop k left) input (Err ReadFault)
   fails k few within = (tail_is, omega (arith, few, within, length-drop k left, size, open_is.1), near k (omega (arith, few)))
 
@@ -92,7 +92,7 @@ module _ (limit : ℕ) (files : Stream → List ℕ) (σ : Stream) (put : ℕ) (
             },
           )
 
--- once the end was met null packets follow
+-- once the end was reached, null packets follow
 ended : (file left : List ℕ) (taken put : ℕ) (o : Option ℕ) → is_some o ≡ true → HasLeft file left taken o put → (whole_packets file ≤ put) × HasLeft file left taken o (put + 1)
 ended file left taken put None is h = absurd (false≢true is)
 ended file left taken put (Some tail) is h = (omega (arith, h.1, h.3), (h.0, h.1, h.2, omega (arith, h.3)))
@@ -106,14 +106,14 @@ behind limit files σ put left input is reads =
       record { within = reads.within; rest = e.1 },
     )
 
--- bytes that were read at the port of a stream are no longer left, also where the reading then failed
+-- bytes read at the port of a stream are no longer left, even if the reading then failed
 pub left_behind : (σ : Stream) (m m' : Meaning) (n r : ℕ) → (source_at (port_of σ) m).attached ≡ true
     → m' ≡ with_read_faults r (with_source (port_of σ) (read_source n (source_at (port_of σ) m)) m) → left_of m' σ ≡ drop n (left_of m σ)
 left_behind Hp m m' n r opened is = ap (λ (x : Meaning). x.hp.left) is
 left_behind Lp m m' n r opened is =
     ap lp_left is ∙ ap (λ (b : Bool). if b then drop n m.lp.left else []) opened ∙ sym (ap (λ (b : Bool). drop n (if b then m.lp.left else [])) opened)
 
--- what is left of a stream is what is left at its port
+-- the bytes left of a stream are those left at its port
 pub left_at : (σ : Stream) (m : Meaning) → (source_at (port_of σ) m).attached ≡ true → left_of m σ ≡ (source_at (port_of σ) m).left
 left_at Hp m opened = refl
 left_at Lp m opened = ap (λ (b : Bool). if b then m.lp.left else []) opened
@@ -122,7 +122,7 @@ no_tail : (o : Option ℕ) → is_some o ≡ false → o ≡ None
 no_tail None is = refl
 no_tail (Some tail) is = absurd (false≢true (sym is))
 
--- the read at the port of the stream has failed, after n bytes
+-- the read at the port of the stream failed, after n bytes
 pub read_failed : (limit : ℕ) (files : Stream → List ℕ) (σ : Stream) (put : ℕ) (m m' : Meaning) (input : PacketInput) → is_some input.tail ≡ false
     → (input.tail ≡ None → (source_at (port_of σ) m).attached ≡ true) → Reads (files σ) (left_of m σ) input put
     → (port : InPort) → port ≡ port_of σ → (n r : ℕ) → n < 188 → n ≤ length (source_at port m).left

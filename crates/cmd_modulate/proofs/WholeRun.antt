@@ -23,7 +23,7 @@ module _ (limit : ℕ) (name hp : List ℕ) (lp : Option (List ℕ)) (cells : Li
   abbrev c : Command
   c = modulate_command name hp lp cells
 
-  -- ---- refused before another port is asked
+  -- ---- refused before another port is requested
   early : (r : Refusal) → Accepts name lp start mid (Err r) → RefusedEarly c limit start mid r
   early Usage a = absurd a
   early (Cells reason) a = absurd a

@@ -28,7 +28,7 @@ use Rattle.cmd_modulate.proofs.Few.{few_at_work}
 use Rattle.cmd_modulate.proofs.Stopping.{cells_at}
 
 -- ---- one input
--- its end was met
+-- its end was reached
 at_end : (file left : List ℕ) (taken put tail : ℕ) (o : Option ℕ) → o ≡ Some tail → HasLeft file left taken o put → (left ≡ []) × (taken ≡ whole_packets file) × (tail ≡ tail_of file)
 at_end file left taken put tail o is h = let h' : HasLeft file left taken (Some tail) put = subst (λ (x : Option ℕ). HasLeft file left taken x put) is h in (h'.0, h'.1, h'.2)
 
@@ -47,7 +47,7 @@ within_file file taken le = omega (arith, le)
 some_symbol : (n : ℕ) → 1 ≤ n → 0 < 272 * n
 some_symbol n l = omega (arith, l)
 
--- its symbols, where it has an end and where it has none
+-- its symbols, with an end or without
 symbols_are : (s : TheSettings) (inputs : Inputs) (o : Option ℕ) → super_frames s (counts_of inputs) ≡ o → symbols_of s inputs ≡ unwrap_or (option_map (λ n. 272 * n) o) (s.max_symbols + 1)
 unfolding symbols_of
 symbols_are s inputs o e = ap (λ (x : Option ℕ). unwrap_or (option_map (λ n. 272 * n) x) (s.max_symbols + 1)) e
@@ -60,7 +60,7 @@ begins_with s inputs (Some n) e is = let all = symbols_are s inputs (Some n) e i
 pub begins : TheNumberIsFound → (s : TheSettings) (inputs : Inputs) → 0 < symbols_of s inputs
 begins found s inputs = begins_with s inputs (super_frames s (counts_of inputs)) refl (found s (counts_of inputs))
 
--- the packets of all its symbols are eleven more than its inputs have, at least
+-- all its symbols hold at least eleven packets more than its inputs
 carried : PacketsOfSuperFrames → TheNumberIsFound → (s : TheSettings) (inputs : Inputs) (n : ℕ) (σ : Stream) → super_frames s (counts_of inputs) ≡ Some n → IsTrue (exists_in s σ)
     → length (inputs σ) + 11 ≤ packets_for s σ (symbols_of s inputs)
 carried packets found s inputs n σ e has =
@@ -68,7 +68,7 @@ carried packets found s inputs n σ e has =
     let enough : length (inputs σ) + 11 ≤ words_before s σ n = are.suffices σ has in
     subst (λ (k : ℕ). length (inputs σ) + 11 ≤ k) (sym (ap (packets_for s σ) (symbols_are s inputs (Some n) e) ∙ packets s σ n)) enough
 
--- the super-frames of so many packets
+-- the super-frames for these numbers of packets
 frames_of : (s : TheSettings) (a b c d : ℕ) → a ≡ c → b ≡ d → super_frames s (by_stream a b) ≡ super_frames s (by_stream c d)
 frames_of s a b c d e f = ap (λ (x : ℕ). super_frames s (by_stream x b)) e ∙ ap (λ (x : ℕ). super_frames s (by_stream c x)) f
 
@@ -106,7 +106,7 @@ module _ (limit : ℕ) (files : Stream → List ℕ) (m : Meaning) (inputs : Pac
         few,
       )
 
-  -- the limit of symbols is passed
+  -- the limit of symbols is exceeded
   pub ends_at_limit : StopsAtLimit → (most : ℕ) → t.settings.max_symbols ≡ most → most ≤ t.made → t.made < symbols_of t.settings (inputs_of files) → Ends t.settings limit files m (Limit most) × TakeFew limit files (left_of m)
   ends_at_limit at_limit most is past more =
       let stops = at_limit t.settings limit (inputs_of files) t.made t.hp t.lp w.work.at more (omega (arith, is, past)) in (
@@ -117,7 +117,7 @@ module _ (limit : ℕ) (files : Stream → List ℕ) (m : Meaning) (inputs : Pac
         few,
       )
 
-  -- the transmission goes on
+  -- the transmission continues
   module _ (packets : PacketsOfSuperFrames) (found : TheNumberIsFound) (exist : StreamsExist) (two : inputs.lp.tail ≡ None → IsTrue (exists_in t.settings Lp)) where
     apart : (a b c d e : ℕ) → a + 11 ≤ b → b ≤ c → c ≡ d → d ≤ e → e ≡ a → ⊥
     apart a b c d e l l' p l'' q = omega (arith, l, l', p, l'', q)
@@ -154,7 +154,7 @@ module _ (limit : ℕ) (files : Stream → List ℕ) (m : Meaning) (inputs : Pac
         | inr d ↦ elim d [ inl none ↦ lp_ended none | inr differs ↦ differs n frames_sent (sym made ∙ all ∙ symbols_are t.settings (inputs_of files) (Some n) number) ]
       ]
 
-    -- a work without end comes to its limit before
+    -- endless work reaches its limit first
     not_ended : (o : Option ℕ) → super_frames t.settings (counts_of (inputs_of files)) ≡ o → t.made ≡ symbols_of t.settings (inputs_of files) → (k : ℕ) → t.made ≡ k → CountsAt t.settings inputs k None → ⊥
     not_ended None number all k made c = let past = all ∙ symbols_are t.settings (inputs_of files) None number in let few = w.work.at.within in omega (arith, past, few)
     not_ended (Some n) number all k made c = not_all n number all k made c
@@ -165,7 +165,7 @@ module _ (limit : ℕ) (files : Stream → List ℕ) (m : Meaning) (inputs : Pac
     pub goes_further : (n : ℕ) → t.made ≡ n → CountsAt t.settings inputs n None → t.made ≤ symbols_of t.settings (inputs_of files) → t.made < symbols_of t.settings (inputs_of files)
     goes_further n made c le = less t.made (symbols_of t.settings (inputs_of files)) le (λ all. not_ended (super_frames t.settings (counts_of (inputs_of files))) refl all n made c)
 
--- ---- the loop over the symbols, as the transmitter is seen before it and now
+-- ---- the loop over the symbols, in terms of the transmitter before it and now
 pub due_more : (files : Stream → List ℕ) (t t' : Seen) (n : ℕ) → t'.settings ≡ t.settings → t'.made ≡ n → n < symbols_of t.settings (inputs_of files) → t'.made < symbols_of t'.settings (inputs_of files)
 due_more files t t' n settings made more =
     subst (λ (s : TheSettings). t'.made < symbols_of s (inputs_of files)) (sym settings) (subst (λ (k : ℕ). k < symbols_of t.settings (inputs_of files)) (sym made) more)

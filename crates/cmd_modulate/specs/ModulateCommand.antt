@@ -1,5 +1,5 @@
--- The commands `modulate SETTINGS HP CELLS` and `modulate SETTINGS HP LP CELLS`: what they come to, from the
--- settings, the limit of packets and the files alone.
+-- The commands `modulate SETTINGS HP CELLS` and `modulate SETTINGS HP LP CELLS`: their outputs, from the settings, the
+-- limit of packets and the files alone.
 use Rattle.std.specs.Prelude.{◌≡◌, ℕ, ◌+◌, ◌-◌, ◌/◌, ◌<◌, ◌≤◌, Bool, true, ⊤, if◌then◌else◌, List, [], ◌∷◌, ◌++◌, length, codes, decimal, Option, Some, None, is_some, option_and_then, unwrap_or, false}
 use Rattle.std.specs.Option.{option_map}
 use Rattle.station_core.specs.declared.ports.InPort.TheVariants as ins
@@ -21,7 +21,7 @@ use Rattle.cmd_base.specs.StatedSettings.{settings_of}
 use Rattle.cmd_base.specs.StreamForm.{fitting_refusal}
 use Rattle.cmd_modulate.specs.declared.counts.TransmissionCounts.{TransmissionCounts}
 
--- the files of the streams: of one that does not exist there is nothing
+-- the files of the streams; empty for a stream that does not exist
 abbrev pub files_of : Files → List ℕ → Option (List ℕ) → Stream → List ℕ
 files_of file hp lp = by_stream (file hp) (named file lp)
 
@@ -29,32 +29,33 @@ files_of file hp lp = by_stream (file hp) (named file lp)
 abbrev pub inputs_of : (Stream → List ℕ) → Inputs
 inputs_of files σ = packets_of (files σ)
 
--- the refusal of a point of the work is one of the run
+-- the refusal of a run, from that of its work
 abbrev pub refused_by : agenda.Refusal → Refusal
 refused_by (agenda.Limit n) = Limit n
 refused_by (agenda.NotSync σ p) = NotSync σ p
 
--- the refusal that the work comes to, if it is refused
+-- the refusal of the work, if any
 abbrev pub modulation_refusal : TheSettings → ℕ → Inputs → Option Refusal
 modulation_refusal s limit inputs = option_map refused_by (first_refusal s limit inputs)
 
--- the cell file of the first n symbols: the header of the mode, and the symbols behind it
+-- the cell file of the first n symbols: the header of the mode, then the symbols
 abbrev pub file_of_symbols : TheSettings → Inputs → ℕ → List ℕ
 file_of_symbols s inputs n = header s.mode ++ first_symbols s inputs n
 
--- the cell file that is sent: with all cells of the transmission, or with those of the symbols before the refusal
+-- the cell file sent: all cells of the transmission, or those of the symbols before the refusal
 abbrev pub sent_by : TheSettings → ℕ → Inputs → Option agenda.Refusal → List ℕ
 sent_by s limit inputs None = header s.mode ++ tx s inputs
 sent_by s limit inputs (Some refusal) = file_of_symbols s inputs (symbols_sent s limit inputs)
 
+-- the cell file of a run: up to the first refusal, if there is one
 abbrev pub cells_sent : TheSettings → ℕ → Inputs → List ℕ
 cells_sent s limit inputs = sent_by s limit inputs (first_refusal s limit inputs)
 
--- what is counted: the packets of the streams, and the super-frames (a work that has none has no end, and is refused)
+-- the counts: the packets of the streams, and the super-frames (endless work has none, and is refused)
 abbrev pub transmission_counts : TheSettings → (Stream → List ℕ) → TransmissionCounts
 transmission_counts s files = record { hp = counts_of (files Hp); lp = counts_of (files Lp); super_frames = unwrap_or (super_frames s (λ σ. length (inputs_of files σ))) 0 }
 
--- the closing line of the super-frames
+-- the closing line for the super-frames
 abbrev pub super_frames_line : ℕ → List ℕ
 super_frames_line n = codes "superframes " ++ decimal n ++ codes "\n"
 
@@ -63,25 +64,25 @@ abbrev pub transmission_lines : Bool → TransmissionCounts → List ℕ
 transmission_lines two counts =
     packets_line Hp counts.hp ++ ((if two then packets_line Lp counts.lp else []) ++ super_frames_line counts.super_frames)
 
--- the lines that are printed: none before a refusal, and else the closing lines
+-- the lines printed: the closing lines, or none if there is a refusal
 abbrev pub modulation_lines : TheSettings → ℕ → Bool → (Stream → List ℕ) → List ℕ
 modulation_lines s limit two files = if is_some (modulation_refusal s limit (inputs_of files)) then [] else transmission_lines two (transmission_counts s files)
 
--- what is left unread of the file of a stream
+-- the bytes left unread of the file of a stream
 abbrev pub left_unread : Unread → Stream → List ℕ
 left_unread unread = by_stream (unread ins.Hp) (unread ins.Lp)
 
--- the whole packets that were taken of a stream
+-- the number of whole packets taken from a stream
 abbrev pub taken_of : (files left : Stream → List ℕ) → Stream → ℕ
 taken_of files left σ = (length (files σ) - length (left σ)) / 188
 
--- After a failed read Cells holds its header and as many symbols as the whole packets taken suffice for, where null
--- packets follow those of an input whose end was met. Nothing before them is refused.
+-- After a failed read Cells holds its header and as many symbols as the whole packets taken suffice for; null packets
+-- follow an input whose end was reached. Nothing before them is refused.
 pub record HoldsSymbolsSoFar (s : TheSettings) (limit : ℕ) (files left : Stream → List ℕ) (written : List ℕ) : Type 0 where
   pub met : Stream → Bool
   pub at_end : (σ : Stream) → met σ ≡ true → left σ ≡ []
-  -- Of the streams with nothing left at most one is not met: the one whose read has failed, where that read would have
-  -- met its end.
+  -- Of the streams with nothing left, at most one has not reached its end: the one whose read failed, if that read
+  -- would have met the end.
   pub one_unmet : (σ τ : Stream) → left σ ≡ [] → met σ ≡ false → left τ ≡ [] → met τ ≡ false → σ ≡ τ
   pub symbols : ℕ
   -- they are not all of the transmission
@@ -89,12 +90,12 @@ pub record HoldsSymbolsSoFar (s : TheSettings) (limit : ℕ) (files left : Strea
   pub enough : IsEnoughFor s (taken_of files left) met symbols
   pub is : written ≡ file_of_symbols s (inputs_of files) symbols
   pub in_order : symbols ≤ symbols_sent s limit (inputs_of files)
-  -- the limit is asked before the packets of a symbol are taken
+  -- the limit is checked before the packets of a symbol are taken
   pub within : symbols < s.max_symbols
   pub accepted : (σ : Stream) (p : ℕ) → p < taken_of files left σ → packet_refusal limit (inputs_of files) σ p ≡ None
 
--- modulate SETTINGS HP CELLS, or modulate SETTINGS HP LP CELLS. Cells is the only output, so what it comes to is said
--- without its port. Of a transport file no more is taken than the packets that are accepted, and one packet.
+-- modulate SETTINGS HP CELLS, or modulate SETTINGS HP LP CELLS. Cells is the only output, so its definition names no
+-- port. At most the accepted packets and one more are taken from a transport file.
 abbrev pub modulate_command : List ℕ → List ℕ → Option (List ℕ) → List ℕ → Command
 modulate_command settings hp lp cells = record {
   reads = by_input (Some settings) (Some hp) lp None;

@@ -15,7 +15,7 @@ use cmd_base::{read_fitting, refuse};
 use station_core::Station;
 use std::alloc::Global;
 
-// Takes the memory of a mode's modulator and of one symbol, and runs the modulation.
+// Allocates the memory for a mode's modulator and one symbol, and runs the modulation.
 fn modulate_in<'a, M: Carriers, S: Station<'a>>(
     alloc: Global,
     settings: &Settings,
@@ -32,14 +32,14 @@ fn modulate_in<'a, M: Carriers, S: Station<'a>>(
     let Ok(mut bytes) = vec![in alloc; 0u8; 5 * M::K as usize] else {
         return refuse(&Refusal::Memory, station);
     };
-    // It comes last: a value of so many parts is dear to prove on each path that lets it go.
+    // Constructed last: early returns would have to drop it, which is slow to prove.
     let Ok(mut tx) = Modulator::<M>::new(alloc, settings) else {
         return refuse(&Refusal::Memory, station);
     };
     run_modulation(names, limits, settings, &mut tx, &mut bytes, station)
 }
 
-// The same in the mode that is set.
+// The same in the mode of the settings.
 fn modulate_accepted<'a, S: Station<'a>>(
     alloc: Global,
     settings: &Settings,
@@ -58,10 +58,9 @@ fn modulate_accepted<'a, S: Station<'a>>(
     }
 }
 
-/// Runs `modulate SETTINGS HP CELLS` or, with a file of LP, `modulate SETTINGS HP LP CELLS`, and gives
-/// its status.
+/// Runs `modulate SETTINGS HP CELLS` or, with an LP file, `modulate SETTINGS HP LP CELLS`, and returns its status.
 ///
-/// The settings are read and checked, and then all memory is taken, before another port is asked.
+/// The settings are read and checked, and then all memory is allocated, before another port is requested.
 pub fn modulate<'a, S: Station<'a>>(
     alloc: Global,
     settings: &'a str,

@@ -12,16 +12,16 @@ use cmd_base::fill;
 use station_core::{InPort, Station};
 use ts_packet::{PACKET_LEN, Packet};
 
-/// How far a transport file was read.
+/// How far a transport file has been read.
 #[derive(Clone, Copy, Debug, PartialEq, Eq)]
 pub(crate) struct PacketInput {
-    /// The whole packets taken.
+    /// The number of whole packets taken.
     pub taken: u64,
-    /// The bytes behind the last whole packet, once the end was met.
+    /// The number of bytes after the last whole packet, once the end was reached.
     pub tail: Option<u64>,
 }
 
-// The port at which the file of a stream is read.
+// The input port of a stream.
 fn port_of(stream: Stream) -> InPort
     ensures { result ≡ port_of stream }
 {
@@ -42,7 +42,7 @@ impl PacketInput {
         }
     }
 
-    /// The input of a stream that does not exist, which has nothing.
+    /// The input of a stream that does not exist; it is empty.
     pub fn none() -> PacketInput
         ensures { result ≡ record { taken = 0; tail = Some 0 } }
     {
@@ -52,8 +52,7 @@ impl PacketInput {
         }
     }
 
-    // What so many bytes are that were read for the next packet: the packet, or the end, behind which
-    // null packets follow.
+    // Classifies the bytes read: a packet or the end of input, after which null packets follow.
     fn take(
         &mut self,
         stream: Stream,
@@ -85,10 +84,10 @@ impl PacketInput {
         }
     }
 
-    /// The next packet of the stream: the next one of its file or, once the end was met, a null packet.
+    /// The next packet of the stream: the next one of its file or, once the end was reached, a null packet.
     ///
-    /// A packet past the limit is refused, and else one that does not begin with the sync byte. Each
-    /// read asks for the bytes that the packet lacks.
+    /// A packet past the limit is refused, and then one without the sync byte. Each read requests the bytes still
+    /// missing.
     pub fn next<'a, S: Station<'a>>(
         &mut self,
         stream: Stream,

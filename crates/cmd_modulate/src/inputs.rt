@@ -15,8 +15,8 @@ use station_core::Station;
 use transmission::laws::work;
 use ts_packet::Packet;
 
-/// How far the inputs were read: that of the high priority stream, and that of the low priority stream,
-/// which has nothing where the stream does not exist.
+/// How far the inputs have been read, of the high priority and of the low priority stream; the latter is empty if the
+/// stream does not exist.
 #[derive(Clone, Copy, Debug, PartialEq, Eq)]
 pub(crate) struct PacketInputs {
     pub hp: PacketInput,
@@ -24,7 +24,7 @@ pub(crate) struct PacketInputs {
 }
 
 impl PacketInputs {
-    /// Before the first packets, of both streams or of HP alone.
+    /// Before the first packets, of both streams or only of HP.
     pub fn first(two: bool) -> PacketInputs
         ensures { result ≡ first_inputs two }
     {
@@ -61,7 +61,7 @@ impl PacketInputs {
         }
     }
 
-    /// Reads the next packet of the stream that is wanted, and puts it.
+    /// Reads the next packet of the wanted stream, and puts it into the transmitter.
     pub fn put_next<'a, T: Transmitter, S: Station<'a>>(
         &mut self,
         stream: Stream,
@@ -89,7 +89,7 @@ impl PacketInputs {
         Ok(())
     }
 
-    /// What was counted, once all inputs have ended and just the super-frames were sent that carry them.
+    /// The counts, once all inputs have ended and exactly their super-frames were sent.
     pub fn counts_at<T: Transmitter>(
         &self,
         settings: &Settings,

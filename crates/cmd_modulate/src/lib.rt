@@ -1,9 +1,7 @@
-//! The command [`modulate`]: one transport file, or two with a hierarchy, become the file of cells of a
-//! transmission.
+//! The command [`modulate`]: one transport file, or two with a hierarchy, become the file of cells of a transmission.
 //!
-//! The work goes over the symbols. For each one the packets that it wants are read and put, and the
-//! symbol is written. The call carries the promise of a run of its command
-//! (`specs/ModulateCommand.antt`).
+//! The work is symbol by symbol: for each one the packets that it needs are read, and the symbol is written. The call
+//! has the promise of a run of its command (`specs/ModulateCommand.antt`).
 #![tactic(auto)]
 
 mod command;

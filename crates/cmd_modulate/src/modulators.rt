@@ -1,4 +1,4 @@
-// The modulators as the transmitters of the work.
+// Modulators as transmitters for the work.
 use crate::transmitter::Transmitter;
 use mode_set::{Carriers, Settings, Stream};
 use modulator::{Modulator, Want};

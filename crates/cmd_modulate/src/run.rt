@@ -1,4 +1,4 @@
-// A whole run behind its settings.
+// A whole run after its settings.
 ghost use Rattle.std.specs.Prelude.{◌≡◌, ◌≤◌, ◌<◌, true, length};
 ghost use Rattle.std.specs.Option.{option_copied};
 ghost use Rattle.transmission.specs.Transmission.{Inputs};
@@ -25,11 +25,11 @@ pub(crate) struct Names<'a> {
     pub hp: &'a str,
     /// The transport file of low priority, if there is one.
     pub lp: Option<&'a str>,
-    /// The cells that are written.
+    /// The file of cells to write.
     pub cells: &'a str,
 }
 
-// From the opening of the ports to their closing.
+// From opening the ports to closing them.
 fn modulate_all<'a, T: Transmitter, S: Station<'a>>(
     names: Names<'a>,
     limits: &Limits,
@@ -66,8 +66,8 @@ fn modulate_all<'a, T: Transmitter, S: Station<'a>>(
     }
 }
 
-/// Runs a modulation by this transmitter, which has had no packet, and gives its status. `bytes`
-/// has the length of a symbol.
+/// Runs a modulation with this transmitter, which has had no packet, and returns its status. `bytes` has the length of
+/// a symbol.
 pub(crate) fn run_modulation<'a, T: Transmitter, S: Station<'a>>(
     names: Names<'a>,
     limits: &Limits,

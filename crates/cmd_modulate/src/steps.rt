@@ -1,4 +1,4 @@
-// The steps of a run: the ports are opened, and closed behind the work.
+// The steps of a run: the ports are opened, and closed after the work.
 ghost use Rattle.std.specs.Prelude.{◌≡◌, ◌≤◌, ◌++◌, [], true, false, None, OnErr, if◌then◌else◌};
 ghost use Rattle.mode_set.specs.declared.modes.Stream.TheVariants.{Lp};
 ghost use Rattle.std.specs.Option.{option_copied};
@@ -16,7 +16,7 @@ use cmd_base::{Counts, Refusal, packets_line_of};
 use cmd_base::{settle, write_line};
 use station_core::{Failed, InPort, OutPort, Station};
 
-// Opens the file of LP to be read, if there is one.
+// Opens the file of LP for reading, if there is one.
 fn open_lp<'a, S: Station<'a>>(lp: Option<&'a str>, station: &mut S) -> Result<(), Failed>
     requires { (S.meaning station.old).lp.asked ≡ None }
     ensures opened { OpensLp (option_copied lp.entry) (S.meaning station.old) (S.meaning station.new) result }
@@ -29,7 +29,7 @@ fn open_lp<'a, S: Station<'a>>(lp: Option<&'a str>, station: &mut S) -> Result<(
     }
 }
 
-/// Opens HP to be read, then LP, and then makes the output.
+/// Opens HP for reading, then LP, and then creates the output.
 pub(crate) fn open<'a, S: Station<'a>>(
     hp: &'a str,
     lp: Option<&'a str>,
@@ -105,7 +105,7 @@ fn write_lines<'a, S: Station<'a>>(
     write_lp_and_frames(two, counts, station)
 }
 
-/// Writes the closing lines and closes the output, also where a line was not written.
+/// Writes the closing lines and closes the output, even if a line was not written.
 pub(crate) fn finish<'a, S: Station<'a>>(
     two: bool,
     counts: TransmissionCounts,
@@ -131,7 +131,7 @@ pub(crate) fn finish<'a, S: Station<'a>>(
     }
 }
 
-// Closes the output. What that answers changes neither status nor text.
+// Closes the output. The result changes neither status nor text.
 fn close_output<'a, S: Station<'a>>(station: &mut S)
     requires cells { (S.meaning station.old).cells_out.created ≡ true }
     requires cells_open { (S.meaning station.old).cells_out.closed ≡ false }
@@ -140,7 +140,7 @@ fn close_output<'a, S: Station<'a>>(station: &mut S)
     let _ = station.close(OutPort::Cells);
 }
 
-/// Flushes the output after a refusal, and closes it. A flush that fails makes it a write fault.
+/// Flushes the output after a refusal, and closes it. A failed flush makes it a write fault.
 pub(crate) fn close_refused<'a, S: Station<'a>>(refusal: Refusal, station: &mut S) -> Refusal
     requires cells { (S.meaning station.old).cells_out.created ≡ true }
     requires cells_open { (S.meaning station.old).cells_out.closed ≡ false }

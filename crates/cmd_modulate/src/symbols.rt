@@ -32,7 +32,7 @@ fn write_header<'a, S: Station<'a>>(mode: Mode, station: &mut S) -> Result<(), R
     }
 }
 
-// Puts packets until they suffice for the next symbol.
+// Puts packets until the next symbol has enough.
 fn put_wanted<'a, T: Transmitter, S: Station<'a>>(
     limit: u64,
     inputs: &mut PacketInputs,
@@ -59,7 +59,7 @@ fn put_wanted<'a, T: Transmitter, S: Station<'a>>(
     Ok(())
 }
 
-// Makes the next symbol in the place of what stands in `bytes`, and writes it.
+// Makes the next symbol, replacing the content of `bytes`, and writes it.
 fn send_symbol<'a, T: Transmitter, S: Station<'a>>(
     tx: &mut T,
     bytes: &mut [u8],
@@ -119,9 +119,8 @@ fn next_symbol<'a, T: Transmitter, S: Station<'a>>(
     send_symbol(tx, bytes, station)
 }
 
-// Sends all symbols of the transmission: it ends with the first super-frame at whose end all inputs
-// have ended and their packets, and eleven words more, were carried. Where there is no such super-frame
-// it goes on up to the limit.
+// Sends all symbols of the transmission. It ends with the first super-frame that completes all packets of the ended
+// inputs and eleven words more. If there is no such super-frame, it continues to the limit.
 fn send_all<'a, T: Transmitter, S: Station<'a>>(
     limits: &Limits,
     settings: &Settings,
@@ -160,11 +159,11 @@ fn send_all<'a, T: Transmitter, S: Station<'a>>(
     Err(Refusal::Limit(settings.max_symbols as u64))
 }
 
-/// Sends the cell file: its header, and then all symbols of the transmission. It ends with the first
-/// super-frame at whose end all inputs have ended and their packets, and eleven words more, were carried.
+/// Sends the cell file: its header, then all symbols of the transmission. It ends with the first super-frame that
+/// completes all packets of the ended inputs and eleven words more.
 ///
-/// It answers what was counted, or the first refusal: one more symbol than the limit, one more packet
-/// than the limit, a packet without its sync byte, a fault.
+/// It returns the counts, or the first refusal: one symbol more than the limit, one packet more than the limit, a
+/// packet without its sync byte, a fault.
 pub(crate) fn send_file<'a, T: Transmitter, S: Station<'a>>(
     limits: &Limits,
     settings: &Settings,

@@ -1,4 +1,5 @@
--- What a run of a command that codes packets leaves at its end, before the text of a refusal, and so its promise.
+-- The state at the end of a run of a command that codes packets, before the text of a refusal, and the promise of the
+-- run.
 use Rattle.std.proofs.Common.{◌≡◌, ◌≢◌, ◌⊎◌, inl, inr, true, false, ℕ, ◌+◌, ◌*◌, ◌≤◌, ◌<◌, Bool, List, [], ◌++◌, length, take, drop, refl, ◌∙◌, sym, ap, subst, arith, Result, Ok, Err, Option, None, Some}
 use Rattle.std.specs.Prelude.{IsTrue, is_some, if◌then◌else◌, ◌==◌}
 use Rattle.std.specs.Option.{option_or}
@@ -29,7 +30,7 @@ use Rattle.cmd_packets.specs.Coding.{Codes}
 use Rattle.cmd_packets.specs.Steps.{IsReady, AsksPorts, Ran, Tells, outcome_status, RunsCoding}
 use Rattle.cmd_packets.proofs.Growing.{Grows, Ends, fronts, front_of}
 
--- what was done at the port of the settings before the work
+-- the state of the settings' port before the work
 pub record SettingsDone (settings : Option (List ℕ)) (start : Meaning) (s : Source) : Type 0 where
   pub asked : (s.asked ≡ None) ⊎ (s.asked ≡ settings)
   pub attached : IsTrue (is_some settings) → s.attached ≡ true
@@ -37,7 +38,7 @@ pub record SettingsDone (settings : Option (List ℕ)) (start : Meaning) (s : So
   pub read : start.tells ≡ true → IsTrue (is_some settings) → s.attached ≡ true → (k : ℕ) × (k ≤ most_settings + 1) × (s.left ≡ drop k (named start.file settings))
   pub accepted : start.tells ≡ true → coding_early settings start.file ≡ None
 
--- nothing, of a command without settings
+-- none, for a command without settings
 pub no_settings : (start : Meaning) → IsFresh start → SettingsDone None start start.settings
 no_settings start fresh = record {
   asked = inl fresh.settings.asked;
@@ -47,7 +48,7 @@ no_settings start fresh = record {
   accepted = λ t. refl;
 }
 
--- the statuses of a command have those of its work
+-- the statuses of a command include those of its work
 pub record KnowsStatuses (statuses : List ℕ) : Type 0 where
   pub done : is_among 0 statuses ≡ true
   pub not_sync : is_among 4 statuses ≡ true
@@ -55,12 +56,12 @@ pub record KnowsStatuses (statuses : List ℕ) : Type 0 where
   pub write_fault : is_among 6 statuses ≡ true
   pub limit : is_among 8 statuses ≡ true
 
--- what a coder gives is what the command makes of packets
+-- the output of a coder is that of the command for the packets
 pub record SameCoding (k : Coding) (file : Files) (gives ends : List (List ℕ) → List ℕ) : Type 0 where
   pub so_far : (packets : List (List ℕ)) → k.Gives file packets (gives packets)
   pub in_all : (packets : List (List ℕ)) → k.GivesInAll file packets (ends packets)
 
--- a coding that has nothing to add at its end
+-- a coding with nothing to add at its end
 pub ends_at_once : (gives : List (List ℕ) → List ℕ) → Ends gives gives
 ends_at_once gives packets = ([], sym (append-nil (gives packets)))
 
@@ -76,7 +77,7 @@ ready_after m s f = record {
   settled = f.settled;
 }
 
--- why a run was refused, by its outcome
+-- the refusal of a run, by its outcome
 abbrev pub reason : Result Counts Refusal → Option Refusal
 reason (Ok counts) = None
 reason (Err refusal) = Some refusal
@@ -117,7 +118,7 @@ module _ (settings : Option (List ℕ)) (statuses : List ℕ) (knows : KnowsStat
   refused_at : (n : ℕ) → n < whole_packets file → accepted limit file ≡ n → IsRefused limit file
   refused_at n within is = λ all. absurd (omega (arith, within, is, all))
 
-  -- the output where all packets are accepted, and where packet n is the first that is not
+  -- the output if all packets are accepted, and if packet n is the first rejected one
   output_all : start.tells ≡ true → AcceptsFirst limit file (whole_packets file) → (bytes : List ℕ) → bytes ≡ ends (packets_of file) → CodesTo k limit start.file input bytes
   output_all t all bytes is =
       inl (all_accepted limit file all, subst (λ (b : List ℕ). k.GivesInAll start.file (packets_of file) b) (sym is) ((same t).in_all (packets_of file)))
@@ -129,7 +130,7 @@ module _ (settings : Option (List ℕ)) (statuses : List ℕ) (knows : KnowsStat
         (subst (λ (b : List ℕ). k.Gives start.file (first_packets n file) b) (sym are) ((same t).so_far (first_packets n file))),
   )
 
-  -- what the output comes to, of which what fewer packets give is a front
+  -- the output, of which that of fewer packets is a prefix
   record Comes : Type 0 where
     bytes : List ℕ
     are : CodesTo k limit start.file input bytes
@@ -156,7 +157,7 @@ module _ (settings : Option (List ℕ)) (statuses : List ℕ) (knows : KnowsStat
         begins = λ n le j. fronts gives grows file n (accepted limit file) le j;
       }
 
-  -- the lines that the report comes to
+  -- the lines of the report
   record Closes : Type 0 where
     lines : List ℕ
     are : ClosesWith limit file lines
@@ -168,7 +169,7 @@ module _ (settings : Option (List ℕ)) (statuses : List ℕ) (knows : KnowsStat
       by true is = record { lines = closing_line (counts_of file); are = inl (eqb-true (accepted limit file) (whole_packets file) is, refl) }
       by false is = record { lines = []; are = inr ((λ all. true≢false (sym (eq-eqb (accepted limit file) (whole_packets file) all) ∙ is)), refl) }
 
-  -- the whole is a front of itself
+  -- the whole is a prefix of itself
   whole_of : (l : List ℕ) → l ≡ take (length l) l
   whole_of l = sym (take_all (length l) l (omega arith))
 
@@ -187,7 +188,7 @@ module _ (settings : Option (List ℕ)) (statuses : List ℕ) (knows : KnowsStat
     refusal_is : start.tells ≡ true → refusal_of limit start.file c ≡ packet_refusal limit file
     refusal_is t = ap (λ (x : Option Refusal). option_or x (packet_refusal limit file)) (done.accepted t)
 
-    -- an output that failed to close behind the whole work is no refusal's
+    -- a failure to close after complete work does not come with a refusal
     fault_by : Rose start.write_faults mid.write_faults ⊎ (Rose start.close_faults mid.close_faults × AllAccepted) → IsWriteFault c limit start mid
     fault_by (inl rose) = inl rose
     fault_by (inr shut) = inr (shut.0, λ t. refusal_is t ∙ no_refusal limit file (shut.1 t))
@@ -207,7 +208,7 @@ module _ (settings : Option (List ℕ)) (statuses : List ℕ) (knows : KnowsStat
     later_reads (inl same) = omega (arith, same)
     later_reads (inr both) = both.0
 
-    -- the settings change nothing of what waits
+    -- the settings do not change the pending flag
     settled_is : IsSettled old mid → IsSettled start mid
     settled_is s = record { settled = s.settled; writes = s.writes }
 
@@ -257,7 +258,7 @@ module _ (settings : Option (List ℕ)) (statuses : List ℕ) (knows : KnowsStat
     exact_by (Err Memory) cause ran = absurd cause
     exact_by (Err (Limit n)) cause ran = λ t. let e = ran.2 t in refusal_is t ∙ (limit_at n e.0 e.1 e.2).0
 
-    -- the ports that were asked
+    -- the ports requested
     sources_asked : (port : InPort) → ((source_at port mid).asked ≡ None) ⊎ ((source_at port mid).asked ≡ c.reads port)
     sources_asked ins.Settings = elim done.asked [
       | inl none ↦ inl (ap (λ (x : Meaning). x.settings.asked) asks.others ∙ none)
@@ -277,7 +278,7 @@ module _ (settings : Option (List ℕ)) (statuses : List ℕ) (knows : KnowsStat
     ]
     sinks_asked outs.Report = inl (ap (λ (x : Meaning). x.report.asked) asks.others ∙ fresh.report_asked)
 
-    -- every input was opened, where HP was
+    -- every input was opened, if HP was
     inputs_opened : mid.hp.attached ≡ true → (port : InPort) → IsInput c port → (source_at port mid).attached ≡ true
     inputs_opened is ins.Settings reads = ap (λ (x : Meaning). x.settings.attached) asks.others ∙ done.attached reads
     inputs_opened is ins.Hp reads = is
@@ -294,21 +295,21 @@ module _ (settings : Option (List ℕ)) (statuses : List ℕ) (knows : KnowsStat
     ]
     behind_inputs outs.Report = inl (ap (λ (x : Meaning). x.report.asked) asks.others ∙ fresh.report_asked)
 
-    -- an output that was not asked for is as it was
+    -- an output that was not requested is unchanged
     unasked : mid.bytes_out.asked ≡ None → IsUntouched mid.bytes_out
     unasked none = elim asks.bytes [
       | inl unmade ↦ subst IsUntouched (sym unmade) fresh.bytes_out
       | inr is ↦ absurd (let e : Some output ≡ None = sym is.0 ∙ none in cc)
     ]
 
-    -- an output that was made stands behind an input that was opened
+    -- an output is created only after the input was opened
     opened_before : mid.bytes_out.created ≡ true → mid.hp.attached ≡ true
     opened_before made = elim asks.bytes [
       | inl unmade ↦ absurd (true≢false (sym made ∙ ap (λ (x : Sink). x.created) unmade ∙ fresh.bytes_out.created))
       | inr is ↦ is.1
     ]
 
-    -- what is left of the input that was opened
+    -- the bytes left of the opened input
     left_is : mid.hp.attached ≡ true → unread c mid ins.Hp ≡ mid.hp.left
     left_is is = ap (λ (b : Bool). if b then mid.hp.left else mid.file input) is
 
@@ -322,7 +323,7 @@ module _ (settings : Option (List ℕ)) (statuses : List ℕ) (knows : KnowsStat
     ]
     work_behind false is = inl (all_unread c mid ins.Hp (ap (λ (b : Bool). if b then mid.hp.left else mid.file input) is))
 
-    -- at most the packets that are accepted and one packet more are taken
+    -- at most the accepted packets and one more are taken
     abbrev Taken : Type 0
     Taken = (j : ℕ) × (j ≤ most_packets_taken limit file) × (mid.hp.left ≡ drop j file)
 
@@ -370,7 +371,7 @@ module _ (settings : Option (List ℕ)) (statuses : List ℕ) (knows : KnowsStat
     taken o cause ran t ins.Lp reads is = absurd (true≢false (sym reads))
     taken o cause ran t ins.Cells reads is = absurd (true≢false (sym reads))
 
-    -- a run that is done
+    -- a run that succeeded
     not_done : (r : Refusal) → Some r ≡ None → ⊥
     not_done r is = cc
 
@@ -388,7 +389,7 @@ module _ (settings : Option (List ℕ)) (statuses : List ℕ) (knows : KnowsStat
     read_out o ran is t ins.Lp reads = absurd (true≢false (sym reads))
     read_out o ran is t ins.Cells reads = absurd (true≢false (sym reads))
 
-    -- what stands
+    -- the outputs
     none_printed : mid.report ≡ old.report → start.tells ≡ true → mid.report.written ≡ []
     none_printed is t = ap (λ (x : Sink). x.written) is ∙ fresh.report_empty t
 
@@ -436,7 +437,7 @@ module _ (settings : Option (List ℕ)) (statuses : List ℕ) (knows : KnowsStat
       report = λ t. lines t (ran.1 t);
     }
       where
-        -- what the packets before a refusal give
+        -- the output for the packets before a refusal
         refused_front : start.tells ≡ true → (r : Refusal) → Codes gives limit file [] mid.hp.left mid.bytes_out.written (Err r)
             → (n : ℕ) × (j : ℕ) × (n ≤ accepted limit file) × (mid.bytes_out.written ≡ take j (gives (first_packets n file)))
         refused_front t ReadFault e = (e.0, length (gives (first_packets e.0 file)), accepted_from limit file e.0 e.2 e.3, e.5 ∙ whole_of (gives (first_packets e.0 file)))

@@ -1,4 +1,4 @@
--- What the parts of a run leave together, from the opening of the ports to their closing.
+-- The joint effect of the parts of a run, from opening the ports to closing them.
 use Rattle.std.proofs.Common.{◌≡◌, inl, inr, true, Bool, ℕ, ◌+◌, List, [], ◌++◌, length, take, if◌then◌else◌, ◌∙◌, sym, ap, subst, arith, Result, Ok, Err}
 use Rattle.std.proofs.lemmas.List.{take_all}
 use Rattle.std.proofs.Math.Seq.{take-append-add}
@@ -11,13 +11,13 @@ use Rattle.cmd_packets.specs.Coding.{Codes, CodesWhole, EndsCoding, KeepsOthers}
 use Rattle.cmd_base.specs.Causes.{Settles}
 use Rattle.cmd_packets.specs.Steps.{Ran, OpensAll, Finishes, ClosesOutput, ClosesRefused}
 
--- the work over the ports as they were opened is the work over the file
+-- the work over the opened ports is the work over the file
 from_opened : (input output : List ℕ) (old mid : Meaning) → OpensAll input output old mid (Ok tt) → (P : List ℕ → List ℕ → Type 0) → P mid.hp.left mid.bytes_out.written → P (old.file input) []
 from_opened input output old mid opened P p =
     subst (λ (l : List ℕ). P (old.file input) l) (ap (λ (x : Meaning). x.bytes_out.written) opened)
     (subst (λ (l : List ℕ). P l mid.bytes_out.written) (ap (λ (x : Meaning). x.hp.left) opened) p)
 
--- where a port was not opened nothing was given to the output
+-- if a port was not opened, nothing was given to the output
 pub unopened_waits : (input output : List ℕ) (old mid : Meaning) (r : Refusal) → OpensAll input output old mid (Err r) → mid.pending ≡ old.pending
 unopened_waits input output old mid ReadFault o = ap (λ (x : Meaning). x.pending) o
 unopened_waits input output old mid WriteFault o = ap (λ (x : Meaning). x.pending) o
@@ -32,7 +32,7 @@ module _ (coded ended : List (List ℕ) → List ℕ) (limit : ℕ) (input outpu
   tells : mid.tells ≡ old.tells
   tells = ap (λ (x : Meaning). x.tells) opened
 
-  -- a run whose output was closed behind this
+  -- a run whose output was closed after this
   shut_with : (r : Refusal) (fin new : Meaning) → fin.report ≡ old.report → fin.bytes_out.created ≡ true
       → (old.tells ≡ true → CodesWhole coded ended limit (old.file input) [] fin.hp.left fin.bytes_out.written (Err r)) → ClosesOutput fin new → Ran coded ended limit input old new (Err r)
   shut_with r fin new report created work closes = cases r (λ t. subst (λ (x : Meaning). CodesWhole coded ended limit (old.file input) [] x.hp.left x.bytes_out.written (Err r)) (sym closes.closed) (work t))
@@ -53,7 +53,7 @@ module _ (coded ended : List (List ℕ) → List ℕ) (limit : ℕ) (input outpu
       cases Memory d = (report', created', d)
       cases (Limit n) d = (report', created', d)
 
-  -- a refusal that became a write fault as the output was flushed
+  -- a refusal that became a write fault when the output was flushed
   lost : (r : Refusal) (left after : List ℕ) → CodesWhole coded ended limit (old.file input) [] left after (Err r) → CodesWhole coded ended limit (old.file input) [] left after (Err WriteFault)
   lost Usage left after d = inl (Usage, d)
   lost (Cells reason) left after d = inl (Cells reason, d)
@@ -64,7 +64,7 @@ module _ (coded ended : List (List ℕ) → List ℕ) (limit : ℕ) (input outpu
   lost Memory left after d = inl (Memory, d)
   lost (Limit n) left after d = inl (Limit n, d)
 
-  -- a run that was refused in the work, and whose output was then flushed and closed
+  -- a run refused in the work, whose output was then flushed and closed
   refused_with : (r r' : Refusal) (fin new : Meaning) → fin.report ≡ old.report → fin.bytes_out.created ≡ true
       → (old.tells ≡ true → CodesWhole coded ended limit (old.file input) [] fin.hp.left fin.bytes_out.written (Err r)) → ClosesRefused r fin new r' → Ran coded ended limit input old new (Err r')
   refused_with r r' fin new report created work closes = by closes.settles
@@ -109,7 +109,7 @@ module _ (coded ended : List (List ℕ) → List ℕ) (limit : ℕ) (input outpu
     contents : old.tells ≡ true → Codes coded limit (old.file input) [] done.hp.left done.bytes_out.written (Ok counts)
     contents t = from_opened input output old mid opened (λ i b. Codes coded limit i b done.hp.left done.bytes_out.written (Ok counts)) (work (tells ∙ t))
 
-    -- all packets give this, and the piece behind it
+    -- the output for all packets, and the piece after it
     in_all : old.tells ≡ true → ended (first_packets (whole_packets (old.file input)) (old.file input)) ≡ coded (first_packets (whole_packets (old.file input)) (old.file input)) ++ piece
     in_all t =
         let Gives : List ℕ → Type 0 = λ ps. ended (first_packets counts.packets ps) ≡ coded (first_packets counts.packets ps) ++ piece in

@@ -1,19 +1,19 @@
--- Where one packet more only adds to what packets give, what fewer packets give begins what more do.
+-- If one more packet only adds output, the output of fewer packets is a prefix of that of more.
 use Rattle.std.proofs.Common.{◌≡◌, ℕ, zero, suc, ◌≤◌, List, [], ◌∷◌, ◌++◌, length, take, inl, inr, ◌∙◌, sym, ap, arith, append_assoc}
 use Rattle.std.specs.Prelude.{min}
 use Rattle.std.proofs.lemmas.List.{append-nil}
 use Rattle.std.proofs.lemmas.Bool.{cases_lt}
 use Rattle.cmd_base.specs.Packets.{file_packet, first_packets}
 
--- one packet more only adds
+-- one more packet only adds output
 abbrev pub Grows : (List (List ℕ) → List ℕ) → Type 0
 Grows coded = (packets : List (List ℕ)) (p : List ℕ) → (rest : List ℕ) × (coded (packets ++ p ∷ []) ≡ coded packets ++ rest)
 
--- and the end only adds too
+-- and so does the end
 abbrev pub Ends : (List (List ℕ) → List ℕ) → (List (List ℕ) → List ℕ) → Type 0
 Ends coded ended = (packets : List (List ℕ)) → (rest : List ℕ) × (ended packets ≡ coded packets ++ rest)
 
--- a front of a list is a front of a longer one
+-- a prefix of a list is a prefix of a longer one
 pub front_of : (few rest : List ℕ) (k : ℕ) → (j : ℕ) × (take k few ≡ take j (few ++ rest))
 front_of few rest k = (min k (length few), front few rest k)
   where
@@ -40,7 +40,7 @@ module _ (coded : List (List ℕ) → List ℕ) (grows : Grows coded) where
         )
   ]
 
-  -- so a front of the one is a front of the other
+  -- so a prefix of the one is a prefix of the other
   pub fronts : (input : List ℕ) (n m : ℕ) → n ≤ m → (k : ℕ) → (j : ℕ) × (take k (coded (first_packets n input)) ≡ take j (coded (first_packets m input)))
   fronts input n m le k =
       let more = longer m n input le in

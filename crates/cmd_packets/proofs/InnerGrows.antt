@@ -1,4 +1,4 @@
--- The inner coding of one packet more, and its end.
+-- The inner coding of one more packet, and its end.
 use Rattle.std.proofs.Common.{◌≡◌, ℕ, List, [], ◌∷◌, ◌++◌, ◌∙◌, sym, ap, append_assoc, false}
 use Rattle.std.specs.Prelude.{replicate}
 use Rattle.std.proofs.lemmas.List.{append-nil}
@@ -15,7 +15,7 @@ use Rattle.cmd_packets.proofs.WholeBytes.{bytes_after}
 use Rattle.cmd_packets.proofs.SentOfBytes.{next_bits, more_bits}
 
 module _ (in_order : StepsSendInOrder) (numbered : StepsAreNumbered) (runs : SentBitsAreRuns) (r : Rate) where
-  -- bytes behind others only add
+  -- later bytes only add output
   adds : (bytes more : List ℕ) → (rest : List ℕ) × (inner_bytes r (bytes ++ more) ≡ inner_bytes r bytes ++ rest)
   adds bytes [] = ([], ap (inner_bytes r) (append-nil bytes) ∙ sym (append-nil (inner_bytes r bytes)))
   adds bytes (byte ∷ more) =

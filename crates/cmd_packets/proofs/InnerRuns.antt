@@ -1,4 +1,4 @@
--- The runs of `inner`: its settings were accepted and its memory was there, or it was refused before.
+-- The runs of `inner`: its settings were accepted and its memory was allocated, or it was refused before.
 use Rattle.std.proofs.Common.{◌≡◌, inr, true, ℕ, List, [], ◌∷◌, refl, ◌∙◌, sym, ap, subst, Ok, Err, Some}
 use Rattle.station_core.specs.Meaning.{Meaning, IsFresh}
 use Rattle.mode_set.specs.declared.modes.Rate.{Rate}
@@ -88,11 +88,11 @@ module _ (name input output : List ℕ) (limit : ℕ) (old mid new : Meaning) (f
   early_run r h known tells =
       run_refused c limit old mid new r (early_ended c limit name old mid refl (inr (refl, refl)) (λ u same. refl) (λ file. tt) fresh asks r h known) tells
 
-  -- there was no memory
+  -- memory was lacking
   pub inner_without_memory : mid.read_faults ≡ old.read_faults → WritesText (refusal_text Memory) mid new → Run c limit old new (refusal_status Memory)
   inner_without_memory same tells = early_run Memory same refl tells
 
-  -- the settings were refused, could not be read, or had no memory
+  -- the settings were rejected, could not be read, or memory was lacking
   pub inner_refused : (r : Refusal) → ReadsSettings name old mid (Err r) → WritesText (refusal_text r) mid new → Run c limit old new (refusal_status r)
   inner_refused r reads tells = early_run r (refused_early c limit name old mid r (λ reason is. is) asks.later reads) (known r reads) tells
     where

@@ -1,4 +1,4 @@
--- How the meaning of a station goes on from step to step of a coding.
+-- How the meaning of a station changes from step to step of a coding.
 use Rattle.std.proofs.Common.{◌≡◌, ◌≤◌, Bool, true, refl, subst, inl, inr, ℕ, List, ◌++◌, if◌then◌else◌, length, take, ◌∙◌, sym, ap, arith, Result, Ok, Err}
 use Rattle.std.proofs.lemmas.List.{take_all}
 use Rattle.station_core.specs.Meaning.{Meaning, Source, Sink, with_sink, written_sink, closed_sink, with_close_faults}
@@ -40,8 +40,8 @@ closes_late line m m' m'' p q =
       first ∙ ap (λ (n : ℕ). At n m.report_faults line) (sym writes) ∙ ap (λ (f : ℕ). At m''.write_faults f line) (sym same) ∙ ap (At m''.write_faults m''.report_faults) (sym (take_all (length line) line (omega arith))),
     )
 
--- The work of a run over its open ports: what is left of the input, the output and its closing, the report's text
--- and the counts have changed.
+-- The work of a run over its open ports: only the input left, the output and its closing, the report's text and the
+-- counts have changed.
 abbrev pub Works : Meaning → Meaning → Type 0
 Works old new = new ≡ record old {
   hp = record old.hp { left = new.hp.left };
@@ -76,11 +76,11 @@ works_from old new left out text reads writes shut reports waits p = p ∙ (λ i
   pending = sym (ap (λ (x : Meaning). x.pending) p) i;
 })
 
--- flushing keeps what the work keeps
+-- flushing preserves what the work preserves
 keeps_flushed : (old fin new : Meaning) → KeepsOthers old fin → FlushesOnly fin new → KeepsOthers old new
 keeps_flushed old fin new keeps p = keeps_again old fin new keeps (subst (λ (x : Meaning). KeepsOthers fin x) (sym p) refl)
 
--- the output was closed behind the work
+-- the output was closed after the work
 works_shut : (old fin new : Meaning) → KeepsOthers old fin → ClosesOutput fin new → Works old new
 works_shut old fin new keeps closes =
     works_from old new fin.hp.left fin.bytes_out.written old.report.written fin.read_faults fin.write_faults new.close_faults old.report_faults fin.pending
@@ -110,7 +110,7 @@ pub later_finished : (old fin new : Meaning) (counts : Counts) (r : Result Count
 later_finished old fin new counts (Ok c) keeps f = omega (arith, ap (λ (x : Meaning). x.report_faults) keeps, ap (λ (x : Meaning). x.report_faults) f.1)
 later_finished old fin new counts (Err refusal) keeps f = omega (arith, ap (λ (x : Meaning). x.report_faults) keeps, f.1)
 
--- the ports that were asked, of a station that has changed in just these
+-- the ports requested, of a station changed only in these
 others_from : (old new : Meaning) (hp : Source) (out : Sink) (text : List ℕ) (reads writes shut reports : ℕ) (waits : Bool)
     → new ≡ record old { hp = hp; bytes_out = out; report = record old.report { written = text }; read_faults = reads; write_faults = writes; close_faults = shut; report_faults = reports; pending = waits }
     → new ≡ record old {
@@ -134,7 +134,7 @@ others_from old new hp out text reads writes shut reports waits p = p ∙ (λ i.
   pending = sym (ap (λ (x : Meaning). x.pending) p) i;
 })
 
--- both ports were opened, the work was ended, and the output closed
+-- both ports were opened, the work ended, and the output closed
 pub asks_worked : (input output : List ℕ) (old mid new : Meaning) → OpensAll input output old mid (Ok tt) → Works mid new → mid.report_faults ≤ new.report_faults → AsksPorts input output old new
 asks_worked input output old mid new opened works later =
     let all = works ∙ ap (λ (x : Meaning). record x {

@@ -1,11 +1,11 @@
--- The outer bytes of one packet more.
+-- The outer bytes of one more packet.
 use Rattle.std.proofs.Common.{◌≡◌, ℕ, zero, suc, ◌+◌, ◌*◌, List, [], ◌∷◌, ◌++◌, length, ◌∙◌, ap, arith, length-append}
 use Rattle.forney.specs.Values.{values}
 use Rattle.outer_chain.specs.Sent.{outer_byte, outer_bytes, sent_bytes}
 use Rattle.outer_chain.specs.SendingLaws.{MorePacketsSent}
 use Rattle.cmd_packets.proofs.Growing.{Grows}
 
--- the values from a place on, in two parts
+-- the values from an index on, in two parts
 values_parts : (f : ℕ → ℕ) (i a b : ℕ) → values f i (a + b) ≡ values f i a ++ values f (i + a) b
 unfolding values
 values_parts f i zero b = ap (λ (n : ℕ). values f i n) (let e : zero + b ≡ b = omega arith in e) ∙ ap (λ (n : ℕ). values f n b) (let e : i ≡ i + zero = omega arith in e)

@@ -1,4 +1,4 @@
--- How far the coding of the packets has come.
+-- The progress of the coding of packets.
 use Rattle.std.proofs.Common.{◌≡◌, ℕ, ◌+◌, ◌*◌, ◌%◌, ◌<◌, ◌≤◌, Bool, true, false, List, [], ◌∷◌, ◌++◌, length, take, drop, refl, ◌∙◌, sym, ap, subst, arith, length-drop, append_assoc, below_more, Result, Ok, Err, Some, None}
 use Rattle.std.specs.Prelude.{slice_index, nat_lt, ◌&&◌, ◌==◌}
 use Rattle.std.proofs.Math.Seq.{take-append-add}
@@ -40,7 +40,7 @@ pub first_more : (n : ℕ) (input : List ℕ) → first_packets (n + 1) input �
 unfolding first_packets
 first_more n input = rw add-one refl
 
--- what a coder gives now is what it gave at its start
+-- the output of a coder now continues that at its start
 pub gives_first : (coded first : List (List ℕ) → List ℕ) (packets more : List (List ℕ)) (piece : List ℕ) → ((ps : List (List ℕ)) → coded ps ≡ first ps) → coded (packets ++ more) ≡ coded packets ++ piece → first (packets ++ more) ≡ first packets ++ piece
 gives_first coded first packets more piece same gives = sym (same (packets ++ more)) ∙ gives ∙ ap (λ (l : List ℕ). l ++ piece) (same packets)
 
@@ -64,7 +64,7 @@ module _ (coded : List (List ℕ) → List ℕ) (limit n : ℕ) (input before le
   first_is_next : is_sync left 0 ≡ is_sync input n
   first_is_next = ap (λ (l : List ℕ). slice_index l 0 == 0x47) front
 
-  -- what the next packet gives
+  -- the output for the next packet
   abbrev Gives : List ℕ → Type 0
   Gives piece = coded (first_packets n input ++ take 188 left ∷ []) ≡ coded (first_packets n input) ++ piece
 
@@ -74,7 +74,7 @@ module _ (coded : List (List ℕ) → List ℕ) (limit n : ℕ) (input before le
   accepted_more : n < limit → is_sync left 0 ≡ true → AcceptsFirst limit input (n + 1)
   accepted_more lt sync = below_more (λ i. is_accepted limit input i ≡ true) n p.accepted (accepts limit n input lt (sym first_is_next ∙ sync))
 
-  -- what is left behind the next packet, and behind a part of it
+  -- the bytes left after the next packet, and after part of it
   next_left : (left' : List ℕ) → left' ≡ drop 188 left → left' ≡ drop (188 * (n + 1)) input
   next_left left' e = e ∙ ap (λ (l : List ℕ). drop 188 l) p.left_is ∙ drop-drop 188 (188 * n) input ∙ ap (λ (k : ℕ). drop k input) (omega arith)
 

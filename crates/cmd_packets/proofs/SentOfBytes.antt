@@ -1,4 +1,4 @@
--- The sent bits of bytes: those of the first bytes stay as they are when more bytes follow.
+-- The sent bits of bytes: those of the first bytes stay when more bytes follow.
 use Rattle.std.proofs.Common.{◌≡◌, ℕ, zero, suc, ◌+◌, ◌*◌, ◌-◌, ◌/◌, ◌%◌, ◌<◌, ◌≤◌, Bool, false, List, [], ◌∷◌, ◌++◌, map, length, refl, ◌∙◌, sym, ap, subst, arith, length-append, inl, inr, if◌then◌else◌}
 use Rattle.std.specs.Prelude.{nat_lt}
 use Rattle.std.specs.List.{range_with_len}
@@ -19,7 +19,7 @@ use Rattle.cmd_packets.specs.InnerBytes.{inner_bits, inner_bytes}
 use Rattle.cmd_packets.specs.Inner.{rest_of}
 use Rattle.cmd_packets.proofs.WholeBytes.{bytes_after, rest_after}
 
--- paths that agree in these places have the same bits there
+-- paths that agree at these positions have the same bits there
 same_bits : (p q : ℕ → Bool) (t n : ℕ) → ((i : ℕ) → i < t + n → p i ≡ q i) → map p (range_with_len t n) ≡ map q (range_with_len t n)
 same_bits p q t zero same = refl
 same_bits p q t (suc n) same = λ j. same t (omega arith) j ∷ same_bits p q (t + 1) n (λ i lt. same i (omega (arith, lt))) j
@@ -50,7 +50,7 @@ module _ (in_order : StepsSendInOrder) (numbered : StepsAreNumbered) (runs : Sen
       let before = grows_by r t n in
       subst (λ (m : ℕ). sent_before r t ≤ sent_before r m) (let e : t + n + 1 ≡ t + suc n = omega arith in e) (omega (arith, more, before))
 
-  -- what is sent of the first steps depends on the bits that they take, and those before
+  -- the bits sent in the first steps depend only on their input bits, and on those before
   same_sent : (r : Rate) (p q : ℕ → Bool) (t : ℕ) → ((i : ℕ) → i < t + 6 → p i ≡ q i) → sent_bits r p 0 (sent_before r t) ≡ sent_bits r q 0 (sent_before r t)
   same_sent r p q zero same = none_sent r p ∙ sym (none_sent r q)
   same_sent r p q (suc t) same = subst (λ (m : ℕ). sent_bits r p 0 (sent_before r m) ≡ sent_bits r q 0 (sent_before r m)) (add-one t)
@@ -68,7 +68,7 @@ module _ (in_order : StepsSendInOrder) (numbered : StepsAreNumbered) (runs : Sen
           ∙ ap (λ (w : List Bool). sent_bits r q 0 (sent_before r t) ++ bits_of_step r t (parity_x w) (parity_y w)) (same_window p q t (λ i lt. same i (omega (arith, lt))))
           ∙ sym (joined q)
 
-  -- bytes behind others leave the path of the first ones
+  -- later bytes leave the path of the first ones
   same_path : (bytes more : List ℕ) (i : ℕ) → i < 8 * length bytes + 6 → path_of (stream_of bytes) i ≡ path_of (stream_of (bytes ++ more)) i
   same_path bytes more i lt = elim (cases_lt i 6) [
     | inl small ↦ first (stream_of bytes) small ∙ sym (first (stream_of (bytes ++ more)) small)
@@ -91,7 +91,7 @@ module _ (in_order : StepsSendInOrder) (numbered : StepsAreNumbered) (runs : Sen
     size : t + 8 ≡ 8 * length both
     size = omega (arith, length-append bytes (byte ∷ []))
 
-    -- what is sent of the byte behind the others
+    -- the bits sent for the last byte
     abbrev pub next_bits : List Bool
     next_bits = sent_bits r path (sent_before r t) (sent_before r (t + 8))
 
@@ -101,7 +101,7 @@ module _ (in_order : StepsSendInOrder) (numbered : StepsAreNumbered) (runs : Sen
         ∙ sym ((runs r path).joined 0 (sent_before r t) (sent_before r (t + 8)) (omega arith) (grows_by r t 8))
         ∙ ap (λ (l : List Bool). l ++ next_bits) (sym (same_sent r (path_of (stream_of bytes)) path t (same_path bytes (byte ∷ []))))
 
-    -- the coder is at the path of the longer list too
+    -- the coder is also at the path of the longer list
     pub at_longer : (c : Coder) → IsAtPath c r (path_of (stream_of bytes)) t → IsAtPath c r path t
     at_longer c at = record {
       rate = at.rate;
@@ -109,14 +109,14 @@ module _ (in_order : StepsSendInOrder) (numbered : StepsAreNumbered) (runs : Sen
       register = at.register ∙ same_bits (path_of (stream_of bytes)) path t 6 (same_path bytes (byte ∷ []));
     }
 
-    -- and the byte stands next on it
+    -- and the byte is next on it
     pub stands : BytesArePaths → spelled 8 byte ≡ bits_from path (t + 6) 8
     stands law = ap (spelled 8) (sym (get_or-append_seam bytes byte [] 0)) ∙ law (stream_of both) (length bytes)
 
     pub at_end : (c : Coder) → IsAtPath c r path (t + 8) → IsAtPath c r (path_of (stream_of both)) (8 * length both)
     at_end c at = subst (λ (n : ℕ). IsAtPath c r path n) size at
 
-    -- the bits that wait then, and the bytes that were whole
+    -- the pending bits then, and the whole bytes
     pub waits : (waiting : List Bool) → waiting ≡ rest_of (inner_bits r bytes) → rest_of (waiting ++ next_bits) ≡ rest_of (inner_bits r both)
     waits waiting is = ap (λ (l : List Bool). rest_of (l ++ next_bits)) is ∙ sym (rest_after (inner_bits r bytes) next_bits) ∙ ap rest_of (sym more_bits)
 

@@ -1,4 +1,4 @@
--- Whole bytes of bits, and the bits behind them.
+-- Whole bytes of bits, and the bits after them.
 use Rattle.std.proofs.Common.{◌≡◌, ℕ, ◌+◌, ◌≤◌, ◌<◌, Bool, List, [], ◌∷◌, ◌++◌, length, refl, ◌∙◌, sym, ap, arith, append_assoc}
 use Rattle.std.proofs.lemmas.List.{append-nil}
 use Rattle.spec_words.specs.Bits.{spelled}
@@ -31,7 +31,7 @@ rest_after (a ∷ b ∷ c ∷ d ∷ e ∷ f ∷ []) ys = refl
 rest_after (a ∷ b ∷ c ∷ d ∷ e ∷ f ∷ g ∷ []) ys = refl
 rest_after (a ∷ b ∷ c ∷ d ∷ e ∷ f ∷ g ∷ h ∷ rest) ys = rest_after rest ys
 
--- fewer than eight bits make no byte
+-- fewer than eight bits hold no byte
 pub short : (xs : List Bool) → length xs ≤ 7 → (bytes_of xs ≡ []) × (rest_of xs ≡ xs)
 unfolding bytes_of rest_of
 short [] few = (refl, refl)
@@ -44,7 +44,7 @@ short (a ∷ b ∷ c ∷ d ∷ e ∷ f ∷ []) few = (refl, refl)
 short (a ∷ b ∷ c ∷ d ∷ e ∷ f ∷ g ∷ []) few = (refl, refl)
 short (a ∷ b ∷ c ∷ d ∷ e ∷ f ∷ g ∷ h ∷ rest) few = absurd (omega arith)
 
--- one whole byte goes from the bits to the piece
+-- one whole byte moves from the bits to the piece
 pub one_gives : ByteOfBits → (piece : List ℕ) (byte : ℕ) (rest bits : List Bool) → byte < 256 → bits ≡ spelled 8 byte ++ rest
     → (piece ++ byte ∷ []) ++ bytes_of rest ≡ piece ++ bytes_of bits
 one_gives law piece byte rest bits small is =
@@ -54,13 +54,13 @@ pub one_rest : (byte : ℕ) (rest bits : List Bool) → bits ≡ spelled 8 byte 
 unfolding rest_of
 one_rest byte rest bits is = sym (ap rest_of is)
 
--- all whole bytes have gone to the piece
+-- all whole bytes have moved to the piece
 pub all_gives : (piece piece' : List ℕ) (bits rest : List Bool) → length rest ≤ 7 → piece' ++ bytes_of rest ≡ piece ++ bytes_of bits → piece' ≡ piece ++ bytes_of bits
 all_gives piece piece' bits rest few is = sym (append-nil piece') ∙ ap (λ (l : List ℕ). piece' ++ l) (sym (short rest few).0) ∙ is
 
 pub all_rest : (bits rest : List Bool) → length rest ≤ 7 → rest_of rest ≡ rest_of bits → rest ≡ rest_of bits
 all_rest bits rest few is = sym (short rest few).1 ∙ is
 
--- what is whole goes behind what was written before
+-- whole bytes follow the earlier output
 pub behind : (before piece more whole whole' : List ℕ) → whole ≡ before ++ piece → whole' ≡ whole ++ more → whole' ≡ before ++ (piece ++ more)
 behind before piece more whole whole' is is' = is' ∙ ap (λ (l : List ℕ). l ++ more) is ∙ append_assoc before piece more

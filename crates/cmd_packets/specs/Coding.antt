@@ -1,5 +1,5 @@
--- The work of a command that codes the packets of HP one after another: what is left of the input and
--- what was written, by the answer. `coded n input` is what the first n packets of an input give.
+-- The work of a command that codes the packets of HP in order: the input left and the bytes written, for each result.
+-- `coded n input` is the output for the first n packets of an input.
 use Rattle.std.specs.Prelude.{◌⊎◌, length, ◌/◌, ◌≡◌, ◌<◌, ◌≤◌, ◌+◌, ◌-◌, ◌*◌, ◌++◌, ℕ, List, [], take, drop, Result, Ok, Err, Option, None, Some, true, false, ⊤}
 use Rattle.station_core.specs.Meaning.{Meaning}
 use Rattle.mode_set.specs.declared.modes.Stream.TheVariants.{Hp}
@@ -8,7 +8,7 @@ use Rattle.cmd_base.specs.declared.work.Refusal.{Refusal}
 use Rattle.cmd_base.specs.declared.work.Refusal.TheVariants.{Usage, Settings, ReadFault, WriteFault, NotSync, Memory, Limit, Cells}
 use Rattle.cmd_base.specs.Packets.{first_packets, whole_packets, is_sync, AcceptsFirst, counts_of}
 
--- nothing but what is left of HP, what is written to Bytes and waits there, and the counts has changed
+-- only the bytes left of HP, the bytes written and pending at Bytes, and the counts have changed
 abbrev pub KeepsOthers : Meaning → Meaning → Type 0
 KeepsOthers old new = new ≡ record old {
   hp = record old.hp { left = new.hp.left };
@@ -18,7 +18,7 @@ KeepsOthers old new = new ≡ record old {
   pending = new.pending;
 }
 
--- One packet of what is left, which gives the piece: what is left then and what is written
+-- One packet of the input left, with output `piece`: the input then left, and the bytes written
 abbrev pub Step : ℕ → List ℕ → List ℕ → List ℕ → List ℕ → List ℕ → Result (Option ℕ) Refusal → Type 0
 Step number piece input before left after (Ok None) =
     (188 ≤ length input) × (is_sync input 0 ≡ true) × (left ≡ drop 188 input) × (after ≡ before ++ piece)
@@ -36,7 +36,7 @@ Step number piece input before left after (Err (Cells reason)) = ⊥
 Step number piece input before left after (Err (Settings reason)) = ⊥
 Step number piece input before left after (Err Memory) = ⊥
 
--- the packet was taken, and what it gives was written, or a front of it
+-- the packet was taken, and its output was written, or a prefix of it
 abbrev pub OnTaken : Result (Option ℕ) Refusal → Type 0 → Type 0
 OnTaken (Ok None) P = P
 OnTaken (Err WriteFault) P = P
@@ -56,7 +56,7 @@ EndsAtLimit limit input before left after (Err (Cells reason)) = ⊥
 EndsAtLimit limit input before left after (Err (Settings reason)) = ⊥
 EndsAtLimit limit input before left after (Err Memory) = ⊥
 
--- All packets of an input: what is left of it and what was written, by the answer
+-- All packets of an input: the input left and the bytes written, for each result
 abbrev pub Codes : (List (List ℕ) → List ℕ) → ℕ → List ℕ → List ℕ → List ℕ → List ℕ → Result Counts Refusal → Type 0
 Codes coded limit input before left after (Ok counts) =
     (counts ≡ counts_of input) × AcceptsFirst limit input (whole_packets input)
@@ -84,8 +84,8 @@ EndsCoding piece input before left after (Ok u) = (left ≡ input) × (after ≡
 EndsCoding piece input before left after (Err WriteFault) = (k : ℕ) × (left ≡ input) × (after ≡ before ++ take k piece)
 EndsCoding piece input before left after (Err refusal) = ⊥
 
--- All packets of an input and the end of their coding: `ended packets` is what packets give in all. A write fault may
--- have been met only as the output was flushed, behind another refusal.
+-- All packets of an input and the end of their coding; `ended packets` is their whole output. A write fault may appear
+-- only when the output is flushed after another refusal.
 abbrev pub CodesWhole : (List (List ℕ) → List ℕ) → (List (List ℕ) → List ℕ) → ℕ → List ℕ → List ℕ → List ℕ → List ℕ → Result Counts Refusal → Type 0
 CodesWhole coded ended limit input before left after (Ok counts) =
     (counts ≡ counts_of input) × AcceptsFirst limit input (whole_packets input)

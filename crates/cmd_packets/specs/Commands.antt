@@ -1,4 +1,4 @@
--- The commands `disperse`, `outer` and `inner`: each codes the packets of a transport file, one after another.
+-- The commands `disperse`, `outer` and `inner`: each codes the packets of a transport file, in order.
 use Rattle.std.specs.Prelude.{◌≡◌, ◌≢◌, ◌≤◌, ◌⊎◌, ◌+◌, ◌-◌, ◌/◌, ℕ, ⊤, List, [], ◌∷◌, length, Option, None, Some, false}
 use Rattle.station_core.specs.declared.ports.InPort.TheVariants as ins
 use Rattle.mode_set.specs.declared.settings.Settings.{Settings}
@@ -12,66 +12,66 @@ use Rattle.cmd_base.specs.StatedSettings.{settings_of}
 use Rattle.cmd_packets.specs.DispersedPackets.{dispersed_packets}
 use Rattle.cmd_packets.specs.InnerBytes.{inner_bytes, filled_inner_bytes}
 
--- What a command makes of packets, with the files that a run has.
+-- The output of a command for packets, given the files of a run.
 pub record Coding : Type 1 where
-  -- packets give these bytes as long as more packets may follow
+  -- the output for packets if more may follow
   pub Gives : Files → List (List ℕ) → List ℕ → Type 0
-  -- packets give these bytes in all, once the last one was taken
+  -- the whole output for packets, after the last one
   pub GivesInAll : Files → List (List ℕ) → List ℕ → Type 0
 
--- packets give the same whether or not more of them may follow
+-- the output is the same whether or not more packets may follow
 abbrev pub plain_coding : (List (List ℕ) → List ℕ) → Coding
 plain_coding coded = record {
   Gives = λ file packets bytes. bytes ≡ coded packets;
   GivesInAll = λ file packets bytes. bytes ≡ coded packets;
 }
 
--- disperse: the packets, dispersed
+-- disperse: energy dispersal
 abbrev pub dispersing : Coding
 dispersing = plain_coding dispersed_packets
 
--- outer: the packets, dispersed, coded by the outer code, and interleaved
+-- outer: energy dispersal, outer code and outer interleaver
 abbrev pub outer_coding : Coding
 outer_coding = plain_coding sent_bytes
 
--- inner: the same bytes coded by the inner code, at the rate of HP of the settings in this file. In all the last
--- byte is filled with zeros.
+-- inner: the same bytes after the inner code, at the HP rate of the settings in this file. At the end the last byte is
+-- filled with zeros.
 abbrev pub inner_coding : List ℕ → Coding
 inner_coding settings = record {
   Gives = λ file packets bytes. (s : Settings) × (settings_of (file settings) ≡ Some s) × (bytes ≡ inner_bytes s.rate_hp (sent_bytes packets));
   GivesInAll = λ file packets bytes. (s : Settings) × (settings_of (file settings) ≡ Some s) × (bytes ≡ filled_inner_bytes s.rate_hp (sent_bytes packets));
 }
 
--- not every whole packet of the input is accepted
+-- some whole packet of the input is rejected
 abbrev pub IsRefused : ℕ → List ℕ → Type 0
 IsRefused limit input = accepted limit input ≢ whole_packets input
 
--- The output comes to what all packets of the input give in all or, where one is refused, to what those before it give.
+-- The output is that of all packets of the input or, if one is rejected, of those before it.
 abbrev pub CodesTo : Coding → ℕ → Files → List ℕ → List ℕ → Type 0
 CodesTo k limit file input bytes =
     (AreAccepted limit (file input) × k.GivesInAll file (packets_of (file input)) bytes)
     ⊎ (IsRefused limit (file input) × k.Gives file (first_packets (accepted limit (file input)) (file input)) bytes)
 
--- The report is the closing line. Where a packet is refused no line stands before the refusal.
+-- The report is the closing line, or has no line before the refusal if a packet is rejected.
 abbrev pub ClosesWith : ℕ → List ℕ → List ℕ → Type 0
 ClosesWith limit input lines = (AreAccepted limit input × (lines ≡ closing_line (counts_of input))) ⊎ (IsRefused limit input × (lines ≡ []))
 
--- how many whole packets of an input were taken, where this is left of it
+-- the number of whole packets taken from an input, given the bytes left
 abbrev pub packets_taken : List ℕ → List ℕ → ℕ
 packets_taken input left = (length input - length left) / 188
 
--- After a failed read the output holds what the whole packets taken give. None of them is refused.
+-- After a failed read the output is that of the whole packets taken, all of them accepted.
 abbrev pub CodesSoFar : Coding → ℕ → Files → List ℕ → List ℕ → List ℕ → Type 0
 CodesSoFar k limit file input left bytes =
     k.Gives file (first_packets (packets_taken (file input) left) (file input)) bytes × (packets_taken (file input) left ≤ accepted limit (file input))
 
--- why the settings are refused, if there are some and they are
+-- the refusal of the settings, if the command has any
 abbrev pub coding_early : Option (List ℕ) → Files → Option Refusal
 coding_early None file = None
 coding_early (Some settings) file = settings_refusal (file settings)
 
--- A command that codes packets: its settings, if it has some, its statuses, its coding, its input and its output.
--- Bytes is the only output, so what it comes to is said without its port.
+-- A command that codes packets: its settings, if any, its statuses, its coding, its input and its output. Bytes is the
+-- only output, so its definition names no port.
 abbrev pub coding_command : Option (List ℕ) → List ℕ → Coding → List ℕ → List ℕ → Command
 coding_command settings statuses k input output = record {
   reads = by_input settings (Some input) None None;

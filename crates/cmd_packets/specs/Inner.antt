@@ -1,4 +1,4 @@
--- What the inner coder of bytes stands for.
+-- The state of an inner coder of bytes.
 use Rattle.std.specs.Prelude.{◌≡◌, ℕ, ◌*◌, Bool, List, ◌∷◌, length}
 use Rattle.mode_set.specs.declared.modes.Rate.{Rate}
 use Rattle.forney.specs.Values.{stream_of}
@@ -6,12 +6,12 @@ use Rattle.puncture.specs.SentBits.{path_of}
 use Rattle.puncture.specs.Steps.{Coder, IsAtPath}
 use Rattle.cmd_packets.specs.InnerBytes.{inner_bits}
 
--- the bits behind the whole bytes of these bits
+-- the bits after the whole bytes of these bits
 unfoldable pub rest_of : List Bool → List Bool
 rest_of (a ∷ b ∷ c ∷ d ∷ e ∷ f ∷ g ∷ h ∷ rest) = rest_of rest
 rest_of bits = bits
 
--- a coder: the encoder with its puncturer, and the bits that wait for more
+-- a coder: the encoder with its puncturer, and the pending bits
 pub record InnerState : Type 0 where
   pub coder : Coder
   pub waiting : List Bool

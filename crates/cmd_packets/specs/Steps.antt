@@ -1,5 +1,5 @@
--- The steps of a run of a command that codes the packets of HP, each as a relation of what the station
--- stood for before and after it. The promise of the run as a whole follows from them.
+-- The steps of a run of a command that codes the packets of HP, each as a relation of the station before and after it.
+-- They imply the promise of the run.
 use Rattle.std.specs.Prelude.{◌≡◌, ◌⊎◌, ◌≤◌, ◌++◌, ℕ, true, false, List, [], take, Result, Ok, Err, Some, None, if◌then◌else◌}
 use Rattle.station_core.specs.Meaning.{Meaning}
 use Rattle.cmd_base.specs.declared.work.Counts.{Counts}
@@ -11,7 +11,7 @@ use Rattle.cmd_base.specs.Packets.{AcceptsFirst, closing_line, counts_of, whole_
 use Rattle.cmd_base.specs.Report.{WritesText}
 use Rattle.cmd_base.specs.Text.{refusal_text, refusal_status}
 
--- nothing was asked on HP and Bytes, Report is open, nothing was written there, and nothing waits
+-- nothing was requested at HP and Bytes, Report is open and empty, and nothing is pending
 pub record IsReady (m : Meaning) : Type 0 where
   pub hp : m.hp.asked ≡ None
   pub hp_closed : m.hp.attached ≡ false
@@ -22,8 +22,8 @@ pub record IsReady (m : Meaning) : Type 0 where
   pub report_empty : m.tells ≡ true → m.report.written ≡ []
   pub settled : m.pending ≡ false
 
--- After the work, before the text of a refusal: only HP, Bytes, whether bytes wait there, what is written to Report and
--- the counts have changed, and only these names were asked.
+-- After the work, before the text of a refusal: only HP, Bytes, its pending flag, what is written to Report and the
+-- counts have changed, and only these names were requested.
 pub record AsksPorts (input output : List ℕ) (old new : Meaning) : Type 0 where
   pub others : new ≡ record old {
     hp = new.hp;
@@ -37,25 +37,25 @@ pub record AsksPorts (input output : List ℕ) (old new : Meaning) : Type 0 wher
   }
   pub later_report : old.report_faults ≤ new.report_faults
   pub hp : new.hp.asked ≡ Some input
-  -- the output is asked for only where the input was opened
+  -- the output is requested only if the input was opened
   pub bytes : (new.bytes_out ≡ old.bytes_out) ⊎ ((new.bytes_out.asked ≡ Some output) × (new.hp.attached ≡ true))
-  -- nothing is taken of the input before the output was made
+  -- nothing is taken of the input before the output was created
   pub untaken : new.hp.attached ≡ true → (new.bytes_out.created ≡ true) ⊎ (new.hp.left ≡ old.file input)
-  -- an output that was made is closed
+  -- an output that was created is closed
   pub closed : new.bytes_out.created ≡ true → new.bytes_out.closed ≡ true
 
--- after the whole work every port is done with
+-- after the whole work all ports are finished
 pub record IsFinished (old new : Meaning) (counts : Counts) : Type 0 where
   pub attached : new.hp.attached ≡ true
   pub created : new.bytes_out.created ≡ true
   pub report : old.tells ≡ true → new.report.written ≡ old.report.written ++ closing_line counts
 
--- the closing line was written to Report, or a front of it, where every packet is accepted
+-- the closing line or a prefix of it was written to Report, if all packets are accepted
 abbrev pub ClosesFront : ℕ → List ℕ → List ℕ → List ℕ → Type 0
 ClosesFront limit input before after =
     AcceptsFirst limit input (whole_packets input) × ((k : ℕ) × (after ≡ before ++ take k (closing_line (counts_of input))))
 
--- What a run leaves, by its outcome. Before the output is created nothing of it is said.
+-- The state after a run, by its outcome. Until the output is created it says nothing of the output.
 abbrev pub Ran : (List (List ℕ) → List ℕ) → (List (List ℕ) → List ℕ) → ℕ → List ℕ → Meaning → Meaning → Result Counts Refusal → Type 0
 Ran coded ended limit input old new (Ok counts) =
     IsFinished old new counts × (old.tells ≡ true → CodesWhole coded ended limit (old.file input) [] new.hp.left new.bytes_out.written (Ok counts))
@@ -69,7 +69,7 @@ Ran coded ended limit input old new (Err refusal) =
     (new.report ≡ old.report) × (new.bytes_out.created ≡ true)
     × (old.tells ≡ true → CodesWhole coded ended limit (old.file input) [] new.hp.left new.bytes_out.written (Err refusal))
 
--- after the ports were opened, or one was not: the output is asked for only behind the input
+-- after the ports were opened, or one was not: the output is requested only after the input
 abbrev pub OpensAll : List ℕ → List ℕ → Meaning → Meaning → Result (Unit {0}) Refusal → Type 0
 OpensAll input output old new (Ok u) =
     new ≡ record old {
@@ -90,7 +90,7 @@ OpensAll input output old new (Err (Cells reason)) = ⊥
 OpensAll input output old new (Err (Settings reason)) = ⊥
 OpensAll input output old new (Err Memory) = ⊥
 
--- after the closing line and the closing of the output, which is closed also where the line was not written
+-- after the closing line and closing the output, which is closed even if the line was not written
 abbrev pub Finishes : Counts → Meaning → Meaning → Result Counts Refusal → Type 0
 Finishes counts old new (Ok c) =
     (c ≡ counts) × (new ≡ record old {
@@ -106,12 +106,12 @@ Finishes counts old new (Err refusal) =
       report_faults = new.report_faults;
     })
 
--- the output is closed, and whether that failed is only counted
+-- the output is closed, and a failure of that is only counted
 pub record ClosesOutput (old new : Meaning) : Type 0 where
   pub closed : new ≡ record old { bytes_out = record old.bytes_out { closed = true }; close_faults = new.close_faults }
   pub later : old.close_faults ≤ new.close_faults
 
--- after a refusal in the work the output is flushed, which may make it a write fault, and then closed all the same
+-- after a refusal in the work the output is flushed, which may turn it into a write fault, and then closed in any case
 pub record ClosesRefused (refusal : Refusal) (old new : Meaning) (result : Refusal) : Type 0 where
   pub flushed : Meaning
   pub flushes : FlushesOnly old flushed
@@ -123,12 +123,12 @@ abbrev pub outcome_status : Result Counts Refusal → ℕ
 outcome_status (Ok counts) = 0
 outcome_status (Err refusal) = refusal_status refusal
 
--- what is left after the work is the end, or a text is written after it
+-- the state after the work is the end, or the text of a refusal is written after it
 abbrev pub Tells : Meaning → Meaning → Result Counts Refusal → Type 0
 Tells mid new (Ok counts) = new ≡ mid
 Tells mid new (Err refusal) = WritesText (refusal_text refusal) mid new
 
--- a run has one outcome: the status, the ports and the report are that outcome's
+-- a run has one outcome, which determines the status, the ports and the report
 pub record RunsCoding (coded ended : List (List ℕ) → List ℕ) (limit : ℕ) (input output : List ℕ) (old new : Meaning) (status : ℕ) : Type 0 where
   pub outcome : Result Counts Refusal
   pub mid : Meaning

@@ -1,12 +1,12 @@
-// What a command makes of the packets of a transport input.
+// The coding of the packets of a transport input.
 ghost use Rattle.std.specs.Prelude.{◌≡◌, ◌∷◌, ◌++◌, List, [], ℕ};
 
 use ts_packet::Packet;
 
-/// A coder of the packets of a transport input, one after another.
+/// A coder of the packets of a transport input, in order.
 ///
-/// `coded packets` is what packets give as long as more may follow, and `ended packets` what they give
-/// in all. `took packets` says that the coder has taken just these since its start.
+/// `coded packets` is the output for packets if more may follow, and `ended packets` the whole output. `took packets`
+/// says that the coder has taken exactly these since its start.
 pub trait Coder {
     ghost coded: { Self → List (List ℕ) → List ℕ };
 
@@ -29,7 +29,7 @@ pub trait Coder {
         ensures ends { (packets : List (List ℕ)) → took self.old packets
             → ended self.old packets ≡ coded self.old packets ++ piece self.new };
 
-    /// What the last call has given, to be written behind what was written before.
+    /// The output of the last call, to be written after the earlier output.
     fn bytes(&self) -> &[u8]
         ensures { result.now ≡ piece self.now };
 }

@@ -11,7 +11,7 @@ use cmd_base::fill;
 use station_core::{InPort, OutPort, Station};
 use ts_packet::{PACKET_LEN, Packet};
 
-// Reads, codes and writes the packet of this number. At the end it gives the length of the tail.
+// Reads, codes and writes the packet of this number. At the end it returns the length of the tail.
 fn code_next<'a, C: Coder, S: Station<'a>>(
     number: u64,
     coder: &mut C,
@@ -55,7 +55,7 @@ fn code_next<'a, C: Coder, S: Station<'a>>(
     }
 }
 
-// One more packet than the limit is refused.
+// One packet more than the limit is refused.
 fn end_at_limit<'a, S: Station<'a>>(limit: u64, station: &mut S) -> Result<Counts, Refusal>
     requires { (S.meaning station.old).hp.attached ≡ true }
     ensures others { KeepsOthers (S.meaning station.old) (S.meaning station.new) }
@@ -80,10 +80,10 @@ fn end_at_limit<'a, S: Station<'a>>(limit: u64, station: &mut S) -> Result<Count
     }
 }
 
-/// Codes the packets of HP and writes what they give to Bytes, up to the limit of packets.
+/// Codes the packets of HP and writes the output to Bytes, up to the limit of packets.
 ///
-/// It answers what was counted, or the first refusal: a packet without its sync byte, one more packet
-/// than the limit, a fault.
+/// It returns the counts, or the first refusal: a packet without its sync byte, one packet more than the limit, a
+/// fault.
 pub fn code_packets<'a, C: Coder, S: Station<'a>>(
     limits: &Limits,
     coder: &mut C,
@@ -117,7 +117,7 @@ pub fn code_packets<'a, C: Coder, S: Station<'a>>(
     end_at_limit(limits.packets, station)
 }
 
-/// Ends the coding and writes to Bytes what is left of it.
+/// Ends the coding and writes the rest of its output to Bytes.
 pub fn write_end<'a, C: Coder, S: Station<'a>>(
     coder: &mut C,
     station: &mut S,

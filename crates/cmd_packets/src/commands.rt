@@ -1,4 +1,4 @@
-// The commands, each over its part of the station, with the promise of the whole run.
+// The commands, each with the promise of the whole run.
 ghost use Rattle.station_core.specs.Meaning.{IsFresh};
 ghost use Rattle.cmd_base.specs.Run.{Run};
 ghost use Rattle.cmd_packets.specs.Commands.{disperse_command, outer_command, inner_command};
@@ -15,7 +15,7 @@ use cmd_base::{read_settings, refuse};
 use station_core::Station;
 use std::alloc::Global;
 
-/// Runs `disperse TS OUT` and gives its status.
+/// Runs `disperse TS OUT` and returns its status.
 pub fn disperse<'a, S: Station<'a>>(
     input: &'a str,
     output: &'a str,
@@ -28,7 +28,7 @@ pub fn disperse<'a, S: Station<'a>>(
     run_coding(input, output, limits, &mut Disperser::start(), station)
 }
 
-/// Runs `outer TS OUT` and gives its status. All its memory is taken before a port is asked.
+/// Runs `outer TS OUT` and returns its status. All its memory is allocated before a port is requested.
 pub fn outer<'a, S: Station<'a>>(
     alloc: Global,
     input: &'a str,
@@ -46,8 +46,8 @@ pub fn outer<'a, S: Station<'a>>(
     }
 }
 
-/// Runs `inner SETTINGS TS OUT` and gives its status. The settings are read and checked, and then all
-/// memory is taken, before another port is asked.
+/// Runs `inner SETTINGS TS OUT` and returns its status. The settings are read and checked, and then all memory is
+/// allocated, before another port is requested.
 pub fn inner<'a, S: Station<'a>>(
     alloc: Global,
     settings: &'a str,

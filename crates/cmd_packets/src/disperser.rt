@@ -17,7 +17,7 @@ pub struct Disperser {
 }
 
 impl Disperser {
-    /// Stands before the first packet.
+    /// Before the first packet.
     pub fn start() -> Disperser
         ensures { result.dispersal ≡ 0 }
     {

@@ -15,10 +15,10 @@ use puncture::{
 };
 use std::marker::Model;
 
-/// The bytes that one packet gives: at most 408, those of its word at rate 1/2.
+/// The bytes for one packet: at most 408, those of its word at rate 1/2.
 pub type Piece = ArrayVec<u8, 408>;
 
-// Puts the first whole byte of the bits into the piece, if there is one. There must be room for it.
+// Moves the first whole byte of the bits into the piece, if there is one. There must be room for it.
 fn take_one(waiting: &mut BitWord, piece: &mut Piece)
     requires room { array_vec_len piece.old + 1 ≤ 408 }
     ensures gives { piece.new.items ++ bytes_of waiting.new ≡ piece.old.items ++ bytes_of waiting.old }
@@ -32,7 +32,7 @@ fn take_one(waiting: &mut BitWord, piece: &mut Piece)
     }
 }
 
-// Puts seven zeros behind the bits.
+// Appends seven zeros to the bits.
 fn push_zeros(waiting: &mut BitWord)
     requires room { length waiting.old ≤ 7 }
     ensures zeros { waiting.new ≡ waiting.old ++ replicate 7 false }
@@ -41,9 +41,9 @@ fn push_zeros(waiting: &mut BitWord)
     waiting.push_bits(0, 7);
 }
 
-/// The inner coder of a stream of bytes (EN 300 744, 4.3.3): it gives the whole bytes of the sent bits.
+/// The inner coder of a stream of bytes (EN 300 744, 4.3.3): its output is the whole bytes of the sent bits.
 ///
-/// It is seen as its encoder and puncturer and the bits that wait for a byte, fewer than eight.
+/// Contracts see its encoder and puncturer, and the bits pending for a byte, fewer than eight.
 #[derive(Drop)]
 pub struct InnerBytes {
     coder: PuncturedEncoder,
@@ -72,8 +72,8 @@ impl InnerBytes {
         }
     }
 
-    /// Codes a byte more, and puts the whole bytes that this gives, two at most, into the piece. There
-    /// must be room for two.
+    /// Codes one more byte, and appends the resulting whole bytes, at most two, to the piece. There must be room for
+    /// two.
     pub fn push(&mut self, byte: u8, piece: &mut Piece)
         requires room { array_vec_len piece.old + 2 ≤ 408 }
         ensures few { array_vec_len piece.new ≤ array_vec_len piece.old + 2 }
@@ -90,8 +90,8 @@ impl InnerBytes {
         take_one(&mut self.waiting, piece);
     }
 
-    /// Ends the stream: puts the last byte, filled with zeros, into the piece where bits wait for it. There
-    /// must be room for it.
+    /// Ends the stream: appends the last byte, filled with zeros, to the piece if bits are pending for it. There must
+    /// be room for it.
     pub fn finish(&mut self, piece: &mut Piece)
         requires room { array_vec_len piece.old + 1 ≤ 408 }
         ensures gives { (r : AnyRate) (bytes before : List ℕ) → IsAfter self.old r bytes

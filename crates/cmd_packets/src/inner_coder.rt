@@ -12,7 +12,7 @@ use mode_set::Rate;
 use outer_chain::OuterTx;
 use ts_packet::Packet;
 
-// Codes the bytes of a word, and puts what they give into the piece in place of what was there.
+// Codes the bytes of a word, and replaces the content of the piece by the output.
 fn code_word(inner: &mut InnerBytes, word: &[u8; 204], piece: &mut Piece)
     ensures after { (r : AnyRate) (bytes : List ℕ) → IsAfter inner.old r bytes → IsAfter inner.new r (bytes ++ word.now) }
     ensures gives { (r : AnyRate) (bytes : List ℕ) → IsAfter inner.old r bytes → inner_bytes r (bytes ++ word.now) ≡ inner_bytes r bytes ++ piece.new.items }
@@ -23,18 +23,18 @@ fn code_word(inner: &mut InnerBytes, word: &[u8; 204], piece: &mut Piece)
     }
 }
 
-/// Codes packets by the outer code, interleaves what they give, and codes that by the inner code.
+/// Codes packets with the outer code, interleaves the result, and codes that with the inner code.
 #[derive(Drop)]
 pub struct InnerCoder {
     outer: OuterTx,
     inner: InnerBytes,
     rate: Rate,
-    // what the last call has given
+    // the output of the last call
     piece: Piece,
 }
 
 impl InnerCoder {
-    /// Stands before the first packet.
+    /// Before the first packet.
     pub fn new(outer: OuterTx, rate: Rate) -> InnerCoder
         ensures outer { result.outer ≡ outer }
         ensures inner { IsAfter result.inner rate [] }

@@ -1,9 +1,7 @@
-//! The commands that code the packets of a transport file, one after another: [`disperse`],
-//! [`outer`] and [`inner`].
+//! The commands that code the packets of a transport file, in order: [`disperse`], [`outer`] and [`inner`].
 //!
-//! `specs/Commands.antt` says what each command is: its files, and what its output and its report come to.
-//! A command is a [`Coder`] of packets and one run of it over the station. Each call has one clause, the
-//! promise of a run of its command.
+//! `specs/Commands.antt` defines each command: its files, its output and its report. A command is a [`Coder`] of
+//! packets and one run of it over the station. Each call has one clause, the promise of a run of its command.
 #![tactic(auto)]
 
 mod coder;

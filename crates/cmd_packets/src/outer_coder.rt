@@ -7,18 +7,18 @@ use crate::coder::Coder;
 use outer_chain::OuterTx;
 use ts_packet::Packet;
 
-/// Codes packets by the outer code, and interleaves what they give.
+/// Codes packets with the outer code, and interleaves the result.
 #[derive(Drop)]
 pub struct OuterCoder {
     tx: OuterTx,
-    // what the packet taken last has given
+    // the output for the packet taken last
     word: [u8; 204],
     // the stream has ended
     done: bool,
 }
 
 impl OuterCoder {
-    /// Stands before the first packet.
+    /// Before the first packet.
     pub fn new(tx: OuterTx) -> OuterCoder
         ensures { result.tx ≡ tx }
     {

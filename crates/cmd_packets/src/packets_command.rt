@@ -11,7 +11,7 @@ use cmd_base::{Counts, Limits, Refusal};
 use cmd_base::refuse;
 use station_core::Station;
 
-// From the opening of the ports to their closing.
+// From opening the ports to closing them.
 fn code_all<'a, C: Coder, S: Station<'a>>(
     input: &'a str,
     output: &'a str,
@@ -36,7 +36,7 @@ fn code_all<'a, C: Coder, S: Station<'a>>(
     }
 }
 
-/// Runs a command that codes the packets of HP by this coder, and gives its status.
+/// Runs a command that codes the packets of HP with this coder, and returns its status.
 pub fn run_coding<'a, C: Coder, S: Station<'a>>(
     input: &'a str,
     output: &'a str,

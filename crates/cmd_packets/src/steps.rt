@@ -1,4 +1,4 @@
-// The steps of a run: the ports are opened, and closed behind the work.
+// The steps of a run: the ports are opened, and closed after the work.
 ghost use Rattle.std.specs.Prelude.{◌≡◌, ◌⊎◌, ◌++◌, true, false, None, OnErr};
 ghost use Rattle.cmd_base.specs.Causes.{HasCause, HasEndCause};
 ghost use Rattle.station_core.specs.Causes.{Rose};
@@ -9,7 +9,7 @@ use cmd_base::{Counts, Refusal, closing_line_of};
 use cmd_base::settle;
 use station_core::{InPort, OutPort, Station};
 
-/// Opens HP to be read, and then makes the output.
+/// Opens HP for reading, and then creates the output.
 pub fn open<'a, S: Station<'a>>(
     input: &'a str,
     output: &'a str,
@@ -29,7 +29,7 @@ pub fn open<'a, S: Station<'a>>(
     }
 }
 
-/// Writes the closing line and then closes the output, also if the line was not written.
+/// Writes the closing line and then closes the output, even if the line was not written.
 pub fn finish<'a, S: Station<'a>>(counts: Counts, station: &mut S) -> Result<Counts, Refusal>
     requires report { (S.meaning station.old).report.created ≡ true }
     requires report_open { (S.meaning station.old).report.closed ≡ false }
@@ -53,7 +53,7 @@ pub fn finish<'a, S: Station<'a>>(counts: Counts, station: &mut S) -> Result<Cou
     }
 }
 
-// Closes the output. What that answers changes neither status nor text.
+// Closes the output. The result changes neither status nor text.
 fn close_output<'a, S: Station<'a>>(station: &mut S)
     requires bytes { (S.meaning station.old).bytes_out.created ≡ true }
     requires bytes_open { (S.meaning station.old).bytes_out.closed ≡ false }
@@ -62,7 +62,7 @@ fn close_output<'a, S: Station<'a>>(station: &mut S)
     let _ = station.close(OutPort::Bytes);
 }
 
-/// Flushes the output after a refusal, and closes it. A flush that fails makes it a write fault.
+/// Flushes the output after a refusal, and closes it. A failed flush makes it a write fault.
 pub fn close_refused<'a, S: Station<'a>>(refusal: Refusal, station: &mut S) -> Refusal
     requires bytes { (S.meaning station.old).bytes_out.created ≡ true }
     requires bytes_open { (S.meaning station.old).bytes_out.closed ≡ false }

@@ -1,4 +1,4 @@
--- Where settings differ in the number of workers alone, every kind of reception comes to the same.
+-- For settings that differ only in the number of workers, every kind of reception has the same output.
 use Rattle.std.proofs.Common.{◌≡◌, inl, inr, ℕ, ◌*◌, ◌/◌, ◌<◌, ◌≤◌, List, ◌++◌, length, take, Some, ◌∙◌, sym, ap, ap₂, subst}
 use Rattle.station_core.specs.declared.ports.OutPort.{OutPort}
 use Rattle.mode_set.specs.StreamTable.{carriers}
@@ -10,7 +10,7 @@ use Rattle.cmd_receive.specs.Kinds.{Kind, lines_of}
 use Rattle.cmd_receive.specs.Received.{cells_in, IsAll, IsCutOff, IsSoFar, within_limit}
 use Rattle.cmd_receive.proofs.OfKinds.{LinesCome, LinesSoFar, OutputComes, OutputSoFar}
 
--- what is received so far and in the end is the same, and so are the lines
+-- the output so far and at the end is the same, and so are the lines
 pub record SameOf (k : Kind) : Type 0 where
   pub live : (s t : Settings) (bytes : List ℕ) (r : k.Received) → DifferInWorkers s t → k.Live s bytes r → k.Live t bytes r
   pub final : (s t : Settings) (bytes : List ℕ) (r : k.Received) → DifferInWorkers s t → k.Final s bytes r → k.Final t bytes r

@@ -1,4 +1,4 @@
--- What first bytes of the cells give begins what all of them give.
+-- The output of a prefix of the cells is a prefix of the output.
 use Rattle.std.proofs.Common.{◌≡◌, ℕ, ◌+◌, ◌-◌, ◌*◌, ◌<◌, ◌≤◌, List, [], ◌++◌, ◌⊎◌, inl, inr, length, take, drop, refl, ◌∙◌, sym, ap, subst, arith, append_assoc, take-append-drop, length-take-le}
 use Rattle.std.specs.Prelude.{flat_map}
 use Rattle.std.proofs.lemmas.Bool.{cases_lt}
@@ -17,7 +17,7 @@ use Rattle.cmd_receive.specs.Received.{IsAll, IsCutOff, within_limit}
 use Rattle.cmd_receive.proofs.OfKinds.{IsReceived, KindLaws, LinesCome}
 use Rattle.cmd_receive.proofs.Parts.{no_tail, some_bytes, symbols_are}
 
--- Some first bytes of the cells give this: as if more might follow or, where they are all, in the end.
+-- This is the output for a prefix of the cells: as if more might follow or, if the prefix is all of them, at the end.
 pub record ReceivedUpTo (k : Kind) (s : TheSettings) (bytes : List ℕ) (r : k.Received) : Type 0 where
   pub taken : List ℕ
   pub rest : List ℕ
@@ -30,7 +30,7 @@ abbrev pub lines_up_to : (k : Kind) (s : TheSettings) (taken rest : List ℕ) (r
 lines_up_to k s taken rest r (inl live) = lines_of k s taken r
 lines_up_to k s taken rest r (inr final) = lines_of k s taken r ++ k.closing s taken r
 
--- the cells come to packets and lines that begin with these
+-- the cells give packets and lines that begin with these
 pub record Continues (k : Kind) (s : TheSettings) (file : List ℕ) (given : k.Received) (lines : List ℕ) : Type 0 where
   pub all : k.Received
   pub received : IsReceived k s file all
@@ -59,7 +59,7 @@ module _ {k : Kind} (laws : KindLaws k) (s : TheSettings) where
       let few : tail s taken < size = mod-lt (length taken) (some_bytes s) in
       omega (arith, none, laws.unfinished s taken, few)
 
-  -- past the limit the first bytes of the symbols within it give what begins what they all give
+  -- past the limit, the output of a prefix within it is a prefix of the output for all symbols within it
   past_by : (taken rest : List ℕ) (given : k.Received) → symbols s taken ≤ s.max_symbols → k.Live s taken given → s.max_symbols < symbols s (taken ++ rest) → Continues k s (taken ++ rest) given (lines_of k s taken given)
   past_by taken rest given few live past =
       let file : List ℕ = taken ++ rest in
@@ -87,7 +87,7 @@ module _ {k : Kind} (laws : KindLaws k) (s : TheSettings) where
         lines_are = (b.lines.0, ap (λ (l : List ℕ). lines_of k s l r.0) within ∙ b.lines.1 ∙ ap (λ (l : List ℕ). l ++ b.lines.0) lines);
       }
 
-  -- within the limit they begin what all cells give in the end
+  -- within the limit, it is a prefix of the final output for all cells
   within_by : (taken rest : List ℕ) (given : k.Received) → k.Live s taken given → symbols s (taken ++ rest) ≤ s.max_symbols → Continues k s (taken ++ rest) given (lines_of k s taken given)
   within_by taken rest given live within =
       let file : List ℕ = taken ++ rest in
@@ -104,7 +104,7 @@ module _ {k : Kind} (laws : KindLaws k) (s : TheSettings) where
         lines_are = (b.lines.0 ++ closing, ap (λ (l : List ℕ). l ++ closing) b.lines.1 ∙ append_assoc (lines_of k s taken given) b.lines.0 closing);
       }
 
-  -- all bytes give just this
+  -- the output for all bytes is exactly this
   whole_by : (taken : List ℕ) (given : k.Received) → symbols s taken ≤ s.max_symbols → k.Final s taken given → Continues k s taken given (lines_of k s taken given ++ k.closing s taken given)
   whole_by taken given few final =
       let all : IsAll k.Final s taken given = record { within = few; final = final } in

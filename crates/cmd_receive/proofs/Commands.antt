@@ -1,4 +1,4 @@
--- The command of a kind is a command on cells: what it comes to is what its work gives.
+-- The command of a kind is a command on cells: its output is that of its work.
 use Rattle.std.proofs.Common.{◌≡◌, inl, inr, true, false, ℕ, zero, suc, ◌≤◌, Bool, List, [], ◌∷◌, ◌++◌, take, drop, Option, Some, None, refl, ◌∙◌, sym, ap, subst, arith, append_assoc, if◌then◌else◌}
 use Rattle.std.proofs.lemmas.List.{drop_all, length-take, take-append-drop}
 use Rattle.std.specs.Prelude.{is_some, flat_map, option_and_then}
@@ -33,7 +33,7 @@ use Rattle.cmd_receive.proofs.Parts.{some_bytes}
 use Rattle.cmd_receive.proofs.Begun.{ReceivedUpTo, begun, lines_up_to}
 use Rattle.cmd_receive.proofs.Begun as begun
 
--- no bytes of the cells give nothing, which has no lines
+-- no bytes of the cells give no output, which has no lines
 pub symbols_none : (s : TheSettings) → symbols s [] ≡ 0
 symbols_none s = div-eq_of_lt {n = 0} {m = symbol_length s} (some_bytes s)
 
@@ -41,7 +41,7 @@ pub lines_none : NoEvents → (s : TheSettings) (reports : Stream → List ℕ) 
 lines_none no_events s reports =
     ap (λ (n : ℕ). flat_map event_line (events s n reports)) (symbols_none s) ∙ ap (λ (es : List Event). flat_map event_line es) (no_events s reports)
 
--- and nothing is written of them
+-- and nothing is written for them
 pub nothing_written : NoEvents → (packets reports : Stream → List ℕ) → ((σ : Stream) → packets σ ≡ []) → (s : TheSettings) (two : Bool) (port : OutPort)
     → written_at two packets (flat_map event_line (events s (symbols s []) reports)) port ≡ []
 nothing_written no_events packets reports none s two outs.Cells = refl
@@ -51,7 +51,7 @@ nothing_written no_events packets reports none s false outs.Lp = refl
 nothing_written no_events packets reports none s two outs.Bytes = refl
 nothing_written no_events packets reports none s two outs.Report = lines_none no_events s reports
 
--- within the header no byte is behind it
+-- within the header no byte follows it
 none_behind : (file : List ℕ) (k : ℕ) → k ≤ 8 → cells_in (take k file) ≡ []
 none_behind file k few = drop_all 8 (take k file) (let some = length-take k file in omega (arith, some, few))
 
@@ -63,13 +63,13 @@ none_taken {k} laws s file left n few is = record {
   live = subst (λ (l : List ℕ). k.Live s l laws.none) (sym (none_behind file n few)) (laws.none_live s);
 }
 
--- so where no more than the header is taken of the cells the report has no lines
+-- so if nothing past the header is taken of the cells, the report has no lines
 pub no_lines : {k : Kind} → KindLaws k → (stated : Option TheSettings) (file left : List ℕ) (n : ℕ) → n ≤ 8 → left ≡ drop n file → LinesSoFar k stated file left []
 no_lines laws None file left n few is = refl
 no_lines {k} laws (Some s) file left n few is =
     (laws.none, none_taken laws s file left n few is, sym (ap (λ (l : List ℕ). lines_of k s l laws.none) (none_behind file n few) ∙ lines_none laws.no_events s (k.reports laws.none)))
 
--- the header, and what was taken behind it
+-- the header, and the bytes taken after it
 pub behind : (n : ℕ) (file taken left : List ℕ) → drop n file ≡ taken ++ left → drop n (take n file ++ taken) ≡ taken
 behind zero file taken left e = refl
 behind (suc n) [] [] left e = refl
@@ -86,7 +86,7 @@ module _ {k : Kind} (laws : KindLaws k) (Own : Option TheSettings → List ℕ �
   abbrev bytes : List ℕ
   bytes = cells_in (file cells)
 
-  -- what is written at an output are the packets of its stream
+  -- the bytes written at an output are the packets of its stream
   at_output : (r : Stream → List ℕ) (lines : List ℕ) (port : OutPort) → IsOutput c port → written_at two r lines port ≡ packets_at port r
   at_output r lines outs.Cells is = absurd (true≢false (sym is))
   at_output r lines outs.Hp is = refl
@@ -188,7 +188,7 @@ command_of {k} laws Own own limit name cells hp lp s start stated = record {
   own = λ file. own (settings_of (file name)) (file cells);
 }
 
--- the work writes where the files of the streams are made
+-- the work writes where the files of the streams are created
 pub outputs_are : (hp : List ℕ) (lp : Option (List ℕ)) (both : Bool) → both ≡ is_some lp → (port : OutPort) → writes_at both port ≡ is_some (stream_names hp lp port)
 outputs_are hp lp both same outs.Cells = refl
 outputs_are hp lp both same outs.Hp = refl

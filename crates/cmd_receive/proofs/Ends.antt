@@ -1,4 +1,4 @@
--- What the receiver gave is written by the work: with each piece, and behind the last with the closing lines.
+-- The work writes the output of the receiver: with each piece, and after the last one the closing lines.
 use Rattle.std.proofs.Common.{◌≡◌, ℕ, Bool, true, false, List, [], ◌++◌, take, refl, ◌∙◌, sym, ap, subst, arith, Result, Ok, Err, if◌then◌else◌}
 use Rattle.std.specs.Prelude.{flat_map}
 use Rattle.std.proofs.lemmas.List.{append-nil, take_all}
@@ -23,7 +23,7 @@ use Rattle.cmd_cells.proofs.Fronts.{all_of, none_of}
 use Rattle.cmd_receive.specs.Writing.{Appends, IsPartlyWritten, IsWritten, ReportOnly, WritesOnly, WritesOut, event_text, lp_bytes}
 use Rattle.cmd_receive.specs.Kinds.{Kind, TakesAs, final_of, lines_of, live_of, work_of, written_at}
 
--- what is written of an output, with lines at Report
+-- the bytes written for an output, with lines at Report
 abbrev given_at : Bool → Output → List ℕ → Written
 given_at two out lines outs.Cells = []
 given_at two out lines outs.Hp = out.hp
@@ -31,7 +31,7 @@ given_at two out lines outs.Lp = lp_bytes two out.lp
 given_at two out lines outs.Bytes = []
 given_at two out lines outs.Report = lines
 
--- it follows what was written of the reception before
+-- they follow those written for the reception before
 follows_by : (two : Bool) (before : Written) (r after : Stream → List ℕ) (out : Output) (lines more all : List ℕ) → ((port : OutPort) → before port ≡ written_at two r lines port)
     → ((σ : Stream) → after σ ≡ r σ ++ packets_of out σ) → all ≡ lines ++ more → Follows before (given_at two out more) (written_at two after all)
 follows_by two before r after out lines more all is packets report port = go port ∙ ap (λ (l : List ℕ). l ++ given_at two out more port) (sym (is port))
@@ -47,7 +47,7 @@ follows_by two before r after out lines more all is packets report port = go por
     go outs.Bytes = refl
     go outs.Report = report
 
--- what was written, or fronts of it, at each port
+-- the bytes written, or prefixes of them, at each port
 module _ (two : Bool) (out : Output) (m m' : Meaning) (only : WritesOnly m m') where
   holds_by : IsWritten two out m m' → Holds m m' (given_at two out (event_text out.events))
   holds_by w outs.Cells = ap (λ (x : Meaning). x.cells_out.written) only ∙ sym (append-nil m.cells_out.written)
@@ -63,7 +63,7 @@ module _ (two : Bool) (out : Output) (m m' : Meaning) (only : WritesOnly m m') w
   fronts_by w outs.Bytes = none_of m.bytes_out.written [] m'.bytes_out.written (ap (λ (x : Meaning). x.bytes_out.written) only)
   fronts_by w outs.Report = w.report
 
--- no front of nothing is more
+-- every prefix of the empty list is empty
 take_none : (k : ℕ) → take {A = ℕ} k [] ≡ []
 take_none k = take_all k [] (omega arith)
 
@@ -71,7 +71,7 @@ take_none k = take_all k [] (omega arith)
 stopped_by : (P : Result (Unit {0}) Stop → Type 0) (stop : Stop) → stop ≡ WriteFault → P (Err WriteFault) → P (Err stop)
 stopped_by P stop is p = subst (λ (x : Stop). P (Err x)) (sym is) p
 
--- the lines of events, and those of more events
+-- the lines of events, followed by those of more events
 more_lines : (a b c : List Event) → c ≡ a ++ b → flat_map event_line c ≡ flat_map event_line a ++ flat_map event_line b
 more_lines a b c e = ap (flat_map event_line) e ∙ flat_map-append event_line a b
 
@@ -82,7 +82,7 @@ module _ (k : Kind) (s : Settings) (two : Bool) (standing' : List ℕ → Writte
   follows_live = follows_by two given (k.packets r) (k.packets takes.after) out (lines_of k s bytes r) (event_text out.events) (lines_of k s (bytes ++ piece) takes.after) is takes.packets
       (more_lines (events s (symbols s bytes) (k.reports r)) out.events (events s (symbols s (bytes ++ piece)) (k.reports takes.after)) takes.events_are)
 
-  -- the packets and the lines of a piece were written, or fronts of them
+  -- the packets and the lines of a piece were written, or prefixes of them
   pub took_piece : (result : Result (Unit {0}) Stop) → (m.tells ≡ true → WritesOut two out m m' result) → IsWriting result → TakesPiece (work_of k s two) standing' bytes piece given m m' result
   took_piece (Ok u) written kind = record {
     after = live_of k s two (bytes ++ piece) takes.after;
@@ -102,7 +102,7 @@ module _ (k : Kind) (s : Settings) (two : Bool) (standing' : List ℕ → Writte
 module _ (k : Kind) (s : Settings) (two : Bool) (bytes : List ℕ) (r : k.Received) (given : Written) (is : (port : OutPort) → given port ≡ live_of k s two bytes r port)
     (out : Output) (after : k.Received) (reports : (σ : Stream) → k.reports after σ ≡ k.reports r σ) (final : k.Final s bytes after) (packets : (σ : Stream) → k.packets after σ ≡ k.packets r σ ++ packets_of out σ) (none : out.events ≡ [])
     (m m' : Meaning) (only : WritesOnly m m') where
-  -- the events are those before
+  -- the events are those from before
   lines_are : lines_of k s bytes after ≡ lines_of k s bytes r
   lines_are = ap (λ (f : Stream → List ℕ). flat_map event_line (events s (symbols s bytes) f)) (λ i σ. reports σ i)
 

@@ -1,4 +1,4 @@
--- The lines of events, put together to one text.
+-- The lines of events, joined to one text.
 use Rattle.std.proofs.Common.{◌≡◌, ℕ, ◌+◌, ◌<◌, ◌≤◌, true, List, [], ◌∷◌, ◌++◌, inl, inr, length, get_or, take, drop, ◌∙◌, sym, ap, append_assoc, Result, Ok, Err}
 use Rattle.std.specs.Prelude.{◌⊎◌}
 use Rattle.std.proofs.lemmas.List.{append-nil, take_all, take_more, take-append-drop}
@@ -14,14 +14,14 @@ use Rattle.cmd_receive.specs.Writing.{Appends, event_text}
 use Rattle.cmd_cells.proofs.Fronts.{front_of}
 use Rattle.cmd_receive.proofs.Keeping.{report_appends}
 
--- one event more
+-- one more event
 pub event_more : (events : List Event) (i : ℕ) (d : Event) (line : List ℕ) → i < length events → line ≡ event_line (get_or events i d)
     → event_text (take (i + 1) events) ≡ event_text (take i events) ++ line
 event_more events i d line l e =
     ap event_text (take_more events i d l) ∙ flat_map-append event_line (take i events) (get_or events i d ∷ [])
     ∙ ap (λ (z : List ℕ). event_text (take i events) ++ z) (append-nil (event_line (get_or events i d)) ∙ sym e)
 
--- the text was written as far as `done`, the rest of it waits
+-- the text was written up to `done`, the rest of it is pending
 abbrev pub Waits : List ℕ → List ℕ → List ℕ → List ℕ → Type 0
 Waits before now waiting text = (done : List ℕ) × (now ≡ before ++ done) × (done ++ waiting ≡ text)
 
@@ -38,7 +38,7 @@ waits_more line waiting waiting' before now now' text text' w (inr p) e = (
   ap (λ (z : List ℕ). (w.0 ++ waiting) ++ z) p.1 ∙ ap (λ (z : List ℕ). z ++ line) w.2 ∙ sym e,
 )
 
--- a front of what waited was written
+-- a prefix of the pending text was written
 pub waits_front : (waiting before now after text all rest : List ℕ) (k : ℕ) → Waits before now waiting text → all ≡ text ++ rest → after ≡ now ++ take k waiting → (j : ℕ) × (after ≡ before ++ take j all)
 waits_front waiting before now after text all rest k w e p =
     let f = front_of text rest (length w.0 + k) in (
@@ -48,11 +48,11 @@ waits_front waiting before now after text all rest k w e p =
           sym (take-append-add w.0 waiting k) ∙ ap (λ (z : List ℕ). take (length w.0 + k) z) w.2 ∙ f.1 ∙ ap (λ (z : List ℕ). take f.0 z) (sym e)),
     )
 
--- the events before one are a front of all
+-- the events before one are a prefix of all
 pub events_split : (events : List Event) (i : ℕ) → event_text events ≡ event_text (take i events) ++ event_text (drop i events)
 events_split events i = ap event_text (sym (take-append-drop i events)) ∙ flat_map-append event_line (take i events) (drop i events)
 
--- what waited of all was written, or a front of it
+-- the pending part of all was written, or a prefix of it
 pub events_written : (events : List Event) (i : ℕ) (waiting before : List ℕ) (m m' : Meaning) (r : Result (Unit {0}) Stop) → length events ≤ i → m.tells ≡ true
     → Waits before m.report.written waiting (event_text (take i events)) → WritesAt outs.Report waiting m m' r → Appends (event_text events) before m'.report.written r
 events_written events i waiting before m m' (Ok u) le t w v =

@@ -1,4 +1,4 @@
--- The lines of a report one after another, and a front of them.
+-- The lines of a report in order, and a prefix of them.
 use Rattle.std.proofs.Common.{◌≡◌, ℕ, zero, suc, ◌+◌, List, [], ◌∷◌, ◌++◌, length, take, Some, ◌∙◌, sym, ap, append_assoc}
 use Rattle.std.specs.Prelude.{slice_get}
 use Rattle.std.specs.List.{concat}
@@ -19,7 +19,7 @@ line_splits (y ∷ ys) (suc n) x e =
     let s = line_splits ys n x e in
     (s.0, ap (λ (l : List ℕ). y ++ l) s.1 ∙ sym (append_assoc y (concat (take n ys)) (x ++ s.0)))
 
--- the lines before one, and a front of that line, are a front of all
+-- the lines before one, and a prefix of that line, are a prefix of all
 pub line_front : (lines : List (List ℕ)) (n : ℕ) (x before after : List ℕ) (k : ℕ) → slice_get lines n ≡ Some x → after ≡ (before ++ concat (take n lines)) ++ take k x
     → (j : ℕ) × (after ≡ before ++ take j (concat lines))
 line_front lines n x before after k e p =

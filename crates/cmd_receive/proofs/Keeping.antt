@@ -1,4 +1,4 @@
--- How the meaning of a station goes on from call to call of a reception.
+-- How the meaning of a station changes from call to call of a reception.
 use Rattle.std.proofs.Common.{◌≡◌, true, false, Bool, ℕ, List, ◌++◌, if◌then◌else◌, take, refl, ◌∙◌, sym, ap, subst, append_assoc, Result, Ok, Err}
 use Rattle.station_core.specs.Meaning.{Meaning}
 use Rattle.station_core.specs.declared.ports.OutPort.TheVariants as outs
@@ -6,7 +6,7 @@ use Rattle.cmd_cells.specs.declared.stop.Stop.{Stop}
 use Rattle.cmd_cells.specs.Writing.{WritesAt}
 use Rattle.cmd_receive.specs.Writing.{Appends, IsPrinting, ReportOnly, WritesLp, WritesOnly}
 
--- what is written where contents are told, or not
+-- the content, if contents are known or not
 abbrev pub told : Bool → List ℕ → List ℕ → List ℕ
 told tells before bytes = if tells then before ++ bytes else before
 
@@ -46,7 +46,7 @@ writes_again a b c p q =
 pub report_again : (a b c : Meaning) → ReportOnly a b → ReportOnly b c → ReportOnly a c
 report_again a b c p q = q ∙ ap (λ (x : Meaning). record x { report = record x.report { written = c.report.written }; write_faults = c.write_faults; report_faults = c.report_faults }) p
 
--- what Report, Hp and Lp hold after a write
+-- the content of Report, Hp and Lp after a write
 pub hp_appends : (bytes : List ℕ) (old new : Meaning) (r : Result (Unit {0}) Stop) → old.tells ≡ true → WritesAt outs.Hp bytes old new r → Appends bytes old.hp_out.written new.hp_out.written r
 hp_appends bytes old new (Ok u) t w = ap (λ (x : Meaning). x.hp_out.written) w ∙ ap (λ (b : Bool). told b old.hp_out.written bytes) t
 hp_appends bytes old new (Err r) t w = (w.0, w.1, ap (λ (x : Meaning). x.hp_out.written) w.2 ∙ ap (λ (b : Bool). told b old.hp_out.written (take w.1 bytes)) t)
@@ -59,7 +59,7 @@ pub report_appends : (bytes : List ℕ) (old new : Meaning) (r : Result (Unit {0
 report_appends bytes old new (Ok u) t w = ap (λ (x : Meaning). x.report.written) w ∙ ap (λ (b : Bool). told b old.report.written bytes) t
 report_appends bytes old new (Err r) t w = (w.0, w.1, ap (λ (x : Meaning). x.report.written) w.2 ∙ ap (λ (b : Bool). told b old.report.written (take w.1 bytes)) t)
 
--- what the others hold
+-- the content of the others
 pub hp_only : (bytes : List ℕ) (old new : Meaning) (r : Result (Unit {0}) Stop) → WritesAt outs.Hp bytes old new r → (new.lp_out.written ≡ old.lp_out.written) × (new.report.written ≡ old.report.written)
 hp_only bytes old new (Ok u) w = (ap (λ (x : Meaning). x.lp_out.written) w, ap (λ (x : Meaning). x.report.written) w)
 hp_only bytes old new (Err r) w = (ap (λ (x : Meaning). x.lp_out.written) w.2, ap (λ (x : Meaning). x.report.written) w.2)
@@ -77,7 +77,7 @@ at_report_only old new bytes (Err r) w = go (told old.tells old.report.written (
     go : (l : List ℕ) (n k : ℕ) → new ≡ record old { report = record old.report { written = l }; write_faults = n; report_faults = k } → ReportOnly old new
     go l n k p = subst (λ (x : Meaning). ReportOnly old x) (sym p) refl
 
--- Report holds this text more
+-- this text was appended to Report
 abbrev pub Printed : Meaning → Meaning → List ℕ → Type 0
 Printed m m' text = IsPrinting m' × ReportOnly m m' × (m'.write_faults ≡ m.write_faults) × (m'.report_faults ≡ m.report_faults) × (m.tells ≡ true → m'.report.written ≡ m.report.written ++ text)
 

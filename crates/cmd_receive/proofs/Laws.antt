@@ -1,4 +1,4 @@
--- The laws of what `receive` comes to.
+-- The laws of `receive`.
 use Rattle.std.proofs.Common.{ℕ, List, Option, subst}
 use Rattle.mode_set.specs.declared.settings.Settings.{Settings}
 use Rattle.reception.specs.Streams.{Final}

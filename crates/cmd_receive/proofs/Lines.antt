@@ -1,4 +1,4 @@
--- What the receiver gave is written, port after port.
+-- The output of the receiver is written, port after port.
 use Rattle.std.proofs.Common.{◌≡◌, true, false, Bool, ℕ, List, ◌++◌, take, ◌∙◌, sym, ap, Result, Ok, Err}
 use Rattle.std.proofs.lemmas.List.{append-nil}
 use Rattle.station_core.specs.Meaning.{Meaning}
@@ -11,7 +11,7 @@ use Rattle.cmd_receive.specs.Writing.{Appends, ReportOnly, WritesLp, WritesOut, 
 use Rattle.cmd_cells.proofs.Fronts.{all_of, none_of}
 use Rattle.cmd_receive.proofs.Keeping.{hp_appends, lp_appends, hp_only, lp_only}
 
--- what Lp holds, where it is
+-- the content of Lp, if it exists
 lp_whole : (two : Bool) (bytes : List ℕ) (old new : Meaning) → old.tells ≡ true → WritesLp two bytes old new (Ok tt) → new.lp_out.written ≡ old.lp_out.written ++ lp_bytes two bytes
 lp_whole true bytes old new t w = lp_appends bytes old new (Ok tt) t w
 lp_whole false bytes old new t w = ap (λ (x : Meaning). x.lp_out.written) w ∙ sym (append-nil old.lp_out.written)

@@ -1,4 +1,4 @@
--- What every kind of reception comes to, the command of each, and the laws from which its promise follows.
+-- The output of every kind of reception, the command of each, and the laws that its promise follows from.
 use Rattle.std.proofs.Common.{◌≡◌, ◌⊎◌, ℕ, List, [], ◌∷◌, ◌++◌, ◌+◌, Option, None, Some, false}
 use Rattle.std.specs.Prelude.{option_and_then}
 use Rattle.station_core.specs.declared.ports.InPort.TheVariants as ins
@@ -19,7 +19,7 @@ use Rattle.cmd_receive.specs.Received.{cells_in, IsAll, IsCutOff, IsSoFar, packe
 use Rattle.cmd_receive.specs.ReceiveCommand.{header_by, most_cells}
 
 module _ (k : Kind) where
-  -- ---- what it comes to
+  -- ---- its output
   abbrev pub IsReceived : Settings → List ℕ → k.Received → Type 0
   IsReceived s bytes r = IsAll k.Final s bytes r ⊎ IsCutOff k.Live s bytes r
 
@@ -60,34 +60,34 @@ module _ (k : Kind) where
 
   -- ---- its laws
 
-  -- what longer bytes give begins with what these give: the packets of each stream, and the lines of reports
+  -- the output of longer bytes begins with that of these: the packets of each stream, and the lines of reports
   pub record Begins (s : Settings) (bytes longer : List ℕ) (r q : k.Received) : Type 0 where
     pub packets : (σ : Stream) → (rest : List ℕ) × (k.packets q σ ≡ k.packets r σ ++ rest)
     pub lines : (rest : List ℕ) × (lines_of k s longer q ≡ lines_of k s bytes r ++ rest)
 
   pub record KindLaws : Type 0 where
-    -- bytes give something so far, and in the end
+    -- bytes have an output so far, and at the end
     pub some_live : (s : Settings) (bytes : List ℕ) → (r : k.Received) × k.Live s bytes r
     pub some_final : (s : Settings) (bytes : List ℕ) → (r : k.Received) × k.Final s bytes r
-    -- and one thing only
+    -- and only one
     pub one_live : (s : Settings) (bytes : List ℕ) (r q : k.Received) → k.Live s bytes r → k.Live s bytes q → r ≡ q
     pub one_final : (s : Settings) (bytes : List ℕ) (r q : k.Received) → k.Final s bytes r → k.Final s bytes q → r ≡ q
-    -- what they give so far begins what more give
+    -- the output so far is a prefix of that for more bytes
     pub live : (s : Settings) (bytes more : List ℕ) (r q : k.Received) → k.Live s bytes r → k.Live s (bytes ++ more) q → Begins s bytes (bytes ++ more) r q
     pub last : (s : Settings) (bytes more : List ℕ) (r q : k.Received) → k.Live s bytes r → k.Final s (bytes ++ more) q → Begins s bytes (bytes ++ more) r q
-    -- bytes that do not end a symbol give nothing
+    -- bytes that do not complete a symbol add no output
     pub whole : (s : Settings) (bytes more : List ℕ) (r : k.Received) → IsWithin s bytes more → k.Live s (bytes ++ more) r → k.Live s bytes r
     pub unfinished : TailIsUnfinished
-    -- no bytes give nothing
+    -- no bytes give no output
     pub none : k.Received
     pub none_live : (s : Settings) → k.Live s [] none
     pub no_events : NoEvents
 
--- receptions that are the same in all that is received are one
+-- receptions that are equal in everything received are one
 pub one_of : {r q : Reception} → AreSame r q → r ≡ q
 one_of a = λ i. record { packets = λ σ. a.packets σ i; reports = λ σ. a.reports σ i; tally = λ σ. a.tally σ i; read = a.read i; bad = a.bad i }
 
--- those of the plain kind
+-- the laws of the plain kind
 abbrev pub plain_laws : SomeLive → SomeFinal → OneLive → OneFinal → LiveBeginsLive → LiveBeginsFinal → WholeSymbolsGive → TailIsUnfinished → NothingLive → NoEvents → KindLaws plain
 plain_laws some_live some_final one_live one_final live last whole unfinished nothing_live no_events = record {
   some_live = some_live;

@@ -1,4 +1,4 @@
--- What every kind of reception comes to is one output.
+-- The output of every kind of reception is unique.
 use Rattle.std.proofs.Common.{◌≡◌, ◌⊎◌, inl, inr, ℕ, ◌<◌, ◌≤◌, List, ◌++◌, Some, refl, ◌∙◌, sym, ap, subst, arith}
 use Rattle.std.proofs.lemmas.Bool.{cases_lt}
 use Rattle.std.proofs.lemmas.List.{append_cancel_right}
@@ -14,7 +14,7 @@ module _ {k : Kind} (laws : KindLaws k) (s : Settings) (file : List ℕ) where
   abbrev bytes : List ℕ
   bytes = cells_in file
 
-  -- ---- all of it, or what is within the limit
+  -- ---- all of it, or the part within the limit
   received_once : (r q : k.Received) → IsReceived k s bytes r → IsReceived k s bytes q → q ≡ r
   received_once r q (inl a) (inl b) = laws.one_final s bytes q r b.final a.final
   received_once r q (inl a) (inr b) = absurd (omega (arith, a.within, b.past))
@@ -47,7 +47,7 @@ module _ {k : Kind} (laws : KindLaws k) (s : Settings) (file : List ℕ) where
   lines_once : ExactlyOne (LinesCome k s bytes)
   lines_once = let r = received (cases_lt s.max_symbols (symbols s bytes)) in let l = printed r.0 r.1 in (l.0, l.1, (λ other c. lines_same l.0 other l.1 c))
 
-  -- ---- so far as a failed read
+  -- ---- up to a failed read
   taken_same : (left : List ℕ) (r q : k.Received) (a : IsSoFar k.Live s file left r) (b : IsSoFar k.Live s file left q) → b.taken ≡ a.taken
   taken_same left r q a b = append_cancel_right b.taken a.taken left (sym b.are ∙ a.are)
 

@@ -1,4 +1,4 @@
--- Whole symbols, and bytes that end none.
+-- Whole symbols, and bytes that do not complete one.
 use Rattle.std.proofs.Common.{◌≡◌, ℕ, ◌+◌, ◌*◌, ◌/◌, ◌<◌, Bool, List, ◌++◌, length, ◌∙◌, sym, ap, subst, arith}
 use Rattle.std.specs.Prelude.{IsTrue, ◌↔◌}
 use Rattle.cmd_cells.proofs.Counting as counting
@@ -21,7 +21,7 @@ some_bytes s = go s.mode
     go M2k = omega arith
     go M8k = omega arith
 
--- n symbols are n symbols, with no byte behind them
+-- n symbols are n symbols, with no byte after them
 pub symbols_are : (s : Settings) (bytes : List ℕ) (n : ℕ) → length bytes ≡ n * symbol_length s → symbols s bytes ≡ n
 symbols_are s = counting.symbols_are (symbol_length s) (some_bytes s)
 
@@ -31,7 +31,7 @@ no_tail s = counting.no_tail (symbol_length s) (some_bytes s)
 before_frame_end : (n f m : ℕ) → f < n / 68 → m < 68 * f + 68 → m < n
 before_frame_end n f m l k = omega (arith, l, k)
 
--- bytes that end no symbol give nothing more
+-- bytes that do not complete a symbol add no output
 pub part_live : SameSymbols → SameCosts → TpsCellsStay → BitsOfCells → (s : Settings) (bytes more : List ℕ) (r : Reception) → IsWithin s bytes more → Live s bytes r → Live s (bytes ++ more) r
 part_live same costs_are tps bits s bytes more r within live = record {
   bits = live.bits;

@@ -1,4 +1,4 @@
--- A piece that goes no further than the symbol is taken whole.
+-- A piece that does not exceed the symbol is taken whole.
 use Rattle.std.proofs.Common.{◌≡◌, ℕ, ◌+◌, ◌≤◌, List, ◌++◌, length, take, subst, arith}
 use Rattle.std.proofs.lemmas.List.{take_all}
 use Rattle.mode_set.specs.declared.settings.Settings.{Settings}
@@ -30,7 +30,7 @@ pub took : (s : Settings) (bytes piece : List ℕ) (before : Reception) (n : ℕ
     → tail s bytes + length piece ≤ symbol_length s → Feeds standing s bytes piece before n out → Takes standing s bytes piece before out
 took s bytes piece before n out standing fits f = took_as plain s bytes piece before f.after n out standing fits f.count f.stands f.live f.follows.packets f.follows.events_are
 
--- what goes on standing stands beside it
+-- a fact that stays true along with the state
 pub kept_feeds : (Kept : Type 0) (standing : List ℕ → Reception → Type 0) (s : Settings) (bytes piece : List ℕ) (before : Reception) (n : ℕ) (out : Output)
     → Kept → Feeds standing s bytes piece before n out → Feeds (λ b r. standing b r × Kept) s bytes piece before n out
 kept_feeds Kept standing s bytes piece before n out k f = record { after = f.after; count = f.count; stands = (f.stands, k); live = f.live; follows = f.follows }

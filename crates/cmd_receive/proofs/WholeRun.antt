@@ -36,7 +36,7 @@ module _ {k : Kind} (laws : KindLaws k) (Own : Option TheSettings → List ℕ �
   abbrev c : Command
   c = command k Own name cells hp lp
 
-  -- ---- refused before another port is asked
+  -- ---- refused before another port is requested
   nothing : (u : Unread) → ((port : InPort) → port ≢ ins.Settings → u port ≡ input_file start.file c port) → c.PrintsSoFar limit start.file u []
   nothing u whole = no_lines laws (settings_of (start.file name)) (start.file cells) (u ins.Cells) 0 (omega arith) (whole ins.Cells (λ is. cc))
 
@@ -78,7 +78,7 @@ module _ {k : Kind} (laws : KindLaws k) (Own : Option TheSettings → List ℕ �
         is_stated : start.tells ≡ true → settings_of (start.file name) ≡ Some s
         is_stated t = stated s (start.file name) (accepts.0.3 t).1.2
 
-    -- the run has ended with its outcome, and then a text was written or not
+    -- the run ended with its outcome, and then a text was written or not
     finished : (old : Meaning) → old ≡ record start { settings = mid.settings } → (status : ℕ) → RunsReceiving (work_of k) s cells hp lp old new status → Run c limit start new status
     finished old same status runs =
         run_of c limit name cells (Some (header s.mode)) (stream_names hp lp) (work_of k s (is_some lp)) s.max_symbols start new mid.settings status fresh settings

@@ -1,4 +1,4 @@
--- There are four closing lines at most.
+-- There are at most four closing lines.
 use Rattle.std.specs.Prelude.{◌≡◌, ◌∷◌, take, Option, None, Some, refl}
 use Rattle.mode_set.specs.declared.modes.Stream.TheVariants.{Hp}
 use Rattle.rx_report.specs.Text.{closing_lines, lp_lines, stream_line, symbols_line, tps_line}

@@ -1,5 +1,4 @@
--- The command `receive`: the files that it reads and writes, and what it comes to, from its settings and the
--- file of cells alone.
+-- The command `receive`: its files and its outputs, from its settings and the file of cells alone.
 use Rattle.std.specs.Prelude.{◌≡◌, ℕ, ◌+◌, ◌*◌, List, [], ◌∷◌, Option, None, Some, option_and_then, false}
 use Rattle.std.specs.Option.{option_map}
 use Rattle.station_core.specs.declared.ports.InPort.TheVariants as ins
@@ -14,11 +13,11 @@ use Rattle.cmd_base.specs.StreamForm.{fitting_refusal}
 use Rattle.cmd_receive.specs.OwnLaws.{ReceiveLaws}
 use Rattle.cmd_receive.specs.Received.{cells_in, LinesCome, LinesSoFar, OutputComes, OutputSoFar, reception_refusal}
 
--- the header with which the cells must begin is that of the settings' mode
+-- the header required of the cells is that of the settings' mode
 abbrev pub header_by : Option Settings → Option (List ℕ)
 header_by stated = option_map (λ s. header s.mode) stated
 
--- of the cells no more is taken than the header, the limit and one symbol
+-- at most the header, the limit and one symbol are taken from the cells
 abbrev pub most_cells : Option Settings → ℕ
 most_cells None = 0
 most_cells (Some s) = 8 + (s.max_symbols + 1) * symbol_length s

@@ -1,4 +1,4 @@
--- A run of a command that receives cells, behind its settings: by its work of settings and of whether there are two streams.
+-- A run of a command that receives cells, after its settings, for given work and one or two streams.
 use Rattle.std.specs.Prelude.{◌≡◌, ◌⊎◌, ℕ, Bool, List, Option, Some, is_some}
 use Rattle.station_core.specs.Meaning.{Meaning}
 use Rattle.mode_set.specs.declared.settings.Settings.{Settings}
@@ -14,6 +14,6 @@ use Rattle.cmd_cells.specs.Work.{Work}
 abbrev pub RunsReceiving : (Settings → Bool → Work) → Settings → List ℕ → List ℕ → Option (List ℕ) → Meaning → Meaning → ℕ → Type 0
 RunsReceiving work s cells hp lp old new status = RunsCells (work s (is_some lp)) s.max_symbols cells (Some (header s.mode)) (stream_names hp lp) old new status
 
--- or memory was wanting before another port was asked
+-- or memory was lacking before another port was requested
 abbrev pub RunsOrLacks : (Settings → Bool → Work) → Settings → List ℕ → List ℕ → Option (List ℕ) → Meaning → Meaning → ℕ → Type 0
 RunsOrLacks work s cells hp lp old new status = RunsReceiving work s cells hp lp old new status ⊎ ((status ≡ 7) × WritesText (refusal_text Memory) old new)

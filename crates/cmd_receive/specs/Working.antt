@@ -1,4 +1,4 @@
--- The work of `receive` on cells, by settings s; `two` says that there are two streams.
+-- The work of `receive` on cells, with settings s; `two` means that there are two streams.
 use Rattle.std.specs.Prelude.{ℕ, ◌^◌, ◌<◌, Bool, List, ◌++◌}
 use Rattle.mode_set.specs.declared.settings.Settings.{Settings}
 use Rattle.reception.specs.Cells.{symbols}
@@ -9,14 +9,14 @@ use Rattle.cmd_cells.specs.Work.{Work, Written}
 pub use Rattle.cmd_receive.specs.Kinds.{written_at, writes_at}
 use Rattle.cmd_receive.specs.Kinds.{Gives, Kind, StandsAs, TakesAs, work_of}
 
--- bytes of cells give their live output, and in the end the final one
+-- the output for bytes of cells is the live one, and at the end the final one
 abbrev pub LiveGives : Settings → Bool → List ℕ → Written → Type 0
 LiveGives s two bytes = Gives (Live s bytes) (λ r. r.packets) (event_lines s bytes) two
 
 abbrev pub FinalGives : Settings → Bool → List ℕ → Written → Type 0
 FinalGives s two bytes = Gives (Final s bytes) (λ r. r.packets) (λ r. event_lines s bytes r ++ closing_lines s bytes r) two
 
--- the plain kind
+-- the kind of `receive`
 abbrev pub plain : Kind
 plain = record { Received = Reception; Live = Live; Final = Final; packets = λ r. r.packets; reports = λ r. r.reports; closing = closing_lines }
 

@@ -1,4 +1,4 @@
-// What the work asks of a receiver.
+// The receiver, as the work uses it.
 ghost use Rattle.std.specs.Prelude.{◌≡◌, ◌≤◌, ◌+◌, ℕ, List, length};
 ghost use Rattle.mode_set.specs.declared.settings.Settings.{Settings};
 ghost use Rattle.reception.specs.Cells.{symbol_length, tail};
@@ -10,10 +10,10 @@ ghost use Rattle.cmd_receive.specs.Working.{GoesOn, Takes};
 use receiver::RxOut;
 use rx_report::Counts;
 
-/// A receiver with what its last call gave.
+/// A receiver with the output of its last call.
 ///
-/// `stands moment bytes reception` says that it has had these bytes of cells and has given this
-/// reception of them, so far or at the end; `has_threads`, that its runtime's threads may be used.
+/// `stands moment bytes reception` says that it has had these bytes of cells and has given this reception, so far or at
+/// the end; `has_threads`, that its runtime's threads may be used.
 pub trait CellReceiver {
     ghost settings: { Self → Settings };
 
@@ -23,7 +23,7 @@ pub trait CellReceiver {
 
     ghost has_threads: { Type 0 };
 
-    /// Takes a piece of the cells that goes no further than the current symbol, whole.
+    /// Takes a whole piece of the cells, which does not exceed the current symbol.
     fn feed(&mut self, piece: &[u8])
         requires threads { has_threads }
         requires going { GoesOn (settings self.old) (stands self.old so_far) }
@@ -40,7 +40,7 @@ pub trait CellReceiver {
         ensures finishes { (bytes : List ℕ) (before : Reception) → stands self.old so_far bytes before
             → Finishes (stands self.new at_end) (settings self.old) bytes before (gave self.new) };
 
-    /// What the last call gave.
+    /// The output of the last call.
     fn out(&self) -> &RxOut
         ensures { result.now ≡ gave self.now };
 

@@ -28,7 +28,7 @@ use std::alloc::Global;
 use std::thread::Threads;
 use word_workers::Gate;
 
-// Runs the reception by a receiver that has had no byte and is fed so. `symbol` has the size of a symbol.
+// Runs the reception with a receiver that has had no byte, fed by this feeder. `symbol` has the size of a symbol.
 fn receive_by<
     'a,
     'r,
@@ -55,7 +55,7 @@ fn receive_by<
     files.run_work(settings, &mut work, symbol, station)
 }
 
-// Takes the memory of a mode's receiver and of one symbol, and runs the reception through this gate.
+// Allocates the memory for a mode's receiver and one symbol, and runs the reception through this gate.
 fn receive_in<'a, M: Carriers, R: Threads + Sync, G: Gate, S: Station<'a>>(
     rt: &R,
     gate: &G,
@@ -91,7 +91,7 @@ fn receive_in<'a, M: Carriers, R: Threads + Sync, G: Gate, S: Station<'a>>(
     receive_by(receiver, settings, &mut symbol, files, station)
 }
 
-// The same in the mode that is set.
+// The same in the mode of the settings.
 fn receive_accepted<'a, R: Threads + Sync, G: Gate, S: Station<'a>>(
     rt: &R,
     gate: &G,
@@ -109,13 +109,12 @@ fn receive_accepted<'a, R: Threads + Sync, G: Gate, S: Station<'a>>(
     }
 }
 
-/// Runs `receive SETTINGS CELLS HP` or, with a file of LP, `receive SETTINGS CELLS HP LP`, and gives its
-/// status. `files` are all but the settings.
+/// Runs `receive SETTINGS CELLS HP` or, with an LP file, `receive SETTINGS CELLS HP LP`, and returns its status.
+/// `files` are all files but the settings.
 ///
-/// What it promises is `Run` of its definition, `receive_command`. The settings are read and checked, and
-/// then all memory is taken, before another port is asked; the cells are opened, and their header is read,
-/// before an output is made. The receiver is fed through the gate, of which no clause speaks: they hold for
-/// every one. What its end decodes passes no gate.
+/// Its promise is `Run` of its definition, `receive_command`. The settings are read and checked, and then all memory is
+/// allocated, before another port is requested; the cells are opened, and their header is read, before an output is
+/// created. The receiver is fed through the gate; no clause depends on it. The decoding at the end passes no gate.
 pub fn receive<'a, R: Threads + Sync, G: Gate, S: Station<'a>>(
     rt: &R,
     alloc: Global,

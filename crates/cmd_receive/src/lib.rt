@@ -1,10 +1,9 @@
-//! The command [`receive`]: a file of cells becomes the packets of one transport file, or of two with a
-//! hierarchy.
+//! The command [`receive`]: a file of cells becomes the packets of one transport file, or of two with a hierarchy.
 //!
-//! The cells are read symbol by symbol and given to a receiver; after each symbol what it gave is
-//! written: the packets of HP, those of LP, and the lines of its unmerged reports. The call carries the
-//! promise of a run. The work on the symbols, [`ReceptionWork`], serves every command that receives as this
-//! one does; another kind of reception takes the writing and the run from here.
+//! The cells are read symbol by symbol and passed to a receiver. After each symbol its output is written: the packets
+//! of HP, those of LP, and the lines of its unmerged reports. The call has the promise of a run. The work on the
+//! symbols, [`ReceptionWork`], serves every command that receives in this way; other kinds of reception use its writing
+//! and its run.
 #![tactic(auto)]
 
 mod cell_receiver;

@@ -43,17 +43,16 @@ impl<M: Carriers> ModeReceiver for Receiver<M> {
     }
 }
 
-/// A receiver of a mode, with what its last call gave, the runtime whose threads it may use, and what
-/// feeds it.
+/// A receiver of a mode, with the output of its last call, the runtime whose threads it may use, and its feeder.
 #[derive(Drop)]
 pub struct ReceiverWithOutput<'r, R, F, T> {
     /// The runtime.
     pub rt: &'r R,
-    /// What feeds the receiver.
+    /// The function that feeds the receiver.
     pub feeder: &'r F,
     /// The receiver.
     pub receiver: T,
-    /// What its last call gave.
+    /// The output of its last call.
     pub out: RxOut,
 }
 

@@ -5,7 +5,7 @@ use crate::writing::{write_lines, write_out};
 use station_core::Station;
 use cmd_cells::{Stop, SymbolWork};
 
-/// A receiver whose packets and lines are written, with a flag that there are two streams.
+/// A receiver whose packets and lines are written, with a flag for two streams.
 #[derive(Drop)]
 pub struct ReceptionWork<X> {
     /// The receiver.

@@ -1,4 +1,4 @@
-// The run of a command that receives cells, behind its settings.
+// The run of a command that receives cells, after its settings.
 ghost use Rattle.std.specs.Prelude.{◌≡◌, Some, length, is_some};
 ghost use Rattle.std.specs.Option.{option_copied};
 ghost use Rattle.station_core.specs.declared.ports.OutPort.{OutPort};
@@ -15,17 +15,17 @@ use cmd_cells::{StreamFiles, SymbolWork, run_cells};
 /// The names of the files of a command that receives cells.
 #[derive(Clone, Copy)]
 pub struct ReceptionFiles<'a> {
-    /// The cells that are read.
+    /// The file of cells to read.
     pub cells: &'a str,
-    /// The transport file of high priority, or the only one, which is made.
+    /// The transport file to create, of high priority or the only one.
     pub hp: &'a str,
-    /// The transport file of low priority, if there is one, which is made.
+    /// The transport file of low priority to create, if there is one.
     pub lp: Option<&'a str>,
 }
 
 impl<'a> ReceptionFiles<'a> {
-    /// Runs this work, which has not begun, on the cells of the file. They begin with the header of the settings' mode, and
-    /// `symbol` has the size of a symbol.
+    /// Runs this work, which has not begun, on the cells of the file. They begin with the header of the settings' mode,
+    /// and `symbol` has the size of a symbol.
     pub fn run_work<X: SymbolWork<'a, S>, S: Station<'a>>(
         self,
         settings: &Settings,

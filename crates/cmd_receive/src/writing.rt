@@ -1,4 +1,4 @@
-// What the receiver gave is written behind what was written before.
+// Writing the output of the receiver after the earlier output.
 ghost use Rattle.std.specs.Prelude.{◌≡◌, ◌≤◌, ◌↔◌, ℕ, List, IfSome, IsNone, IsTrue, Some, length, slice_get, take};
 ghost use Rattle.std.specs.List.{concat};
 ghost use Rattle.rx_report.specs.Text.{closing_lines};
@@ -13,10 +13,10 @@ use rx_report::{Counts, Event, Line};
 use station_core::{OutPort, Station};
 use cmd_cells::{Stop, write_some};
 
-// Room for the lines of all events of a symbol.
+// Space for the lines of all events of a symbol.
 type EventText = ArrayString<2048>;
 
-// Writes the packets of LP, where there are two streams.
+// Writes the packets of LP, if there are two streams.
 fn write_lp<'a, S: Station<'a>>(two: bool, bytes: &[u8], station: &mut S) -> Result<(), Stop>
     requires open { AreOpen two (S.meaning station.old) }
     ensures kind { IsWriting result }
@@ -31,7 +31,7 @@ fn write_lp<'a, S: Station<'a>>(two: bool, bytes: &[u8], station: &mut S) -> Res
     }
 }
 
-// Puts a line behind the text that waits, which is written first where there is no room for both.
+// Appends a line to the pending text, which is written first if there is no space for both.
 fn push_line<'a, S: Station<'a>>(
     line: &Line,
     text: &mut EventText,
@@ -55,7 +55,7 @@ fn push_line<'a, S: Station<'a>>(
     Ok(())
 }
 
-// Writes the lines of the events of a symbol, by one write.
+// Writes the lines of the events of a symbol, in one write.
 fn write_events<'a, S: Station<'a>>(events: &[Event], station: &mut S) -> Result<(), Stop>
     requires printing { IsPrinting (S.meaning station.old) }
     ensures kind { IsWriting result }
@@ -75,8 +75,8 @@ fn write_events<'a, S: Station<'a>>(events: &[Event], station: &mut S) -> Result
     write_some(OutPort::Report, text.as_str().as_bytes(), station)
 }
 
-/// Writes what a receiver gave: the packets of HP, those of LP where there are two streams, and the lines of its events, each
-/// port by one write where there is something to write.
+/// Writes the output of a receiver: the packets of HP, those of LP if there are two streams, and the lines of its
+/// events, with at most one write for each port.
 pub fn write_out<'a, S: Station<'a>>(two: bool, out: &RxOut, station: &mut S) -> Result<(), Stop>
     requires open { AreOpen two (S.meaning station.old) }
     ensures kind { IsWriting result }
@@ -90,13 +90,13 @@ pub fn write_out<'a, S: Station<'a>>(two: bool, out: &RxOut, station: &mut S) ->
     write_events(out.events(), station)
 }
 
-/// Counts whose closing lines end a report: at most four.
+/// The counts for the closing lines of a report: at most four lines.
 pub trait ClosingLines {
     ghost lines: { Self → List (List ℕ) };
 
     ghost few: { (c : Self) → take 4 (lines c) ≡ lines c };
 
-    /// The closing lines in order, by their numbers from 0: `None` exactly past the last.
+    /// The closing lines in order, numbered from 0; `None` exactly past the last.
     fn line(&self, number: u8) -> Option<Line>
         ensures line { IfSome result (λ l. slice_get (lines self.now) number ≡ Some l.bytes) }
         ensures past { IsNone result ↔ (length (lines self.now) ≤ number) };
@@ -112,7 +112,7 @@ impl ClosingLines for Counts {
     }
 }
 
-/// Writes the closing lines to Report, each by one write.
+/// Writes the closing lines to Report, one write for each.
 pub fn write_lines<'a, C: ClosingLines, S: Station<'a>>(
     counts: &C,
     station: &mut S,

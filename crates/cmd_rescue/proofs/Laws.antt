@@ -1,4 +1,4 @@
--- The laws of what `rescue` comes to.
+-- The laws of `rescue`.
 use Rattle.std.proofs.Common.{ℕ, List, Option}
 use Rattle.mode_set.specs.declared.settings.Settings.{Settings}
 use Rattle.rescue.specs.Laws.{SameAtEnd, SameLines, SameSoFar}

@@ -1,4 +1,4 @@
--- Receptions that rescue words as a kind: their laws, what a piece gives, and what a part of a symbol leaves.
+-- Rescue as a kind of reception: its laws, the output for a piece, and the effect of part of a symbol.
 use Rattle.std.proofs.Common.{◌≡◌, ℕ, ◌+◌, ◌≤◌, List, ◌++◌, length, sym, subst}
 use Rattle.code_paths.specs.declared.costs.CostPair.{CostPair}
 use Rattle.code_paths.specs.Streams.{Given, Reports}
@@ -16,7 +16,7 @@ use Rattle.cmd_receive.proofs.OfKinds.{KindLaws}
 use Rattle.cmd_receive.proofs.Taking.{took_as}
 use Rattle.cmd_rescue.specs.Working.{rescuing}
 
--- rescue outputs that are the same in all that is rescued are one
+-- equal rescue outputs are one
 pub one_of : {r q : Rescue} → AreSame r q → r ≡ q
 one_of a = λ i. record { packets = λ σ. a.packets σ i; reports = λ σ. a.reports σ i; tally = λ σ. a.tally σ i }
 
@@ -35,12 +35,12 @@ rescue_laws some_so_far some_at_end one_so_far one_at_end so_far at_end whole un
   no_events = no_events;
 }
 
--- a piece that goes no further than the symbol is taken whole
+-- a piece that does not exceed the symbol is taken whole
 pub took : (s : Settings) (bytes piece : List ℕ) (before : Rescue) (n : ℕ) (out : Output) (standing : List ℕ → Rescue → Type 0)
     → tail s bytes + length piece ≤ symbol_length s → Feeds standing s bytes piece before n out → TakesAs rescuing standing s bytes piece before out
 took s bytes piece before n out standing fits f = took_as rescuing s bytes piece before f.after n out standing fits f.count f.stands f.live f.follows.packets f.follows.events_are
 
--- bytes that end no symbol give nothing more
+-- bytes that do not complete a symbol add no output
 pub part : SameCosts → (s : Settings) (bytes more : List ℕ) (r : Rescue) → IsWithin s bytes more → RescuesSoFar s bytes r → RescuesSoFar s (bytes ++ more) r
 part costs_same s bytes more r within is = record {
   bits = is.bits;

@@ -1,4 +1,4 @@
--- There are three closing lines at most.
+-- There are at most three closing lines.
 use Rattle.std.specs.Prelude.{◌≡◌, ◌∷◌, take, Option, None, Some, refl}
 use Rattle.mode_set.specs.declared.modes.Stream.TheVariants.{Hp}
 use Rattle.rescue.specs.ReportText.{closing_lines, lp_lines, stream_line, symbols_line}

@@ -1,4 +1,4 @@
--- The command `rescue`: the files that it reads and writes, and what it comes to, from its settings and the file of cells alone.
+-- The command `rescue`: its files and its outputs, from its settings and the file of cells alone.
 use Rattle.std.specs.Prelude.{◌≡◌, ℕ, ◌+◌, List, [], ◌∷◌, Option, None, Some, option_and_then, false}
 use Rattle.station_core.specs.declared.ports.InPort.TheVariants as ins
 use Rattle.mode_set.specs.declared.settings.Settings.{Settings}

@@ -1,4 +1,4 @@
--- The work of `rescue` on cells, by settings s; `two` says that there are two streams.
+-- The work of `rescue` on cells, with settings s; `two` means that there are two streams.
 use Rattle.std.specs.Prelude.{ℕ, Bool, List}
 use Rattle.mode_set.specs.declared.settings.Settings.{Settings}
 use Rattle.rescue.specs.Streams.{Rescue, RescuesSoFar, RescuesAtEnd}
@@ -6,13 +6,13 @@ use Rattle.rescue.specs.Lines.{closing_lines}
 use Rattle.cmd_cells.specs.Work.{Work, Written}
 use Rattle.cmd_receive.specs.Kinds.{Kind, StandsAs, work_of}
 
--- the kind of reception that rescues words
+-- the kind of `rescue`
 abbrev pub rescuing : Kind
 rescuing = record { Received = Rescue; Live = RescuesSoFar; Final = RescuesAtEnd; packets = λ r. r.packets; reports = λ r. r.reports; closing = closing_lines }
 
 abbrev pub rescue_work : Settings → Bool → Work
 rescue_work = work_of rescuing
 
--- the receiver stands for the bytes, and this is what it gave
+-- the receiver matches the bytes, and this is its output
 abbrev pub RescueStands : (List ℕ → Rescue → Type 0) → Settings → Bool → List ℕ → Written → Type 0
 RescueStands = StandsAs rescuing

@@ -24,7 +24,7 @@ use station_core::Station;
 use std::alloc::Global;
 use std::thread::Threads;
 
-// Runs the reception by a receiver that has had no byte. `symbol` has the size of a symbol.
+// Runs the reception with a receiver that has had no byte. `symbol` has the size of a symbol.
 fn rescue_by<'a, R: Threads + Sync, T: ModeRescue + Drop, S: Station<'a>>(
     rt: &R,
     receiver: T,
@@ -50,7 +50,7 @@ fn rescue_by<'a, R: Threads + Sync, T: ModeRescue + Drop, S: Station<'a>>(
     files.run_work(settings, &mut work, symbol, station)
 }
 
-// Takes the memory of a mode's receiver and of one symbol, and runs the reception.
+// Allocates the memory for a mode's receiver and one symbol, and runs the reception.
 fn rescue_in<'a, M: Carriers, R: Threads + Sync, S: Station<'a>>(
     rt: &R,
     alloc: Global,
@@ -75,7 +75,7 @@ fn rescue_in<'a, M: Carriers, R: Threads + Sync, S: Station<'a>>(
     rescue_by(rt, receiver, out, settings, &mut symbol, files, station)
 }
 
-// The same in the mode that is set.
+// The same in the mode of the settings.
 fn rescue_accepted<'a, R: Threads + Sync, S: Station<'a>>(
     rt: &R,
     alloc: Global,
@@ -92,12 +92,12 @@ fn rescue_accepted<'a, R: Threads + Sync, S: Station<'a>>(
     }
 }
 
-/// Runs `rescue SETTINGS CELLS HP` or, with a file of LP, `rescue SETTINGS CELLS HP LP`, and gives its
-/// status. `files` are all but the settings.
+/// Runs `rescue SETTINGS CELLS HP` or, with an LP file, `rescue SETTINGS CELLS HP LP`, and returns its status. `files`
+/// are all files but the settings.
 ///
-/// What it promises is `Run` of its definition, `rescue_command`. The settings are read and checked, and
-/// then all memory is taken, before another port is asked; the cells are opened, and their header is read,
-/// before an output is made.
+/// Its promise is `Run` of its definition, `rescue_command`. The settings are read and checked, and then all memory is
+/// allocated, before another port is requested; the cells are opened, and their header is read, before an output is
+/// created.
 pub fn rescue<'a, R: Threads + Sync, S: Station<'a>>(
     rt: &R,
     alloc: Global,

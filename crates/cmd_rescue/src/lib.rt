@@ -1,7 +1,8 @@
-//! The command [`rescue`]: a file of cells becomes the packets of one transport file, or of two with a hierarchy, and outer words
-//! that have no nearest codeword are rescued where they can be.
+//! The command [`rescue`]: a file of cells becomes the packets of one transport file, or of two with a hierarchy, and
+//! outer words without a nearest codeword are rescued if possible.
 //!
-//! All else is as in `receive`: the cells are read symbol by symbol, and after each symbol what the receiver gave is written.
+//! All else is as in `receive`: the cells are read symbol by symbol, and after each symbol the output of the receiver
+//! is written.
 #![tactic(auto)]
 
 mod command;

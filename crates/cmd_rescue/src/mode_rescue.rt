@@ -13,11 +13,12 @@ use rescue::{Rescue, RescueOut};
 use rescue::Counts;
 use std::thread::Threads;
 
-/// The receiver of a mode that rescues words.
+/// The rescuing receiver of a mode.
 pub(crate) trait ModeRescue {
     ghost state: { Self → RescueState };
 
-    /// Takes bytes from the front of the piece, as many as it has or the current symbol wants, and answers how many.
+    /// Takes bytes from the start of the piece, all of them or as many as the current symbol needs, and returns their
+    /// number.
     fn feed<R: Threads + Sync>(&mut self, rt: &R, piece: &[u8], out: &mut RescueOut) -> usize
         requires threads { IsSync R.row }
         requires going { (state self.old).ended ≡ false }

@@ -28,15 +28,15 @@ impl ClosingLines for LastCounts {
     }
 }
 
-/// A receiver that rescues words, whose packets and lines are written, with what its last call gave, the
-/// runtime whose threads it may use, and a flag that there are two streams.
+/// A rescuing receiver whose packets and lines are written, with the output of its last call, the runtime whose threads
+/// it may use, and a flag for two streams.
 #[derive(Drop)]
 pub(crate) struct RescueWork<'r, R, T> {
     /// The runtime.
     pub rt: &'r R,
     /// The receiver.
     pub receiver: T,
-    /// What its last call gave.
+    /// The output of its last call.
     pub out: RescueOut,
     /// Whether LP is written too.
     pub two: bool,

@@ -1,4 +1,4 @@
--- How many symbols bytes hold, and the symbols that were received of bytes that go on.
+-- The number of symbols in bytes, and the received symbols of bytes that continue.
 use Rattle.std.proofs.Common.{◌≡◌, ℕ, zero, suc, ◌+◌, ◌*◌, ◌/◌, ◌%◌, ◌<◌, ◌≤◌, List, [], ◌∷◌, ◌++◌, length, take, drop, refl, ap, ap₂, sym, ◌∙◌, arith, map, length-append, length-take-le}
 use Rattle.std.proofs.lemmas.List.{take-append-drop}
 use Rattle.std.proofs.lemmas.List.FromFn.{length-map-range_with_len, map-range_with_len_more, take-map-range_with_len}
@@ -53,7 +53,7 @@ limited : (m : Mode) (n most : ℕ) → most < n / (5 * carriers m) → (most * 
 limited M2k n most l = (omega (arith, l), omega arith)
 limited M8k n most l = (omega (arith, l), omega arith)
 
--- bytes of more symbols than the limit hold those within it
+-- bytes with more symbols than the limit hold those within it
 pub symbols_limited : (s : Settings) (bytes : List ℕ) (most : ℕ) → most < symbols s bytes → symbols s (take (most * symbol_length s) bytes) ≡ most
 symbols_limited s bytes most past =
     let l = limited s.mode (length bytes) most past in
@@ -83,7 +83,7 @@ more_numbers : (f : ℕ → Symbol) (n : ℕ) → map f (numbers (suc n)) ≡ ma
 unfolding numbers
 more_numbers f n = let next : suc n ≡ n + 1 = omega arith in ap (λ (z : ℕ). map f (numbers z)) next ∙ map-range_with_len_more f 0 n n (omega arith)
 
--- the first n symbols of bytes that go on
+-- the first n symbols of bytes that continue
 first_stay : Cuts → (s : Settings) (bytes more : List ℕ) (n : ℕ) → n ≤ symbols s bytes → map (symbol_at s (bytes ++ more)) (numbers n) ≡ map (symbol_at s bytes) (numbers n)
 unfolding numbers
 first_stay cuts s bytes more zero l = refl
@@ -93,7 +93,7 @@ first_stay cuts s bytes more (suc n) l =
     let here : f n ≡ g n = ap₂ (λ (c : List Cell) (w : List ℕ). record { cells = c; weights = w }) (cuts.cells s bytes more n (omega (arith, l))) (cuts.weights s bytes more n (omega (arith, l))) in
     more_numbers f n ∙ ap₂ (λ (first : List Symbol) (x : Symbol). first ++ x ∷ []) (first_stay cuts s bytes more n (omega (arith, l))) here ∙ sym (more_numbers g n)
 
--- what was received of first bytes begins what is received of all
+-- the symbols received of a prefix are a prefix of all
 pub received_grows : Cuts → (s : Settings) (bytes more : List ℕ) → (rest : List Symbol) × (received s (bytes ++ more) ≡ received s bytes ++ rest)
 unfolding received numbers
 received_grows cuts s bytes more =
@@ -102,7 +102,7 @@ received_grows cuts s bytes more =
     let first : take n all ≡ received s bytes = take-map-range_with_len (symbol_at s (bytes ++ more)) 0 (symbols s (bytes ++ more)) n (no_fewer s bytes more) ∙ first_stay cuts s bytes more n (omega arith) in
     (drop n all, sym (take-append-drop n all) ∙ ap (λ (l : List Symbol). l ++ drop n all) first)
 
--- bytes that end no symbol
+-- bytes that do not complete a symbol
 pub received_same : Cuts → (s : Settings) (bytes more : List ℕ) → tail s bytes + length more < symbol_length s → received s (bytes ++ more) ≡ received s bytes
 unfolding received
 received_same cuts s bytes more l =

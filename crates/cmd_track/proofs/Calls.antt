@@ -1,4 +1,4 @@
--- What a call of the work gave, and what it wrote.
+-- The output of a call of the work, and what it wrote.
 use Rattle.std.proofs.Common.{◌≡◌, ℕ, Bool, true, List, [], ◌++◌, take, Result, Ok, Err, if◌then◌else◌, refl, ◌∙◌, sym, ap, subst}
 use Rattle.std.proofs.lemmas.List.{append-nil}
 use Rattle.station_core.specs.Meaning.{Meaning}
@@ -13,7 +13,7 @@ use Rattle.cmd_cells.proofs.Fronts.{all_of, none_of}
 use Rattle.cmd_convert.specs.Working.{written_at}
 use Rattle.cmd_track.specs.Working.{Appends, CellsOnly}
 
--- more cells and a line after those before
+-- more cells and a line after the earlier ones
 pub follow : (cells more_cells all_cells line : List ℕ) (before : Written) → ((port : OutPort) → before port ≡ written_at cells [] port) → all_cells ≡ cells ++ more_cells
     → Follows before (written_at more_cells line) (written_at all_cells line)
 follow cells more_cells all_cells line before gives is port = go port ∙ ap (λ (l : List ℕ). l ++ written_at more_cells line port) (sym (gives port))
@@ -25,7 +25,7 @@ follow cells more_cells all_cells line before gives is port = go port ∙ ap (λ
     go outs.Bytes = refl
     go outs.Report = refl
 
--- what is written if contents are told, or not
+-- the content, if contents are known or not
 abbrev pub told : Bool → List ℕ → List ℕ → List ℕ
 told tells before bytes = if tells then before ++ bytes else before
 
@@ -45,9 +45,9 @@ cells_append bytes old new (Err r) t w = (w.0, w.1, ap (λ (x : Meaning). x.cell
 pub cells_again : (a b c : Meaning) → CellsOnly a b → CellsOnly b c → CellsOnly a c
 cells_again a b c p q = q ∙ ap (λ (x : Meaning). record x { cells_out = record x.cells_out { written = c.cells_out.written }; write_faults = c.write_faults; pending = c.pending }) p
 
--- ---- the symbols that were left, and the closing line
+-- ---- the remaining symbols, and the closing line
 module _ (m m' : Meaning) (cells line : List ℕ) (only : CellsOnly m m') where
-  -- a front of the symbols was written
+  -- a prefix of the symbols was written
   front_held : (k : ℕ) → m'.cells_out.written ≡ m.cells_out.written ++ take k cells → HoldsFront m m' (written_at cells line)
   front_held k is outs.Cells = (k, is)
   front_held k is outs.Hp = none_of m.hp_out.written [] m'.hp_out.written (ap (λ (x : Meaning). x.hp_out.written) only)

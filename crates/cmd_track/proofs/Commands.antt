@@ -1,4 +1,4 @@
--- `track` is a command on cells: what it comes to is what its work gives.
+-- `track` is a command on cells: its output is that of its work.
 use Rattle.std.proofs.Common.{◌≡◌, inl, inr, true, ℕ, ◌<◌, ◌≤◌, Bool, List, [], ◌++◌, Option, Some, None, refl, ◌∙◌, sym, ap, subst, arith, if◌then◌else◌}
 use Rattle.std.specs.Prelude.{◌⊎◌, option_and_then}
 use Rattle.std.proofs.lemmas.Bool.{cases_lt, le-ltb, lt-ltb, true≢false}
@@ -61,7 +61,7 @@ module _ (laws : Laws) (limit : ℕ) (settings old new : List ℕ) (file : Files
   abbrev bytes : List ℕ
   bytes = cells_in (file old)
 
-  -- what is written at the one output is the new file
+  -- the bytes written at the one output are the new file
   at_output : (cells lines : List ℕ) (port : OutPort) → IsOutput c port → written_at cells lines port ≡ cells
   at_output cells lines outs.Cells is = refl
   at_output cells lines outs.Hp is = absurd (true≢false (sym is))
@@ -78,7 +78,7 @@ module _ (laws : Laws) (limit : ℕ) (settings old new : List ℕ) (file : Files
   refusal_is : (o : Option Refusal) → track_refusal s bytes ≡ o → c.work_refusal limit file ≡ o
   refusal_is o is = ap (λ (x : Option TheSettings). option_and_then (λ y. track_refusal y bytes) x) stated ∙ is
 
-  -- what first bytes give begins what all come to
+  -- the output of a prefix is a prefix of the output
   continued : (cells lines all_cells all_lines : List ℕ) (given : Written) → ((port : OutPort) → given port ≡ written_at cells lines port)
       → (more : List ℕ) × (all_cells ≡ cells ++ more) → (more : List ℕ) × (all_lines ≡ lines ++ more) → FileComes s bytes all_cells → LinesCome s bytes all_lines → Continues c limit file given
   continued cells lines all_cells all_lines given is more_cells more_lines comes prints = record {

@@ -1,4 +1,4 @@
--- The new file of cells, and of cells that go on.
+-- The new file of cells, and of cells that continue.
 use Rattle.std.proofs.Common.{◌≡◌, inl, inr, ℕ, ◌+◌, ◌-◌, ◌*◌, ◌<◌, ◌≤◌, Bool, List, [], ◌∷◌, ◌++◌, length, take, drop, refl, ap, ap₂, sym, ◌∙◌, arith, append_assoc}
 use Rattle.std.specs.Prelude.{if◌then◌else◌}
 use Rattle.std.proofs.lemmas.Bool.{cases_lt, le-leb, lt-leb}
@@ -15,7 +15,7 @@ use Rattle.cmd_track.specs.Working.{next_given, symbol_in, symbols_from}
 use Rattle.cmd_track.proofs.Bytes.{Cuts, no_fewer, no_symbols, received_grows, received_long, received_more, received_same, symbols_limited}
 use Rattle.cmd_track.proofs.Growing.{corrected, corrected_begin, corrected_splits, corrected_stay, none_corrected, one_corrected}
 
--- what they are, by the symbols that were received
+-- what they are, from the received symbols
 live_is : (s : Settings) (bytes : List ℕ) → live_cells s bytes ≡ corrected s (received s bytes) (symbols s bytes - 7)
 unfolding live_cells
 live_is s bytes = refl
@@ -30,13 +30,13 @@ none_live s =
     let none : symbols s [] - 7 ≡ 0 = let e = no_symbols s in omega (arith, e) in
     ap (λ (l : List ℕ). header s.mode ++ l) (live_is s [] ∙ ap (corrected s (received s [])) none ∙ none_corrected s (received s [])) ∙ append-nil (header s.mode)
 
--- bytes that end no symbol
+-- bytes that do not complete a symbol
 pub part_live : Cuts → (s : Settings) (bytes more : List ℕ) → tail s bytes + length more < symbol_length s → live_file s (bytes ++ more) ≡ live_file s bytes
 part_live cuts s bytes more l =
     ap (λ (z : List ℕ). header s.mode ++ z)
     (live_is s (bytes ++ more) ∙ ap₂ (λ (x : List Symbol) (n : ℕ). corrected s x (n - 7)) (received_same cuts s bytes more l) (cuts.same s bytes more l) ∙ sym (live_is s bytes))
 
--- one symbol more
+-- one more symbol
 next_is : LiveSymbolsStay → (s : Settings) (all : List Symbol) (x : Symbol) (n : ℕ) → n ≡ length all → corrected s (all ++ x ∷ []) (n + 1 - 7) ≡ corrected s all (n - 7) ++ next_given s all x
 next_is law s all x n e = elim (cases_lt (length all) 7) [
   | inl few ↦
@@ -62,7 +62,7 @@ symbol_live law cuts s bytes piece none ends =
     ∙ next_is law s (received s bytes) x (symbols s bytes) (sym (received_long s bytes)) ∙ ap (λ (l : List ℕ). l ++ given) (sym (live_is s bytes)) in
     ap (λ (z : List ℕ). header s.mode ++ z) all ∙ sym (append_assoc (header s.mode) (live_cells s bytes) given)
 
--- the end: the symbols that were not given yet
+-- the end: the symbols not given yet
 pub end_file : (s : Settings) (bytes : List ℕ) → ended_file s bytes ≡ live_file s bytes ++ symbols_from s (received s bytes) (symbols s bytes - 7)
 end_file s bytes =
     let all : List Symbol = received s bytes in
@@ -72,9 +72,9 @@ end_file s bytes =
     all_is s bytes ∙ ap (corrected s all) (sym long) ∙ corrected_splits s all n (omega (arith, long)) ∙ ap (λ (l : List ℕ). l ++ symbols_from s all n) (sym (live_is s bytes)) in
     ap (λ (z : List ℕ). header s.mode ++ z) are ∙ sym (append_assoc (header s.mode) (live_cells s bytes) (symbols_from s all n))
 
--- ---- what begins what
+-- ---- prefixes
 
--- the live symbols of first bytes are the first symbols of all
+-- the live symbols of a prefix are the first symbols of all
 first_live : LiveSymbolsStay → Cuts → (s : Settings) (bytes more : List ℕ) (n : ℕ) → n ≤ symbols s bytes - 7 → corrected s (received s (bytes ++ more)) n ≡ corrected s (received s bytes) n
 first_live law cuts s bytes more n h =
     let g = received_grows cuts s bytes more in
@@ -88,15 +88,15 @@ live_begins law cuts s bytes more =
     let b = corrected_begin s (received s (bytes ++ more)) n (symbols s (bytes ++ more)) (omega (arith, fewer)) in
     (b.0, all_is s (bytes ++ more) ∙ b.1 ∙ ap (λ (l : List ℕ). l ++ b.0) (first_live law cuts s bytes more n (omega arith) ∙ sym (live_is s bytes)))
 
--- behind the header
+-- after the header
 headed : (h cells all : List ℕ) → (more : List ℕ) × (all ≡ cells ++ more) → (more : List ℕ) × (h ++ all ≡ (h ++ cells) ++ more)
 headed h cells all b = (b.0, ap (λ (l : List ℕ). h ++ l) b.1 ∙ sym (append_assoc h cells b.0))
 
--- the file of first bytes begins the file of all ..
+-- the file of a prefix is a prefix of the file of all ..
 pub begins : LiveSymbolsStay → Cuts → (s : Settings) (bytes more : List ℕ) → (rest : List ℕ) × (ended_file s (bytes ++ more) ≡ live_file s bytes ++ rest)
 begins law cuts s bytes more = headed (header s.mode) (live_cells s bytes) (tracked_file s (bytes ++ more)) (live_begins law cuts s bytes more)
 
--- .. and, with no more symbols than a limit, that of those within it
+-- .. and, if it is within a limit, of the file of the symbols within the limit
 limited_cells : LiveSymbolsStay → Cuts → (s : Settings) (taken rest : List ℕ) (most : ℕ) → symbols s taken ≤ most → most < symbols s (taken ++ rest)
     → (more : List ℕ) × (live_cells s (take (most * symbol_length s) (taken ++ rest)) ≡ live_cells s taken ++ more)
 limited_cells law cuts s taken rest most few past =

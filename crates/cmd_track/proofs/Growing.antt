@@ -1,4 +1,4 @@
--- The first corrected symbols of symbols that go on.
+-- The first corrected symbols of symbols that continue.
 use Rattle.std.proofs.Common.{◌≡◌, ℕ, zero, suc, ◌+◌, ◌-◌, ◌<◌, ◌≤◌, List, [], ◌∷◌, ◌++◌, length, get_or, refl, ap, ap₂, sym, ◌∙◌, arith, length-append, append_assoc}
 use Rattle.std.specs.Prelude.{flat_map}
 use Rattle.std.specs.List.{range_with_len}
@@ -12,7 +12,7 @@ use Rattle.tracking.specs.Laws.{LiveSymbolsStay}
 use Rattle.tracking.specs.Tracking.{Symbol, tracked_bytes, tracked_symbols, live_symbols}
 use Rattle.cmd_track.specs.Working.{symbols_from}
 
--- more symbols leave a symbol that has seven after it
+-- more symbols leave a symbol with seven after it
 symbol_stays : LiveSymbolsStay → (s : Settings) (first more : List Symbol) (m : ℕ) → m < length first - 7 → tracked_bytes s (first ++ more) m ≡ tracked_bytes s first m
 unfolding tracked_symbols live_symbols numbers
 symbol_stays law s first more m h =
@@ -46,7 +46,7 @@ corrected_stay law s first more (suc n) h =
     ∙ sym (one_corrected s first n)
     ∙ ap (corrected s first) (sym next)
 
--- first symbols begin more of them
+-- first symbols are a prefix of more symbols
 more_corrected : (s : Settings) (all : List Symbol) (n k : ℕ) → (rest : List ℕ) × (corrected s all (n + k) ≡ corrected s all n ++ rest)
 more_corrected s all n zero = let none : n + 0 ≡ n = omega arith in ([], ap (corrected s all) none ∙ sym (append-nil (corrected s all n)))
 more_corrected s all n (suc k) =

@@ -1,4 +1,4 @@
--- The loop over the symbols that are left at the end.
+-- The loop over the remaining symbols at the end.
 use Rattle.std.proofs.Common.{◌≡◌, ℕ, ◌+◌, ◌<◌, ◌≤◌, List, [], ◌++◌, length, take, Err, refl, ◌∙◌, sym, ap, append_assoc}
 use Rattle.std.proofs.Math.Seq.{take-append-add}
 use Rattle.std.proofs.lemmas.List.{append-nil, length-map}
@@ -36,7 +36,7 @@ module _ (s : Settings) (all : List Symbol) (first given : ℕ) (before now : Li
   pub all_written : length all ≤ given → now ≡ before ++ symbols_from s all first
   all_written none = w.is ∙ ap (λ (l : List ℕ). before ++ l) (sym (append-nil w.past) ∙ ap (λ (l : List ℕ). w.past ++ l) (sym (from_end s all given none)) ∙ sym w.are)
 
-  -- a front of one
+  -- a prefix of one
   pub some_written : (later : List ℕ) (stop : Stop) → given < length all → Appends (tracked_bytes s all given) now later (Err stop) → Appends (symbols_from s all first) before later (Err stop)
   some_written later stop few a =
       let x : List ℕ = tracked_bytes s all given in

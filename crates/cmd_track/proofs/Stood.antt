@@ -1,4 +1,4 @@
--- What the work stands for after a piece of the cells.
+-- The state of the work after a piece of the cells.
 use Rattle.std.proofs.Common.{◌≡◌, ℕ, ◌+◌, ◌-◌, ◌*◌, ◌<◌, false, List, [], ◌∷◌, ◌++◌, length, refl, ap, ap₂, sym, ◌∙◌, subst, arith}
 use Rattle.mode_set.specs.StreamTable.{carriers}
 use Rattle.mode_set.specs.declared.modes.Mode.{Mode}
@@ -24,11 +24,11 @@ module _ (m : Mode) (t : TrackerState) (part : List ℕ) (capacity counted rest 
   pub count_is : t.window.count ≡ symbols s bytes
   count_is = count_of t (received s bytes) st.tracks ∙ received_long s bytes
 
-  -- so many carriers has a symbol
+  -- the number of carriers of a symbol
   pub size_is : (k : ℕ) → k ≡ carriers m → 5 * k ≡ symbol_length s
   size_is k is = ap (λ (n : ℕ). 5 * n) (is ∙ sym (ap carriers st.mode))
 
-  -- bytes that end no symbol
+  -- bytes that do not complete a symbol
   pub part_stands : Cuts → (piece : List ℕ) → tail s bytes ≡ 0 → length piece < symbol_length s → Stands m t part capacity counted (length piece) (bytes ++ piece) (written_at (live_file s (bytes ++ piece)) [])
   part_stands cuts piece none short =
       let within : tail s bytes + length piece < symbol_length s = omega (arith, none, short) in

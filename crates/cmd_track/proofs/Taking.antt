@@ -1,4 +1,4 @@
--- A symbol that is taken whole, and whether one is given then.
+-- A symbol taken whole, and whether one is then given.
 use Rattle.std.proofs.Common.{◌≡◌, ◌+◌, ◌-◌, ◌*◌, ◌≤◌, ◌++◌, ◌≢◌, refl, ℕ, Bool, true, false, List, [], length, take, inl, inr, ap, ap₂, sym, ◌∙◌, arith}
 use Rattle.std.specs.Prelude.{◌↔◌, IsTrue, min, nat_le}
 use Rattle.std.proofs.lemmas.Bool.{cases_lt, le-leb, lt-leb}
@@ -7,7 +7,7 @@ use Rattle.qam_map.specs.declared.cell.Cell.{Cell}
 use Rattle.frame_build.specs.Symbol.{cells_from, weights_from}
 use Rattle.cmd_track.specs.Working.{symbol_in}
 
--- if nothing was taken before, a whole symbol is taken as it is
+-- if nothing was taken before, a whole symbol is taken unchanged
 all_taken : (k : ℕ) (old bytes : List ℕ) (count : ℕ) (new : List ℕ) → old ≡ [] → length bytes ≡ 5 * k → count ≡ min (length bytes) (5 * k - length old) → new ≡ old ++ take count bytes → new ≡ bytes
 all_taken k old bytes count new empty whole counted taken =
     let none : length old ≡ 0 = ap length empty in

@@ -1,4 +1,5 @@
--- The command `track SETTINGS IN OUT`: the files that it reads and writes, and what it comes to, from its settings and the file of cells alone. Of the settings the mode, the guard interval, the constellations and the limit are used.
+-- The command `track SETTINGS IN OUT`: its files and its outputs, from its settings and the file of cells alone. It
+-- uses the mode, the guard interval, the constellations and the limit of the settings.
 use Rattle.std.specs.Prelude.{◌≡◌, ℕ, ◌+◌, ◌*◌, false, List, [], ◌∷◌, Option, None, Some, option_and_then}
 use Rattle.std.specs.Option.{option_map}
 use Rattle.station_core.specs.declared.ports.InPort.TheVariants as ins
@@ -12,15 +13,16 @@ use Rattle.cmd_base.specs.StatedSettings.{settings_of}
 use Rattle.cmd_track.specs.OwnLaws.{TrackLaws}
 use Rattle.cmd_track.specs.Tracked.{FileComes, FileSoFar, LinesCome, cells_in, track_refusal}
 
--- the header with which the cells must begin is that of the settings' mode
+-- the header required of the cells is that of the settings' mode
 abbrev pub header_by : Option Settings → Option (List ℕ)
 header_by stated = option_map (λ s. header s.mode) stated
 
--- of the cells no more is taken than the header, the limit and one symbol
+-- at most the header, the limit and one symbol are taken from the cells
 abbrev pub most_cells : Option Settings → ℕ
 most_cells None = 0
 most_cells (Some s) = 8 + (s.max_symbols + 1) * symbol_length s
 
+-- the command with these names of its files
 abbrev pub track_command : List ℕ → List ℕ → List ℕ → Command
 track_command settings old new = record {
   reads = by_input (Some settings) None None (Some old);

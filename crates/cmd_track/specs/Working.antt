@@ -1,4 +1,4 @@
--- The work of `track` on cells, by settings s.
+-- The work of `track` on cells, with settings s.
 use Rattle.std.specs.Prelude.{◌≡◌, ◌⊎◌, ℕ, ◌-◌, ◌≤◌, nat_le, false, if◌then◌else◌, List, [], ◌∷◌, ◌++◌, length, flat_map, take, Result, Ok, Err, Some}
 use Rattle.std.specs.List.{range_with_len}
 use Rattle.mode_set.specs.declared.modes.Mode.{Mode}
@@ -22,14 +22,15 @@ use Rattle.cmd_cells.specs.Work.{Work, Written}
 use Rattle.cmd_convert.specs.Working.{written_at}
 use Rattle.cmd_track.specs.Tracked.{closing_line, ended_file, live_file}
 
--- first bytes of the cells give the file of their symbols that no further symbol changes ..
+-- the output for a prefix of the cells is the file of the symbols that no further symbol changes ..
 abbrev pub FirstGive : Settings → List ℕ → Written → Type 0
 FirstGive s bytes given = (port : OutPort) → given port ≡ written_at (live_file s bytes) [] port
 
--- .. and all bytes in the end that of all symbols, and the closing line; the work itself refuses none
+-- .. and for all bytes that of all symbols, and the closing line; the work refuses no cells
 abbrev pub AllGive : Settings → List ℕ → Written → Type 0
 AllGive s bytes given = (port : OutPort) → given port ≡ written_at (ended_file s bytes) (closing_line s bytes) port
 
+-- the work of `track`
 abbrev pub tracking_work : Settings → Work
 tracking_work s = record {
   size = symbol_length s;
@@ -39,19 +40,20 @@ tracking_work s = record {
   Reasons = λ r. ⊥;
 }
 
--- the symbol that n carriers are by its bytes
+-- the symbol of n carriers from its bytes
 abbrev pub symbol_in : List ℕ → ℕ → Symbol
 symbol_in bytes n = record { cells = cells_from bytes n; weights = weights_from bytes n }
 
--- what one symbol more gives: the symbol seven before it, if there is one
+-- the output for one more symbol: the symbol seven before it, if there is one
 abbrev pub next_given : Settings → List Symbol → Symbol → List ℕ
 next_given s all x = if nat_le 7 (length all) then tracked_bytes s (all ++ x ∷ []) (length all - 7) else []
 
--- the symbols from this number on, corrected
+-- the symbols from number n on, corrected
 unfoldable pub symbols_from : Settings → List Symbol → ℕ → List ℕ
 symbols_from s all n = flat_map (tracked_bytes s all) (range_with_len n (length all - n))
 
--- The tracker has had the whole symbols of these bytes, and those after them were counted. No byte of the next symbol was taken, and there is room for a corrected one.
+-- The tracker has had the whole symbols of these bytes, and the bytes after them were counted. No byte of the next
+-- symbol was taken, and there is space for a corrected one.
 pub record Stands (m : Mode) (t : TrackerState) (part : List ℕ) (capacity counted rest : ℕ) (bytes : List ℕ) (given : Written) : Type 0 where
   pub mode : t.settings.mode ≡ m
   pub tracks : Tracks t (received t.settings bytes)
@@ -72,16 +74,16 @@ pub record IsNew (m : Mode) (t : TrackerState) (part : List ℕ) (capacity count
   pub whole : counted ≡ 0
   pub after : rest ≡ 0
 
--- bytes follow what stood there, or a front of them
+-- bytes were appended, or a prefix of them
 abbrev pub Appends : List ℕ → List ℕ → List ℕ → Result (Unit {0}) Stop → Type 0
 Appends bytes before after (Ok u) = after ≡ before ++ bytes
 Appends bytes before after (Err r) = (r ≡ WriteFault) × (k : ℕ) × (after ≡ before ++ take k bytes)
 
--- only what is written to Cells, whether it waits, and the count of write faults have changed
+-- only the bytes written and pending at Cells, and the count of write faults have changed
 abbrev pub CellsOnly : Meaning → Meaning → Type 0
 CellsOnly old new = new ≡ record old { cells_out = record old.cells_out { written = new.cells_out.written }; write_faults = new.write_faults; pending = new.pending }
 
--- the work was done on the cells, or memory was wanting before a port was asked
+-- the work was done on the cells, or memory was lacking before a port was requested
 abbrev pub RunsOrLacks : Settings → List ℕ → List ℕ → Meaning → Meaning → ℕ → Type 0
 RunsOrLacks s old_name new_name old new status =
     RunsCells (tracking_work s) s.max_symbols old_name (Some (header s.mode)) (cell_names new_name) old new status ⊎ ((status ≡ 7) × WritesText (refusal_text Memory) old new)

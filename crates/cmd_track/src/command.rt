@@ -17,7 +17,7 @@ use std::alloc::Global;
 use cmd_cells::{CellFile, run_cells};
 use tracker::Tracker;
 
-// Takes the memory of a symbol as bytes, as cells and corrected, and of a tracker, and tracks the cells.
+// Allocates the memory for a symbol as bytes, as cells and corrected, and for a tracker, and tracks the cells.
 fn track_in<'a, M: Carriers, S: Station<'a>>(
     alloc: Global,
     settings: &Settings,
@@ -61,7 +61,7 @@ fn track_in<'a, M: Carriers, S: Station<'a>>(
     )
 }
 
-// The same in the mode that is set.
+// The same in the mode of the settings.
 fn track_accepted<'a, S: Station<'a>>(
     alloc: Global,
     settings: &Settings,
@@ -78,19 +78,18 @@ fn track_accepted<'a, S: Station<'a>>(
     }
 }
 
-/// Runs `track SETTINGS IN OUT` and gives its status: the cells of IN are corrected by the scattered pilots of
-/// neighbouring symbols (EN 300 744, 4.5.3), and written to OUT with weights by the noise. Both are cell files
-/// of version 2, and IN begins at the first symbol of a super-frame.
+/// Runs `track SETTINGS IN OUT` and returns its status: the cells of IN are corrected by the scattered pilots of
+/// neighbouring symbols (EN 300 744, 4.5.3), and written to OUT with weights from the noise. Both are cell files of
+/// version 2, and IN begins at the first symbol of a super-frame.
 ///
-/// What it promises is `Run` of its definition, `track_command`. The settings are read and checked, of which the
-/// mode, the guard interval, the constellation of each super-frame and the limit of symbols have an effect, and
-/// then all memory is taken, before another port is asked. IN is opened, and its header is read, before OUT is
-/// made. The limits of packets do not bound a correction.
+/// Its promise is `Run` of its definition, `track_command`. The settings are read and checked; only the mode, the guard
+/// interval, the constellation of each super-frame and the limit of symbols matter. Then all memory is allocated,
+/// before another port is requested. IN is opened, and its header is read, before OUT is created. The limits of packets
+/// do not apply.
 ///
-/// Its own laws: symbols that stand in OUT stay, whatever follows in IN; if the cells of IN are those of a
-/// transmission that came through a channel of one gain, each cell of OUT is near to the one that was sent, and
-/// what a receiver gives of OUT are the packets; the gain of a steady channel is exact; and more power never
-/// gives a lesser weight.
+/// Its own laws: symbols once in OUT stay, whatever follows in IN; if the cells of IN are a transmission received
+/// through a flat channel, each cell of OUT is close to the one sent, and a receiver gives the packets for OUT; the
+/// gain of a channel that does not change is exact; and more power never gives a lower weight.
 pub fn track<'a, S: Station<'a>>(
     alloc: Global,
     settings: &'a str,

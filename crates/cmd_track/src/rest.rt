@@ -1,4 +1,4 @@
-// The symbols that a tracker has not given before the end of the file.
+// The symbols that a tracker has not given when the file ends.
 ghost use Rattle.std.specs.Prelude.{◌≡◌, ◌≤◌, ◌*◌, ℕ, List, IsTrue, true, false, vec_capacity};
 ghost use Rattle.tracking.specs.Tracking.{Symbol};
 ghost use Rattle.tracker.specs.Tracks.{Tracks};
@@ -11,8 +11,7 @@ use station_core::{OutPort, Station};
 use cmd_cells::{Stop, write_some};
 use tracker::Tracker;
 
-/// Writes the symbols that were not given yet, each by one write. The file has ended, and `room` has room for a
-/// symbol.
+/// Writes the symbols not given yet, one write for each. The file has ended, and `room` holds a symbol.
 pub(crate) fn write_rest<'a, M: Carriers, S: Station<'a>>(
     tracker: &mut Tracker<M>,
     room: &mut Vec<u8>,

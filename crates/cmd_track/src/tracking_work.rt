@@ -24,7 +24,7 @@ fn closing_line(symbols: u64, tail: u64) -> Line
     line
 }
 
-// Takes the next whole symbol. The room has the symbol seven before it then, corrected, if there is one.
+// Takes the next whole symbol. `room` then has the corrected symbol seven before it, if there is one.
 fn take_symbol<M: Carriers>(
     tracker: &mut Tracker<M>,
     symbol: &mut SymbolIn<M>,
@@ -49,18 +49,18 @@ fn take_symbol<M: Carriers>(
     symbol.next();
 }
 
-/// A tracker, with the symbol that it takes, room for one that it gives, and what was counted.
+/// A tracker, with the symbol being read, space for a corrected one, and the counts.
 #[derive(Drop)]
 pub(crate) struct TrackingWork<M: Carriers> {
-    /// What corrects the symbols.
+    /// Corrects the symbols.
     pub tracker: Tracker<M>,
     /// The bytes of a symbol as cells and weights.
     pub symbol: SymbolIn<M>,
-    /// Room for a corrected symbol.
+    /// Space for a corrected symbol.
     pub room: Vec<u8>,
-    /// The whole symbols that were taken.
+    /// The number of whole symbols taken.
     pub symbols: u64,
-    /// The bytes that were taken after them.
+    /// The number of bytes taken after them.
     pub tail: u64,
 }
 

@@ -1,4 +1,4 @@
--- The law of what `trial` prints.
+-- The law of `trial`.
 use Rattle.std.proofs.Common.{◌≡◌, ℕ, List, Option, refl, ◌∙◌, sym, ap}
 use Rattle.mode_set.specs.declared.settings.Settings.{Settings}
 use Rattle.trial.specs.Drawn.{trial_frames}
@@ -12,7 +12,7 @@ pub record Laws : Type 0 where
   pub given : SameGiven
   pub counts : SameCounts
 
--- from zero the settings differ in the workers alone, too
+-- from zero the settings differ only in the workers, too
 from_zero : (s t : Settings) → DifferInWorkers s t → DifferInWorkers (at_zero s) (at_zero t)
 from_zero s t d = record {
   mode = d.mode;

@@ -1,4 +1,4 @@
--- What a trial that was run leaves.
+-- The state after a trial has run.
 use Rattle.std.proofs.Common.{◌≡◌, ℕ, None, Result, Ok, Err, sym, subst}
 use Rattle.station_core.specs.Meaning.{Meaning}
 use Rattle.mode_set.specs.declared.settings.Settings.{Settings}

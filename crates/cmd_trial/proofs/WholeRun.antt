@@ -1,4 +1,4 @@
--- What a run of `trial` leaves, and the promise of the whole run.
+-- The state after a run of `trial`, and the promise of the whole run.
 use Rattle.std.proofs.Common.{◌≡◌, ◌≢◌, ◌⊎◌, inl, inr, true, ℕ, ◌≤◌, List, [], ◌++◌, take, drop, Option, Some, None, Result, Ok, Err, refl, ◌∙◌, sym, ap, subst, arith}
 use Rattle.std.specs.Prelude.{option_and_then}
 use Rattle.std.specs.Option.{option_or}
@@ -29,7 +29,7 @@ use Rattle.cmd_trial.specs.Steps.{IsReady, Ran, ReportOnly, RunsOrLacks, Tells, 
 use Rattle.cmd_trial.proofs.Laws.{Laws, own_laws}
 use Rattle.cmd_trial.specs.TrialCommand.{trial_command, trial_lines, trial_refusal, TrialPrints, AreTrialLines}
 
--- why a run was refused, if it was
+-- the refusal of a run, if any
 abbrev refusal_in : Result (Unit {0}) Refusal → Option Refusal
 refusal_in (Ok u) = None
 refusal_in (Err r) = Some r
@@ -173,7 +173,7 @@ module _ (limit : ℕ) (name : List ℕ) (number : ℕ) (start mid : Meaning) (l
         own = λ file. own_laws laws (settings_of (file name)) number;
       }
 
-    -- ---- what stands by the outcome
+    -- ---- the state for each outcome
     module _ (end : Meaning) (others : ReportOnly mid end) where
       same_writes : mid.write_faults ≡ start.write_faults
       same_writes = ap (λ (x : Meaning). x.write_faults) asks.others
@@ -190,7 +190,7 @@ module _ (limit : ℕ) (name : List ℕ) (number : ℕ) (start mid : Meaning) (l
       empty : start.tells ≡ true → (l : List ℕ) → mid.report.written ++ l ≡ l
       empty t l = ap (λ (x : Meaning). x.report.written ++ l) asks.others ∙ ap (λ (w : List ℕ). w ++ l) (fresh.report_empty t)
 
-      -- where the receiver starts tells nothing of the super-frames
+      -- the super-frames do not depend on the start of the receiver
       from_zero : trial_refusal (at_zero s) number ≡ trial_refusal s number
       unfolding super_frames exists_in settings_in words_before
       from_zero = refl

@@ -1,4 +1,4 @@
--- The command `trial SETTINGS NUMBER`: what it comes to, from its settings and its number alone.
+-- The command `trial SETTINGS NUMBER`: its lines, from its settings and its number alone.
 use Rattle.std.specs.Prelude.{◌≡◌, ◌≢◌, ◌+◌, ◌*◌, ℕ, nat_lt, if◌then◌else◌, List, [], ◌∷◌, ◌++◌, codes, decimal, Option, Some, None, option_and_then, false}
 use Rattle.mode_set.specs.declared.modes.Stream.{Stream}
 use Rattle.mode_set.specs.declared.modes.Stream.TheVariants.{Hp, Lp}
@@ -17,21 +17,24 @@ use Rattle.cmd_base.specs.StatedSettings.{settings_of}
 use Rattle.cmd_base.specs.declared.work.Refusal.{Refusal}
 use Rattle.cmd_base.specs.declared.work.Refusal.TheVariants.{Limit}
 
--- the limit of a trial: no number of super-frames carries its packets, or they have more symbols than the settings allow
+-- the limit of a trial: no number of super-frames carries its packets, or they have more symbols than the settings
+-- allow
 abbrev pub limit_of : ℕ → Option ℕ → Option Refusal
 limit_of most None = Some (Limit most)
 limit_of most (Some n) = if nat_lt most (272 * n) then Some (Limit most) else None
 
+-- the refusal of a trial, if any
 abbrev pub trial_refusal : Settings → ℕ → Option Refusal
 trial_refusal s number = limit_of s.max_symbols (trial_frames s number)
 
--- the line of the cells that were fed, and that of the packets of a stream
+-- the line for the cells fed, and the line for the packets of a stream
 abbrev pub cells_line : TrialCounts → List ℕ
 cells_line counts = codes "cells " ++ decimal counts.cells ++ codes "\n"
 
 abbrev pub return_line : Stream → StreamReturn → List ℕ
 return_line σ r = stream_text σ ++ codes " packets " ++ decimal r.packets ++ codes " back " ++ decimal r.back ++ codes " sum " ++ decimal r.sum ++ codes "\n"
 
+-- the line for the packets of LP, if it exists
 abbrev pub lp_return_line : Option StreamReturn → List ℕ
 lp_return_line None = []
 lp_return_line (Some r) = return_line Lp r
@@ -40,21 +43,21 @@ lp_return_line (Some r) = return_line Lp r
 abbrev pub trial_lines : TrialCounts → List ℕ
 trial_lines counts = cells_line counts ++ (return_line Hp counts.hp ++ lp_return_line counts.lp)
 
--- the lines of the trial of this number: they count what is received of the cells fed
+-- the lines of the trial of this number, which count the reception of the cells fed
 abbrev pub AreTrialLines : Settings → ℕ → List ℕ → Type 0
 AreTrialLines s number lines = (r : Reception) × TrialGives (at_zero s) number r × (lines ≡ trial_lines (trial_counts (at_zero s) number r))
 
--- what a trial by these settings prints: nothing where it is refused
+-- the lines of a trial with these settings; none if it is refused
 pub record TrialPrints (s : Settings) (number : ℕ) (lines : List ℕ) : Type 0 where
   pub enough : trial_refusal s number ≡ None → AreTrialLines s number lines
   pub few : trial_refusal s number ≢ None → lines ≡ []
 
--- The law of what `trial` prints, by the settings that are stated, if any are.
+-- The law of `trial`, from the stated settings, if any.
 pub record TrialLaws (stated : Option Settings) (number : ℕ) : Type 0 where
-  -- By settings that differ from the stated ones in the number of workers alone, it prints the same.
+  -- Settings that differ only in the number of workers print the same.
   pub alike : (s t : Settings) → stated ≡ Some s → DifferInWorkers s t → (lines : List ℕ) → TrialPrints s number lines → TrialPrints t number lines
 
--- trial SETTINGS NUMBER. No file but the settings is read.
+-- trial SETTINGS NUMBER. Only the settings file is read.
 abbrev pub trial_command : List ℕ → ℕ → Command
 trial_command settings number = record {
   reads = by_input (Some settings) None None None;

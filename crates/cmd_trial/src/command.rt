@@ -16,7 +16,7 @@ use std::thread::Threads;
 use trial::Trial as Work;
 use word_workers::Gate;
 
-// The settings of a trial: its receiver starts at zero, whatever they say.
+// The settings of a trial, whose receiver always starts at zero.
 fn from_zero(settings: &Settings) -> Settings
     ensures { result ≡ at_zero settings.now }
 {
@@ -25,7 +25,7 @@ fn from_zero(settings: &Settings) -> Settings
     zero
 }
 
-// Takes the memory of a mode's trial, and runs it.
+// Allocates the memory for a mode's trial, and runs it.
 fn trial_in<'a, M: Carriers, R: Threads + Sync, G: Gate, S: Station<'a>>(
     rt: &R,
     alloc: Global,
@@ -44,7 +44,7 @@ fn trial_in<'a, M: Carriers, R: Threads + Sync, G: Gate, S: Station<'a>>(
     }
 }
 
-// The same in the mode that is set, from zero.
+// The same in the mode of the settings, from zero.
 fn trial_accepted<'a, R: Threads + Sync, G: Gate, S: Station<'a>>(
     rt: &R,
     alloc: Global,
@@ -63,12 +63,11 @@ fn trial_accepted<'a, R: Threads + Sync, G: Gate, S: Station<'a>>(
     }
 }
 
-/// Runs `trial SETTINGS NUMBER` and gives its status.
+/// Runs `trial SETTINGS NUMBER` and returns its status.
 ///
-/// The settings are read and checked, and then all memory is taken. A trial is refused whose packets no
-/// number of super-frames carries, or whose settings allow fewer symbols than these super-frames have. No
-/// port but Settings is asked. The limits of packets do not bound a trial. Its receiver is fed through the
-/// gate; what its end decodes passes none.
+/// The settings are read and checked, and then all memory is allocated. A trial is refused if no number of super-frames
+/// carries its packets, or if the settings allow fewer symbols than these super-frames have. Only the port Settings is
+/// used. The limits of packets do not apply. Its receiver is fed through the gate; the decoding at the end passes none.
 pub fn trial<'a, R: Threads + Sync, G: Gate, S: Station<'a>>(
     rt: &R,
     alloc: Global,

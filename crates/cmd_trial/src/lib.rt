@@ -1,9 +1,8 @@
-//! The command [`trial`]: packets are drawn from a number, modulated, disturbed and received, and what
-//! comes back is counted.
+//! The command [`trial`]: random packets from a number are modulated, disturbed and received, and the packets received
+//! are counted.
 //!
-//! The settings are read, and then all memory is taken. The command asks no other port: it writes closing
-//! lines to Report alone. The call carries the promise of a run of its command
-//! (`specs/TrialCommand.antt`).
+//! The settings are read, and then all memory is allocated. The command uses no other port: it only writes closing
+//! lines to Report. The call has the promise of a run of its command (`specs/TrialCommand.antt`).
 #![tactic(auto)]
 
 mod command;

@@ -12,7 +12,7 @@ use cmd_base::write_line;
 use station_core::Station;
 use trial::{StreamReturn, TrialCounts};
 
-// The closing line of the cells that a trial has fed.
+// The closing line for the cells fed in a trial.
 fn cells_line_of(counts: &TrialCounts) -> Line
     ensures text { result.bytes ≡ cells_line counts.now }
     ensures some { 0 < length result.bytes }
@@ -23,7 +23,7 @@ fn cells_line_of(counts: &TrialCounts) -> Line
     line
 }
 
-// The closing line of what came back of a stream in a trial.
+// The closing line for the packets of a stream in a trial.
 fn return_line_of(stream: Stream, counts: &StreamReturn) -> Line
     ensures text { result.bytes ≡ return_line stream counts.now }
     ensures some { 0 < length result.bytes }
@@ -63,7 +63,7 @@ fn write_streams<'a, S: Station<'a>>(counts: &TrialCounts, station: &mut S) -> R
     write_lp(&counts.lp, station)
 }
 
-/// Writes the closing lines of a trial, each by one write.
+/// Writes the closing lines of a trial, one write for each.
 pub(crate) fn write_lines<'a, S: Station<'a>>(
     counts: &TrialCounts,
     station: &mut S,

@@ -1,4 +1,4 @@
-// A whole run behind its settings.
+// A whole run after its settings.
 ghost use Rattle.std.specs.Prelude.{◌≡◌, ◌*◌, ◌≤◌, Some, None, IfSome, IfNone, IsTrue, is_some};
 ghost use Rattle.cmd_base.specs.declared.work.Refusal.TheVariants as AnyRefusal;
 ghost use Rattle.cmd_base.specs.Causes.{HasCause};
@@ -14,7 +14,7 @@ use std::thread::Threads;
 use trial::Trial;
 use word_workers::Gate;
 
-// The super-frames of a trial, where there are some whose symbols are within the limit.
+// The super-frames of a trial, if they exist and their symbols are within the limit.
 fn frames_within(frames: Option<u64>, max_symbols: u32) -> Option<u64>
     ensures some { IfSome result (λ n. (frames ≡ Some n) × (272 * n ≤ max_symbols)) }
     ensures allowed { IsTrue (is_some result) → limit_of max_symbols frames ≡ None }
@@ -27,8 +27,7 @@ fn frames_within(frames: Option<u64>, max_symbols: u32) -> Option<u64>
     Some(count)
 }
 
-// Runs a trial and writes its closing lines, where it has super-frames and its settings allow their
-// symbols.
+// Runs a trial and writes its closing lines, if it has super-frames and its settings allow their symbols.
 fn run_and_report<'a, M: Carriers, R: Threads + Sync, G: Gate, S: Station<'a>>(
     rt: &R,
     gate: &G,
@@ -51,7 +50,7 @@ fn run_and_report<'a, M: Carriers, R: Threads + Sync, G: Gate, S: Station<'a>>(
     }
 }
 
-/// Runs a trial that has taken its memory, and gives its status.
+/// Runs a trial whose memory is allocated, and returns its status.
 pub(crate) fn run_trial<'a, M: Carriers, R: Threads + Sync, G: Gate, S: Station<'a>>(
     rt: &R,
     gate: &G,

@@ -1,4 +1,4 @@
--- A stream of costs is cut into parts, so bits are given of it, and reports.
+-- A stream of costs divides into parts, so bits and reports exist.
 use Rattle.std.proofs.Common.{ℕ, Bool, List, [], ◌∷◌, ◌++◌, length, drop, inl, inr, refl}
 use Rattle.std.specs.declared.option.Option.{Option}
 use Rattle.std.specs.declared.option.Option.TheVariants.{Some}

@@ -1,4 +1,4 @@
--- How a stream's parts grow.
+-- How the parts of a stream grow.
 use Rattle.std.proofs.Common.{◌≡◌, ℕ, ◌+◌, ◌<◌, ◌≤◌, Bool, List, [], ◌∷◌, ◌++◌, length, take, drop, ◌⊎◌, inl, inr, refl, sym, ap, ap₂, ◌∙◌, subst, subst₂, arith, length-append, append_assoc, append-nil}
 use Rattle.std.proofs.lemmas.Bool.{cases_lt, cases_order}
 use Rattle.std.proofs.lemmas.List.{take-append-le, take_all, take_at, drop_at}
@@ -19,7 +19,7 @@ quiet_more most a c x q n t l o = go (cases_lt t (length c + 1))
     go (inl m) = quiet_before most a c x q t m o
     go (inr m) = n (subst (IsOverdue most a) (take_all t (c ++ x ∷ []) (omega (arith, length-append c (x ∷ [])))) o)
 
--- the open part goes on
+-- the open part continues
 pub cut_more : (most : ℕ) (a : Option (List Bool)) (c : List CostPair) (x : CostPair) (parts : List Part) (b : Option (List Bool)) (d : List CostPair)
     → IsCut most a c parts b d → (IsOverdue most b (d ++ x ∷ []) → ⊥) → IsCut most a (c ++ x ∷ []) parts b (d ++ x ∷ [])
 cut_more most a c x [] b d k n =
@@ -46,7 +46,7 @@ cut_end most a c x [] b d p k o l =
 cut_end most a c x (part ∷ parts) b d p k o l =
     (k.0 ++ x ∷ [], ap (λ z. z ++ x ∷ []) k.1 ∙ append_assoc part.costs k.0 (x ∷ []), k.2, cut_end most (Some (end_of part)) k.0 x parts b d p k.3 o l)
 
--- ---- a stream has one cut
+-- ---- a stream has one division into parts
 
 pub no_part : (most : ℕ) (a : Option (List Bool)) (c : List CostPair) (part : Part) (rest : List CostPair) → IsQuiet most a c (length c + 1) → c ≡ part.costs ++ rest → IsPart most a part → ⊥
 no_part most a c part rest q e p =

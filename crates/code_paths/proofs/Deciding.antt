@@ -1,7 +1,7 @@
--- What can be decided, and inductions from the end of a list.
+-- Decidable facts, and inductions from the end of a list.
 use Rattle.std.proofs.Common.{◌≡◌, ℕ, zero, suc, Bool, true, false, List, [], ◌∷◌, ◌++◌, length, ◌⊎◌, inl, inr, refl, sym, ap, subst, arith}
 
--- it is so, or it is not
+-- it holds, or it does not
 abbrev pub Decided : Type 0 → Type 0
 Decided A = A ⊎ (A → ⊥)
 
@@ -16,7 +16,7 @@ same_bit false true = inr (λ e. cc)
 inside : {A : Type 0} (x y : A) (xs ys : List A) → x ∷ xs ≡ y ∷ ys → (x ≡ y) × (xs ≡ ys)
 inside x y xs ys e = (cc, cc)
 
--- two lists are the same, or not
+-- two lists are equal or not
 pub same_list : {A : Type 0} → ((x y : A) → Decided (x ≡ y)) → (xs ys : List A) → Decided (xs ≡ ys)
 same_list same [] [] = inl refl
 same_list same [] (y ∷ ys) = inr (λ e. absurd (omega (arith, ap length e)))
@@ -28,7 +28,7 @@ same_list {A} same (x ∷ xs) (y ∷ ys) = go (same x y) (same_list same xs ys)
     go (inl e) (inr n) = inr (λ h. n (inside x y xs ys h).1)
     go (inr n) d = inr (λ h. n (inside x y xs ys h).0)
 
--- what can be decided of each list of n bits can be decided of all
+-- what is decidable for each list of n bits is decidable for all
 pub all_bits : (n : ℕ) (P : List Bool → Type 0) → ((e : List Bool) → length e ≡ n → Decided (P e)) → Decided ((e : List Bool) → length e ≡ n → P e)
 all_bits zero P d = go (d [] refl)
   where
@@ -61,7 +61,7 @@ last_of (suc n) (x ∷ []) l = absurd (omega arith)
 last_of (suc n) (x ∷ y ∷ xs) l =
     let r = last_of n (y ∷ xs) (omega arith) in (x ∷ r.0, r.1, ap (λ z. x ∷ z) r.2, omega (arith, r.3))
 
--- what holds of no element, and of one more at the end, holds of every list
+-- what holds of no elements, and of one more at the end, holds of every list
 pub from_end : {A : Type 0} (P : List A → Type 0) → P [] → ((xs : List A) (x : A) → P xs → P (xs ++ x ∷ [])) → (xs : List A) → P xs
 from_end {A} P none more xs = go (length xs) xs refl
   where

@@ -12,7 +12,7 @@ use Rattle.code_paths.specs.Laws.{longer_total, ExtendsTo}
 use Rattle.code_paths.specs.Trial.{weight}
 use Rattle.code_paths.proofs.Order.{weight-lt, weight-append, NotAfter, not_after, or_before}
 
--- a step reads the first seven bits alone
+-- a step reads only the first seven bits
 pub step_front : (x : CostPair) (p q : List Bool) → 7 ≤ length p → step_cost x (p ++ q) ≡ step_cost x p
 step_front x p q l =
     let f : (k : ℕ) → k < 7 → bit (p ++ q) k ≡ bit p k = λ k h. get_or_append_left p q false k (omega arith) in
@@ -63,14 +63,14 @@ path_pop a c x q h =
       path = record { long = r.3; start = starts_pop a r.0 r.1 (omega (arith, r.3)) (subst (Starts a) r.2 h.start) };
     }
 
--- the six bits at the end of a path over one more step
+-- the last six bits of a path over one more step
 pub ends_push : (c : List CostPair) (x : CostPair) (p : List Bool) (b : Bool) → length p ≡ 6 + length c → drop (length (c ++ x ∷ [])) (p ++ b ∷ []) ≡ drop 1 (drop (length c) p) ++ b ∷ []
 ends_push [] x [] b l = absurd (omega arith)
 ends_push [] x (a ∷ p) b l = refl
 ends_push (y ∷ c) x [] b l = absurd (omega arith)
 ends_push (y ∷ c) x (a ∷ p) b l = ends_push c x p b (omega arith)
 
--- a longer path to m and b comes from a path to one of the two registers z and m
+-- a longer path to m and b extends a path to one of the two registers z and m
 pub record From (a : Option (List Bool)) (c : List CostPair) (m : List Bool) (b : Bool) (q : List Bool) : Type 0 where
   pub front : List Bool
   pub oldest : Bool
@@ -123,7 +123,7 @@ least_push a c x m b z p h e best = record {
 
 -- ---- the choice between the two ways
 
--- two paths that end alike but for the oldest bit
+-- two paths that end alike except for the oldest bit
 even_first : (n : ℕ) (p q m : List Bool) → length p ≡ length q → n ≤ length p → drop n p ≡ false ∷ m → drop n q ≡ true ∷ m → weight p ≤ weight q
 even_first n p q m l k e f =
     let u : weight p ≡ weight (take n p) + 2 ^ length (take n p) * weight (false ∷ m) = ap weight (sym (take-append-drop n p)) ∙ weight-append (take n p) (drop n p) ∙ ap (λ r. weight (take n p) + 2 ^ length (take n p) * weight r) e in
@@ -144,7 +144,7 @@ same_way : (c : List CostPair) (x : CostPair) (m : List Bool) (b : Bool) (z : Bo
 same_way c x m b z p r (inl h) = inl (omega arith)
 same_way c x m b z p r (inr h) = inr (omega (arith, h.0), h.1)
 
--- with two ways the even one is taken unless the odd one costs less
+-- with two ways the even one is taken, unless the odd one costs less
 pub even_wins : (a : Option (List Bool)) (c : List CostPair) (x : CostPair) (m : List Bool) (b : Bool) (p q : List Bool) → LeastTo a c (false ∷ m) p → LeastTo a c (true ∷ m) q → longer_total c x p false m b ≤ longer_total c x q true m b → LeastTo a (c ++ x ∷ []) (m ++ b ∷ []) (p ++ b ∷ [])
 even_wins a c x m b p q h k le = least_push a c x m b false p h.path h.ends best
   where
@@ -177,7 +177,7 @@ only_way a c x m b z p h u = least_push a c x m b z p h.path h.ends (λ y r i e.
     best y r i e (inl s) = subst (λ w. NoWorse c x m b p z w r) (sym s) (same_way c x m b z p r (not_after c p r (omega (arith, h.path.long, i.long)) (h.first r i (e ∙ ap (λ w. w ∷ m) s))))
     best y r i e (inr s) = absurd (u r i (e ∙ ap (λ w. w ∷ m) s))
 
--- and with none there is none
+-- and with none there is no path
 pub no_way : (a : Option (List Bool)) (c : List CostPair) (x : CostPair) (m : List Bool) (b : Bool) → Unreached a c (false ∷ m) → Unreached a c (true ∷ m) → Unreached a (c ++ x ∷ []) (m ++ b ∷ [])
 no_way a c x m b u v q h e = go (from_one a c x m b q h e)
   where

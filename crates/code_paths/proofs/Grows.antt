@@ -1,4 +1,4 @@
--- What is defined only grows.
+-- The defined bits only grow.
 use Rattle.std.proofs.Common.{◌≡◌, ℕ, zero, suc, ◌+◌, ◌*◌, ◌^◌, ◌<◌, ◌≤◌, Bool, true, false, List, [], ◌∷◌, ◌++◌, length, take, drop, ◌⊎◌, inl, inr, refl, sym, ap, ap₂, ◌∙◌, subst, subst₂, arith, length-append, append_assoc, append-nil, take-append-drop, length-take-le, drop-drop}
 use Rattle.std.proofs.lemmas.Bool.{cases_lt}
 use Rattle.std.proofs.lemmas.List.{take_at, take-append-le, drop-append-le}
@@ -35,7 +35,7 @@ starts_more : (a : Option (List Bool)) (p t : List Bool) → 6 ≤ length p → 
 starts_more None p t l s = s
 starts_more (Some r) p t l s = take-append-le 6 p t l ∙ s
 
--- with one end and one continuation, the order is that of the beginnings
+-- with the same end and continuation, the order is that of the prefixes
 not_after_front : (c m : List CostPair) (p q t : List Bool) → length p ≡ 6 + length c → length q ≡ 6 + length c → drop (length c) p ≡ drop (length c) q → NotAfter (c ++ m) (p ++ t) (q ++ t) → NotAfter c p q
 not_after_front c m p q t l k e h = go h
   where
@@ -52,7 +52,7 @@ not_after_front c m p q t l k e h = go h
     go (inl n) = inl (omega (arith, n, whole p l, whole q k, rest))
     go (inr n) = inr (omega (arith, n.0, whole p l, whole q k, rest), omega (arith, n.1, weight-append p t, weight-append q t, same))
 
--- the beginning of a path that is not after any to its end is least to its own end
+-- a prefix of a path that is not after any to its end is least to its own end
 front_least : (a : Option (List Bool)) (c m : List CostPair) (p t : List Bool) → length p ≡ 6 + length c → IsPath a (c ++ m) (p ++ t)
     → ((q : List Bool) → IsPath a (c ++ m) q → drop (length (c ++ m)) q ≡ drop (length (c ++ m)) (p ++ t) → NotAfter (c ++ m) (p ++ t) q) → LeastTo a c (drop (length c) p) p
 front_least a c m p t l h f = record {
@@ -73,7 +73,7 @@ drop_front p t l = drop-append-le 6 p t l
 prefix_more : (s p t : List Bool) → IsPrefix s p → IsPrefix s (p ++ t)
 prefix_more s p t h = record { rest = h.rest ++ t; is = ap (λ z. z ++ t) h.is ∙ append_assoc s h.rest t }
 
--- what is shared begins each path that is least to its end over more costs
+-- the shared bits are a prefix of each path that is least to its end over more costs
 shared_begins : (a : Option (List Bool)) (c m : List CostPair) (s p : List Bool) → Shared a c s → IsPath a (c ++ m) p
     → ((q : List Bool) → IsPath a (c ++ m) q → drop (length (c ++ m)) q ≡ drop (length (c ++ m)) p → NotAfter (c ++ m) p q) → IsPrefix s (drop 6 p)
 shared_begins a c m s p h k f =
@@ -93,7 +93,7 @@ shared_to a c m s e p h k = shared_begins a c m s p h k.path (λ q i f. not_afte
 pub shared_least : (a : Option (List Bool)) (c m : List CostPair) (s p : List Bool) → Shared a c s → Least a (c ++ m) p → IsPrefix s (drop 6 p)
 shared_least a c m s p h k = shared_begins a c m s p h k.path (λ q i f. not_after (c ++ m) p q (omega (arith, k.path.long, i.long)) (k.first q i))
 
--- two lists of bits are the same or not
+-- two lists of bits are equal or not
 same_bits : (p q : List Bool) → (p ≡ q) ⊎ (p ≡ q → ⊥)
 same_bits [] [] = inl refl
 same_bits [] (b ∷ q) = inr (λ e. absurd (omega (arith, ap length e)))
@@ -108,7 +108,7 @@ same_bits (a ∷ p) (b ∷ q) = go a b (same_bits p q)
     go true true (inr n) = inr (λ e. n (ap (drop 1) e))
     go false false (inr n) = inr (λ e. n (ap (drop 1) e))
 
--- the shorter of two beginnings of one list begins the longer
+-- the shorter of two prefixes of a list is a prefix of the longer
 pub prefix_of_prefix : (s r p : List Bool) → IsPrefix s p → IsPrefix r p → length s ≤ length r → take (length s) r ≡ s
 prefix_of_prefix s r p h k l =
     sym (take-append-le (length s) r k.rest l) ∙ ap (take (length s)) (sym k.is ∙ h.is) ∙ take_at s h.rest (length s) refl
@@ -116,7 +116,7 @@ prefix_of_prefix s r p h k l =
 pub prefix_from_take : (s r : List Bool) → take (length s) r ≡ s → IsPrefix s r
 prefix_from_take s r e = record { rest = drop (length s) r; is = sym (take-append-drop (length s) r) ∙ ap (λ z. z ++ drop (length s) r) e }
 
--- what is shared begins what is shared over more costs
+-- the shared bits are a prefix of those over more costs
 pub shared_grows : (a : Option (List Bool)) (c m : List CostPair) (s r : List Bool) → Shared a c s → Shared a (c ++ m) r → IsPrefix s r
 shared_grows a c m s r h k = prefix_from_take s r (go (same_bits (take (length s) r) s))
   where
@@ -130,7 +130,7 @@ shared_grows a c m s r h k = prefix_from_take s r (go (same_bits (take (length s
     go (inl e) = e
     go (inr n) = absurd (omega (arith, k.longest (true ∷ r) (λ e p q. absurd (none n e p q))))
 
--- the parts of a longer stream go on from those of a shorter one
+-- the parts of a longer stream continue those of a shorter one
 pub record Further (most : ℕ) (b : Option (List Bool)) (d more : List CostPair) (ps qs : List Part) (b2 : Option (List Bool)) (d2 : List CostPair) : Type 0 where
   pub parts : List Part
   pub is : qs ≡ ps ++ parts
@@ -171,7 +171,7 @@ bits_append (p ∷ ps) qs = ap (λ z. drop 6 p.path ++ z) (bits_append ps qs) �
 pub prefix_under : (f s r : List Bool) → IsPrefix s r → IsPrefix (f ++ s) (f ++ r)
 prefix_under f s r h = record { rest = h.rest; is = ap (λ z. f ++ z) h.is ∙ sym (append_assoc f s h.rest) }
 
--- what is given only grows
+-- the bits given only grow
 pub given_grows : (most : ℕ) (a : Option (List Bool)) (c more : List CostPair) (g h : List Bool) → Given most a c g → Given most a (c ++ more) h → IsPrefix g h
 given_grows most a c more g h x y =
     let w = cut_further most a c more x.parts x.start x.costs y.parts y.start y.costs x.cut y.cut in
@@ -200,7 +200,7 @@ reports_grow most a c more rs ts x y =
     let r = ends_append 0 x.parts w.parts in
     (ends_of r.0 w.parts, y.is ∙ ap (ends_of 0) w.is ∙ r.1 ∙ ap (λ z. z ++ ends_of r.0 w.parts) (sym x.is))
 
--- what is given is one list
+-- the bits given are unique
 shared_once : (a : Option (List Bool)) (c : List CostPair) (s r : List Bool) → Shared a c s → Shared a c r → s ≡ r
 shared_once a c s r h k =
     let e : c ++ [] ≡ c = append-nil c in

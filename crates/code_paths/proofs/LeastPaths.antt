@@ -1,4 +1,4 @@
--- There are least paths.
+-- Least paths exist.
 use Rattle.std.proofs.Common.{◌≡◌, ℕ, zero, suc, ◌+◌, ◌<◌, ◌≤◌, Bool, true, false, List, [], ◌∷◌, ◌++◌, length, take, drop, ◌⊎◌, inl, inr, refl, sym, ap, ◌∙◌, subst, arith, length-append, length-drop}
 use Rattle.std.specs.Prelude.{replicate}
 use Rattle.std.proofs.lemmas.Bool.{cases_lt}
@@ -80,7 +80,7 @@ some_least a c s = let q = some_path a c s in go q.0 q.1 (reached a c (drop (len
     go q k (inl h) = (drop (length c) q, h.0, h.1)
     go q k (inr n) = absurd (n q k refl)
 
--- ---- the first of all
+-- ---- the least of all
 
 either_first : (c : List CostPair) (p q : List Bool) → NotAfter c p q ⊎ NotAfter c q p
 either_first c p q = go (cases_lt (total c p) (total c q)) (cases_lt (total c q) (total c p)) (cases_lt (weight p) (weight q))
@@ -97,7 +97,7 @@ first_again c p q r (inl h) (inr k) = inl (omega (arith, h, k.0))
 first_again c p q r (inr h) (inl k) = inl (omega (arith, h.0, k))
 first_again c p q r (inr h) (inr k) = inr (omega (arith, h.0, k.0), omega (arith, h.1, k.1))
 
--- p is not after any path to the ends that these lists of n bits stand for
+-- p is not after any path to the ends for these lists of n bits
 record IsBest (a : Option (List Bool)) (c : List CostPair) (n : ℕ) (at : List Bool → List Bool) (p : List Bool) : Type 0 where
   path : IsPath a c p
   best : (e : List Bool) → length e ≡ n → (q : List Bool) → IsPath a c q → drop (length c) q ≡ at e → NotAfter c p q

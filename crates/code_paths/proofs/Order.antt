@@ -94,7 +94,7 @@ weight-earlier (a ∷ p) (b ∷ q) l w = go a b l w (cases_order (weight p) (wei
     go true b l w (inl h) f = absurd (omega (arith, digit_small b))
     go false false l w (inl h) f = absurd (omega arith)
 
--- p is q or comes before it
+-- p is q or precedes it
 abbrev pub NotAfter : List CostPair → List Bool → List Bool → Type 0
 NotAfter c p q = (total c p < total c q) ⊎ ((total c p ≡ total c q) × (weight p ≤ weight q))
 

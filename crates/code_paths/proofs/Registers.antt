@@ -26,7 +26,7 @@ number_of n l = eqb-true _ _ (all_below_at (λ n. eqb (weight (register n)) n) 6
 abbrev pub older : ℕ → List Bool
 older n = is_set n 0 ∷ is_set n 1 ∷ is_set n 2 ∷ is_set n 3 ∷ is_set n 4 ∷ []
 
--- five bits that a table of 64 shows
+-- five bits, by a table of 64
 five : (f : ℕ → ℕ) (b : Bool) (n : ℕ) → n < 64
     → agree_below (λ n. is_set (f n) 0) (λ n. b) 64 ≡ true
     → agree_below (λ n. is_set (f n) 1) (λ n. is_set n 0) 64 ≡ true

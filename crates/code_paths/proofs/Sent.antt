@@ -1,4 +1,4 @@
--- The path for which the costs speak is the least one.
+-- The path that the costs favour is the least one.
 use Rattle.std.proofs.Common.{◌≡◌, ℕ, suc, ◌+◌, ◌<◌, ◌≤◌, Bool, true, false, cond, not, List, [], ◌∷◌, ◌++◌, length, take, drop, ◌⊎◌, inl, inr, refl, sym, ap, ap₂, ◌∙◌, subst, subst₂, arith, length-append, length-drop, length-take-le, append_assoc, take-append-drop, drop-drop, get_or-take, ext_get_or}
 use Rattle.std.proofs.lemmas.Bool.{cases_lt}
 use Rattle.std.proofs.lemmas.List.{take-take, drop-take}
@@ -83,7 +83,7 @@ alike_next a b p q f e k l = go (cases_lt k 5)
     go (inl m) = f (suc k) (omega arith)
     go (inr m) = let i : k ≡ 5 = omega arith in rw i e
 
--- each other path from the same register costs more
+-- every other path from the same register costs more
 pub others_cost_more : (c : List CostPair) (p q : List Bool) → length p ≡ 6 + length c → length q ≡ 6 + length c → Alike 6 p q → SpeakFor c p → (p ≡ q) ⊎ (total c p < total c q)
 others_cost_more [] p q l k f h = inl (ext_get_or false p q (l ∙ sym k) (λ j w. f j (omega arith)))
 others_cost_more (x ∷ c) [] q l k f h = absurd (omega arith)
@@ -116,7 +116,7 @@ shown_least r c p h = record { path = h.path; first = λ q k. go q (shown_first 
 shown_to : (r : List Bool) (c : List CostPair) (p : List Bool) → IsShown r c p → LeastTo (Some r) c (drop (length c) p) p
 shown_to r c p h = let l = shown_least r c p h in record { path = h.path; ends = refl; first = λ q k e. l.first q k }
 
--- ---- beginnings and ends of such a path
+-- ---- prefixes and ends of such a path
 
 speak_step : (x : CostPair) (p : List Bool) (n : ℕ) → 7 ≤ n → SpeaksFor x p → SpeaksFor x (take n p)
 speak_step x p n l h =
@@ -159,7 +159,7 @@ shown_back r c m p h = record {
 
 -- ---- the parts of a stream of such costs
 
--- the open part is shown too, and the bits before it are sent bits
+-- the open part is favoured too, and the bits before it are sent bits
 record Remains (p : List Bool) (parts : List Part) (b : Option (List Bool)) (d : List CostPair) : Type 0 where
   register : List Bool
   tail : List Bool

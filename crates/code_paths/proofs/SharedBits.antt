@@ -1,4 +1,4 @@
--- There are shared bits, and it can be decided whether a stream is overdue.
+-- Shared bits exist, and it is decidable whether a stream is overdue.
 use Rattle.std.proofs.Common.{◌≡◌, ℕ, zero, suc, ◌+◌, ◌<◌, ◌≤◌, Bool, List, [], ◌++◌, length, take, drop, ◌⊎◌, inl, inr, refl, sym, ap, ◌∙◌, subst, arith, length-append, length-take-le, take-append-drop}
 use Rattle.std.proofs.lemmas.Bool.{cases_lt}
 use Rattle.std.proofs.lemmas.List.{take_at}
@@ -29,7 +29,7 @@ is_prefix s t = go (same_list same_bit (take (length s) t) s)
 -- ---- common bits
 
 module _ (a : Option (List Bool)) (c : List CostPair) where
-  -- the bits begin the least path to an end, if there is one
+  -- the bits are a prefix of the least path to an end, if there is one
   abbrev Begin : List Bool → List Bool → Type 0
   Begin s e = (p : List Bool) → LeastTo a c e p → IsPrefix s (drop 6 p)
 
@@ -48,7 +48,7 @@ module _ (a : Option (List Bool)) (c : List CostPair) where
       go (inl all) = inl (λ e p h. all e (ap length (sym h.ends) ∙ length_end a c p h.path) p h)
       go (inr n) = inr (λ common. n (λ e l. common e))
 
-  -- the longest front of the least path to some end that is common
+  -- the longest common prefix of the least path to some end
   longest : (e p : List Bool) → LeastTo a c e p → (k : ℕ) → k ≤ length (drop 6 p) → ((j : ℕ) → k < j → j ≤ length (drop 6 p) → IsCommon a c (take j (drop 6 p)) → ⊥) → (s : List Bool) × Shared a c s
   longest e p h zero l none = (
     [],

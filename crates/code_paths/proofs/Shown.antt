@@ -1,4 +1,4 @@
--- Pairs made of the costs of sent bits speak for the path.
+-- Pairs made from the costs of sent bits favour the path.
 use Rattle.std.proofs.Common.{◌≡◌, ℕ, ◌<◌, Bool, true, false, not, ◌||◌, List, ◌⊎◌, inl, inr, sym, ◌∙◌, subst₂}
 use Rattle.code_paths.specs.declared.costs.CostPair.{CostPair}
 use Rattle.code_paths.specs.Paths.{parity_x, parity_y}

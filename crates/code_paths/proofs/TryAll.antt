@@ -1,4 +1,4 @@
--- Trying all paths in order.
+-- Exhaustive search of paths, in order.
 use Rattle.std.proofs.Common.{◌≡◌, ℕ, zero, suc, ◌+◌, ◌-◌, ◌*◌, ◌%◌, ◌^◌, ◌<◌, ◌≤◌, Bool, true, false, true≢false, List, [], ◌∷◌, length, take, drop, get_or, set, replicate, ◌⊎◌, inl, inr, refl, sym, ap, ◌∙◌, subst, arith, length-drop}
 use Rattle.std.proofs.Math.Nat.{pow-suc}
 use Rattle.std.proofs.lemmas.Bool.{cases_lt}
@@ -28,7 +28,7 @@ pub weight_zeros : (n : ℕ) → weight (replicate n false) ≡ 0
 weight_zeros zero = refl
 weight_zeros (suc n) = omega (arith, weight_zeros n)
 
--- ---- one path more
+-- ---- one more path
 
 module _ (a e : Option (List Bool)) (c : List CostPair) where
   same_path : (p q : List Bool) → length p ≡ 6 + length c → IsPath a c q → weight q < weight p + 1 → (weight q < weight p) ⊎ (q ≡ p)

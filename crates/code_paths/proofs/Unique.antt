@@ -1,11 +1,11 @@
--- There is one least path.
+-- The least path is unique.
 use Rattle.std.proofs.Common.{◌≡◌, Bool, List, length, inl, inr, sym, arith}
 use Rattle.std.specs.declared.option.Option.{Option}
 use Rattle.code_paths.specs.declared.costs.CostPair.{CostPair}
 use Rattle.code_paths.specs.Paths.{LeastTo, Least}
 use Rattle.code_paths.proofs.Order.{weight_same, NotAfter, not_after}
 
--- two paths of which neither is after the other
+-- two paths neither of which is after the other
 both_first : (c : List CostPair) (p q : List Bool) → length p ≡ length q → NotAfter c p q → NotAfter c q p → p ≡ q
 both_first c p q l (inl h) (inl k) = absurd (omega arith)
 both_first c p q l (inl h) (inr k) = absurd (omega (arith, k.0))

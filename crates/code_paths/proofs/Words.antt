@@ -1,4 +1,4 @@
--- Bits of 64-bit words under and, or, not and shifts.
+-- Bits of 64-bit words under AND, OR, NOT and shifts.
 use Rattle.std.proofs.Common.{◌≡◌, ℕ, zero, suc, ◌+◌, ◌-◌, ◌*◌, ◌/◌, ◌%◌, ◌^◌, ◌<◌, ◌≤◌, min, max, Bool, true, false, not, ◌&&◌, ◌||◌, ◌⊎◌, inl, inr, refl, sym, ap, ◌∙◌, arith, eqb, bit_and, bit_or, mod-lt, lit<}
 use Rattle.std.proofs.Math.Nat.{mod-add-div', one-le-pow}
 use Rattle.std.specs.Bool.{nat_lt}

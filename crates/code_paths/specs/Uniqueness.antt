@@ -1,4 +1,4 @@
--- That there is what a stream of costs defines.
+-- A stream of costs always defines bits and reports.
 use Rattle.std.specs.Prelude.{◌≡◌, ℕ, Bool, List, length, ⊤}
 use Rattle.std.specs.declared.option.Option.{Option}
 use Rattle.std.specs.declared.option.Option.TheVariants.{None, Some}
@@ -10,14 +10,14 @@ abbrev pub IsStart : Option (List Bool) → Type 0
 IsStart None = ⊤
 IsStart (Some r) = length r ≡ 6
 
--- some bits are given
+-- the bits given exist
 abbrev pub SomeAreGiven : Type 0
 SomeAreGiven = (most : ℕ) (a : Option (List Bool)) (c : List CostPair) → IsStart a → (g : List Bool) × Given most a c g
 
--- there are some at the end
+-- the bits at the end exist
 abbrev pub SomeAreEnded : Type 0
 SomeAreEnded = (most : ℕ) (a : Option (List Bool)) (c : List CostPair) → IsStart a → (g : List Bool) × Ended most a c g
 
--- there are some reports, or none
+-- the reports exist, perhaps none
 abbrev pub SomeAreReported : Type 0
 SomeAreReported = (most : ℕ) (a : Option (List Bool)) (c : List CostPair) → IsStart a → (rs : List ℕ) × Reports most a c rs

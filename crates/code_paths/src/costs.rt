@@ -1,8 +1,8 @@
 // The costs of one step.
 ghost use Rattle.code_paths.specs.Small.{IsSmall};
 
-/// The costs of the two coded bits of one step of the inner code: how badly each value of X and of Y fits what was
-/// received. Each is at most 4095. A bit that was not sent costs 0 either way (EN 300 744, 4.3.3).
+/// The costs of the two coded bits of one step of the inner code: how badly each value of X and of Y fits the received
+/// signal. Each is at most 4095. A punctured bit costs 0 for either value (EN 300 744, 4.3.3).
 #[derive(Clone, Copy, Debug, Drop, PartialEq, Eq)]
 pub struct CostPair {
     /// The cost of X being 0.

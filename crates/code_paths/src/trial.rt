@@ -1,4 +1,4 @@
-// Least paths by trying all: the program of the definition, for small inputs.
+// Least paths by exhaustive search: the program of the definition, for small inputs.
 ghost use Rattle.std.specs.Prelude.{◌≡◌, ◌+◌, ◌<◌, ◌≤◌, ◌^◌, Bool, List, length, IsTrue, IsFalse, ◌↔◌};
 ghost use Rattle.code_paths.specs.Paths as paths;
 ghost use Rattle.code_paths.specs.Paths.{IsPath, Least, LeastTo, Unreached, Starts};
@@ -7,7 +7,7 @@ ghost use Rattle.std.specs.declared.option.Option.{Option};
 
 use crate::CostPair;
 
-/// The cost of the step whose register and input stand at the front of `path`.
+/// The cost of the step whose register and input are at the start of `path`.
 fn step_cost_of(pair: CostPair, path: &[bool]) -> u32
     requires long { 7 ≤ length path.now }
     ensures is { result ≡ paths.step_cost pair path.now }
@@ -33,7 +33,7 @@ pub fn path_cost(costs: &[CostPair], path: &[bool]) -> u32
     sum
 }
 
-/// Are these the same six bits?
+/// Whether these are the same six bits.
 fn are_same(bits: &[bool], six: [bool; 6]) -> bool
     requires { length bits.now ≡ 6 }
     ensures { IsTrue result ↔ (bits.now ≡ six) }
@@ -46,7 +46,7 @@ fn are_same(bits: &[bool], six: [bool; 6]) -> bool
     true
 }
 
-/// Has a path this start and this end, where they are given?
+/// Whether a path has this start and this end, if they are given.
 fn fits(path: &[bool], start: Option<[bool; 6]>, end: Option<[bool; 6]>) -> bool
     requires long { 6 ≤ length path.now }
     ensures fits { IsTrue result ↔ (Starts start path.now × Ends end path.now) }
@@ -62,7 +62,7 @@ fn fits(path: &[bool], start: Option<[bool; 6]>, end: Option<[bool; 6]>) -> bool
     starts && ends
 }
 
-/// Goes on to the next list of bits in the order of the latest differing place.
+/// Advances to the next list of bits in the order of the last differing position.
 fn advance(path: &mut [bool])
     ensures size { length path.new ≡ length path.old }
     ensures next { weight path.old + 1 < 2 ^ length path.old → weight path.new ≡ weight path.old + 1 }
@@ -76,7 +76,7 @@ fn advance(path: &mut [bool])
     }
 }
 
-/// Is a cost less than that of the path found so far, if there is one?
+/// Whether a cost is less than that of the path found so far, if there is one.
 fn is_better(cost: u32, so_far: (bool, u32)) -> bool
     ensures yes { IsTrue result → IsTrue so_far.0 → cost < so_far.1 }
     ensures no { IsFalse result → IsTrue so_far.0 × (so_far.1 ≤ cost) }
@@ -84,7 +84,7 @@ fn is_better(cost: u32, so_far: (bool, u32)) -> bool
     !so_far.0 || cost < so_far.1
 }
 
-/// Keeps a path if it fits and is the first so far; answers whether there is one, and its cost.
+/// Keeps a path if it fits and is the first so far. Returns whether there is one, and its cost.
 fn consider(
     start: Option<[bool; 6]>,
     end: Option<[bool; 6]>,
@@ -110,7 +110,7 @@ fn consider(
     (true, cost)
 }
 
-/// Finds the first of all paths with this start and this end, where they are given. `path` are zeros.
+/// Finds the least of all paths with this start and this end, if they are given. `path` is all zeros.
 fn search(
     start: Option<[bool; 6]>,
     end: Option<[bool; 6]>,
@@ -134,8 +134,8 @@ fn search(
     found.0
 }
 
-/// Finds the least path over a list of cost pairs by trying all paths, and writes it into `best`. The register at its
-/// start is `start`, the oldest bit first, or any. There are ten pairs at most.
+/// Finds the least path over a list of cost pairs by exhaustive search, and writes it to `best`. The register at its
+/// start is `start`, oldest bit first, or any. There are at most ten pairs.
 pub fn least_path(start: Option<[bool; 6]>, costs: &[CostPair], best: &mut [bool]) -> bool
     requires best { length best.old ≡ 6 + length costs.now }
     requires few { length costs.now ≤ 10 }
@@ -147,7 +147,7 @@ pub fn least_path(start: Option<[bool; 6]>, costs: &[CostPair], best: &mut [bool
     search(start, None, costs, &mut path[..best.len()], best)
 }
 
-/// Finds the least path that ends in the register `end`, likewise. It answers false exactly where none does.
+/// Finds the least path that ends in the register `end` in the same way. Returns false exactly if there is none.
 pub fn least_path_to(
     start: Option<[bool; 6]>,
     end: [bool; 6],

@@ -1,7 +1,7 @@
-// The laws, as contracts of functions that do nothing.
+// The laws, as contracts of functions with empty bodies.
 ghost use Rattle.code_paths.specs.Uniqueness.{SomeAreGiven, SomeAreEnded, SomeAreReported};
 
-/// Costs from a start have bits given, bits at the end and reports, whatever the path memory.
+/// For any start and any path memory, costs define bits given, bits at the end and reports.
 pub fn existence()
     ensures given { SomeAreGiven }
     ensures ended { SomeAreEnded }

@@ -1,4 +1,4 @@
--- Bits of shifted words, and what an encoder's register stands for.
+-- Bits of shifted words, and the meaning of an encoder's register.
 use Rattle.std.proofs.Common.{◌≡◌, ℕ, zero, suc, ◌+◌, ◌-◌, ◌*◌, ◌/◌, ◌%◌, ◌^◌, ◌<◌, ◌≤◌, Bool, true, false, not, List, [], ◌∷◌, ◌++◌, length, drop, refl, sym, ap, ap₂, ◌∙◌, arith, eqb, bit_and, bit_or, length-append, drop-drop, mod-lt, lit<}
 use Rattle.std.proofs.Math.Nat.{mod-add-div', one-le-pow}
 use Rattle.std.specs.Bool.{beq}
@@ -78,7 +78,7 @@ pub taps_y_is : (w k : ℕ) → is_set (bit_xor w (bit_xor (w / 4) (bit_xor (w /
 taps_y_is w k =
     set_xor _ _ k ∙ ap (xor (is_set w k)) (set_xor _ _ k ∙ ap₂ xor (set_right w 2 k) (set_xor _ _ k ∙ ap₂ xor (set_right w 3 k) (set_xor _ _ k ∙ ap₂ xor (set_right w 5 k) (set_right w 6 k))))
 
--- the first n values of a function, the last one first
+-- the first n values of a function, last one first
 abbrev down : ℕ → (ℕ → Bool) → List Bool
 down zero f = []
 down (suc n) f = f n ∷ down n f
@@ -119,7 +119,7 @@ y_bit w y old bits h e = lowest_is y ∙ h 0 (lit< tt) ∙ ap parity_y e
 pub register_bit : (w : ℕ) (old bits : List Bool) → spelled 7 w ≡ old ++ bits → spelled 6 (bit_and w 63) ≡ drop 1 (old ++ bits)
 register_bit w old bits e = down_same 6 (is_set (bit_and w 63)) (is_set w) (λ k m. ap (λ z. is_set z k) (and_mask w 6) ∙ set_low w 6 k m) ∙ ap (drop 1) e
 
--- ---- what the register stands for
+-- ---- the meaning of the register
 
 pub coded : (p bits xs ys old new : List Bool) → IsAfter old p → xs ≡ xs_of (length bits) (old ++ bits) → ys ≡ ys_of (length bits) (old ++ bits) → new ≡ drop (length bits) (old ++ bits) → Codes p bits xs ys new
 coded p bits xs ys old new h x y n =

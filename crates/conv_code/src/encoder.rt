@@ -17,8 +17,8 @@ fn bit_of(number: u8, place: u8) -> bool
 
 /// X and Y of the step from a state on an input bit.
 ///
-/// A state is the register as a number below 64: the newest bit is bit 5, the oldest bit 0, so that the bit u leads from
-/// the state s to `32u + s / 2`.
+/// A state is the register as a number below 64: bit 5 is the newest bit, bit 0 the oldest, so the input u leads from
+/// state s to `32u + s / 2`.
 pub fn branch(state: u8, bit: bool) -> (bool, bool)
     requires state { state < 64 }
     ensures x { result.0 ≡ parity_x (register state ++ bit ∷ []) }
@@ -31,14 +31,14 @@ pub fn branch(state: u8, bit: bool) -> (bool, bool)
     (x, y)
 }
 
-/// The X bits of all inputs in a word of which bit 0 is the newest.
+/// The X bits of all inputs in a word; bit 0 is the newest.
 fn taps_x(inputs: u16) -> u16
     ensures { (k : ℕ) → k < 8 → is_set result k ≡ xor (is_set inputs k) (xor (is_set inputs (k + 1)) (xor (is_set inputs (k + 2)) (xor (is_set inputs (k + 3)) (is_set inputs (k + 6))))) }
 {
     inputs ^ (inputs >> 1 ^ (inputs >> 2 ^ (inputs >> 3 ^ inputs >> 6)))
 }
 
-/// The Y bits of all inputs in a word of which bit 0 is the newest.
+/// The Y bits of all inputs in a word; bit 0 is the newest.
 fn taps_y(inputs: u16) -> u16
     ensures { (k : ℕ) → k < 8 → is_set result k ≡ xor (is_set inputs k) (xor (is_set inputs (k + 2)) (xor (is_set inputs (k + 3)) (xor (is_set inputs (k + 5)) (is_set inputs (k + 6))))) }
 {
@@ -61,10 +61,10 @@ fn with_byte(register: u8, byte: u8) -> u16
     (register as u16) << 8 | byte as u16
 }
 
-/// The encoder of the inner code. It is seen as its register, the oldest bit first.
+/// The encoder of the inner code. Contracts see its register, oldest bit first.
 ///
-/// It stands for a path, the register before the first bit and the bits that it was given: its register are the last six
-/// bits of the path, and each coded bit is a parity over the places of the path.
+/// It matches a path, the register before the first bit followed by the input bits: its register is the last six bits
+/// of the path, and each coded bit is a parity of bits of the path.
 #[derive(Debug, Drop)]
 pub struct Encoder {
     // the oldest bit is bit 5
@@ -91,7 +91,7 @@ impl Encoder {
         Encoder { register: 0 }
     }
 
-    /// Takes a bit, and answers its X and its Y.
+    /// Takes a bit, and returns its X and its Y.
     pub fn step(&mut self, bit: bool) -> (bool, bool)
         ensures x { result.0 ≡ parity_x (self.old ++ bit ∷ []) }
         ensures y { result.1 ≡ parity_y (self.old ++ bit ∷ []) }
@@ -103,7 +103,7 @@ impl Encoder {
         (taps_x(inputs) & 1 == 1, taps_y(inputs) & 1 == 1)
     }
 
-    /// Takes the eight bits of a byte, the most significant first, and answers their X and their Y, each in a byte in the
+    /// Takes the eight bits of a byte, most significant first, and returns their X and their Y, each in a byte in the
     /// same order.
     pub fn step_byte(&mut self, byte: u8) -> (u8, u8)
         ensures x { spelled 8 result.0 ≡ xs_of 8 (self.old ++ spelled 8 byte) }

@@ -1,4 +1,4 @@
--- What is xored twice is as it was.
+-- XOR twice restores the byte.
 use Rattle.std.proofs.Common.{◌≡◌, ℕ, ◌+◌, ◌*◌, List, [], ◌∷◌, refl, ◌∙◌, sym, ap, ap₂, arith}
 use Rattle.std.specs.Prelude.{bit_xor}
 use lib.Bits.{xor_assoc, xor_self, xor_zero_r}

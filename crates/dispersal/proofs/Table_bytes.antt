@@ -1,4 +1,4 @@
--- The table has the bytes that the register makes.
+-- The table has the bytes that the register generates.
 use Rattle.std.proofs.Common.{◌≡◌, ℕ, zero, suc, ◌+◌, ◌*◌, ◌%◌, ◌<◌, List, [], ◌∷◌, get_or, sym, ◌∙◌, ap, arith}
 use Rattle.dispersal.specs.Sequence.{sequence_byte, spelled, shifted}
 use Rattle.dispersal.proofs.Register.{shifted_spelled, first_register, byte_of_register}

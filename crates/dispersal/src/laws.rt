@@ -1,7 +1,7 @@
-// The law of dispersal, as the contract of a function that does nothing.
+// The law of energy dispersal, as the contract of a function with an empty body.
 ghost use Rattle.dispersal.specs.Laws.{UndoGivesBack};
 
-/// Undoing the dispersal of a packet at its phase gives the packet.
+/// Undoing the dispersal of a packet at its phase restores the packet.
 pub fn undo_gives_back()
     ensures { UndoGivesBack }
 {}

@@ -1,8 +1,7 @@
 //! Energy dispersal of transport packets (EN 300 744, 4.3.1).
 //!
-//! [`Dispersal`] disperses packets one after another and [`undo`] takes the dispersal off again,
-//! both by a table of the pseudo-random sequence. [`Sequence`] is the shift register that the
-//! standard draws; the table's bytes are its.
+//! [`Dispersal`] disperses packets in order and [`undo`] reverses it, both with a table of the pseudo-random sequence.
+//! [`Sequence`] is the shift register in the standard's figure, which generates the bytes of the table.
 #![tactic(auto)]
 
 pub mod laws;

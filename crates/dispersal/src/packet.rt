@@ -13,8 +13,8 @@ const INVERTED_SYNC: u8 = 0xB8;
 /// The packets of a group.
 const GROUP: u8 = 8;
 
-/// Disperses the packets of a stream in order. Contracts see it as the phase of the next packet,
-/// its place in the group of eight.
+/// Disperses the packets of a stream in order. Contracts see it as the phase of the next packet, its number in the
+/// group of eight.
 #[derive(Drop)]
 pub struct Dispersal {
     phase: u8,
@@ -39,7 +39,7 @@ fn masks_from(start: usize) -> &'static [u8]
     &sequence()[start..]
 }
 
-// Xors each byte with one of the sequence, from byte `start` of it on.
+// XORs each byte with one of the sequence, from byte `start` of it on.
 fn mix(start: usize, bytes: &mut [u8])
     requires { start + length bytes.old ≤ 1503 }
     ensures { bytes.new ≡ xor_from start bytes.old }
@@ -50,7 +50,7 @@ fn mix(start: usize, bytes: &mut [u8])
     }
 }
 
-// The packet at this phase, behind this first byte.
+// The packet at this phase, after this first byte.
 fn mixed(phase: u8, sync: u8, packet: &[u8; 188]) -> [u8; 188]
     requires { phase < 8 }
     ensures { result ≡ sync ∷ xor_from (188 * phase) (drop 1 packet.now) }
@@ -70,14 +70,14 @@ fn sync_of(phase: u8) -> u8
 }
 
 impl Dispersal {
-    /// Stands before the first packet of a stream, at phase 0.
+    /// Before the first packet of a stream, at phase 0.
     pub fn start() -> Dispersal
         ensures start { result ≡ 0 }
     {
         Dispersal { phase: 0 }
     }
 
-    /// The packet as it is sent, 188 bytes, at this phase; the next phase follows.
+    /// The packet as sent at this phase, 188 bytes. The phase then advances.
     pub fn apply(&mut self, packet: &Packet) -> [u8; 188]
         ensures word { result ≡ dispersed self.old packet.now }
         ensures next { self.new ≡ (self.old + 1) % 8 }
@@ -89,8 +89,8 @@ impl Dispersal {
     }
 }
 
-/// The packet that was dispersed at this phase, which is below 8. The word's first byte is not
-/// looked at: the packet's is 0x47.
+/// The packet that was dispersed at this phase, which is below 8. The word's first byte is ignored: the packet's is
+/// 0x47.
 pub fn undo(phase: u8, word: &[u8; 188]) -> Packet
     requires { phase < 8 }
     ensures undone { result ≡ undone phase word.now }

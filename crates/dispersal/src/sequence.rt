@@ -1,10 +1,10 @@
-// The shift register that makes the pseudo-random sequence.
+// The shift register that generates the pseudo-random sequence.
 ghost use Rattle.std.specs.Prelude.{◌≡◌, ◌<◌, ◌+◌, ◌*◌, ℕ};
 ghost use Rattle.dispersal.specs.Sequence.{sequence_byte, shifted};
 
 use std::marker::Model;
 
-/// The shift register of energy dispersal, which gives the sequence byte by byte.
+/// The shift register of energy dispersal, which generates the sequence byte by byte.
 ///
 /// Contracts see it as the number of the next byte.
 #[derive(Drop)]
@@ -24,7 +24,7 @@ impl Model for Sequence {
     ghost invariant = { λ s. s.register ≡ spelled 15 (8 * s.next) };
 }
 
-// One step of the register: the sum of the two oldest bits comes in as the newest.
+// One step of the register: the sum of the two oldest bits becomes the newest.
 fn step(register: u16) -> u16
     requires { register < 32768 }
     ensures step { result ≡ shifted register }
@@ -36,8 +36,7 @@ fn step(register: u16) -> u16
 }
 
 impl Sequence {
-    /// The register before the sequence's first byte: 100101010000000, the first bit being the
-    /// newest.
+    /// The register before the sequence's first byte: 100101010000000, newest bit first.
     pub fn start() -> Sequence
         ensures start { result ≡ 0 }
     {
@@ -47,8 +46,7 @@ impl Sequence {
         }
     }
 
-    /// The next byte of the sequence, its first bit as the most significant one. Fewer than 65,535
-    /// bytes were taken before.
+    /// The next byte of the sequence, first bit most significant. Fewer than 65,535 bytes were taken before.
     pub fn next_byte(&mut self) -> u8
         requires { self.old < 65535 }
         ensures byte { result ≡ sequence_byte self.old }

@@ -1,4 +1,4 @@
--- What `parse` reads is the number that the word spells.
+-- The number that `parse` reads is that of the argument.
 use Rattle.std.proofs.Common.{◌≡◌, ◌≢◌, ℕ, ◌<◌, ◌≤◌, ◌^◌, ◌&&◌, Bool, true, false, cond, List, [], ◌∷◌, length, get_or, refl, sym, ap, arith}
 use Rattle.std.specs.Prelude.{None, Some, Result, Ok, Err, nat_le}
 use Rattle.std.specs.Result.{OkIff, result_ok}
@@ -11,7 +11,7 @@ use Rattle.dvbt_top.specs.Number.{is_numeral, number_of}
 own : IsNumeralModel (λ ds. all_ascii_digits ds ≡ true) (digits_value 10)
 own = numerals_by_value _ tells_all_ascii_digits
 
--- a word that `parse` reads, or refuses
+-- an argument that `parse` reads, or rejects
 read : (word : List ℕ) (x : ℕ) → all_ascii_digits word ≡ true → 0 < length word → length word ≤ 10 → digits_value 10 word < 2 ^ 32 → x ≡ digits_value 10 word → Some x ≡ number_of word
 unfolding number_of
 read word x digits some few small is =
@@ -38,7 +38,7 @@ unfolding number_of
 none_where word true is not = absurd (not (sym is))
 none_where word false is not = ap (λ (b : Bool). cond b (Some (digits_value 10 word)) None) is
 
--- no number: too long, a plus in front, refused
+-- no number: too long, with a plus, or rejected
 pub none_of : (word : List ℕ) → ((is_numeral word && nat_le (digits_value 10 word) 4294967295) ≡ true → ⊥) → None ≡ number_of word
 none_of word not = none_where word _ refl not
 
@@ -55,7 +55,7 @@ digit_first (x ∷ xs) all is =
 pub with_plus : (word : List ℕ) → get_or word 0 0 ≡ 43 → None ≡ number_of word
 with_plus word is = none_of word (λ all. digit_first word (parts word all).2 is)
 
--- what `parse` makes of a word of at most ten bytes without a plus
+-- the result of `parse` for an argument of at most ten bytes without a plus
 pub parsed : {E : Type 0} (word : List ℕ) (r : Result ℕ E) → ParsesUnsigned 32 10 word r → length word ≤ 10 → get_or word 0 0 ≢ 43 → result_ok r ≡ number_of word
 parsed {E} word r h few plain = by_cases word r (parse_plain own 32 word r h plain) few
   where

@@ -1,4 +1,4 @@
--- The command that the words are. Each command is defined in the crate that runs it.
+-- The command of a list of arguments. Each command is defined in the crate that runs it.
 use Rattle.std.specs.Prelude.{◌≡◌, ℕ, ⊤, List, [], ◌∷◌, Option, None, Some, false}
 use Rattle.cmd_base.specs.Command.{Command}
 use Rattle.cmd_base.specs.declared.work.Refusal.TheVariants.{Usage}
@@ -15,7 +15,7 @@ use Rattle.cmd_convert.specs.EqualiseCommand.{equalise_command}
 use Rattle.cmd_track.specs.TrackCommand.{track_command}
 use Rattle.dvbt_top.specs.Order.{Order, Disperse, Outer, Inner, Code, Modulate, Receive, Rescue, Tune, Align, Measure, Upgrade, Equalise, Track, Trial, order_of}
 
--- words of no form: they are refused, and no file is asked for
+-- invalid arguments: they are refused, and no file is requested
 abbrev pub no_command : Command
 no_command = record {
   reads = λ port. None;
@@ -34,6 +34,7 @@ no_command = record {
   Own = λ limit file. ⊤;
 }
 
+-- the command for parsed arguments; an invalid command line is refused
 abbrev pub command_for : Option Order → Command
 command_for None = no_command
 command_for (Some (Code Disperse input output)) = disperse_command input output
@@ -50,5 +51,6 @@ command_for (Some (Equalise settings old new)) = equalise_command settings old n
 command_for (Some (Track settings old new)) = track_command settings old new
 command_for (Some (Trial settings number)) = trial_command settings number
 
+-- the command for a list of arguments
 abbrev pub command_of : List (List ℕ) → Command
 command_of words = command_for (order_of words)

@@ -1,19 +1,19 @@
--- What the words ask for: the forms of the words, as the words spell them.
+-- The forms of the command line, and the form of a list of arguments.
 use Rattle.std.specs.Prelude.{ℕ, List, [], ◌∷◌, Option, None, Some, codes, if◌then◌else◌}
 use Rattle.std.specs.Option.{option_map}
 use Rattle.std.specs.Str.{bytes_eq}
 use Rattle.dvbt_top.specs.Number.{number_of}
 
--- what is made of the packets of a transport file
+-- the coding of the packets of a transport file
 pub data Coding : Type 0 where
-  -- disperse: they are dispersed
+  -- disperse: energy dispersal
   Disperse : Coding
-  -- outer: they are coded by the outer code, and interleaved
+  -- outer: energy dispersal, outer code and outer interleaver
   Outer : Coding
-  -- inner: and then by the inner code, at the rate of HP of the settings file of this name
+  -- inner: and then the inner code, at the HP rate of the settings file of this name
   Inner : List ℕ → Coding
 
--- the forms of the words
+-- the forms of the command line
 pub data Order : Type 0 where
   -- disperse TS OUT, outer TS OUT, inner SETTINGS TS OUT
   Code : Coding → List ℕ → List ℕ → Order
@@ -38,11 +38,11 @@ pub data Order : Type 0 where
   -- trial SETTINGS NUMBER
   Trial : List ℕ → ℕ → Order
 
--- the coding that is named by one word
+-- the coding of a one-word name
 abbrev pub coding_of : List ℕ → Option Coding
 coding_of name = if bytes_eq name (codes "disperse") then Some Disperse else if bytes_eq name (codes "outer") then Some Outer else None
 
--- the form that the words are of, if they are of one
+-- the form of a list of arguments, if it is valid
 abbrev pub order_of : List (List ℕ) → Option Order
 order_of (name ∷ first ∷ second ∷ []) = if bytes_eq name (codes "trial") then option_map (λ number. Trial first number) (number_of second)
     else if bytes_eq name (codes "measure") then Some (Measure first second)

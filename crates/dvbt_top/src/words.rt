@@ -1,4 +1,4 @@
-// From the words to the form.
+// From the arguments to the form.
 ghost use Rattle.std.specs.Prelude.{◌≡◌, ◌∷◌, [], map, string_bytes};
 ghost use Rattle.std.specs.Option.{option_map};
 ghost use Rattle.dvbt_top.specs.Form.{order};
@@ -7,7 +7,7 @@ ghost use Rattle.dvbt_top.specs.Order.{order_of};
 use crate::form::Form;
 use crate::number::number_of;
 
-/// The form of the words, if they are of one. A word is taken as it stands; there are no options.
+/// The form of the arguments, if they are valid. Arguments are taken literally; there are no options.
 pub fn form_of<'a>(words: &'a [String]) -> Option<Form<'a>>
     ensures { option_map order result ≡ order_of (map string_bytes words.now) }
 {
@@ -27,7 +27,7 @@ pub fn form_of<'a>(words: &'a [String]) -> Option<Form<'a>>
     }
 }
 
-// The form of a command's name with two words behind it.
+// The form of a command with two arguments.
 fn of_two<'a>(name: &str, first: &'a str, second: &'a str) -> Option<Form<'a>>
     ensures { option_map order result ≡ order_of (name.now ∷ first.now ∷ second.now ∷ []) }
 {
@@ -40,7 +40,7 @@ fn of_two<'a>(name: &str, first: &'a str, second: &'a str) -> Option<Form<'a>>
     }
 }
 
-// The form of a command's name with three words behind it.
+// The form of a command with three arguments.
 fn of_three<'a>(name: &str, settings: &'a str, a: &'a str, b: &'a str) -> Option<Form<'a>>
     ensures { option_map order result ≡ order_of (name.now ∷ settings.now ∷ a.now ∷ b.now ∷ []) }
 {
@@ -58,7 +58,7 @@ fn of_three<'a>(name: &str, settings: &'a str, a: &'a str, b: &'a str) -> Option
     }
 }
 
-// The form of a command's name with four words behind it.
+// The form of a command with four arguments.
 fn of_four<'a>(
     name: &str,
     settings: &'a str,

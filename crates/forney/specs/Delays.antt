@@ -1,4 +1,4 @@
--- What twelve delay lines hold.
+-- The contents of twelve delay lines.
 use Rattle.std.specs.Prelude.{◌≡◌, ℕ, ◌+◌, ◌-◌, ◌*◌, ◌%◌, ◌<◌, List, [], length, slice_index_or}
 use Rattle.circular_buffer.specs.Buffer.{Buffer, buffer}
 use Rattle.forney.specs.Values.{values, stream_of}
@@ -12,29 +12,29 @@ pub record Delays : Type 0 where
 abbrev pub delays : List (Buffer ℕ) → ℕ → Delays
 delays lines next = record { lines = lines; next = next }
 
--- how many words the branch delays by, at the sender and at the receiver
+-- the delay of a branch in words, at the sender and at the receiver
 abbrev pub rising : ℕ → ℕ
 rising branch = branch
 
 abbrev pub falling : ℕ → ℕ
 falling branch = 11 - branch
 
--- byte p of a stream whose branches have these delays
+-- byte p of a stream, with these delays of the branches
 abbrev pub branched_at : (ℕ → ℕ) → (ℕ → ℕ) → ℕ → ℕ
 branched_at delay stream p = delayed stream p (204 * delay (p % 12))
 
--- the place of the next byte of a branch, after n bytes
+-- the position of the next byte of a branch, after n bytes
 abbrev pub next_of : ℕ → ℕ → ℕ
 next_of n branch = n + (branch + 12 - n % 12) % 12
 
--- what the line of a branch that delays by d words holds
+-- the contents of the line of a branch with a delay of d words
 abbrev pub waiting : ℕ → List ℕ → ℕ → List ℕ
 waiting d bytes branch = values (λ k. delayed (stream_of bytes) (next_of (length bytes) branch + 12 * k) (204 * d)) 0 (17 * d)
 
 abbrev pub line : List (Buffer ℕ) → ℕ → Buffer ℕ
 line lines branch = slice_index_or lines branch (buffer [] 0)
 
--- the lines after these bytes, where the branches have these delays
+-- the lines after these bytes, with these delays of the branches
 pub record StandsFor (delay : ℕ → ℕ) (delays : Delays) (bytes : List ℕ) : Type 0 where
   pub twelve : length delays.lines ≡ 12
   pub turn : delays.next ≡ length bytes % 12

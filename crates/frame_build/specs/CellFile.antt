@@ -1,9 +1,10 @@
--- The cell file (this project's own): a header of eight bytes, then the cells of symbol after symbol, five bytes each. This is the header.
+-- The header of a cell file (this project's own format): a header of eight bytes, then the cells of all symbols in
+-- order, five bytes each.
 use Rattle.std.specs.Prelude.{ℕ, List, [], ◌∷◌}
 use Rattle.mode_set.specs.declared.modes.Mode.{Mode}
 use Rattle.mode_set.specs.declared.modes.Mode.TheVariants.{M2k, M8k}
 
--- the byte of the mode
+-- the byte for the mode
 abbrev pub mode_byte : Mode → ℕ
 mode_byte M2k = 0
 mode_byte M8k = 1

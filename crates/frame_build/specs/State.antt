@@ -1,4 +1,4 @@
--- What a builder of symbols keeps.
+-- The state of a symbol builder.
 use Rattle.std.specs.Prelude.{◌≡◌, ◌≢◌, ℕ, zero, suc, ◌≤◌, ◌<◌, Bool, false, if◌then◌else◌, List, [], ◌∷◌, get_or, length, count_by, not, true, ◌+◌, ◌*◌, ◌^◌}
 use Rattle.spec_words.specs.Bits.{bit, xor, is_set}
 use Rattle.spec_words.specs.Words.{numbers}
@@ -17,12 +17,12 @@ use Rattle.frame_build.specs.Symbol.{real, sent_bytes, cells_from, weights_from}
 use Rattle.frame_build.specs.declared.source.Source.{Source}
 use Rattle.frame_build.specs.declared.source.Source.TheVariants.{Label, Pilot, OppositePilot, Signalling, OppositeSignalling}
 
--- what is seen: the settings, and the number of the next symbol in its super-frame of 272
+-- the visible state: the settings, and the number of the next symbol in its super-frame of 272
 pub record NextSymbol : Type 0 where
   pub settings : Settings
   pub number : ℕ
 
--- whether the bits before place l turn the sign of the TPS cells
+-- whether the first l bits invert the TPS cells
 unfoldable pub is_turned : List Bool → ℕ → Bool
 is_turned word zero = false
 is_turned word (suc l) = xor (is_turned word l) (bit word l)
@@ -31,14 +31,14 @@ is_turned word (suc l) = xor (is_turned word l) (bit word l)
 abbrev pub IsLabelTable : Shape → Hierarchy → List (List ℕ) → ℕ → Type 0
 IsLabelTable s h cells n = (label : ℕ) (d : List ℕ) → label < n → get_or cells label d ≡ sent_bytes (map_cell s h (is_set label))
 
--- what a carrier sends, by its kind and by its bit of the reference sequence
+-- the content of a carrier, from its kind and its bit of the reference sequence
 abbrev pub source_of : CarrierKind → Bool → Source
 source_of Continual opposite = if opposite then OppositePilot else Pilot
 source_of Scattered opposite = if opposite then OppositePilot else Pilot
 source_of Tps opposite = if opposite then OppositeSignalling else Signalling
 source_of (Payload q) opposite = Label
 
--- the labels that a carrier sends, one or none
+-- the labels that a carrier needs, one or none
 abbrev pub labels_of : Source → ℕ
 labels_of Label = 1
 labels_of Pilot = 0
@@ -46,18 +46,18 @@ labels_of OppositePilot = 0
 labels_of Signalling = 0
 labels_of OppositeSignalling = 0
 
--- the labels that the carriers below k send in symbol l
+-- the labels of the carriers below k in symbol l
 unfoldable pub labels_before : Mode → ℕ → ℕ → ℕ
 labels_before m l k = count_by (is_payload m l) (numbers k)
 
--- what the first n carriers of symbol l send
+-- the contents of the first n carriers of symbol l
 abbrev pub AreSources : Mode → ℕ → List Source → ℕ → Type 0
 AreSources m l list n = (k : ℕ) (d : Source) → k < n → get_or list k d ≡ source_of (kind m l k) (reference k)
 
 abbrev pub AreAllSources : Mode → List (List Source) → Type 0
 AreAllSources m lists = (i : ℕ) (d : List Source) → i < 4 → AreSources m i (get_or lists i d) (carriers m)
 
--- the bytes of what a carrier sends, where the TPS cells are turned or not, and a label has these
+-- the bytes for the content of a carrier, given the inversion of the TPS cells and the bytes of a label
 abbrev pub bytes_sent : Source → Bool → List ℕ → List ℕ
 bytes_sent Label turned label = label
 bytes_sent Pilot turned label = sent_bytes (real 21845 false)
@@ -65,7 +65,7 @@ bytes_sent OppositePilot turned label = sent_bytes (real 21845 true)
 bytes_sent Signalling turned label = sent_bytes (real 16384 turned)
 bytes_sent OppositeSignalling turned label = sent_bytes (real 16384 (not turned))
 
--- where what a carrier sends stands behind the cells of 64 labels
+-- the place of a carrier's content in the table after the cells of 64 labels
 abbrev pub place_of : Source → Bool → ℕ
 place_of Label turned = 63
 place_of Pilot turned = 64 + (if turned then 4 else 0)
@@ -73,24 +73,24 @@ place_of OppositePilot turned = 65 + (if turned then 4 else 0)
 place_of Signalling turned = 66 + (if turned then 4 else 0)
 place_of OppositeSignalling turned = 67 + (if turned then 4 else 0)
 
--- the bytes of what carriers send that send no label, where the TPS cells are not turned and where they are
+-- the bytes for carriers without a label: TPS cells not inverted, then inverted
 abbrev pub other_cells : List (List ℕ)
 other_cells =
     sent_bytes (real 21845 false) ∷ sent_bytes (real 21845 true) ∷ sent_bytes (real 16384 false) ∷ sent_bytes (real 16384 true)
     ∷ sent_bytes (real 21845 false) ∷ sent_bytes (real 21845 true) ∷ sent_bytes (real 16384 true) ∷ sent_bytes (real 16384 false) ∷ []
 
--- the bytes of the cells of all labels, and those that other carriers send
+-- the bytes of the cells of all labels, and those of other carriers
 pub record IsCellTable (s : Shape) (h : Hierarchy) (cells : List (List ℕ)) : Type 0 where
   pub labels : IsLabelTable s h cells (2 ^ label_bits s)
   pub others : (source : Source) (turned : Bool) (label d : List ℕ) → source ≢ Label → get_or cells (place_of source turned) d ≡ bytes_sent source turned label
 
--- the next symbol of a super-frame, and what the carriers of the symbols 0 to 3 send
+-- the next symbol of a super-frame, and the contents of the carriers in symbols 0 to 3
 pub record IsReady (m : Mode) (s : Settings) (number : ℕ) (lists : List (List Source)) : Type 0 where
   pub mode : s.mode ≡ m
   pub within : number < 272
   pub send : AreAllSources m lists
 
--- a symbol of k carriers of which some bytes were taken; a whole one has its cells and their weights
+-- a symbol of k carriers that has taken some bytes; once complete, its cells and weights are set
 pub record IsTaking (k filled : ℕ) (bytes : List ℕ) (cells : List Cell) (weights : List ℕ) : Type 0 where
   pub bytes_of : length bytes ≡ 5 * k
   pub cells_of : length cells ≡ k

@@ -1,4 +1,4 @@
--- The product step by step: shifts by x, and the laws of products made of them.
+-- The product step by step: shifts by x, and the laws of products made from them.
 use Rattle.std.proofs.Common.{◌≡◌, ℕ, zero, suc, ◌+◌, ◌*◌, ◌/◌, ◌%◌, ◌<◌, ◌≤◌, ◌-◌, ◌⊎◌, inl, inr, Bool, true, false, ◌&&◌, ◌||◌, List, [], ◌∷◌, refl, sym, ap, ap₂, ◌∙◌, subst, arith, eqb, lit<, mod-lt, true≢false, add-zero, ltb}
 use Rattle.std.specs.Prelude.{bit_xor}
 use Rattle.std.specs.Int.{bit_at}
@@ -240,7 +240,7 @@ order = refl
 pub whole_turn : (b : ℕ) → b < 256 → shift_by 255 b ≡ b
 whole_turn b l = sym (steps_power 255 b l) ∙ ap (λ z. steps z b) order ∙ one_left b l
 
--- a product is 0 only where a factor is
+-- a product is 0 only if a factor is
 pub steps_no_zero : (a b : ℕ) → a < 256 → b < 256 → steps a b ≡ 0 → (a ≡ 0) ⊎ (b ≡ 0)
 steps_no_zero a b l m h = go (zero_or_power a l)
   where

@@ -1,7 +1,8 @@
--- The laws of the field, each the clause of a public function of the module laws.
+-- The laws of the field. Each is the clause of a public function of module laws.
 use Rattle.std.specs.Prelude.{◌≡◌, ◌≢◌, ℕ, ◌+◌, ◌<◌, ◌⊎◌, bit_xor}
 use Rattle.gf256.specs.Field.{mul, power}
 
+-- an element is a number below 256
 abbrev pub IsElement : ℕ → Type 0
 IsElement a = a < 256
 
@@ -16,6 +17,7 @@ SumCommutes = (a b : ℕ) → bit_xor a b ≡ bit_xor b a
 abbrev pub SumAssociates : Type 0
 SumAssociates = (a b c : ℕ) → bit_xor (bit_xor a b) c ≡ bit_xor a (bit_xor b c)
 
+-- adding 0 changes nothing
 abbrev pub ZeroAddsNothing : Type 0
 ZeroAddsNothing = (a : ℕ) → bit_xor a 0 ≡ a
 
@@ -34,25 +36,29 @@ ProductCommutes = (a b : ℕ) → IsElement a → IsElement b → mul a b ≡ mu
 abbrev pub ProductAssociates : Type 0
 ProductAssociates = (a b c : ℕ) → IsElement a → IsElement b → IsElement c → mul (mul a b) c ≡ mul a (mul b c)
 
+-- multiplying by 1 changes nothing
 abbrev pub OneChangesNothing : Type 0
 OneChangesNothing = (a : ℕ) → IsElement a → mul 1 a ≡ a
 
+-- multiplying by 0 gives 0
 abbrev pub ZeroTakesAll : Type 0
 ZeroTakesAll = (a : ℕ) → mul 0 a ≡ 0
 
--- a product is 0 only where a factor is
+-- a product is 0 only if a factor is 0
 abbrev pub NoZeroDivisors : Type 0
 NoZeroDivisors = (a b : ℕ) → IsElement a → IsElement b → mul a b ≡ 0 → (a ≡ 0) ⊎ (b ≡ 0)
 
+-- multiplication distributes over addition
 abbrev pub ProductDistributes : Type 0
 ProductDistributes = (a b c : ℕ) → mul (bit_xor a b) c ≡ bit_xor (mul a c) (mul b c)
 
 -- powers
 
--- each element but 0 is one of the 255 powers of λ
+-- every nonzero element is one of the 255 powers of λ
 abbrev pub EachIsPower : Type 0
 EachIsPower = (a : ℕ) → IsElement a → a ≢ 0 → (i : ℕ) × (i < 255) × (power i ≡ a)
 
+-- the first 255 powers of λ are different
 abbrev pub PowersDiffer : Type 0
 PowersDiffer = (i j : ℕ) → i < 255 → j < 255 → power i ≡ power j → i ≡ j
 
@@ -60,5 +66,6 @@ PowersDiffer = (i j : ℕ) → i < 255 → j < 255 → power i ≡ power j → i
 abbrev pub PowersAdd : Type 0
 PowersAdd = (i j : ℕ) → power (i + j) ≡ mul (power i) (power j)
 
+-- power 255 of λ is 1, so the powers repeat
 abbrev pub PowersRepeat : Type 0
 PowersRepeat = power 255 ≡ 1

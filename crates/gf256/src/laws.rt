@@ -1,10 +1,10 @@
-// The laws of the field, as contracts of functions that do nothing.
+// The laws of the field, as contracts of functions with empty bodies.
 
 ghost use Rattle.gf256.specs.Laws.{SumIsElement, SumCommutes, SumAssociates, ZeroAddsNothing, SumWithItself};
 ghost use Rattle.gf256.specs.Laws.{ProductIsElement, ProductCommutes, ProductAssociates, OneChangesNothing, ZeroTakesAll, NoZeroDivisors, ProductDistributes};
 ghost use Rattle.gf256.specs.Laws.{EachIsPower, PowersDiffer, PowersAdd, PowersRepeat};
 
-/// Elements form a group under addition, each of them its own opposite.
+/// Elements form a group under addition, and each is its own inverse.
 pub fn sums()
     ensures element { SumIsElement }
     ensures commutes { SumCommutes }
@@ -13,7 +13,7 @@ pub fn sums()
     ensures opposite { SumWithItself }
 {}
 
-/// Products commute and associate, 1 changes nothing, and a product is 0 only where a factor is.
+/// Products commute and associate, 1 is neutral, and a product is 0 only if a factor is.
 pub fn products()
     ensures element { ProductIsElement }
     ensures commutes { ProductCommutes }
@@ -23,12 +23,12 @@ pub fn products()
     ensures no_zero_divisors { NoZeroDivisors }
 {}
 
-/// A product distributes over a sum.
+/// Products distribute over sums.
 pub fn distribution()
     ensures { ProductDistributes }
 {}
 
-/// The 255 powers of λ are the elements other than 0, each of them once.
+/// The 255 powers of λ are the nonzero elements, each exactly once.
 pub fn powers()
     ensures each { EachIsPower }
     ensures differ { PowersDiffer }

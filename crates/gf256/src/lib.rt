@@ -1,8 +1,7 @@
-//! The field of 256 elements over which the outer code is written (EN 300 744, 4.3.2).
+//! The field of 256 elements over which the outer code is defined (EN 300 744, 4.3.2).
 //!
-//! An element is a byte whose bit i is the coefficient of x^i. A sum is the xor, a product is the
-//! product without carries modulo x^8 + x^4 + x^3 + x^2 + 1, and λ is the element 2. The code
-//! multiplies by tables of powers and logarithms.
+//! An element is a byte whose bit i is the coefficient of x^i. A sum is the XOR, a product is the carry-less product
+//! modulo x^8 + x^4 + x^3 + x^2 + 1, and λ is the element 2. The code multiplies with tables of powers and logarithms.
 #![tactic(auto)]
 
 ghost use Rattle.std.specs.Prelude.{◌≡◌, ◌≢◌, ◌<◌, bit_xor};
@@ -41,7 +40,7 @@ impl Elem {
         Elem(power_at(sum as usize))
     }
 
-    /// The inverse of an element other than 0.
+    /// The inverse of a nonzero element.
     pub fn inv(self) -> Elem
         requires { self.0 ≢ 0 }
         ensures { field.mul self.0 result.0 ≡ 1 }
@@ -56,7 +55,7 @@ impl Elem {
         Elem(power_at(exponent as usize))
     }
 
-    /// The number below 255 whose power is the element, for elements other than 0.
+    /// The logarithm of a nonzero element: the number below 255 whose power it is.
     pub fn log(self) -> u8
         requires { self.0 ≢ 0 }
         ensures below { result < 255 }

@@ -2,7 +2,7 @@
 
 ghost use Rattle.std.specs.Prelude.{◌≡◌, ◌<◌, slice_index};
 
-/// Power k of λ for k below 510, twice round the field, and then zeros.
+/// Power k of λ for k below 510, twice around the field, and then zeros.
 static POWERS: [u8; 1021] = [
     1, 2, 4, 8, 16, 32, 64, 128, 29, 58, 116, 232, 205, 135, 19, 38, 76, 152, 45, 90, 180, 117,
     234, 201, 143, 3, 6, 12, 24, 48, 96, 192, 157, 39, 78, 156, 37, 74, 148, 53, 106, 212, 181,
@@ -47,8 +47,8 @@ static POWERS: [u8; 1021] = [
     0, 0, 0, 0, 0, 0, 0, 0, 0, 0, 0, 0, 0, 0, 0, 0, 0, 0, 0, 0, 0, 0, 0, 0, 0,
 ];
 
-/// The number below 255 whose power is the element, and 510 for 0, so that a sum of logarithms with
-/// a zero factor among them points at the zeros of `POWERS`.
+/// The number below 255 whose power is the element, and 510 for 0, so that a sum of logarithms with a zero factor
+/// selects the zeros of `POWERS`.
 static LOGARITHMS: [u16; 256] = [
     510, 0, 1, 25, 2, 50, 26, 198, 3, 223, 51, 238, 27, 104, 199, 75, 4, 100, 224, 14, 52, 141,
     239, 129, 28, 193, 105, 248, 200, 8, 76, 113, 5, 138, 101, 47, 225, 36, 15, 33, 53, 147, 142,

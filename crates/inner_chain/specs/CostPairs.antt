@@ -15,33 +15,33 @@ use Rattle.qam_map.specs.declared.cell.Cell.{Cell}
 use Rattle.soft_metric.specs.Costs.{cost}
 use Rattle.soft_metric.specs.Weights.{full_weight, weight_of_byte, weighted}
 
--- the payload place of symbol l at which coded bit d of a stream stands: the one that carries the bit's word
+-- the payload carrier of symbol l for coded bit d of a stream: the one with the bit's word
 abbrev pub payload_place : Settings → ℕ → Stream → ℕ → ℕ
 payload_place s l σ d = place_of_word s.mode (is_odd l) (word_of_bit s.shape s.hierarchy σ d)
 
--- the costs of the values 0 and 1 at place e of the label on payload place q of symbol l
+-- the costs of values 0 and 1 for label bit e on payload carrier q of symbol l
 unfoldable pub costs_on : Settings → List Cell → ℕ → ℕ → ℕ → ℕ × ℕ
 costs_on s cells l q e = let x = on_axis (cell_of cells (slice_index (payload_carriers s.mode l) q)) e in
     (cost s.shape s.hierarchy x e false, cost s.shape s.hierarchy x e true)
 
--- the weight of carrier k: one above 15 counts as 15
+-- the weight of carrier k; above 15 it counts as 15
 abbrev pub weight_of : List ℕ → ℕ → ℕ
 weight_of weights k = weight_of_byte (get_or weights k full_weight)
 
--- those costs by the weight of the cell
+-- those costs, weighted by the cell's weight
 unfoldable pub weighted_costs_on : Settings → List Cell → List ℕ → ℕ → ℕ → ℕ → ℕ × ℕ
 weighted_costs_on s cells weights l q e = weighted (costs_on s cells l q e) (weight_of weights (slice_index (payload_carriers s.mode l) q))
 
--- the weighted costs of coded bit d: its cell is that of its payload place, its axis that of its place in the label
+-- the weighted costs of coded bit d, from the cell of its payload carrier and the axis of its label bit
 abbrev pub costs_of_bit : Settings → List Cell → List ℕ → ℕ → Stream → ℕ → ℕ × ℕ
 costs_of_bit s cells weights l σ d = weighted_costs_on s cells weights l (payload_place s l σ d) (place_in_label s.shape s.hierarchy σ d)
 
--- the cost pair of step t: the weighted costs of its X and of its Y, each nothing where the bit is not sent
+-- the cost pair of step t: the weighted costs of its X and its Y, 0 for a punctured bit
 pub record IsPairOf (s : Settings) (cells : List Cell) (weights : List ℕ) (l : ℕ) (σ : Stream) (t : ℕ) (c : CostPair) : Type 0 where
   pub x : (c.x0, c.x1) ≡ costs_at (costs_of_bit s cells weights l σ) (number_of (rate s σ) X t)
   pub y : (c.y0, c.y1) ≡ costs_at (costs_of_bit s cells weights l σ) (number_of (rate s σ) Y t)
 
--- a list is continued by one pair for each step of a symbol
+-- one pair for each step of a symbol is appended to a list
 pub record AppendsPairs (s : Settings) (cells : List Cell) (weights : List ℕ) (l : ℕ) (σ : Stream) (old new : List CostPair) : Type 0 where
   pub pairs : List CostPair
   pub long : length pairs ≡ need s σ

@@ -22,7 +22,7 @@ use Rattle.qam_map.specs.Cells.{cell_of}
 use Rattle.inner_chain.specs.CostPairs.{weight_of, weighted_costs_on}
 use Rattle.inner_chain.specs.Tables.{most_steps}
 
--- the places of the labels of a symbol, where each has six bits
+-- the label bits of a symbol, at six bits a label
 abbrev pub most_places : Mode → ℕ
 most_places m = 6 * payload m
 
@@ -42,7 +42,7 @@ IsPlaced s σ (Some d) = (word_of_bit s.shape s.hierarchy σ d < payload s.mode)
 abbrev pub count_of : Bool → ℕ
 count_of b = if b then 1 else 0
 
--- the number of a step's Y, where that of its first sent bit is n
+-- the number of a step's Y, if n is the number of its first sent bit
 abbrev pub second : Bool → ℕ → ℕ
 second x_goes n = if x_goes then n + 1 else n
 
@@ -81,7 +81,7 @@ pair_at costs n = slice_index_or costs n (0, 0)
 pub record AreCosts (s : Settings) (cells : List Cell) (weights : List ℕ) (l : ℕ) (costs : List (ℕ × ℕ)) : Type 0 where
   pub at : (w e : ℕ) → w < payload s.mode → e < label_bits s.shape → pair_at costs (e * payload s.mode + w) ≡ weighted_costs_on s cells weights l (place_of_word s.mode (is_odd l) w) e
 
--- the room for those of any labels: its last pair is nothing, and no cost is above 4095
+-- space for the costs of any labels; its last pair is 0, and no cost exceeds 4095
 pub record IsRoom (m : Mode) (costs : List (ℕ × ℕ)) : Type 0 where
   pub long : length costs ≡ most_places m + 1
   pub last : pair_at costs (most_places m) ≡ (0, 0)
@@ -107,7 +107,7 @@ pub record AreWordWeights (m : Mode) (weights : List ℕ) (l n : ℕ) (list : Li
   pub room : IsWeightRoom m list
   pub at : (q : ℕ) → q < n → slice_index list q ≡ weight_of weights (carrier_of_word m l q)
 
--- a list is continued by cost pairs whose X and Y are the costs at two entries each
+-- n cost pairs are appended to a list; the X and Y of each are the costs at two entries
 pub record AppendsRead (costs : List (ℕ × ℕ)) (entries : List ℕ) (n : ℕ) (old new : List CostPair) : Type 0 where
   pub pairs : List CostPair
   pub long : length pairs ≡ n

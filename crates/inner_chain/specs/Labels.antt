@@ -11,11 +11,11 @@ use Rattle.puncture.specs.SentBits.{window, sent_bit, bits_from}
 use Rattle.bit_interleave.specs.Place.{stands_at, stream_at}
 use Rattle.symbol_interleave.specs.Carried.{carried}
 
--- the number of the coded bit, in its stream, that stands at place e of word w
+-- the number, in its stream, of the coded bit at label bit e of word w
 unfoldable pub number_at : Settings → ℕ → ℕ → ℕ
 number_at s e w = let σ = stream_at s.hierarchy e in first_below (coded s σ) (stands_at s.shape s.hierarchy σ e w)
 
--- bit e of the label on payload place q, from the symbol's coded bits: the one that stands at e of the word that q carries
+-- bit e of the label on payload carrier q: bit e of the word that the carrier has
 unfoldable pub label_bit : Settings → Bool → (Stream → ℕ → Bool) → ℕ → ℕ → Bool
 label_bit s odd bits q e = bits (stream_at s.hierarchy e) (number_at s e (carried s.mode odd q))
 
@@ -25,13 +25,13 @@ pub record AreLabels (s : Settings) (odd : Bool) (bits : Stream → ℕ → Bool
   pub small : (q : ℕ) → q < payload s.mode → slice_index labels q < 2 ^ label_bits s.shape
   pub bit : (q e : ℕ) → q < payload s.mode → e < label_bits s.shape → is_set (slice_index labels q) e ≡ label_bit s odd bits q e
 
--- a list is continued by the labels of a symbol
+-- the labels of a symbol are appended to a list
 pub record AppendsLabels (s : Settings) (odd : Bool) (bits : Stream → ℕ → Bool) (old new : List ℕ) : Type 0 where
   pub labels : List ℕ
   pub are : AreLabels s odd bits labels
   pub is : new ≡ old ++ labels
 
--- what an inner coder keeps: the settings, and the register of each stream's encoder, the oldest bit first
+-- the state of an inner coder: the settings, and the register of each stream's encoder, oldest bit first
 pub record TxState : Type 0 where
   pub settings : Settings
   pub hp : List Bool
@@ -41,19 +41,19 @@ abbrev pub register_of : TxState → Stream → List Bool
 register_of st Hp = st.hp
 register_of st Lp = st.lp
 
--- a path of each stream: the register before the first bit, six zeros in a transmission, and then the stream's bits
+-- a path for each stream: the register before the first bit (six zeros in a transmission), then the bits of the stream
 abbrev pub Paths : Type 0
 Paths = Stream → ℕ → Bool
 
--- what follows of a path from step n on
+-- the rest of a path from step n on
 abbrev pub from_step : (ℕ → Bool) → ℕ → ℕ → Bool
 from_step path n t = path (n + t)
 
--- the inner coder before these paths: each register has the six bits with which its path begins
+-- the inner coder before these paths: each register holds the first six bits of its path
 abbrev pub IsBefore : TxState → Paths → Type 0
 IsBefore st paths = (σ : Stream) → register_of st σ ≡ bits_from (paths σ) 0 6
 
--- the input bits of a symbol that begins with these paths, and what follows behind the symbol
+-- the input bits of a symbol at the start of these paths, and the paths after the symbol
 abbrev pub input_bits : Settings → Paths → Stream → List Bool
 input_bits s paths σ = bits_from (paths σ) 6 (need s σ)
 

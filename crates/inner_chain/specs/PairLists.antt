@@ -31,7 +31,7 @@ pub costs_are_small : (s : Settings) (cells : List Cell) (weights : List ℕ) (l
 costs_are_small s cells weights l σ None = (omega arith, omega arith)
 costs_are_small s cells weights l σ (Some d) = weighted_costs_are_small s cells weights l (payload_place s l σ d) (place_in_label s.shape s.hierarchy σ d)
 
--- the cost pair of step t: the weighted costs of its X and of its Y, each nothing where the bit is not sent
+-- the cost pair of step t: the weighted costs of its X and its Y, 0 for a punctured bit
 unfoldable pub pair_of : Settings → List Cell → List ℕ → ℕ → Stream → ℕ → CostPair
 pair_of s cells weights l σ t =
     let x = costs_at (costs_of_bit s cells weights l σ) (number_of (rate s σ) X t) in
@@ -45,6 +45,6 @@ abbrev pub PairsAreListed : Type 0
 PairsAreListed = (s : Settings) (cells : List Cell) (weights : List ℕ) (l : ℕ) (σ : Stream) (old new : List CostPair) → AppendsPairs s cells weights l σ old new
     → new ≡ old ++ map (pair_of s cells weights l σ) (numbers (need s σ))
 
--- a list has the pairs of a symbol's steps in order at its front, and behind them what it had
+-- a list with the pairs of a symbol's steps first, then its old content
 abbrev pub BeginsWithPairs : Settings → List Cell → List ℕ → ℕ → Stream → List CostPair → List CostPair → Type 0
 BeginsWithPairs s cells weights l σ old new = new ≡ map (pair_of s cells weights l σ) (numbers (need s σ)) ++ drop (need s σ) old

@@ -1,4 +1,4 @@
--- What the tables and the intermediate lists of the code hold.
+-- The contents of the code's tables and intermediate lists.
 use Rattle.std.specs.Prelude.{◌≡◌, ℕ, ◌+◌, ◌-◌, ◌*◌, ◌/◌, ◌%◌, ◌^◌, ◌<◌, ◌≤◌, Bool, true, false, List, [], ◌∷◌, ◌++◌, length, get_or, slice_index, take, drop}
 use Rattle.spec_words.specs.Bits.{is_set, spelled}
 use Rattle.code_paths.specs.Paths.{parity_x, parity_y}
@@ -18,7 +18,7 @@ use Rattle.inner_chain.specs.Labels.{Paths, number_at, parity_at}
 abbrev pub read_bit : List Bool → ℕ → Bool
 read_bit xs n = get_or xs n false
 
--- X and Y of the first `count` steps of a path, in pairs of bits behind `first` other pairs
+-- X and Y of the first `count` steps of a path, as pairs of bits after `first` other pairs
 pub record AreParities (path : ℕ → Bool) (first count : ℕ) (xs : List Bool) : Type 0 where
   pub at : (t k : ℕ) → t < count → k < 2 → read_bit xs (2 * (first + t) + k) ≡ parity_at k path t
 
@@ -31,7 +31,7 @@ pub record AreRows (rows : List (List Bool)) (count : ℕ) : Type 0 where
   pub long : length rows ≡ count
   pub at : (n : ℕ) (d : List Bool) → n < count → get_or rows n d ≡ row_of n
 
--- after i of n steps: w, e and x are the waiting bits, the register and the pairs of bits before the first of them
+-- after i of n steps, from the pending bits w, the register e and `first` earlier pairs of bits
 pub record IsEncoded (w e x : List Bool) (first n i : ℕ) (waiting register xs : List Bool) : Type 0 where
   pub left : waiting ≡ drop i w
   pub size : length e ≡ 6 → length register ≡ 6
@@ -44,23 +44,23 @@ pub record IsGathered (xs : List Bool) (entries : List ℕ) (first count label :
   pub small : label < 2 ^ count
   pub bit : (e : ℕ) → e < count → is_set label e ≡ read_bit xs (slice_index entries (first + e))
 
--- each entry is a bit of the list
+-- each entry is an index of the list
 pub record AreWithin (entries : List ℕ) (len : ℕ) : Type 0 where
   pub at : (k : ℕ) → k < length entries → slice_index entries k < len
 
--- a list is continued by so many labels, each read at `count` entries
+-- `number` labels are appended to a list, each read at `count` entries
 pub record AppendsGathered (xs : List Bool) (entries : List ℕ) (number count : ℕ) (old new : List ℕ) : Type 0 where
   pub labels : List ℕ
   pub is : new ≡ old ++ labels
   pub long : length labels ≡ number
   pub at : (q : ℕ) → q < number → IsGathered xs entries (q * count) count (slice_index labels q)
 
--- HP's steps come before LP's
+-- the steps of HP come before those of LP
 abbrev pub first_step : Settings → Stream → ℕ
 first_step s Hp = 0
 first_step s Lp = need s Hp
 
--- an entry for place e of a word: whatever the path of the stream there, the word's bit is the named parity of the path
+-- an entry for label bit e of a word: on any path of the stream, the word's bit is the parity at the entry
 pub record IsEntry (s : Settings) (e w n : ℕ) : Type 0 where
   pub from : first_step s (stream_at s.hierarchy e) ≤ n / 2
   pub to : n / 2 < first_step s (stream_at s.hierarchy e) + need s (stream_at s.hierarchy e)
@@ -71,7 +71,7 @@ pub record AreEntries (s : Settings) (odd : Bool) (entries : List ℕ) : Type 0 
   pub long : length entries ≡ payload s.mode * label_bits s.shape
   pub at : (q e : ℕ) → q < payload s.mode → e < label_bits s.shape → IsEntry s e (carried s.mode odd q) (slice_index entries (q * label_bits s.shape + e))
 
--- a list is continued by the entries of the first `count` places of a word
+-- the entries of the first `count` label bits of a word are appended to a list
 pub record AppendsEntries (s : Settings) (w count : ℕ) (old new : List ℕ) : Type 0 where
   pub more : List ℕ
   pub is : new ≡ old ++ more
@@ -82,12 +82,13 @@ pub record AppendsEntries (s : Settings) (w count : ℕ) (old new : List ℕ) : 
 abbrev pub most_steps : Mode → ℕ
 most_steps m = 21 * payload m / 4
 
--- a table of the entries of all labels of a symbol, in room for those of any parameters
+-- a table of the entries of all labels of a symbol, with space for any parameters
 pub record IsLabelTable (s : Settings) (odd : Bool) (entries : List ℕ) (room : ℕ) : Type 0 where
   pub are : AreEntries s odd entries
   pub spare : 6 * payload s.mode ≤ room
 
--- what an inner coder of a mode keeps: its tables are those of the last symbol's parameters, and the room for parities is that of the most steps
+-- The state of an inner coder of a mode. Its tables are those of the last symbol's parameters, and it has space for the
+-- parities of the most steps.
 pub record IsTx (m : Mode) (s : Settings) (latest : Entry) (hp lp : List Bool) (even odd : List ℕ) (even_room odd_room : ℕ) (rows : List (List Bool)) (parities : List Bool) : Type 0 where
   pub mode : s.mode ≡ m
   pub hp_long : length hp ≡ 6
@@ -97,6 +98,6 @@ pub record IsTx (m : Mode) (s : Settings) (latest : Entry) (hp lp : List Bool) (
   pub are_rows : AreRows rows 1024
   pub room : 2 * most_steps s.mode ≤ length parities
 
--- X and Y of the steps of a symbol of both paths, HP's first
+-- X and Y of the steps of a symbol on both paths, HP first
 pub record AreAllParities (s : Settings) (paths : Paths) (xs : List Bool) : Type 0 where
   pub at : (σ : Stream) (t k : ℕ) → t < need s σ → k < 2 → read_bit xs (2 * (first_step s σ + t) + k) ≡ parity_at k (paths σ) t

@@ -1,4 +1,4 @@
--- Sums never wrap: what a part's start and its steps make of them.
+-- Sums never wrap: bounds from the start of a part and its steps.
 use Rattle.std.proofs.Common.{◌≡◌, ℕ, zero, suc, ◌+◌, ◌-◌, ◌*◌, ◌/◌, ◌%◌, ◌^◌, ◌<◌, ◌≤◌, Bool, true, List, ◌⊎◌, inl, inr, refl, sym, ap, ap₂, ◌∙◌, arith, eqb, lit<, mod-eq_of_lt, take, length-take}
 use Rattle.std.proofs.lemmas.Bool.{agree_below_at, cases_lt, or_left}
 use Rattle.std.specs.Prelude.{slice_index, IsTrue}

@@ -119,7 +119,7 @@ tracks_step b d gave old waits waiting x new answer more some h s p = record {
         ∙ append_assoc gave (waits (from n)) (is_set n 5 ∷ [])
         ∙ ap (λ z. gave ++ z) (sym (p.each n l t ∙ ap (λ z. waits (cond z (odd_of n) (even_of n)) ++ is_set n 5 ∷ []) (s.choice n l t)))
 
--- the states that follow
+-- the next set of states
 pub followed : (old : Sums) (x : CostPair) (new : Sums) (answer : ℕ) → IsStep old x new answer → IsFollowed old.alive answer new.alive
 followed old x new answer s = record {
   lives = s.lives;

@@ -1,4 +1,4 @@
--- Sums at a beginning, and the best of sums.
+-- Sums at the start, and the best of them.
 use Rattle.std.proofs.Common.{◌≡◌, ℕ, ◌*◌, ◌%◌, ◌^◌, ◌<◌, ◌≤◌, true, replicate, ◌⊎◌, inl, inr, refl, sym, ap, ◌∙◌, arith, eqb, mod-eq_of_lt, lit<}
 use Rattle.std.proofs.lemmas.Bool.{agree_below_at, cases_eq, cases_lt, eq-eqb, ne_eqb}
 use Rattle.std.proofs.lemmas.List.{get_or-replicate}

@@ -1,4 +1,4 @@
--- What a decoder keeps after a call, over the lists that its survivors stand for.
+-- The invariant of a decoder after a call, over the lists of its survivors.
 use Rattle.std.specs.Prelude.{◌≡◌, ℕ, ◌<◌, ◌==◌, Bool, List, ◌++◌}
 use Rattle.std.specs.declared.option.Option.{Option}
 use Rattle.code_paths.specs.declared.costs.CostPair.{CostPair}
@@ -7,7 +7,7 @@ use Rattle.spec_words.specs.Bits.{is_set}
 use Rattle.code_paths.specs.Streams.{Given}
 use Rattle.inner_decoder.specs.Tracking.{StandsBy}
 
--- one state alone is alive
+-- only one state is alive
 pub record IsOnly (live : ℕ) (e : ℕ) : Type 0 where
   pub lives : (n : ℕ) → n < 64 → is_set live n ≡ (n == e)
 

@@ -58,7 +58,7 @@ from_rows most sums f waiting steps a c g s = stands_same most sums (row_of (row
 pub to_rows : (most : ℕ) (sums : Sums) (f : ℕ → List Bool) (waiting steps : ℕ) (a : Option (List Bool)) (c : List CostPair) (g : List Bool) → StandsBy most sums f waiting steps a c g → StandsBy most sums (row_of (rows_below f 64)) waiting steps a c g
 to_rows most sums f waiting steps a c g s = stands_same most sums f (row_of (rows_below f 64)) waiting steps a c g (λ n l. sym (row_below f 64 n l)) s
 
--- what a decoder gave begins what is defined
+-- the output of a decoder is a prefix of the defined bits
 pub stands_prefix : (most : ℕ) (sums : Sums) (waits : ℕ → List Bool) (waiting steps : ℕ) (a : Option (List Bool)) (c : List CostPair) (g h : List Bool) → StandsBy most sums waits waiting steps a c g → Given most a c h → IsPrefix g h
 stands_prefix most sums waits waiting steps a c g h x y =
     let u = cut_unique most a c x.parts x.start x.costs y.parts y.start y.costs x.cut y.cut in

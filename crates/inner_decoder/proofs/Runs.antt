@@ -19,7 +19,7 @@ same_number : (r : Option Unmerged) → length (option_to_list (at_of r)) ≡ le
 same_number None = refl
 same_number (Some e) = refl
 
--- what steps on xs made
+-- the result of steps on xs
 pub record RunsTo (most : ℕ) (d0 : DecoderState) (to0 : List Bool) (d : DecoderState) (to : List Bool) (events : List ℕ) (xs : List CostPair) : Type 0 where
   pub going : d.ended ≡ false
   pub steps_is : d.steps ≡ d0.steps + length xs
@@ -43,7 +43,7 @@ runs_none most d to events e n l = record {
   };
 }
 
--- one step alone
+-- a single step
 pub step_ran : (most : ℕ) (d : DecoderState) (a : Option (List Bool)) (c : List CostPair) (g : List Bool) (x : CostPair) (xs : List CostPair) (old new : List Bool) (r : Option ℕ) → Stepped most d a c g x old new r → xs ≡ x ∷ [] → Ran most d a c g xs old new (option_to_list r)
 step_ran most d a c g x xs old new r s e = record {
   more = s.more;
@@ -79,7 +79,7 @@ runs_more most d0 to0 d to events xs h ys n d2 to2 r events2 zs u e s m p few f 
           };
     }
 
--- and then all that is shared was given
+-- and then all shared bits were given
 pub symbol_ran : (most : ℕ) (d d2 : DecoderState) (a : Option (List Bool)) (c : List CostPair) (g : List Bool) (xs : List CostPair) (old mid new : List Bool) (events : List ℕ)
     → Ran most d a c g xs old mid events
     → ((a : Option (List Bool)) (c : List CostPair) (g : List Bool) → Stands most d a c g → Gave most d2 a c g mid new)

@@ -1,4 +1,4 @@
--- What the tracked paths share, and which of them is least.
+-- The bits shared by the tracked paths, and the least of these paths.
 use Rattle.std.proofs.Common.{◌≡◌, ℕ, ◌+◌, ◌-◌, ◌*◌, ◌^◌, ◌<◌, ◌≤◌, Bool, true, false, List, ◌++◌, length, take, drop, ◌⊎◌, inl, inr, refl, sym, ap, ap₂, ◌∙◌, subst, arith, length-append, length-take, length-drop, append_assoc, take-append-drop, length-take-le}
 use Rattle.std.proofs.lemmas.Bool.{cases_lt, cases_Bool, cases_order}
 use Rattle.std.proofs.lemmas.List.{take_at, drop_at, drop-append-le, drop_all}
@@ -77,7 +77,7 @@ module _ (b : Option (List Bool)) (d : List CostPair) (gave : List Bool) (sums :
         is = r.3 ∙ ap (λ z. gave ++ z) (sym (take-append-drop k (waits r.0)) ∙ ap (λ z. z ++ drop k (waits r.0)) (a.alike r.0 m r.1 l r.2 t)) ∙ sym (append_assoc gave (take k (waits m)) (drop k (waits r.0)));
       }
 
-  -- a shared beginning is given out
+  -- a shared prefix is given
   pub tracks_give : (k : ℕ) (m : ℕ) (less : ℕ → List Bool) → m < 64 → IsTrue (alive sums m) → k ≤ waiting → AreAlike sums.alive waits k
       → ((n : ℕ) → n < 64 → IsTrue (alive sums n) → less n ≡ drop k (waits n)) → Tracks b d (gave ++ take k (waits m)) sums less (waiting - k)
   tracks_give k m less l t w a f = record {

@@ -1,4 +1,4 @@
--- Steps on many pairs, where all states are alive.
+-- Steps on many pairs, with all states alive.
 use Rattle.std.proofs.Common.{◌≡◌, ℕ, zero, suc, ◌+◌, ◌/◌, ◌^◌, ◌<◌, ◌≤◌, Bool, List, [], ◌∷◌, ◌++◌, length, refl, sym, ap, ◌∙◌, subst, subst₂, arith, length-append, append_assoc, append-nil, lit<}
 use Rattle.std.proofs.Math.Nat.{pow-suc}
 use Rattle.std.proofs.lemmas.Bool.{or_left, eqb-true}
@@ -23,7 +23,7 @@ use Rattle.inner_decoder.proofs.Fresh.{any_lives}
 use Rattle.inner_decoder.proofs.Rows64.{to_rows}
 use Rattle.inner_decoder.proofs.Stand.{pushed, stands_quiet}
 
--- ---- sums of which all are alive
+-- ---- metrics with all states alive
 
 pub all_lives : (sums : Sums) → sums.alive ≡ 18446744073709551615 → (n : ℕ) → n < 64 → IsTrue (alive sums n)
 all_lives sums e n l = ap (λ z. is_set z n) e ∙ any_lives n l
@@ -38,7 +38,7 @@ lives_after old [] new (w ∷ ws) h s n l = absurd s
 lives_after old (x ∷ xs) new [] h s n l = absurd s
 lives_after old (x ∷ xs) new (w ∷ ws) h (next, s, r) n l = lives_after next xs new ws (lives_next old x next w h s) r n l
 
--- a number of k bits that all are 1
+-- a number of k bits, all of them 1
 all_ones : (k w : ℕ) → w < 2 ^ k → ((i : ℕ) → i < k → bit_at w i ≡ 1) → w + 1 ≡ 2 ^ k
 all_ones zero w l f = omega (arith, l)
 all_ones (suc k) w l f =
@@ -68,7 +68,7 @@ plus_none n = omega arith
 plus_more : (n k : ℕ) → n + 1 + k ≡ n + suc k
 plus_more n k = omega arith
 
--- where no look for a report can come before the last one
+-- if no check for a report can come before the last one
 pub last_step : (most : ℕ) (old : Sums) (waits : ℕ → List Bool) (waiting steps : ℕ) (a : Option (List Bool)) (c : List CostPair) (g : List Bool) (xs : List CostPair) (new : Sums) (ds : List ℕ) (more : ℕ → List Bool)
     → ((n : ℕ) → n < 64 → IsTrue (alive old n)) → StandsBy most old waits waiting steps a c g → AreSteps old xs new ds → AreAllPushed waits ds more → 0 < length xs → waiting + length xs ≤ most + 1 → LastStep most waiting steps a c g xs new more
 last_step most old waits waiting steps a c g [] new ds more v h s p l r = absurd (omega arith)
@@ -112,7 +112,7 @@ last_step most old waits waiting steps a c g (x ∷ y ∷ ys) new (word ∷ rest
       push = k.push;
     }
 
--- a slice of steps and what follows it
+-- a slice of steps and the check after it
 pub slice_ran : (most : ℕ) (old : Sums) (waits : ℕ → List Bool) (waiting steps : ℕ) (a : Option (List Bool)) (c : List CostPair) (g : List Bool) (xs : List CostPair) (mid : Sums) (lists : ℕ → List Bool) (count : ℕ)
     (new : Sums) (less : ℕ → List Bool) (left number : ℕ) (e : Bool) (from to : List Bool) (r : Option ℕ)
     → old.alive ≡ 18446744073709551615 → StandsBy most old waits waiting steps a c g → IsAdvanced old waits xs mid lists → 0 < length xs → count ≡ waiting + length xs → count ≤ most + 1

@@ -1,4 +1,4 @@
--- A decoder stands for what is defined.
+-- A decoder matches the definitions.
 use Rattle.std.proofs.Common.{◌≡◌, ℕ, ◌+◌, ◌-◌, ◌^◌, ◌<◌, ◌≤◌, Bool, true, List, [], ◌∷◌, ◌++◌, length, take, drop, inl, refl, sym, ap, ap₂, ◌∙◌, subst, subst₂, arith, length-append, length-take, append_assoc, append-nil, true≢false, lit<}
 use Rattle.std.proofs.lemmas.Bool.{eqb-true, eqb-false, eq-eqb}
 use Rattle.std.proofs.lemmas.List.{take_all}
@@ -25,7 +25,7 @@ use Rattle.inner_decoder.proofs.Fresh.{power_only}
 use Rattle.inner_decoder.proofs.Shares.{shared_is, tracks_give, best_least, waits_long, tracked}
 use Rattle.code_paths.proofs.Registers.{number_of}
 
--- between the push and what follows it
+-- between the push and the rest of the step
 pub record Pushed (most : ℕ) (sums : Sums) (waits : ℕ → List Bool) (waiting steps : ℕ) (a : Option (List Bool)) (c : List CostPair) (g : List Bool) (x : CostPair) : Type 0 where
   pub parts : List Part
   pub start : Option (List Bool)
@@ -54,7 +54,7 @@ pushed most old waits waiting steps a c g x new answer more h s p = record {
 pub gave_common : (b : Option (List Bool)) (d : List CostPair) (gave : List Bool) (sums : Sums) (waits : ℕ → List Bool) (waiting : ℕ) → Tracks b d gave sums waits waiting → IsCommon b d gave
 gave_common b d gave sums waits waiting h e p q = let r = tracked b d gave sums waits waiting h e p q in record { rest = waits r.0; is = r.3 }
 
--- reports stay as they are where no part ends
+-- reports stay the same if no part ends
 same_reports : (most : ℕ) (a : Option (List Bool)) (c : List CostPair) (x : CostPair) (parts : List Part) (b b2 : Option (List Bool)) (d d2 : List CostPair) → IsCut most a c parts b d → IsCut most a (c ++ x ∷ []) parts b2 d2
     → (rs : List ℕ) → Reports most a c rs → Reports most a (c ++ x ∷ []) (rs ++ [])
 same_reports most a c x parts b b2 d d2 h k rs r =
@@ -102,7 +102,7 @@ module _ (most : ℕ) (sums : Sums) (waits : ℕ → List Bool) (waiting steps :
         whole = tt;
       }
 
--- ---- beginnings
+-- ---- starts
 
 zero_cost : (m : ℕ) → m ≡ 0 → m + 0 ≡ 0
 zero_cost m e = omega (arith, e)
@@ -140,11 +140,11 @@ tracks_all sums waits o z w = record {
 alike_none : (live : ℕ) (waits : ℕ → List Bool) → IsAlike live waits 0 0
 alike_none live waits = record { within = omega arith; alike = λ m n i j t u. refl; most = λ j l a. l }
 
--- a new stand
+-- a new decoder
 pub stands_new : (most : ℕ) (a : Option (List Bool)) (sums : Sums) (waits : ℕ → List Bool) → SomeAlive sums → Tracks a [] [] sums waits 0 → StandsBy most sums waits 0 0 a [] []
 stands_new most a sums waits s t = record { parts = []; start = a; costs = []; gave = []; cut = (refl, refl, quiet_none most a); tracks = t; some = s; few = omega arith; counts = refl; is = refl }
 
--- ---- a part's end
+-- ---- the end of a part
 
 bits_push : (parts : List Part) (part : Part) → bits_of (parts ++ part ∷ []) ≡ bits_of parts ++ drop 6 part.path
 bits_push [] part = append-nil (drop 6 part.path)
@@ -242,7 +242,7 @@ stands_ended most sums waits waiting steps a c g e h k = record {
 
 -- ---- a whole step of a decoder
 
--- the sums and the bits after a step, as the calls that a decoder makes tell them
+-- the metrics and the bits after a step, from the contracts of a decoder's calls
 pub record Made (most : ℕ) (old : Sums) (waits : ℕ → List Bool) (waiting : ℕ) (x : CostPair) (new : Sums) (answer live : ℕ) (more : ℕ → List Bool) (states count : ℕ) : Type 0 where
   pub step : IsStep old x new answer
   pub some : SomeAlive new
@@ -277,7 +277,7 @@ module _ (most : ℕ) (old : Sums) (waits : ℕ → List Bool) (waiting steps : 
       (stands_force most new more waiting steps a c g x made_pushed e sums2 waits2 to to2 (omega (arith, w, m.count_is))
       (subst (λ j. IsAlike new.alive more (waiting + 1) j) r (subst₂ (λ y z. IsAlike y more z k) q m.count_is i)) b v (subst (λ y. IsOnly y e) (sym o) (power_only e)) z y)
 
--- what follows a step, whatever step it was
+-- the rest of a step, whatever step it was
 pub settled_quiet : (most : ℕ) (sums : Sums) (pushed : ℕ → List Bool) (count states steps : ℕ) (to : List Bool) → states ≡ sums.alive → count ≤ most → Settles most sums pushed count sums pushed count steps to to None
 settled_quiet most sums pushed count states steps to t l = record {
   each = λ old lists before n x answer s o p e q a c g h.

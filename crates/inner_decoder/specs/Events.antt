@@ -1,4 +1,4 @@
--- The steps that reports name.
+-- The steps named in reports.
 use Rattle.std.specs.Prelude.{ℕ, List, map}
 use Rattle.std.specs.declared.option.Option.{Option}
 use Rattle.std.specs.declared.option.Option.TheVariants.{None, Some}

@@ -1,4 +1,4 @@
--- What a branch makes of the costs of a symbol.
+-- How a branch changes with the costs of a symbol.
 use Rattle.std.specs.Prelude.{◌≡◌, ℕ, Bool, List, ◌++◌}
 use Rattle.std.specs.declared.option.Option.{Option}
 use Rattle.code_paths.specs.declared.costs.CostPair.{CostPair}
@@ -7,8 +7,8 @@ use Rattle.inner_decoder.specs.Seen.{DecoderState}
 use Rattle.inner_decoder.specs.declared.decoder.Unmerged.{Unmerged}
 use Rattle.inner_decoder.specs.Tracking.{Stands}
 
--- what is seen of a branch: its decoder, the pairs of a symbol that are loaded and how many may be, the bits given and not
--- yet taken, and the reports of the last symbol
+-- the state of a branch: its decoder, the loaded pairs of a symbol and their maximum number, the bits given but not yet
+-- taken, and the reports of the last symbol
 pub record BranchState : Type 0 where
   pub decoder : DecoderState
   pub loaded : List CostPair
@@ -16,14 +16,14 @@ pub record BranchState : Type 0 where
   pub wait : List Bool
   pub events : List Unmerged
 
--- what a step on each pair of xs in order makes of a decoder; the events are the new reports
+-- the decoder after a step on each pair of xs in order; the events are the new reports
 pub record Ran (most : ℕ) (d : DecoderState) (a : Option (List Bool)) (c : List CostPair) (g : List Bool) (xs : List CostPair) (old new : List Bool) (events : List ℕ) : Type 0 where
   pub more : List Bool
   pub appended : new ≡ old ++ more
   pub stands : Stands most d a (c ++ xs) (g ++ more)
   pub reports : (rs : List ℕ) → Reports most a c rs → Reports most a (c ++ xs) (rs ++ events)
 
--- what a whole symbol's costs make of it, after all that is shared was given: exactly the bits given are out
+-- the decoder after all costs of a symbol and a call that gives all shared bits: exactly the bits given are appended
 pub record RanSymbol (most : ℕ) (d : DecoderState) (a : Option (List Bool)) (c : List CostPair) (g : List Bool) (xs : List CostPair) (old new : List Bool) (events : List ℕ) : Type 0 where
   pub more : List Bool
   pub appended : new ≡ old ++ more

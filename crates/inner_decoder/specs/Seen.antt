@@ -1,8 +1,8 @@
--- What is seen of a decoder.
+-- The state of a decoder.
 use Rattle.std.specs.Prelude.{◌≡◌, ℕ, zero, suc, ◌≤◌, Bool, List, [], ◌∷◌, ◌++◌}
 use Rattle.acs_plain.specs.declared.sums.Sums.{Sums}
 
--- the path metrics, the bits that wait for each of the 64 states (row n for state n), how many wait for each alive state,
+-- the path metrics, the pending bits of each of the 64 states (row n for state n), their number for each alive state,
 -- the steps so far, and whether the decoder has ended
 pub record DecoderState : Type 0 where
   pub sums : Sums
@@ -17,12 +17,12 @@ row_of [] n = []
 row_of (row ∷ rows) zero = row
 row_of (row ∷ rows) (suc n) = row_of rows n
 
--- the first rows of a function
+-- the first n rows of a function
 unfoldable pub rows_below : (ℕ → List Bool) → ℕ → List (List Bool)
 rows_below f zero = []
 rows_below f (suc n) = rows_below f n ++ f n ∷ []
 
--- survivors and metrics have the same alive states, and no more bits wait than the path memory holds
+-- survivors and metrics have the same alive states, and the pending bits fit the path memory
 pub record IsTied (states alive count most : ℕ) : Type 0 where
   pub same : states ≡ alive
   pub few : count ≤ most

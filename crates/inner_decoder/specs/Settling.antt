@@ -1,4 +1,4 @@
--- What a decoder does behind a step, over the lists that its survivors stand for.
+-- What a decoder does after a step, in terms of the survivors' lists.
 use Rattle.std.specs.Prelude.{◌≡◌, ℕ, ◌+◌, Bool, List, [], ◌∷◌, ◌++◌}
 use Rattle.std.specs.declared.option.Option.{Option}
 use Rattle.std.specs.Option.{option_to_list, IfSome}
@@ -9,7 +9,7 @@ use Rattle.survivor_ring.specs.Survivors.{IsPushed, AreAllPushed}
 use Rattle.code_paths.specs.Streams.{Reports, Given}
 use Rattle.inner_decoder.specs.Tracking.{StandsBy}
 
--- what a step on x made of sums and waiting bits
+-- metrics and pending bits after a step on x
 pub record SteppedBy (most : ℕ) (sums : Sums) (waits : ℕ → List Bool) (waiting steps : ℕ) (a : Option (List Bool)) (c : List CostPair) (g : List Bool) (x : CostPair) (old new : List Bool) (r : Option ℕ) : Type 0 where
   pub more : List Bool
   pub appended : new ≡ old ++ more
@@ -17,12 +17,12 @@ pub record SteppedBy (most : ℕ) (sums : Sums) (waits : ℕ → List Bool) (wai
   pub reports : (rs : List ℕ) → Reports most a c rs → Reports most a (c ++ x ∷ []) (rs ++ option_to_list r)
   pub whole : IfSome r (λ _. Given most a (c ++ x ∷ []) (g ++ more))
 
--- Whatever step made these sums and lists, which is the one of number steps, what follows it makes the step whole.
+-- Whatever step produced these metrics and lists, if it was step number `steps`, the rest of the call completes it.
 pub record Settles (most : ℕ) (mid : Sums) (pushed : ℕ → List Bool) (count : ℕ) (new : Sums) (waits : ℕ → List Bool) (waiting steps : ℕ) (from to : List Bool) (r : Option ℕ) : Type 0 where
   pub each : (old : Sums) (lists : ℕ → List Bool) (before : ℕ) (n : ℕ) (x : CostPair) (answer : ℕ) → IsStep old x mid answer → SomeAlive mid → IsPushed lists answer mid.alive pushed → count ≡ before + 1 → steps ≡ n + 1
       → (a : Option (List Bool)) (c : List CostPair) (g : List Bool) → StandsBy most old lists before n a c g → SteppedBy most new waits waiting steps a c g x from to r
 
--- steps on the pairs in order made of the sums these, and of the lists these
+-- metrics and lists after steps on the pairs in order
 pub record IsAdvanced (old : Sums) (lists : ℕ → List Bool) (pairs : List CostPair) (new : Sums) (waits : ℕ → List Bool) : Type 0 where
   pub words : List ℕ
   pub steps : AreSteps old pairs new words

@@ -1,4 +1,4 @@
--- What a decoder has made of a stream of costs.
+-- The state of a decoder after a stream of costs.
 use Rattle.std.specs.Prelude.{◌≡◌, ℕ, ◌+◌, ◌<◌, ◌≤◌, Bool, false, List, [], ◌∷◌, ◌++◌, length, drop, slice_index, IsTrue, ◌↔◌}
 use Rattle.std.specs.declared.option.Option.{Option}
 use Rattle.std.specs.Option.{option_to_list, IfSome}
@@ -11,8 +11,8 @@ use Rattle.code_paths.specs.Streams.{Part, IsCut, IsPrefix, bits_of, Reports, Gi
 use Rattle.inner_decoder.specs.Seen.{DecoderState, row_of}
 use Rattle.inner_decoder.specs.Metrics.{NeverWrap}
 
--- The alive states are those that a path of the open part reaches. The sums are the totals of the least paths, less one
--- number, and never wrap. The bits of these paths are those of the part that were given out, and those that wait.
+-- The alive states are those that a path of the open part reaches. The metrics are the totals of the least paths, less
+-- one number, and never wrap. The bits of these paths are the bits of the part already given, then the pending ones.
 pub record Tracks (b : Option (List Bool)) (d : List CostPair) (gave : List Bool) (sums : Sums) (waits : ℕ → List Bool) (waiting : ℕ) : Type 0 where
   pub less : ℕ
   pub path : ℕ → List Bool
@@ -23,7 +23,7 @@ pub record Tracks (b : Option (List Bool)) (d : List CostPair) (gave : List Bool
   pub none : (n : ℕ) → n < 64 → alive sums n ≡ false → Unreached b d (register n)
   pub bounded : NeverWrap b (length d) sums
 
--- Sums, waiting bits and a number of steps are what comes of the costs c from the start a where the bits g were given out.
+-- Metrics, pending bits and a number of steps match the costs c from start a, after the bits g were given.
 pub record StandsBy (most : ℕ) (sums : Sums) (waits : ℕ → List Bool) (waiting steps : ℕ) (a : Option (List Bool)) (c : List CostPair) (g : List Bool) : Type 0 where
   pub parts : List Part
   pub start : Option (List Bool)
@@ -36,12 +36,12 @@ pub record StandsBy (most : ℕ) (sums : Sums) (waits : ℕ → List Bool) (wait
   pub counts : steps ≡ length c
   pub is : g ≡ bits_of parts ++ gave
 
--- The decoder d stands for the start a, the costs c that it took, and the bits g that it appended.
+-- The decoder d matches the start a, the costs c it took, and the bits g it appended.
 abbrev pub Stands : ℕ → DecoderState → Option (List Bool) → List CostPair → List Bool → Type 0
 Stands most d a c g = StandsBy most d.sums (row_of d.rows) d.waiting d.steps a c g
 
--- What a step on x makes of it: bits are appended, of which all so far begin the bits given; r is the report, which is one
--- exactly where the defined reports have one more, and then exactly the bits given are appended.
+-- The decoder after a step on x. Bits are appended; all bits so far are a prefix of the bits given. r is a report
+-- exactly if the defined reports have one more, and then exactly the bits given are appended.
 pub record Stepped (most : ℕ) (d : DecoderState) (a : Option (List Bool)) (c : List CostPair) (g : List Bool) (x : CostPair) (old new : List Bool) (r : Option ℕ) : Type 0 where
   pub more : List Bool
   pub appended : new ≡ old ++ more
@@ -50,22 +50,22 @@ pub record Stepped (most : ℕ) (d : DecoderState) (a : Option (List Bool)) (c :
   pub reports : (rs : List ℕ) → Reports most a c rs → Reports most a (c ++ x ∷ []) (rs ++ option_to_list r)
   pub whole : IfSome r (λ _. Given most a (c ++ x ∷ []) (g ++ more))
 
--- what a call makes of it that appends all that is shared: exactly the bits given
+-- the decoder after a call that appends all shared bits: exactly the bits given
 pub record Gave (most : ℕ) (d : DecoderState) (a : Option (List Bool)) (c : List CostPair) (g : List Bool) (old new : List Bool) : Type 0 where
   pub more : List Bool
   pub appended : new ≡ old ++ more
   pub stands : Stands most d a c (g ++ more)
   pub whole : Given most a c (g ++ more)
 
--- The decoder d has ended, and stands for the start a, the costs c that it took, and the bits g that it appended: exactly the
--- bits at the end. No bit waits. One state is alive: the last six bits of the path.
+-- The decoder d has ended. It matches the start a, the costs c it took, and the bits g it appended: exactly the bits at
+-- the end. No bit is pending. One state is alive: the last six bits of the path.
 pub record StandsEnded (most : ℕ) (d : DecoderState) (a : Option (List Bool)) (c : List CostPair) (g : List Bool) : Type 0 where
   pub bits : Ended most a c g
   pub steps : d.steps ≡ length c
   pub waiting : d.waiting ≡ 0
   pub lives : (n : ℕ) → n < 64 → IsTrue (alive d.sums n) ↔ (register n ≡ drop (length bits.costs) bits.path)
 
--- what the last call makes of it
+-- the decoder after the last call
 pub record Finished (most : ℕ) (d : DecoderState) (a : Option (List Bool)) (c : List CostPair) (g : List Bool) (old new : List Bool) : Type 0 where
   pub more : List Bool
   pub appended : new ≡ old ++ more

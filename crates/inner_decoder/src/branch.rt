@@ -57,10 +57,10 @@ fn run<A: Acs, V: Survivors<2048>>(
     }
 }
 
-/// The decoder of one stream with a path memory of 2048 steps, the cost pairs of one symbol, the bits that wait to be
-/// taken, and the reports of the last symbol.
+/// The decoder of one stream with a path memory of 2048 steps, the cost pairs of one symbol, the bits not yet taken,
+/// and the reports of the last symbol.
 ///
-/// No call but `new` takes memory.
+/// Only `new` allocates memory.
 #[derive(Drop)]
 pub struct Branch<A: Acs, V: Survivors<2048>> {
     decoder: Decoder<A, V, 2048>,
@@ -82,7 +82,7 @@ impl<A: Acs, V: Survivors<2048>> Model for Branch<A, V> {
     ghost invariant = { λ b. (length b.pairs.items ≡ b.most) × (b.used ≤ b.most) × (b.decoder.waiting ≤ 2048) };
 }
 
-/// Room for so many pairs.
+/// Space for `most` pairs.
 fn empty_pairs(alloc: Global, most: u32) -> Result<Vec<CostPair>, AllocError>
     ensures { IfOk result (λ v. length v.items ≡ most) }
 {
@@ -100,7 +100,7 @@ fn empty_pairs(alloc: Global, most: u32) -> Result<Vec<CostPair>, AllocError>
 }
 
 impl<A: Acs, V: Survivors<2048>> Branch<A, V> {
-    /// A branch that has taken nothing, with room for the pairs of a symbol. The only error is want of memory.
+    /// A branch that has taken nothing, with space for the pairs of a symbol. The only error is lack of memory.
     pub fn new(alloc: Global, start: StartState, most: u32) -> Result<Self, AllocError>
         ensures going { IfOk result (λ b. b.decoder.ended ≡ false) }
         ensures most { IfOk result (λ b. b.most ≡ most) }
@@ -155,11 +155,11 @@ impl<A: Acs, V: Survivors<2048>> Branch<A, V> {
         self.used
     }
 
-    /// Steps the decoder through the loaded pairs in order, empties them, and gives all that is shared: all bits given so
+    /// Steps the decoder through the loaded pairs in order, clears them, and gives all shared bits: all bits given so
     /// far are then exactly the bits given of the definition. The events are the new reports.
     ///
-    /// `most` is at most 31,752, the steps of the largest symbol; fewer than eight bits wait, fewer than 2^61 steps were
-    /// made, and the branch has not ended.
+    /// `most` is at most 31,752, the steps of the largest symbol; fewer than eight bits are pending, fewer than 2^61
+    /// steps were made, and the branch has not ended.
     pub fn run_symbol(&mut self)
         requires going { self.old.decoder.ended ≡ false }
         requires most { self.old.most ≤ 31752 }
@@ -183,12 +183,12 @@ impl<A: Acs, V: Survivors<2048>> Branch<A, V> {
         self.decoder.give(&mut self.wait);
     }
 
-    /// Steps the decoder through these pairs in order, where they lie, and gives all that is shared: the branch is afterwards
-    /// what `load_all` and then `run_symbol` make of it, without the copy. All bits given so far are then exactly the bits
-    /// given of the definition. The events are the new reports.
+    /// Steps the decoder through these pairs in order, in place, and gives all shared bits: the result is that of
+    /// `load_all` and then `run_symbol`, without the copy. All bits given so far are then exactly the bits given of the
+    /// definition. The events are the new reports.
     ///
-    /// There are at most 31,752 pairs, the steps of the largest symbol, and `most` does not bound them. No pair is loaded,
-    /// fewer than eight bits wait, fewer than 2^61 steps were made, and the branch has not ended.
+    /// There are at most 31,752 pairs, the steps of the largest symbol; `most` does not limit them. No pair is loaded,
+    /// fewer than eight bits are pending, fewer than 2^61 steps were made, and the branch has not ended.
     pub fn run_over(&mut self, pairs: &[CostPair])
         requires going { self.old.decoder.ended ≡ false }
         requires loaded { self.old.loaded ≡ [] }
@@ -215,7 +215,7 @@ impl<A: Acs, V: Survivors<2048>> Branch<A, V> {
         self.events.as_slice()
     }
 
-    /// The number of bits given and not yet taken.
+    /// The number of bits given but not yet taken.
     pub fn waiting(&self) -> u32
         ensures number { result ≡ length self.now.wait }
         ensures few { result ≤ 36864 }
@@ -223,8 +223,8 @@ impl<A: Acs, V: Survivors<2048>> Branch<A, V> {
         self.wait.waiting() as u32
     }
 
-    /// Takes the first eight of the bits that wait, the first one the most significant: None exactly where fewer than eight
-    /// wait, and then nothing changes.
+    /// Takes the first eight pending bits, first bit most significant; None exactly if there are fewer, and then
+    /// nothing changes.
     pub fn take_byte(&mut self) -> Option<u8>
         ensures none { IsNone result ↔ (length self.old.wait < 8) }
         ensures unchanged { IsNone result → self.new ≡ self.old }
@@ -235,7 +235,7 @@ impl<A: Acs, V: Survivors<2048>> Branch<A, V> {
         self.wait.take_byte()
     }
 
-    /// Takes the first of the bits that wait: None exactly where none waits, and then nothing changes.
+    /// Takes the first pending bit; None exactly if there is none, and then nothing changes.
     pub fn take_bit(&mut self) -> Option<bool>
         ensures none { IsNone result ↔ (length self.old.wait < 1) }
         ensures unchanged { IsNone result → self.new ≡ self.old }
@@ -246,10 +246,10 @@ impl<A: Acs, V: Survivors<2048>> Branch<A, V> {
         self.wait.take_bit()
     }
 
-    /// Gives the bits of the least path that are left: all bits given are then exactly the bits at the end of the
+    /// Gives the remaining bits of the least path: all bits given are then exactly the bits at the end of the
     /// definition, and the branch has ended.
     ///
-    /// No pair is loaded, fewer than eight bits wait, and the branch has not ended.
+    /// No pair is loaded, fewer than eight bits are pending, and the branch has not ended.
     pub fn finish(&mut self)
         requires going { self.old.decoder.ended ≡ false }
         requires loaded { self.old.loaded ≡ [] }
@@ -263,7 +263,7 @@ impl<A: Acs, V: Survivors<2048>> Branch<A, V> {
         self.decoder.finish(&mut self.wait);
     }
 
-    /// Was `finish` called?
+    /// Whether `finish` was called.
     pub fn ended(&self) -> bool
         ensures ended { result ≡ self.now.decoder.ended }
     {

@@ -18,27 +18,27 @@ use std::alloc::{AllocError, Global};
 use std::marker::{Model, PhantomData};
 use survivor_ring::Survivors;
 
-/// What the register of the inner code was before a stream's first step.
+/// The register of the inner code before a stream's first step.
 #[derive(Clone, Copy, Debug, Drop, PartialEq, Eq)]
 pub enum StartState {
-    /// Six zeros: the stream is decoded from the transmission's beginning.
+    /// Six zeros: decoding starts at the beginning of the transmission.
     Zero,
     /// Any of the 64 registers.
     Any,
 }
 
-/// A report: more steps than the path memory holds were not shared. The bits of the least path of this moment were given
-/// out, and decoding goes on from its register alone.
+/// A report: the steps after the shared prefix exceeded the path memory. The bits of the least path at this moment were
+/// given, and decoding continues from its register only.
 #[derive(Clone, Copy, Debug, Default, Drop, PartialEq, Eq)]
 pub struct Unmerged {
-    /// The number of steps since the stream's start, this one included.
+    /// The number of steps since the stream's start, including this one.
     pub at: u64,
 }
 
-/// How many steps a slice has at most.
+/// The most steps of a slice.
 const SLICE: usize = 512;
 
-/// Steps on each of the pairs in order, where all states are alive; the words are the decision words.
+/// Steps on each of the pairs in order, with all states alive; the words are the decision words.
 fn advance<A: Acs, V: Survivors<L>, const L: usize>(
     metric: &mut Metric,
     survivors: &mut Held<V, L>,
@@ -57,7 +57,7 @@ fn advance<A: Acs, V: Survivors<L>, const L: usize>(
     survivors.push_all(words);
 }
 
-/// What follows a step, the one of this number: bits are given, or a report is made, where more than `L` bits wait.
+/// The end of step number `steps`: bits are given, or a report is made if more than `L` bits are pending.
 fn settle<V: Survivors<L>, const L: usize>(
     metric: &mut Metric,
     survivors: &mut Held<V, L>,
@@ -89,10 +89,10 @@ fn settle<V: Survivors<L>, const L: usize>(
 
 /// A decoder of a stream of cost pairs with a path memory of `L` steps, 1 to 2048.
 ///
-/// It stands for a start, the list of the cost pairs that it took, and the list of the bits that it appended. It gives a
-/// bit once the least paths to all alive registers agree on it. Its sums never wrap, however long the stream is: no two of
-/// them differ by more than 49,140, and which states are alive follows from the start of the part and the steps since. No
-/// call but `new` takes memory.
+/// Its state matches a start, the list of the cost pairs taken, and the list of the bits appended. It gives a bit once
+/// the least paths to all alive registers agree on it. Its sums never wrap, however long the stream: no two of them
+/// differ by more than 49,140, and the alive states follow from the start of the part and the steps since. Only `new`
+/// allocates memory.
 #[derive(Drop)]
 pub struct Decoder<A: Acs, V: Survivors<L>, const L: usize> {
     metric: Metric,
@@ -115,7 +115,7 @@ impl<A: Acs, V: Survivors<L>, const L: usize> Model for Decoder<A, V, L> {
 impl<A: Acs, V: Survivors<L>, const L: usize> Decoder<A, V, L> {
     ghost use Rattle.inner_decoder.specs.Starts.{start_of};
 
-    /// A decoder that has taken no pair. The only error is want of memory.
+    /// A decoder that has taken no pair. The only error is lack of memory.
     pub fn new(alloc: Global, start: StartState) -> Result<Self, AllocError>
         requires some { 0 < L }
         requires few { L ≤ 2048 }
@@ -139,8 +139,8 @@ impl<A: Acs, V: Survivors<L>, const L: usize> Decoder<A, V, L> {
         })
     }
 
-    /// Takes the next pair, and appends bits that all alive paths share. It answers a report exactly at the steps of the
-    /// defined reports, and has then appended all waiting bits of the least path.
+    /// Takes the next pair, and appends bits that all alive paths share. It returns a report exactly at the steps of
+    /// the defined reports, and has then appended all pending bits of the least path.
     ///
     /// There must be room for `L + 1` bits, and fewer than 2^62 steps so far; the decoder has not ended.
     pub fn step(&mut self, pair: CostPair, to: &mut WaitBuf) -> Option<Unmerged>
@@ -160,8 +160,9 @@ impl<A: Acs, V: Survivors<L>, const L: usize> Decoder<A, V, L> {
         settle(&mut self.metric, &mut self.survivors, self.steps, to)
     }
 
-    /// Takes the first of these pairs in order, as many as can come before the next look for a report, and answers how many
-    /// it took. Bits are appended and a report is answered as by `step` on each of them: only the last one can have a report.
+    /// Takes the first of these pairs in order, as many as may come before the next check for a report, and returns
+    /// their number. Bits are appended and a report is returned as by `step` on each of them; only the last one can
+    /// have a report.
     ///
     /// There must be a pair, room for `L + 1` bits, and fewer than 2^62 steps so far; the decoder has not ended.
     pub fn run_slice(&mut self, pairs: &[CostPair], to: &mut WaitBuf) -> (usize, Option<Unmerged>)
@@ -195,7 +196,7 @@ impl<A: Acs, V: Survivors<L>, const L: usize> Decoder<A, V, L> {
         (count, report)
     }
 
-    /// Appends the bits that all alive paths share: all bits appended are then exactly the bits given of the definition.
+    /// Appends the bits shared by all alive paths: all bits appended are then exactly the bits given of the definition.
     ///
     /// There must be room for `L` bits; the decoder has not ended.
     pub fn give(&mut self, to: &mut WaitBuf)
@@ -211,7 +212,7 @@ impl<A: Acs, V: Survivors<L>, const L: usize> Decoder<A, V, L> {
         self.survivors.give(common, to);
     }
 
-    /// Appends the waiting bits of the least path: all bits appended are then exactly the bits at the end of the
+    /// Appends the pending bits of the least path: all bits appended are then exactly the bits at the end of the
     /// definition, and the decoder has ended.
     ///
     /// There must be room for `L` bits; the decoder has not ended.
@@ -230,7 +231,7 @@ impl<A: Acs, V: Survivors<L>, const L: usize> Decoder<A, V, L> {
         self.ended = true;
     }
 
-    /// Was `finish` called?
+    /// Whether `finish` was called.
     pub fn ended(&self) -> bool
         ensures ended { result ≡ self.now.ended }
     {

@@ -4,7 +4,7 @@ use bit_pack::WaitBuf;
 use std::alloc::{AllocError, Global};
 use survivor_ring::Survivors;
 
-/// Survivors in a box, so that the size of what holds them does not depend on their type.
+/// Survivors in a box, so that the size of the decoder does not depend on their type.
 #[derive(Drop)]
 pub(crate) struct Held<V: Survivors<L>, const L: usize> {
     pub(crate) inner: Box<V>,

@@ -1,4 +1,4 @@
-// Path metrics that never leave 32 bits.
+// Path metrics that always fit 32 bits.
 ghost use Rattle.std.specs.Prelude.{◌≡◌, ◌<◌, ◌-◌, ◌^◌, ℕ, IsTrue, length, slice_index};
 ghost use Rattle.acs_plain.specs.Steps.{IsStep, AreSteps, SomeAlive, alive};
 ghost use Rattle.inner_decoder.specs.Metrics.{IsBest};
@@ -7,7 +7,7 @@ use acs_plain::{Acs, Sums};
 use conv_code::CostPair;
 use std::marker::Model;
 
-/// Sums that are close together: its invariant is what keeps every sum from wrapping, however long the stream is.
+/// Path metrics that are close together. The invariant keeps every sum from wrapping, however long the stream.
 #[derive(Drop)]
 pub(crate) struct Metric {
     sums: Sums,
@@ -60,7 +60,7 @@ impl Metric {
         self.sums.alive
     }
 
-    /// A step of the decoder; the answer is the decision word.
+    /// A step of the decoder; returns the decision word.
     pub(crate) fn step<A: Acs>(&mut self, pair: CostPair) -> u64
         ensures step { IsStep self.old pair self.new result }
         ensures some { SomeAlive self.new }
@@ -68,7 +68,7 @@ impl Metric {
         A::step(&mut self.sums, pair)
     }
 
-    /// A step of the decoder on each of the pairs in order, where all states are alive; the words are the decision words.
+    /// A step of the decoder on each of the pairs in order, with all states alive; the words are the decision words.
     pub(crate) fn run<A: Acs>(&mut self, pairs: &[CostPair], words: &mut [u64])
         requires all { self.old.alive ≡ 2 ^ 64 - 1 }
         requires size { length words.old ≡ length pairs.now }
@@ -82,7 +82,7 @@ impl Metric {
         prove!(is_full);
     }
 
-    /// The alive state of least cost, the lowest one of several.
+    /// The alive state of least cost; among equals, the lowest one.
     pub(crate) fn best(&self) -> u8
         ensures { IsBest self.now result }
     {

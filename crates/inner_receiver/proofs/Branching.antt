@@ -1,4 +1,4 @@
--- What a decoder stands for, when a symbol's pairs were run and at its end.
+-- The state of a decoder after running a symbol's pairs, and at its end.
 use Rattle.std.proofs.Common.{◌≡◌, ℕ, ◌+◌, ◌<◌, Bool, true, false, List, [], ◌∷◌, ◌++◌, length, take, get_or, map, sym, ap, ◌∙◌, subst, arith, length-append}
 use Rattle.std.specs.Prelude.{Option}
 use Rattle.std.proofs.lemmas.List.{take_more, map-append}
@@ -26,7 +26,7 @@ events_more σ reports i r l e =
     ∙ map-append (event_at σ) (ats (take i reports)) (ats (get_or reports i r ∷ []))
     ∙ ap (λ (u : Unmerged). map (event_at σ) (ats (take i reports)) ++ event_at σ u.at ∷ []) (sym e)
 
--- a symbol more
+-- one more symbol
 ran : (old new : BranchState) (xs : List CostPair) → HasRunOver xs old new → (a : Option (List Bool)) (c : List CostPair) (bits : List Bool) (steps : List ℕ) → HasGiven so_far old.decoder a c bits steps → GaveMore so_far old new a (c ++ xs) bits (steps ++ ats new.events)
 ran old new xs h a c bits steps s =
     let r = h.ran a c bits s.decoder.1 in
@@ -66,7 +66,7 @@ has_ended old new none kept ended steps amount finish = record {
       };
 }
 
--- at first
+-- at the start
 pub begun : NothingGiven → (d : DecoderState) (start : Start) (a : Option (List Bool)) → a ≡ start_of start → d.ended ≡ false → Stands memory d a [] [] → d.waiting ≡ 0 → Reports memory a [] [] → HasGiven so_far d (start_of start) [] [] []
 begun none d start a is going stands waiting reports = record {
   decoder = (going, subst (λ z. Stands memory d z [] []) is stands);

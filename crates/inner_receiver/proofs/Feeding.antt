@@ -1,4 +1,4 @@
--- Bytes within a symbol, and bytes that end one.
+-- Bytes within a symbol, and bytes that complete one.
 use Rattle.std.proofs.Common.{◌≡◌, ℕ, ◌+◌, ◌-◌, ◌*◌, ◌/◌, ◌%◌, ◌<◌, ◌≤◌, inl, inr, Bool, true, false, cond, List, [], ◌++◌, length, take, map, refl, sym, ap, ap₂, ◌∙◌, subst, arith, length-append, length-take-le, ◌⊎◌}
 use Rattle.std.specs.Prelude.{min}
 use Rattle.spec_words.specs.Words.{numbers}
@@ -48,7 +48,7 @@ within_is law s bytes rest piece new n k h e is l = subst (λ (z : ℕ). tail s 
 pub ends_is : TailIsUnfinished → (s : Settings) (bytes rest piece new : List ℕ) (n k : ℕ) → rest ≡ unfinished s bytes → k ≡ carriers s.mode → new ≡ rest ++ take n piece → length new ≡ 5 * k → EndsSymbol s bytes (take n piece)
 ends_is law s bytes rest piece new n k h e is l = more_tail law s bytes rest piece new n h is ∙ l ∙ ap (λ (z : ℕ). 5 * z) e
 
--- the cells of the symbol that is ended, and their weights
+-- the cells of the completed symbol, and their weights
 pub ended_cells : EndedSymbol → (s : Settings) (bytes p new : List ℕ) (k : ℕ) → EndsSymbol s bytes p → new ≡ unfinished s bytes ++ p → k ≡ carriers s.mode → cells_from new k ≡ symbol_cells s (bytes ++ p) (symbols s bytes)
 unfolding symbol_cells
 ended_cells ended s bytes p new k ends r e = ap₂ cells_from (r ∙ sym (ended s bytes p ends).0) e
@@ -57,7 +57,7 @@ pub ended_weights : EndedSymbol → (s : Settings) (bytes p new : List ℕ) (k :
 unfolding symbol_weights
 ended_weights ended s bytes p new k ends r e = ap₂ weights_from (r ∙ sym (ended s bytes p ends).0) e
 
--- the costs of the symbol that is ended, from its cells
+-- the costs of the completed symbol, from its cells
 pub ended_costs : EndedSymbol → (s : Settings) (bytes p : List ℕ) (cells : List Cell) (weights new : List ℕ) (count k : ℕ) (σ : Stream) → EndsSymbol s bytes p → new ≡ unfinished s bytes ++ p → cells ≡ cells_from new k → weights ≡ weights_from new k → k ≡ carriers s.mode → count ≡ symbols s bytes
     → map (pair_of (settings_at s count) cells weights (count % 68) σ) (numbers (need (settings_at s count) σ)) ≡ symbol_costs s (bytes ++ p) σ (symbols s bytes)
 unfolding symbol_costs symbol_cells symbol_weights
@@ -74,7 +74,7 @@ ended_tps ended s bytes p cells new k ends r c e =
     let same : cells ≡ cells_from (bytes_of_symbol s (bytes ++ p) (symbols s bytes)) (carriers s.mode) = c ∙ ap₂ cells_from (r ∙ sym (ended s bytes p ends).0) e in
     ap (λ (z : List Cell). map (cell_of z) (tps_carriers s.mode)) (sym same)
 
--- at first
+-- at the start
 pub some_carriers : (mode : Mode) (k nmax nr blocks : ℕ) → IsModeRow mode k nmax nr blocks → 0 < 5 * k
 some_carriers mode k nmax nr blocks (inl h) = omega (arith, h.1)
 some_carriers mode k nmax nr blocks (inr h) = omega (arith, h.1)
@@ -86,7 +86,7 @@ no_symbols M8k = refl
 pub nothing_unfinished : (s : Settings) → unfinished s [] ≡ []
 nothing_unfinished s = drop_all (symbols s [] * symbol_length s) [] (omega arith)
 
--- what is left of a symbol that was ended or not
+-- the rest of a symbol, completed or not
 pub rest_is_short : (whole : Bool) (input : List ℕ) (k : ℕ) → 0 < 5 * k → (whole ≡ false → length input < 5 * k) → length (cond whole [] input) < 5 * k
 rest_is_short true input k some l = omega (arith, some)
 rest_is_short false input k some l = l refl

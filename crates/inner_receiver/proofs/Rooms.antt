@@ -1,4 +1,4 @@
--- No symbol has more pairs of a stream than there is room for.
+-- No symbol has more pairs of a stream than there is space for.
 use Rattle.std.proofs.Common.{◌≡◌, ℕ, zero, suc, ◌-◌, ◌*◌, ◌/◌, ◌≤◌, Bool, true, false, List, ◌++◌, drop, length, map, take, refl, sym, ap, ◌∙◌, subst, arith}
 use Rattle.std.specs.Prelude.{if◌then◌else◌}
 use Rattle.std.proofs.lemmas.Bool.{true≢false}
@@ -69,14 +69,14 @@ few_pairs mode streams s j σ = go (exists_in s σ) refl
     go true e = subst (λ (m : Mode). need (settings_in s j) σ ≤ most_steps m σ) (mode s j) (few_steps (settings_in s j) σ)
     go false e = none (need (settings_in s j) σ) refl e
 
--- the settings of a symbol, told as its parameters
+-- the settings of a symbol, from its parameters
 pub told : (s t x : Settings) (e : Entry) → t ≡ s → with_entry s e ≡ x → with_entry t e ≡ x
 told s t x e same is = ap (λ (z : Settings). with_entry z e) same ∙ is
 
 pub fits : ModeStays → StepsAreOfAStream → (s t : Settings) (e : Entry) (m : ℕ) (σ : Stream) → t ≡ s → with_entry s e ≡ settings_at s m → need (with_entry t e) σ ≤ most_pairs s σ
 fits mode streams s t e m σ same is = subst (λ (z : Settings). need z σ ≤ most_pairs s σ) (sym (told s t (settings_at s m) e same is)) (few_pairs mode streams s (m / 272) σ)
 
--- the pairs at the front, in a list that was written over as a whole
+-- the first pairs of a list that was written over as a whole
 pub front_is : (s x : Settings) (cells : List Cell) (weights : List ℕ) (l : ℕ) (σ : Stream) (n len : ℕ) (old new behind : List CostPair) → s ≡ x → n ≡ need s σ → len ≡ length new → BeginsWithPairs s cells weights l σ old new
     → take n (take len (new ++ behind)) ≡ map (pair_of x cells weights l σ) (numbers (need x σ))
 front_is s x cells weights l σ n len old new behind same count size is = subst (λ (z : Settings). take n (take len (new ++ behind)) ≡ map (pair_of z cells weights l σ) (numbers (need z σ))) same (within ∙ front)

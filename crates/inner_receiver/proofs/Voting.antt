@@ -1,4 +1,4 @@
--- The bits of a frame, symbol by symbol, and the words that are counted.
+-- The bits of a frame, symbol by symbol, and the words counted.
 use Rattle.std.proofs.Common.{◌≡◌, ℕ, zero, suc, ◌+◌, ◌-◌, ◌*◌, ◌/◌, ◌%◌, ◌<◌, ◌≤◌, Bool, false, cond, eqb, inl, inr, ◌⊎◌, List, length, take, drop, set, map, get_or, refl, sym, ap, ap₂, ◌∙◌, subst, arith, length-drop}
 use Rattle.std.specs.Prelude.{◌↔◌, IsTrue}
 use Rattle.std.specs.List.{range_with_len}
@@ -37,7 +37,7 @@ count_with f n b =
     ap (count (with_test f n b)) (let e : n + 1 ≡ suc n = omega arith in e)
     ∙ ap₂ (λ (b : Bool) (k : ℕ). cond b 1 0 + k) (this f n b) (count_same (with_test f n b) f n (others f n b))
 
--- one word more
+-- one more word
 word_more : (word : ℕ → List Bool) (n read bad more_read more_bad : ℕ) (b : Bool) → more_read ≡ cond b 1 0 + read → more_read + more_bad ≡ read + bad + 1 → (IsTrue b ↔ IsReadable (word n)) → CountsWords word n read bad → CountsWords word (n + 1) more_read more_bad
 word_more word n read bad more_read more_bad b r t is h = record {
   is_read = with_test h.is_read n b;

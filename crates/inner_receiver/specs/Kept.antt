@@ -1,4 +1,4 @@
--- What the costs of symbols keep.
+-- The invariant of the costs of symbols.
 use Rattle.std.specs.Prelude.{◌≡◌, ℕ, ◌*◌, ◌<◌, ◌≤◌, Bool, true, false, List, length}
 use Rattle.code_paths.specs.declared.costs.CostPair.{CostPair}
 use Rattle.mode_set.specs.declared.modes.Mode.{Mode}
@@ -6,8 +6,8 @@ use Rattle.mode_set.specs.declared.modes.Stream.TheVariants.{Hp, Lp}
 use Rattle.mode_set.specs.declared.settings.Settings.{Settings}
 use Rattle.inner_receiver.specs.Rooms.{most_pairs}
 
--- The mode of the settings is that of the type; a symbol that was not ended lacks a byte, and one that was lacks none; there is
--- room for the pairs of each stream in a symbol of any parameters, and no more are used.
+-- The mode of the settings is that of the type. An unfinished symbol lacks at least a byte, a whole one none. The pairs
+-- of each stream fit, for a symbol of any parameters.
 pub record AreKept (mode : Mode) (carriers : ℕ) (settings inner : Settings) (symbol : List ℕ) (whole : Bool) (hp lp : List CostPair) (hp_used lp_used : ℕ) : Type 0 where
   pub mode_is : settings.mode ≡ mode
   pub inner_is : inner ≡ settings

@@ -31,8 +31,8 @@ pub fn start_state(start: Start) -> StartState
     }
 }
 
-/// The decoder of a stream of which nothing was received. It has no room for pairs, since it steps through those of a symbol where
-/// they lie. The only error is want of memory.
+/// The decoder of a stream that has received nothing. It has no space for pairs, since it steps through those of a
+/// symbol in place. The only error is lack of memory.
 pub fn begin(alloc: Global, start: Start) -> Result<StreamBranch, AllocError>
     ensures going { IfOk result (λ x. x.decoder.ended ≡ false) }
     ensures most { IfOk result (λ x. x.most ≡ 0) }
@@ -47,7 +47,7 @@ pub fn begin(alloc: Global, start: Start) -> Result<StreamBranch, AllocError>
     Ok(branch)
 }
 
-/// Steps both decoders through the pairs of their streams in a symbol, side by side if there are two streams.
+/// Steps both decoders through the pairs of their streams in a symbol, in parallel if there are two streams.
 fn run<R: Threads + Sync, G: Gate>(
     rt: &R,
     gate: &G,
@@ -84,12 +84,13 @@ fn push_events(stream: Stream, reports: &[Unmerged], to: &mut Vec<Event>)
     }
 }
 
-/// Makes a step of each decoder for each pair of its stream in a symbol, side by side if there are two streams, and appends
-/// the reports, those of HP before those of LP. The bits that are decided by then wait in the decoders. A stream that the symbol
-/// does not have has no pair: its decoder makes no step and reports nothing.
+/// Makes a step of each decoder for each pair of its stream in a symbol, in parallel if there are two streams, and
+/// appends the reports, those of HP before those of LP. The bits decided by then are pending in the decoders. A stream
+/// that the symbol does not have has no pair: its decoder makes no step and reports nothing.
 ///
-/// Neither decoder has ended or has a pair loaded. There are at most 31,752 pairs of each stream, the steps of the largest symbol;
-/// fewer than eight bits wait and fewer than 2^61 steps were made in each, and there is room for 32 reports.
+/// Neither decoder has ended or has a pair loaded. There are at most 31,752 pairs of each stream, the steps of the
+/// largest symbol; fewer than eight bits are pending and fewer than 2^61 steps were made in each, and there is room for
+/// 32 reports.
 pub fn take_symbol<R: Threads + Sync, G: Gate>(
     rt: &R,
     gate: &G,
@@ -114,9 +115,9 @@ pub fn take_symbol<R: Threads + Sync, G: Gate>(
     push_events(Stream::Lp, lp.events(), events);
 }
 
-/// Ends a stream: the bits of its least path that were left wait in the decoder.
+/// Ends a stream: the remaining bits of its least path are pending in the decoder.
 ///
-/// It has not ended, no pair is loaded, and fewer than eight bits wait.
+/// It has not ended, no pair is loaded, and fewer than eight bits are pending.
 pub fn end(branch: &mut StreamBranch)
     requires going { branch.old.decoder.ended ≡ false }
     requires loaded { branch.old.loaded ≡ [] }

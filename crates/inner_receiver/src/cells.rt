@@ -1,4 +1,4 @@
-// From bytes that were cut anywhere to the cost pairs of symbols.
+// From bytes in pieces of any length to the cost pairs of symbols.
 ghost use Rattle.std.specs.Prelude.{◌≡◌, ◌+◌, ◌-◌, ◌*◌, ◌<◌, ◌≤◌, ◌^◌, [], ℕ, List, true, false, cond, min, length, IfOk, if◌then◌else◌, None, Some};
 ghost use Rattle.mode_set.specs.StreamTable.{carriers};
 ghost use Rattle.mode_set.specs.declared.modes.Stream.TheVariants.{Lp};
@@ -17,17 +17,19 @@ use qam_map::Cell;
 use std::alloc::{AllocError, Global};
 use std::marker::Model;
 
-/// Takes the bytes of cells, cut anywhere, and gives the cells of each whole symbol and the cost pairs of each stream in it.
+/// Takes the bytes of cells in pieces of any length, and gives the cells of each whole symbol and the cost pairs of
+/// each stream in it.
 ///
-/// No call but `new` takes memory or is refused.
+/// Only `new` allocates memory; no call can fail after it.
 #[derive(Drop)]
 pub struct SymbolCosts<M: Carriers> {
     settings: Settings,
-    // The bytes of the unfinished symbol, or of the one that the last bytes ended.
+    // The bytes of the unfinished symbol, or of the one just completed.
     input: SymbolIn<M>,
     whole: bool,
     inner: InnerRx<M>,
-    // Room for the most cost pairs of each stream in a symbol, and how many at the front are those of the last whole one.
+    // Space for the most cost pairs of each stream in a symbol, and how many at the start are those of the last whole
+    // one.
     hp: Vec<CostPair>,
     lp: Vec<CostPair>,
     hp_used: usize,
@@ -57,7 +59,7 @@ impl<M: Carriers> Model for SymbolCosts<M> {
     ghost invariant = { λ x. AreKept M.MODE M.K x.settings x.inner x.input x.whole x.hp.items x.lp.items x.hp_used x.lp_used };
 }
 
-/// Passes on behind a symbol that was ended.
+/// Resets after a completed symbol.
 fn pass_on<M: Carriers>(whole: &mut bool, input: &mut SymbolIn<M>)
     requires ended { whole.old ≡ true → length input.old ≡ 5 * M.K }
     ensures going { whole.new ≡ false }
@@ -70,7 +72,8 @@ fn pass_on<M: Carriers>(whole: &mut bool, input: &mut SymbolIn<M>)
 }
 
 impl<M: Carriers> SymbolCosts<M> {
-    /// It has had no byte. It takes all its memory, enough for symbols of any parameters of the mode; the only error is want of it.
+    /// It has received no byte. It allocates all its memory, enough for symbols of any parameters of the mode; the only
+    /// error is lack of memory.
     pub fn new(alloc: Global, settings: &Settings) -> Result<Self, AllocError>
         requires mode { settings.now.mode ≡ M.MODE }
         ensures settings { IfOk result (λ x. x.settings ≡ settings.now) }
@@ -91,8 +94,8 @@ impl<M: Carriers> SymbolCosts<M> {
         })
     }
 
-    /// Takes bytes from the front of the piece, as many as it has or the current symbol wants, and answers how many. Where they
-    /// end the symbol, its cells, their weights and cost pairs are known until the next call.
+    /// Takes bytes from the start of the piece, all of them or as many as the current symbol needs, and returns their
+    /// number. If they complete the symbol, its cells, their weights and cost pairs are available until the next call.
     ///
     /// Fewer than 2^32 symbols were taken so far.
     pub fn feed(&mut self, piece: &[u8]) -> usize
@@ -128,14 +131,14 @@ impl<M: Carriers> SymbolCosts<M> {
         count
     }
 
-    /// Whether the last bytes ended a symbol.
+    /// Whether the last bytes completed a symbol.
     pub fn whole(&self) -> bool
         ensures whole { result ≡ self.now.whole }
     {
         self.whole
     }
 
-    /// The cells of the symbol that was ended.
+    /// The cells of the completed symbol.
     pub fn cells(&self) -> &[Cell]
         requires whole { self.now.whole ≡ true }
         ensures cells { result.now ≡ self.now.cells }
@@ -153,7 +156,8 @@ impl<M: Carriers> SymbolCosts<M> {
         self.input.weights()
     }
 
-    /// The cost pairs of a stream in the symbol that was ended, one for each step: none where the symbol does not have it.
+    /// The cost pairs of a stream in the completed symbol, one for each step; none if the symbol does not have the
+    /// stream.
     pub fn pairs(&self, stream: Stream) -> &[CostPair]
         ensures pairs { result.now ≡ pairs_of self.now stream }
         ensures few { length result.now ≤ most_pairs self.now.settings stream }
@@ -172,21 +176,21 @@ impl<M: Carriers> SymbolCosts<M> {
         &self.settings
     }
 
-    /// The whole symbols taken.
+    /// The number of whole symbols taken.
     pub fn symbols(&self) -> u64
         ensures number { result ≡ self.now.taken }
     {
         self.taken
     }
 
-    /// The bytes of the unfinished symbol.
+    /// The number of bytes of the unfinished symbol.
     pub fn waiting(&self) -> u32
         ensures number { result ≡ length self.now.rest }
     {
         if self.whole { 0 } else { self.input.waiting() }
     }
 
-    /// What belongs to LP, where it exists in the transmission.
+    /// A value for LP, if LP exists in the transmission.
     pub fn where_lp<T: Copy>(&self, of_lp: T) -> Option<T>
         ensures { result ≡ (if exists_in self.now.settings Lp then Some of_lp else None) }
     {

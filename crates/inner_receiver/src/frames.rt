@@ -1,4 +1,4 @@
-// The TPS words of frames, as their symbols come.
+// The TPS words of frames, symbol by symbol.
 ghost use Rattle.std.specs.Prelude.{◌≡◌, ◌+◌, ◌<◌, ◌≤◌, ◌^◌, ◌↔◌, ℕ, List, IsTrue, drop, length, map, slice_set};
 ghost use Rattle.mode_set.specs.StreamTable.{carriers};
 ghost use Rattle.pilots.specs.Carriers.{tps_carriers};
@@ -15,14 +15,14 @@ use tps_word::{TpsWord, take_tps_cells, vote};
 /// The most TPS carriers of a symbol.
 const MOST: usize = 68;
 
-// Are the bits within two errors of a word of the code whose fields can be sent?
+// Whether the bits are within two errors of a word of the code with valid fields.
 fn is_readable(bits: &[bool; 67]) -> bool
     ensures { IsTrue result ↔ IsReadable bits.now }
 {
     TpsWord::nearest(bits).is_some()
 }
 
-/// Reads the TPS word of each frame of 68 symbols, and counts those that are read and those that are not.
+/// Reads the TPS word of each frame of 68 symbols, and counts the readable and the bad ones.
 #[derive(Drop)]
 pub struct FrameReader {
     /// The TPS cells of the last symbol.
@@ -89,7 +89,7 @@ impl FrameReader {
         self.before = now;
     }
 
-    // Goes on to the next symbol, and counts the word behind the last one of a frame.
+    // Advances to the next symbol, and counts the word after the last one of a frame.
     fn advance(&mut self)
         requires symbol { self.old.symbol < 68 }
         requires few { self.old.read + self.old.bad < 2 ^ 62 }
@@ -110,7 +110,7 @@ impl FrameReader {
         }
     }
 
-    /// Takes the next symbol by the cells of all its carriers.
+    /// Takes the next symbol as the cells of all its carriers.
     pub fn take(&mut self, mode: Mode, cells: &[Cell])
         requires cells { length cells.now ≡ carriers mode }
         requires symbol { self.old.symbol < 68 }

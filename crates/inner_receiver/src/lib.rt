@@ -1,8 +1,9 @@
-//! From bytes of cells, cut anywhere, to the bits of each stream, symbol by symbol.
+//! From bytes of cells, in pieces of any length, to the bits of each stream, symbol by symbol.
 //!
-//! [`SymbolCosts`] takes the bytes and gives, of each whole symbol, its cells, their weights and the cost pairs of each stream. Those are
-//! handed to the decoders of the streams ([`take_symbol`]), which give all bits on which their survivors agree, and at the end
-//! the rest ([`end`]). [`FrameReader`] reads the TPS words of the frames. [`ReceiverOut`] has what the last call of a receiver gave. What becomes of the bits is the matter of the receivers above.
+//! [`SymbolCosts`] takes the bytes and gives, for each whole symbol, its cells, their weights and the cost pairs of
+//! each stream. These go to the decoders of the streams ([`take_symbol`]), which give all bits on which their survivors
+//! agree, and at the end the rest ([`end`]). [`FrameReader`] reads the TPS words of the frames. [`ReceiverOut`] has the
+//! output of the last call of a receiver. The bits are used by the receivers above.
 #![tactic(auto)]
 
 mod branches;

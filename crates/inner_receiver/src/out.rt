@@ -1,4 +1,4 @@
-// What a call of a receiver gives.
+// The output of a call of a receiver.
 ghost use Rattle.std.specs.Prelude.{◌≡◌, [], IfOk};
 
 use rx_report::Event;
@@ -14,7 +14,7 @@ const PACKETS: usize = 24;
 /// The most reports of one symbol.
 const EVENTS: usize = 32;
 
-/// What the last call of a receiver gave: the bytes of packets of each stream, and unmerged reports.
+/// The output of the last call of a receiver: the bytes of packets of each stream, and unmerged reports.
 ///
 /// It has room for 24 packets of each stream and for 32 reports, which one symbol never exceeds.
 #[derive(Drop)]
@@ -39,7 +39,7 @@ impl Model for ReceiverOut {
 }
 
 impl ReceiverOut {
-    /// It has nothing yet. The only error is want of memory.
+    /// It is empty. The only error is lack of memory.
     pub fn new(alloc: Global) -> Result<ReceiverOut, AllocError>
         ensures { IfOk result (λ out. out ≡ record { hp = []; lp = []; events = [] }) }
     {
@@ -71,7 +71,7 @@ impl ReceiverOut {
         &self.events
     }
 
-    /// Takes out what it has.
+    /// Clears it.
     pub fn clear(&mut self)
         ensures { self.new ≡ record { hp = []; lp = []; events = [] } }
     {

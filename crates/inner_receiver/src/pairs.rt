@@ -15,8 +15,7 @@ use qam_map::Cell;
 use std::alloc::{AllocError, Global};
 use symbol_parameters::parameters_of_symbol;
 
-/// The most cost pairs of a stream in a symbol, whatever its parameters: none where the stream does not exist in the
-/// transmission.
+/// The most cost pairs of a stream in a symbol of any parameters; 0 if the stream does not exist in the transmission.
 fn most_pairs(settings: &Settings, stream: Stream) -> u32
     ensures most { result ≡ most_pairs settings.now stream }
     ensures few { result ≤ 31752 }
@@ -29,7 +28,7 @@ fn most_pairs(settings: &Settings, stream: Stream) -> u32
     }
 }
 
-// Room for the most cost pairs of a stream in a symbol.
+// Space for the most cost pairs of a stream in a symbol.
 pub(crate) fn room_for_pairs(
     alloc: Global,
     settings: &Settings,
@@ -46,8 +45,8 @@ pub(crate) fn room_for_pairs(
     vec![in alloc; nothing; most_pairs(settings, stream) as usize]
 }
 
-/// Writes the cost pairs of both streams in a symbol of the transmission over the fronts of `hp` and `lp`, and answers how many
-/// there are of each: none of a stream that does not exist there.
+/// Writes the cost pairs of both streams in a symbol of the transmission to the start of `hp` and `lp`, and returns the
+/// number of each: 0 for a stream that does not exist there.
 ///
 /// `cells` are those of all carriers of the symbol, and `weights` theirs, each at most 15.
 pub(crate) fn put_pairs<M: Carriers>(

@@ -1,4 +1,4 @@
--- The cell that stands for a label, where it is received near its point.
+-- The cell of a label, received close to its point.
 use Rattle.std.proofs.Common.{◌≡◌, ℕ, zero, suc, ◌+◌, ◌/◌, ◌%◌, ◌*◌, ◌<◌, ◌≤◌, List, ◌∷◌, length, get_or, refl, sym, ap, ap₂, ◌∙◌, subst, arith, Bool, true, false, cond, not, ◌||◌}
 use Rattle.std.specs.Prelude.{IsTrue, filter, count_by, slice_index, ◌==◌}
 use Rattle.std.specs.List.{range_with_len}
@@ -55,7 +55,7 @@ repeated m l h k q b = (there, back)
     back : (q < payload m) × (slice_index (payload_carriers m l) q ≡ k) → kind m l k ≡ Payload q
     back p = sym (same_kind m l k) ∙ (h k q b).1 (p.0, ap (λ (z : List ℕ). slice_index z q) (same_carriers m l) ∙ p.1)
 
--- what is known of four symbols
+-- the known facts on four symbols
 pub record AreFour (m : Mode) : Type 0 where
   pub at_0 : AreCounted m 0
   pub at_1 : AreCounted m 1
@@ -74,7 +74,7 @@ counted m four l =
     let c = one_of_four m (l % 4) four (omega arith) in
     record { many = ap (λ (z : List ℕ). length z) (sym (same_carriers m l)) ∙ c.many; numbered = repeated m l c.numbered }
 
--- ---- the carrier of a payload place
+-- ---- payload carrier q as a carrier
 abbrev is_below : (ℕ → Bool) → ℕ → List ℕ → ℕ → Type 0
 is_below p n xs q = (p (get_or xs q 0) ≡ true) × (get_or xs q 0 < n)
 
@@ -90,7 +90,7 @@ filtered p a (suc n) q l = go (p a) refl q (filtered p (a + 1) n) l
     go true e (suc q) more k = let h = more q (omega (arith, k)) in (h.0, omega (arith, h.1))
     go false e q more k = let h = more q k in (h.0, omega (arith, h.1))
 
--- payload place q of symbol m stands on carrier k
+-- payload carrier q of symbol m is carrier k
 pub record IsCarrierOf (s : Settings) (m q k : ℕ) : Type 0 where
   pub within : k < carriers s.mode
   pub free : IsTrue (is_payload s.mode (m % 68) k)
@@ -110,11 +110,11 @@ pub point_is : (s : Settings) (inputs : Inputs) (m q k : ℕ) → kind (settings
 unfolding tx_cell announcing_cell cell_of_kind
 point_is s inputs m q k e = ap (λ (kd : CarrierKind). cell_of_kind (settings_for (settings_at s m) (announced_at s m) kd) m (tx_label s inputs m) k kd) e
 
--- the cell that a receiver finds on a payload place
+-- the received cell on a payload carrier
 abbrev pub cell_on : Settings → List ℕ → ℕ → ℕ → Cell
 cell_on s bytes m q = cell_of (symbol_cells s bytes m) (slice_index (payload_carriers (settings_at s m).mode (m % 68)) q)
 
--- a payload carrier of the symbol's settings is one of the receiver's
+-- a payload carrier by the symbol's settings is one of the receiver's
 pub record IsFree (s : Settings) (m k : ℕ) : Type 0 where
   pub within : k < carriers s.mode
   pub free : IsTrue (is_payload s.mode (m % 68) k)
@@ -132,14 +132,14 @@ near_label stays s inputs bytes m q w l c =
     let f : IsFree s m k = is_free stays s m q k c in
     subst (λ (z : Cell). IsNear (settings_at s m).shape (settings_at s m).hierarchy z (cell_on s bytes m q)) (point_is s inputs m q k c.kind_is) (w.near m k l f.within f.free)
 
--- each bit of the label costs less than the other bit, by 15 at least
+-- each bit of the label costs at least 15 less than its complement
 pub label_favoured : NearPointsFavourTheirBits → ModeStays → (s : Settings) (inputs : Inputs) (bytes : List ℕ) (m q e : ℕ) → IsWithin s inputs bytes → m < symbols_of s inputs
     → AreCounted (settings_at s m).mode (m % 68) → q < payload (settings_at s m).mode → e < label_bits (settings_at s m).shape
     → cost (settings_at s m).shape (settings_at s m).hierarchy (on_axis (cell_on s bytes m q) e) e (tx_label s inputs m q e) + 15 ≤ cost (settings_at s m).shape (settings_at s m).hierarchy (on_axis (cell_on s bytes m q) e) e (not (tx_label s inputs m q e))
 label_favoured favour stays s inputs bytes m q e w l counts lq le =
     favour (settings_at s m).shape (settings_at s m).hierarchy (tx_label s inputs m q) (cell_on s bytes m q) e le (near_label stays s inputs bytes m q w l (carrier_of (settings_at s m) m q counts lq))
 
--- the weight that a receiver finds on a payload place
+-- the received weight on a payload carrier
 abbrev pub weight_on : Settings → List ℕ → ℕ → ℕ → ℕ
 weight_on s bytes m q = weight_of (symbol_weights s bytes m) (slice_index (payload_carriers (settings_at s m).mode (m % 68)) q)
 

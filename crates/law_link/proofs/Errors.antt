@@ -1,9 +1,10 @@
--- What a cell and its estimate tell differs from what was sent by a sum of the errors' products.
+-- The difference between a corrected cell and the sent one is a sum of products of errors.
 use Rattle.std.proofs.Common.{◌≡◌, ℕ, arith}
 use Rattle.std.specs.Prelude.{ℤ, pos, ◌+ℤ◌, ◌-ℤ◌, ◌*ℤ◌}
 use Rattle.spec_words.proofs.Ring.{itself, number, plus, less, times, same}
 
--- g times what a received cell (r, i) tells by the estimate (u, v), less g times (x, y) times its power, is a sum of the errors' products
+-- g times the cell corrected from (r, i) by the estimate (u, v), less g times (x, y) times its power, is a sum of
+-- products of errors
 pub errors : (g c : ℕ) (a b x y u v r i : ℤ) →
     pos g *ℤ (pos c *ℤ (r *ℤ u +ℤ i *ℤ v) -ℤ x *ℤ (u *ℤ u +ℤ v *ℤ v))
     ≡ y *ℤ ((pos g *ℤ v -ℤ pos c *ℤ b) *ℤ u -ℤ (pos g *ℤ u -ℤ pos c *ℤ a) *ℤ v)

@@ -1,4 +1,4 @@
--- One cell, its estimate and what comes of it.
+-- One cell, its estimate and the result.
 use Rattle.std.proofs.Common.{◌≡◌, ℕ, ◌+◌, ◌*◌, ◌^◌, ◌≤◌, ap, refl, sym, ◌∙◌, arith, subst, inl, inr}
 use Rattle.std.specs.Prelude.{ℤ, pos, negsuc, ◌+ℤ◌, ◌-ℤ◌, ◌*ℤ◌, nat_abs}
 use Rattle.std.proofs.lemmas.Int.{ints, unsigned_abs-mul}
@@ -37,7 +37,7 @@ strong a b u v d h near =
     let all = mul-le-mul_left (21845 * d) (long (nat_abs a) (nat_abs b) h) in
     omega (arith, one, two, all)
 
--- the sum of the errors' products
+-- the sum of the products of errors
 pub spread : (d : ℕ) (a b x y u v r i : ℤ) → Below x 32768 → Below y 32768 → IsEstimate a b d u v → IsReceived a b x y r i
     → nat_abs (pos (21845 * d) *ℤ (r *ℤ u +ℤ i *ℤ v) -ℤ x *ℤ (u *ℤ u +ℤ v *ℤ v)) ≤ 87381 * d * (nat_abs u + nat_abs v)
 spread d a b x y u v r i bx by near got =
@@ -54,7 +54,7 @@ spread d a b x y u v r i bx by near got =
     let more = is ∙ ap nat_abs (errors 16384 c a b x y u v r i) in
     omega (arith, more, all.below)
 
--- 17 times the power is more
+-- 17 times the power is greater
 roomy : (d m n : ℕ) → 21841 * d ≤ 2 * (m + n) → 87381 * d * (m + n) ≤ 17 * (m * m + n * n)
 roomy d m n h = let more = mul-le-mul_right (m + n) h in omega (arith, more, sum_square m n)
 
@@ -65,7 +65,7 @@ square_is (negsuc n) = refl
 power_is : (u v : ℤ) → u *ℤ u +ℤ v *ℤ v ≡ pos (nat_abs u * nat_abs u + nat_abs v * nat_abs v)
 power_is u v = ap (λ (z : ℤ). z +ℤ v *ℤ v) (square_is u) ∙ ap (λ (z : ℤ). pos (nat_abs u * nat_abs u) +ℤ z) (square_is v)
 
--- what a cell and its estimate tell is near what was sent
+-- the corrected cell is close to the one sent
 pub told : (d : ℕ) (a b x y u v r i : ℤ) → Below x 32768 → Below y 32768 → 2 ^ 26 ≤ nat_abs a * nat_abs a + nat_abs b * nat_abs b → IsEstimate a b d u v → IsReceived a b x y r i
     → nat_abs (pos (21845 * d) *ℤ (r *ℤ u +ℤ i *ℤ v) -ℤ x *ℤ pos (nat_abs u * nat_abs u + nat_abs v * nat_abs v)) ≤ 17 * (nat_abs u * nat_abs u + nat_abs v * nat_abs v)
 told d a b x y u v r i bx by h near got =

@@ -1,4 +1,4 @@
--- The costs of each step speak for the path that was sent.
+-- The costs of each step favour the path sent.
 use Rattle.std.proofs.Common.{◌≡◌, ℕ, ◌+◌, ◌%◌, ◌<◌, ◌≤◌, ◌⊎◌, inl, inr, List, refl, sym, ◌∙◌, subst, Bool, true, false, cond, not, ◌||◌}
 use Rattle.std.specs.Prelude.{IsTrue, Option, Some, None}
 use Rattle.mode_set.specs.StreamTable.{coded, need, payload, rate, has_stream}
@@ -30,7 +30,7 @@ use Rattle.law_link.proofs.Cells.{cell_on, weight_on, label_favoured, some_weigh
 use Rattle.law_link.proofs.Places.{IsPlaced, placed, place_within, label_is}
 use Rattle.law_link.proofs.Steps.{AreParities, AreWithin, numbers_within, parities}
 
--- what is known of the layers below
+-- the known facts on the layers below
 pub record AreKnown : Type 0 where
   pub counts : (m : Mode) (l : ℕ) → AreCounted m l
   pub permutation : HIsAPermutation
@@ -78,7 +78,7 @@ bit_favoured known s inputs bytes m σ d w l exists few =
     k b = cost z.shape z.hierarchy (on_axis (cell_on s bytes m q) e) e b
 
 -- ---- a step
--- a bit that is sent is favoured, and one that is not costs nothing
+-- a sent bit is favoured, and a punctured one costs 0
 allows_of : (f : ℕ → ℕ × ℕ) (o : Option ℕ) (sent : Bool) (n : ℕ) (b : Bool) → o ≡ cond sent (Some n) None → (sent ≡ true → Favours b (f n).0 (f n).1) → Allows b (costs_at f o).0 (costs_at f o).1
 allows_of f o true n b e h = inl (subst (λ (z : Option ℕ). Favours b (costs_at f z).0 (costs_at f z).1) (sym e) (h refl))
 allows_of f o false n b e h = inr (subst (λ (z : Option ℕ). (costs_at f z).0 ≡ (costs_at f z).1) (sym e) refl)
@@ -90,7 +90,7 @@ one_sent f ox oy true sy i j x y some ex ey hx hy = inl (subst (λ (z : Option �
 one_sent f ox oy false true i j x y some ex ey hx hy = inr (subst (λ (z : Option ℕ). Favours y (costs_at f z).0 (costs_at f z).1) (sym ey) (hy refl))
 one_sent f ox oy false false i j x y some ex ey hx hy = absurd (cc)
 
--- the costs of step t of symbol m speak for a path that has there the bits that were sent
+-- the costs of step t of symbol m favour a path with the bits sent there
 pub step_speaks : AreKnown → (s : Settings) (inputs : Inputs) (bytes : List ℕ) (m t : ℕ) (σ : Stream) (p : List Bool) → IsWithin s inputs bytes → m < symbols_of s inputs → IsTrue (has_stream (settings_at s m).hierarchy σ) → t < need (settings_at s m) σ
     → parity_x p ≡ parity_x (window (paths_at s inputs m σ) t) → parity_y p ≡ parity_y (window (paths_at s inputs m σ) t) → SpeaksFor (pair_of (settings_at s m) (symbol_cells s bytes m) (symbol_weights s bytes m) (m % 68) σ t) p
 unfolding pair_of

@@ -1,4 +1,4 @@
--- The corrected cells of a file are read from its bytes, and so they are those of the law over symbols.
+-- The corrected cells of a file are read from its bytes, so they are those of the law over symbols.
 use Rattle.std.proofs.Common.{◌≡◌, ℕ, zero, suc, ◌*◌, ◌/◌, ◌%◌, ◌<◌, ◌≤◌, List, [], ◌∷◌, length, get_or, refl, sym, ap, ap₂, ◌∙◌, subst, arith}
 use Rattle.std.specs.Prelude.{ℤ, slice_index}
 use Rattle.std.proofs.lemmas.List.FromFn.{length-map-range_with_len}
@@ -26,7 +26,7 @@ use Rattle.law_link.specs.Flat.{HasCome, IsRestored}
 use Rattle.law_link.specs.Symbols.{TransmissionsComeBack, IsTolerated}
 use Rattle.law_link.specs.FlatFiles.{equalised_symbols, HaveCome, FilesAreRestored, FilesAreWithin, FilesAreReturned, FilesAreClean}
 
--- what is known of the bytes of cells
+-- the known facts on the bytes of cells
 pub record AreRead : Type 0 where
   pub long : FiveBytesACell
   pub cells : CellsAreReadBack

@@ -1,4 +1,4 @@
--- The gain at each carrier is near, and so each cell comes back.
+-- The gain at each carrier is close, so each cell is restored.
 use Rattle.std.proofs.Common.{◌≡◌, ℕ, ◌+◌, ◌-◌, ◌*◌, ◌<◌, ◌≤◌, ap, refl, sym, ◌∙◌, arith, subst, inl, inr, Bool, true, false, List, get_or}
 use Rattle.std.specs.Prelude.{ℤ, pos, ◌+ℤ◌, ◌-ℤ◌, ◌*ℤ◌, neg_ℤ, if◌then◌else◌}
 use Rattle.std.proofs.lemmas.Bool.{cases_lt, ne_eqb, eq-eqb}
@@ -15,7 +15,7 @@ use Rattle.spec_words.proofs.Ring.{itself, number, plus, opposite, less, times, 
 use Rattle.law_link.proofs.Estimate.{IsEstimate}
 use Rattle.law_link.proofs.OneCell.{restored}
 
--- the gain tells (a, b)
+-- the gain is close to that of (a, b)
 pub record Tells (a b : ℤ) (g : Gain) : Type 0 where
   pub some : 1 ≤ g.span
   pub near : IsEstimate a b g.span g.re g.im

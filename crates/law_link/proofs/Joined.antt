@@ -1,4 +1,4 @@
--- What comes back of a stream are its packets, and then null packets.
+-- The packets received of a stream are its own, then null packets.
 use Rattle.std.proofs.Common.{◌≡◌, ℕ, zero, suc, ◌+◌, ◌-◌, ◌≤◌, List, [], ◌∷◌, ◌++◌, length, take, refl, sym, ap, ◌∙◌, subst, arith, append_assoc, append-nil}
 use Rattle.std.specs.Prelude.{Some, replicate}
 use Rattle.std.specs.List.{concat}

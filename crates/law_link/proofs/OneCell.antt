@@ -1,4 +1,4 @@
--- A cell whose estimate is near comes back.
+-- A cell with a close estimate is restored.
 use Rattle.std.proofs.Common.{◌≡◌, ℕ, ◌+◌, ◌*◌, ◌/◌, ◌^◌, ◌<◌, ◌≤◌, ap, sym, ◌∙◌, arith, subst, Bool}
 use Rattle.std.specs.Prelude.{ℤ, pos, ◌+ℤ◌, ◌-ℤ◌, ◌*ℤ◌, neg_ℤ, nat_abs, ◌==◌, if◌then◌else◌}
 use Rattle.std.specs.Int.{w16}
@@ -18,7 +18,7 @@ use Rattle.spec_words.proofs.Sizes.{Below, opposite_below, square_le}
 use Rattle.law_link.proofs.Rounding.{rounded, clamped}
 use Rattle.law_link.proofs.Estimate.{IsEstimate, IsReceived, strong, told, worth}
 
--- the same turned by a quarter
+-- the same after a quarter turn
 turned : (a b x y r i : ℤ) → IsReceived a b x y r i → IsReceived a b y (neg_ℤ x) i (neg_ℤ r)
 turned a b x y r i h =
     let a' = itself a in let b' = itself b in let x' = itself x in let y' = itself y in let r' = itself r in let i' = itself i in
@@ -51,7 +51,7 @@ fits_below z f = record { below = omega (arith, ints, f) }
 fits_parts : (z : ℤ) → FitsSigned w16 z → (up z < down z + 2 ^ 15) × (down z ≤ up z + 2 ^ 15)
 fits_parts z f = omega (arith, ints, f)
 
--- what the quotient is near, the value of the cell is near too
+-- if the quotient is close to it, so is the value of the cell
 on_axis : (x z : ℤ) (n e : ℕ) → FitsSigned w16 x → 0 < n → nat_abs (z -ℤ x *ℤ pos n) ≤ e * n → nat_abs (value_near z n -ℤ x) ≤ e
 on_axis x z n e f some h = clamped x (nearest z n) e (fits_parts x f) (rounded x z n e some h)
 

@@ -1,4 +1,4 @@
--- Where a coded bit stands: the label bit that is sent there is this bit of its stream.
+-- The position of a coded bit: the label bit sent there is this bit of its stream.
 use Rattle.std.proofs.Common.{◌≡◌, ℕ, ◌+◌, ◌-◌, ◌*◌, ◌/◌, ◌%◌, ◌<◌, ◌≤◌, refl, sym, ap, ◌∙◌, arith, Bool, true, false, cond}
 use Rattle.std.specs.Prelude.{slice_index, nat_lt, ◌==◌}
 use Rattle.std.proofs.lemmas.Bool.{lt-ltb, le-ltb}
@@ -20,8 +20,8 @@ use Rattle.inner_chain.specs.CostPairs.{payload_place}
 use Rattle.symbol_parameters.specs.Spans.{settings_at}
 use Rattle.transmission.specs.Transmission.{Inputs, paths_at, tx_label}
 
--- ---- the place in the label, and the word
--- a place of a stream with n bits a label from place f on
+-- ---- the bit of the label, and the word
+-- a bit of a stream with n bits a label, from label bit f on
 abbrev place_from : ℕ → ℕ → ℕ → ℕ
 place_from n f d = d % n / (n / 2) + 2 * (d % n % (n / 2)) + f
 
@@ -47,13 +47,13 @@ index_4 p d l = omega (arith, l)
 index_6 : (p d : ℕ) → d < p * 6 → d / 6 < p
 index_6 p d l = omega (arith, l)
 
--- bit d of a stream stands at a place of the label that is the stream's, in one of the words of the symbol
+-- bit d of a stream is at a label bit of the stream, in one of the words of the symbol
 pub record IsPlaced (c : Shape) (hi : Hierarchy) (σ : Stream) (m : Mode) (d : ℕ) : Type 0 where
   pub place : place_in_label c hi σ d < label_bits c
   pub word : word_of_bit c hi σ d < payload m
   pub stream : stream_at hi (place_in_label c hi σ d) ≡ σ
 
--- LP's places are those from 2 on
+-- LP's label bits are those from 2 on
 low : (e : ℕ) → e < 2 → cond (nat_lt e 2) Hp Lp ≡ Hp
 low e l = let t : nat_lt e 2 ≡ true = lt-ltb e 2 l in rw t refl
 
@@ -107,7 +107,7 @@ placed Qam64 Alpha4 Lp m d sent l =
     let p = place_4 2 d in
     record { place = p.1; word = word_small m (d / 4) (offset (place_from 4 2 d)) (index_4 (payload m) d l); stream = high (place_from 4 2 d) p.0 }
 
--- ---- the payload place of a word
+-- ---- the payload carrier of a word
 pub place_within : HIsAPermutation → (m : Mode) (odd : Bool) (w : ℕ) → PlacesAndWordsAgree → w < payload m → place_of_word m odd w < payload m
 place_within perm m false w agree l = (perm m).below w l
 place_within perm m true w agree l =
@@ -133,7 +133,7 @@ number_is s e w σ d eσ sent ep ew l found =
     ∙ ap (λ (z : ℕ). first_below (coded s σ) (stands_at s.shape s.hierarchy σ (place_in_label s.shape s.hierarchy σ d) z)) (sym ew)
     ∙ found s.shape s.hierarchy σ (coded s σ) d sent l
 
--- the label bit at the place of coded bit d is this bit
+-- the label bit at the position of coded bit d is this bit
 label_bit_is : EachBitIsFound → PlacesAndWordsAgree → (s : Settings) (bits : Stream → ℕ → Bool) (m : ℕ) (σ : Stream) (d : ℕ) → IsSent s.shape s.hierarchy σ → d < coded s σ → IsPlaced s.shape s.hierarchy σ s.mode d
     → label_bit s (is_odd m) bits (payload_place s (m % 68) σ d) (place_in_label s.shape s.hierarchy σ d) ≡ bits σ d
 unfolding label_bit
@@ -151,7 +151,7 @@ label_bit_is found agree s bits m σ d sent l p =
     carried_back : carried s.mode (is_odd m) (payload_place s (m % 68) σ d) ≡ w
     carried_back = ap (λ (b : Bool). carried s.mode (is_odd m) (place_of_word s.mode b w)) (same_odd m) ∙ (agree s.mode (is_odd m) w p.word).1
 
--- by the settings of its symbol
+-- with the settings of its symbol
 pub label_is : EachBitIsFound → PlacesAndWordsAgree → (s : Settings) (inputs : Inputs) (m : ℕ) (σ : Stream) (d : ℕ) → let z = settings_at s m in IsSent z.shape z.hierarchy σ → d < coded z σ → IsPlaced z.shape z.hierarchy σ z.mode d
     → tx_label s inputs m (payload_place z (m % 68) σ d) (place_in_label z.shape z.hierarchy σ d) ≡ coded_bits z (paths_at s inputs m) σ d
 unfolding tx_label

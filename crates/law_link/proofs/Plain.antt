@@ -1,4 +1,4 @@
--- What upgraded cells cost.
+-- The costs of upgraded cells.
 use Rattle.std.proofs.Common.{◌≡◌, ℕ, ◌-◌, ◌%◌, ◌<◌, List, refl, sym, ap, ◌∙◌, subst}
 use Rattle.std.specs.Prelude.{slice_index, slice_index_or, Option, Some, None}
 use Rattle.code_paths.specs.declared.costs.CostPair.{CostPair}

@@ -115,7 +115,7 @@ cell_small : (s : Settings) (inputs : Inputs) (m k : ℕ) → IsSmallCell (tx_ce
 unfolding tx_cell announcing_cell
 cell_small s inputs m k = let kd : CarrierKind = kind (settings_at s m).mode (m % 68) k in kind_small (settings_for (settings_at s m) (announced_at s m) kd) m (tx_label s inputs m) k kd
 
--- ---- a part among parts of one length
+-- ---- a part among parts of the same length
 pub record BeginsWith (xs part : List ℕ) : Type 0 where
   pub rest : List ℕ
   pub is : xs ≡ part ++ rest
@@ -152,7 +152,7 @@ written_small z h = let f = Fits-of_z {w = w16} {z = z} (fits_signed_from_abs w1
 read_from : (z : ℤ) (xs rest : List ℕ) → is_small z ≡ true → xs ≡ big_bytes 2 (cast_unsigned w16 z) ++ rest → cast_signed w16 (big_number 2 xs) ≡ z
 read_from z xs rest h e = ap (λ (y : List ℕ). cast_signed w16 (big_number 2 y)) e ∙ ap (cast_signed w16) (big_number-reads_back 2 (cast_unsigned w16 z) rest (written_small z h)) ∙ small_at z h
 
--- a cell whose bytes stand from 5 k on
+-- a cell whose bytes start at 5 k
 cell_is : (c : Cell) (xs : List ℕ) (k : ℕ) → IsSmallCell c → BeginsWith (drop (5 * k) xs) (sent_bytes c) → cell_from xs k ≡ c
 unfolding cell_from sent_bytes cell_bytes
 cell_is c xs k small b = made (read_from c.re (drop (5 * k) xs) (big_bytes 2 (cast_unsigned w16 c.im) ++ (15 ∷ b.rest)) small.re first) (read_from c.im (drop (5 * k + 2) xs) (15 ∷ b.rest) small.im second)
@@ -166,7 +166,7 @@ cell_is c xs k small b = made (read_from c.re (drop (5 * k) xs) (big_bytes 2 (ca
     made : {re im : ℤ} → re ≡ c.re → im ≡ c.im → ◌≡◌ {A = Cell} (record { re = re; im = im }) c
     made p q = ap₂ (λ (x y : ℤ). record { re = x; im = y }) p q
 
--- its weight stands behind it
+-- its weight follows it
 weight_is : (c : Cell) (xs : List ℕ) (k : ℕ) → BeginsWith (drop (5 * k) xs) (sent_bytes c) → weight_from xs k ≡ 15
 unfolding weight_from sent_bytes cell_bytes
 weight_is c xs k b = ap weight_of_byte (sym (get_or-drop (5 * k) xs 4 0) ∙ ap (λ (z : List ℕ). get_or z 4 0) b.is)
@@ -230,7 +230,7 @@ near_itself s h c = record { re = few (no_distance c.re); im = few (no_distance 
     few : {a b : ℕ} → a ≡ 0 → a ≤ b
     few e = omega (arith, e)
 
--- own cells have the whole weight
+-- own cells have full weight
 weights_are_read : SymbolsAreLong → SymbolsAreCells → (s : Settings) (inputs : Inputs) (m k : ℕ) → m < symbols_of s inputs → k < carriers s.mode → get_or (symbol_weights s (tx s inputs) m) k 15 ≡ 15
 unfolding symbol_weights weights_from numbers
 weights_are_read long cells s inputs m k lm lk =

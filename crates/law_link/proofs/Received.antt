@@ -1,4 +1,4 @@
--- Costs that speak for the path that was sent give its bytes, and these the packets.
+-- Costs that favour the path sent give its bytes, and these the packets.
 use Rattle.std.proofs.Common.{◌≡◌, ℕ, zero, suc, ◌+◌, ◌-◌, ◌*◌, ◌/◌, ◌%◌, ◌<◌, ◌≤◌, List, [], ◌∷◌, ◌++◌, length, get_or, take, drop, map, refl, sym, ap, ◌∙◌, subst, arith, Bool, false, cond}
 use Rattle.std.specs.Prelude.{IsTrue, Option, Some, option_map, unwrap_or, replicate, slice_index, nat_lt}
 use Rattle.std.proofs.lemmas.Bool.{le-ltb}
@@ -47,7 +47,7 @@ speak_all : (d : CostPair) (c : List CostPair) (p : List Bool) → ((t : ℕ) �
 speak_all d [] p h = tt
 speak_all d (x ∷ c) p h = (h 0 (omega arith), speak_all d c (drop 1 p) (λ t l. subst (SpeaksFor (get_or c t d)) (sym (dropped t p)) (h (suc t) (omega (arith, l)))))
 
--- ---- the path that was sent
+-- ---- the path sent
 -- six zeros, and the first n bits of a stream of bytes
 unfoldable sent_path : (ℕ → ℕ) → ℕ → List Bool
 sent_path bytes n = replicate 6 false ++ map (bit_of_stream bytes) (numbers n)
@@ -102,12 +102,12 @@ window_from path n t =
     moved k u e = ap path e
 
 -- ---- the costs of all steps
--- what is known of the costs of bytes
+-- the known facts on the costs of bytes
 pub record AreListed : Type 0 where
   pub long : CostsAreSteps
   pub step : CostOfStep
 
--- what is known of the steps of a transmission
+-- the known facts on the steps of a transmission
 pub record AreSteps : Type 0 where
   pub more : StepsOfOneMore
   pub symbols : StepsHaveSymbols
@@ -159,7 +159,7 @@ outer_small are after packets h p =
     let b : slice_index (outer_bytes packets (p + 1)) p < 256 = byte_small (outer_bytes packets (p + 1)) p (are packets (p + 1) h) in
     subst (λ (z : ℕ). z < 256) (after packets (p + 1) p l) b
 
--- what is known of bits and packets
+-- the known facts on bits and packets
 pub record AreOwn : Type 0 where
   pub keeps : (most : ℕ) → KeepsSent most
   pub first : FirstBits
@@ -181,7 +181,7 @@ symbols_are : (s : Settings) (inputs : Inputs) (n : ℕ) → super_frames s (cou
 unfolding symbols_of
 symbols_are s inputs n e = ap (λ (o : Option ℕ). unwrap_or (option_map (λ k. 272 * k) o) (s.max_symbols + 1)) e
 
--- the bits at the end are those that were sent
+-- the bits at the end are the bits sent
 ended_bytes : AreKnown → AreSteps → AreListed → ListsArePaths → AreOwn → (s : Settings) (inputs : Inputs) (bytes : List ℕ) (r : Reception) (σ : Stream) (e : s.start ≡ Zero) → HavePackets s inputs → IsWithin s inputs bytes → (f : Final s bytes r)
     → IsTrue (exists_in s σ) → bytes_of (f.bits σ) ≡ outer_bytes (inputs σ) (steps_before s σ (symbols s bytes) / 8)
 ended_bytes known steps listed lists own s inputs bytes r σ e have w f exists =

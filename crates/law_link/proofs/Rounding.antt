@@ -1,4 +1,4 @@
--- The nearest whole number to a quotient.
+-- The integer nearest to a quotient.
 use Rattle.std.proofs.Common.{◌≡◌, ℕ, ◌+◌, ◌*◌, ◌^◌, ◌<◌, ◌≤◌, arith, inl, inr}
 use Rattle.std.specs.Prelude.{ℤ, pos, negsuc, ◌+ℤ◌, ◌-ℤ◌, ◌*ℤ◌, nat_abs}
 use Rattle.std.specs.Int.{saturate_signed, w16}
@@ -9,7 +9,7 @@ use borrow.Author.Differences.{up, down, sum_is_lem, product_is}
 use Rattle.cell_equal.specs.Equal.{nearest}
 use Rattle.spec_words.proofs.Floors.{floor_is}
 
--- as far as the quotient is from a whole number at most, so far is what it is rounded to
+-- rounding moves a quotient no farther from an integer than it was
 pub rounded : (x z : ℤ) (n e : ℕ) → 0 < n → nat_abs (z -ℤ x *ℤ pos n) ≤ e * n → nat_abs (nearest z n -ℤ x) ≤ e
 rounded x z n e some h =
     let t = pos 2 *ℤ z +ℤ pos n in
@@ -25,7 +25,7 @@ rounded x z n e some h =
       ]
     ]
 
--- to bring a number into a range that holds x brings it no farther from x
+-- limiting a number to a range that contains x brings it no farther from x
 pub clamped : (x z : ℤ) (e : ℕ) → (up x < down x + 2 ^ 15) × (down x ≤ up x + 2 ^ 15) → nat_abs (z -ℤ x) ≤ e → nat_abs (saturate_signed w16 z -ℤ x) ≤ e
 clamped x (pos n) e f h = omega (arith, ints, f, h)
 clamped x (negsuc n) e f h = omega (arith, ints, f, h)

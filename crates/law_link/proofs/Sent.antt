@@ -1,4 +1,4 @@
--- The cells of a transmission fit, and its pilots are what the law asks for.
+-- The cells of a transmission fit, and its pilots are those of the law.
 use Rattle.std.proofs.Common.{◌≡◌, ℕ, ◌/◌, ◌%◌, ◌≤◌, List, [], ◌∷◌, take, refl, sym, arith, subst, Bool, true, false, ◌&&◌, ltb}
 use Rattle.std.specs.Prelude.{ℤ, pos, nat_abs}
 use Rattle.std.specs.Int.{w16}
@@ -110,7 +110,7 @@ sent s n labels = record {
 pub come_back : FlatGainIsRemoved → SymbolsComeBack
 come_back law s n labels a b received weights flat come = law s.mode (n % 68) a b (cell_at s n labels) received weights flat (sent s n labels) come
 
--- whatever settings are announced
+-- for any announced settings
 sent_announcing : (s next : Settings) (n : ℕ) (labels : ℕ → ℕ → Bool) → IsSent s.mode (n % 68) (announcing_cell s next n labels)
 unfolding announcing_cell is_pilot
 sent_announcing s next n labels = record {

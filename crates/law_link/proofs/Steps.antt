@@ -1,4 +1,4 @@
--- The numbers of the bits of a step, and what they are on a path.
+-- The numbers of the bits of a step, and their values on a path.
 use Rattle.std.proofs.Common.{◌≡◌, ℕ, ◌+◌, ◌-◌, ◌*◌, ◌/◌, ◌%◌, ◌<◌, ◌≤◌, ◌⊎◌, inl, inr, [], ◌∷◌, length, map, refl, sym, ap, ◌∙◌, subst, arith, Bool, true, false, cond, ◌||◌}
 use Rattle.std.specs.Prelude.{count_by, nat_le, Some, None}
 use Rattle.std.specs.List.{range_with_len}
@@ -30,7 +30,7 @@ many R3of4 = refl
 many R5of6 = refl
 many R7of8 = refl
 
--- a step is one of the first p periods, or the first behind them
+-- a step is one of the first p periods, or the first after them
 in_periods : (r : Rate) (p u : ℕ) → u ≤ p * steps_in_period r → (u / steps_in_period r < p) ⊎ ((u / steps_in_period r ≡ p) × (u % steps_in_period r ≡ 0))
 in_periods R1of2 p u l = elim (cases_lt (u / 1) p) [ inl a ↦ inl a | inr a ↦ inr (omega (arith, a, l), omega arith) ]
 in_periods R2of3 p u l = elim (cases_lt (u / 2) p) [ inl a ↦ inl a | inr a ↦ inr (omega (arith, a, l), omega (arith, a, l)) ]
@@ -52,13 +52,13 @@ before_most r p u l = go (in_periods r p u l)
         omega (arith, whole, none)
 
 -- ---- the bits of one step
--- X of a step has the number n, and so has Y, where they are sent
+-- X of a step has the number n, and so has Y, if they are sent
 pub record IsNumberOf (r : Rate) (t : ℕ) (sx sy : Bool) (n : ℕ) : Type 0 where
   pub x : number_of r X t ≡ cond sx (Some n) None
   pub y : number_of r Y t ≡ cond sy (Some (n + cond sx 1 0)) None
   pub some : (sx || sy) ≡ true
 
--- what is sent of a step are the bits with these numbers
+-- the sent bits of a step are those with these numbers
 two_sent : (f : ℕ → Bool) (a b : ℕ) (sx sy x y : Bool) → b ≡ a + cond sx 1 0 + cond sy 1 0 → bits_sent sx sy x y ≡ map f (range_with_len a (b - a)) → (sx ≡ true → f a ≡ x) × (sy ≡ true → f (a + cond sx 1 0) ≡ y)
 two_sent f a b true true x y e h =
     let n : b - a ≡ 2 = omega (arith, e) in

@@ -1,4 +1,4 @@
--- Upgraded cells are the old ones, with whole weights.
+-- Upgraded cells are the old ones, with full weights.
 use Rattle.std.proofs.Common.{◌≡◌, ℕ, zero, suc, ◌+◌, ◌*◌, ◌/◌, ◌%◌, ◌<◌, ◌≤◌, List, [], ◌∷◌, ◌++◌, length, map, drop, get_or, refl, sym, ap, ◌∙◌, arith, ◌⊎◌, inl, inr, length-take, length-drop}
 use Rattle.std.specs.Prelude.{pos, slice_index, flat_map}
 use Rattle.std.specs.Int.{cast_signed, w16}
@@ -40,7 +40,7 @@ five bytes k = get_or bytes (4 * k + 0) 0 ∷ get_or bytes (4 * k + 1) 0 ∷ get
 byte_of : (bytes : List ℕ) (k j : ℕ) → j < 4 → get_or (old_cell bytes k) j 0 ≡ get_or bytes (4 * k + j) 0
 byte_of bytes k j l = get_or-take 4 (drop (4 * k) bytes) j 0 l ∙ get_or-drop (4 * k) bytes j 0
 
--- a cell that the bytes hold has five bytes
+-- a cell in the bytes has five bytes
 cell_is : (bytes : List ℕ) (k : ℕ) → 4 * k + 4 ≤ length bytes → upgraded_cell bytes k ≡ five bytes k
 unfolding five quad
 cell_is bytes k held =

@@ -1,4 +1,4 @@
--- How many packets come back of some transmissions, computed.
+-- The number of packets received from some transmissions, computed.
 use Rattle.std.proofs.Common.{◌≡◌, ◌-◌, refl, arith}
 use Rattle.std.specs.Prelude.{Some, None}
 use Rattle.mode_set.specs.Kept.{IsKept}

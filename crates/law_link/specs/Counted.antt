@@ -1,4 +1,4 @@
--- The payload carriers of a symbol are as many as its mode has, and numbered.
+-- A symbol has as many payload carriers as its mode says, and they are numbered.
 use Rattle.std.specs.Prelude.{◌≡◌, ℕ, length}
 use Rattle.mode_set.specs.StreamTable.{payload}
 use Rattle.mode_set.specs.declared.modes.Mode.{Mode}

@@ -1,4 +1,4 @@
--- The laws of own cells, each the clause of a public function of the module laws.
+-- The laws of a link. Each is the clause of a public function of module laws.
 use Rattle.std.specs.Prelude.{◌≡◌, ℕ, ◌-◌, ◌<◌, IsTrue, List, ◌++◌, length, replicate, Some}
 use Rattle.std.specs.List.{concat}
 use Rattle.mode_set.specs.StreamTable.{carriers}
@@ -16,11 +16,11 @@ use Rattle.law_link.specs.Returned.{words_of, returned, HavePackets, IsReturned,
 
 -- ---- noise
 
--- cells within the tolerance of a transmission give its packets back ..
+-- cells within the tolerance of a transmission decode to its packets ..
 abbrev pub NoiseLaw : Type 0
 NoiseLaw = (s : Settings) (inputs : Inputs) (bytes : List ℕ) (r : Reception) → s.start ≡ Zero → HavePackets s inputs → IsWithin s inputs bytes → Final s bytes r → IsReturned s inputs r.packets
 
--- .. and all its words are clean
+-- .. and all words are clean
 abbrev pub NoiseIsClean : Type 0
 NoiseIsClean = (s : Settings) (inputs : Inputs) (bytes : List ℕ) (r : Reception) → s.start ≡ Zero → HavePackets s inputs → IsWithin s inputs bytes → Final s bytes r → AreClean s inputs r.tally
 
@@ -30,21 +30,21 @@ NoiseIsClean = (s : Settings) (inputs : Inputs) (bytes : List ℕ) (r : Receptio
 abbrev pub CellsAreRead : Type 0
 CellsAreRead = (s : Settings) (inputs : Inputs) (m k : ℕ) → m < symbols_of s inputs → k < carriers s.mode → cell_of (symbol_cells s (tx s inputs) m) k ≡ tx_cell s inputs m k
 
--- so they are within the tolerance of themselves
+-- so they are within the tolerance
 abbrev pub OwnAreWithin : Type 0
 OwnAreWithin = (s : Settings) (inputs : Inputs) → IsWithin s inputs (tx s inputs)
 
--- a transmission gives its packets back ..
+-- a transmission decodes to its own packets ..
 abbrev pub CleanLaw : Type 0
 CleanLaw = (s : Settings) (inputs : Inputs) (r : Reception) → s.start ≡ Zero → HavePackets s inputs → Final s (tx s inputs) r → IsReturned s inputs r.packets
 
--- .. and all its words are clean
+-- .. and all words are clean
 abbrev pub OwnAreClean : Type 0
 OwnAreClean = (s : Settings) (inputs : Inputs) (r : Reception) → s.start ≡ Zero → HavePackets s inputs → Final s (tx s inputs) r → AreClean s inputs r.tally
 
--- ---- what comes back
+-- ---- packets received
 
--- the packets of a stream, and null packets behind them
+-- the packets of a stream, followed by null packets
 abbrev pub PacketsThenNulls : Type 0
 PacketsThenNulls = (s : Settings) (inputs : Inputs) (n : ℕ) (σ : Stream) → super_frames s (counts_of inputs) ≡ Some n → IsTrue (exists_in s σ)
     → returned s inputs σ n ≡ concat (inputs σ) ++ concat (replicate (words_of s σ n - length (inputs σ)) null_packet)

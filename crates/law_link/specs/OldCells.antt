@@ -1,5 +1,5 @@
--- Cells of version 1, and what they are upgraded to (this project's own): symbol after symbol, carriers rising, each as four bytes,
--- the real and then the imaginary part.
+-- Cells of version 1 and their upgrade (this project's own): symbols in order, carriers rising, four bytes a cell, the
+-- real then the imaginary part.
 use Rattle.std.specs.Prelude.{ℕ, ◌+◌, ◌*◌, ◌/◌, ◌%◌, List, [], ◌∷◌, ◌++◌, length, map, flat_map, take, drop}
 use Rattle.std.specs.Int.{cast_signed, w16}
 use Rattle.byteorder.specs.Endian.{big_number}
@@ -13,14 +13,14 @@ use Rattle.soft_metric.specs.Weights.{full_weight}
 abbrev pub old_symbol_length : Mode → ℕ
 old_symbol_length mode = 4 * carriers mode
 
--- the whole symbols of old bytes, and how many bytes are behind them
+-- the number of whole symbols in old bytes, and of bytes after them
 abbrev pub old_symbols : Mode → List ℕ → ℕ
 old_symbols mode bytes = length bytes / old_symbol_length mode
 
 abbrev pub old_tail : Mode → List ℕ → ℕ
 old_tail mode bytes = length bytes % old_symbol_length mode
 
--- both parts of old cell k, counted from the first cell of the file
+-- old cell k, counted from the first cell of the file
 unfoldable pub old_cell_from : List ℕ → ℕ → Cell
 old_cell_from bytes k = record { re = cast_signed w16 (big_number 2 (drop (4 * k) bytes)); im = cast_signed w16 (big_number 2 (drop (4 * k + 2) bytes)) }
 
@@ -32,11 +32,11 @@ old_symbol_cells mode bytes m = map (λ k. old_cell_from bytes (m * carriers mod
 abbrev pub old_cell : List ℕ → ℕ → List ℕ
 old_cell bytes k = take 4 (drop (4 * k) bytes)
 
--- and these with the weight that lets a cell count whole
+-- the same followed by full weight
 abbrev pub upgraded_cell : List ℕ → ℕ → List ℕ
 upgraded_cell bytes k = old_cell bytes k ++ full_weight ∷ []
 
--- the first n cells so
+-- the first n cells, upgraded
 unfoldable pub upgraded_cells : ℕ → List ℕ → List ℕ
 upgraded_cells n bytes = flat_map (upgraded_cell bytes) (numbers n)
 

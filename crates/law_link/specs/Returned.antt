@@ -1,4 +1,4 @@
--- What a receiver gives back of a transmission, and cells that are near those of one.
+-- The packets that a receiver gives for a transmission, and cells close to those of one.
 use Rattle.std.specs.Prelude.{◌≡◌, ℕ, ◌-◌, ◌%◌, ◌<◌, ◌≤◌, IsTrue, List, Some}
 use Rattle.mode_set.specs.StreamTable.{carriers}
 use Rattle.mode_set.specs.declared.modes.Stream.{Stream}
@@ -14,19 +14,19 @@ use Rattle.transmission.specs.Transmission.{Inputs, tx_cell}
 use Rattle.transmission.specs.SuperFrames.{super_frames, counts_of, symbols_of}
 use Rattle.reception.specs.Cells.{symbols, symbol_cells, symbol_weights}
 
--- the outer words of a stream that a receiver of n whole super-frames gets: all but the eleven of its start-up
+-- the outer words of a stream that a receiver of n super-frames gets: all except the eleven of its start-up
 abbrev pub words_of : Settings → Stream → ℕ → ℕ
 words_of s σ n = words_before s σ n - 11
 
--- what comes back of a stream: a packet for each of these words, its own packets and then null packets
+-- the received bytes of a stream: one packet for each of these words, its own packets and then null packets
 abbrev pub returned : Settings → Inputs → Stream → ℕ → List ℕ
 returned s inputs σ n = first_packets (inputs σ) (words_of s σ n)
 
--- packets are what the streams that exist consist of
+-- each existing stream consists of packets
 abbrev pub HavePackets : Settings → Inputs → Type 0
 HavePackets s inputs = (σ : Stream) → IsTrue (exists_in s σ) → ArePackets (inputs σ)
 
--- the streams that exist come back, where the transmission has some number of super-frames
+-- the existing streams are received, if the transmission has a number of super-frames
 abbrev pub IsReturned : Settings → Inputs → (Stream → List ℕ) → Type 0
 IsReturned s inputs packets = (n : ℕ) (σ : Stream) → super_frames s (counts_of inputs) ≡ Some n → IsTrue (exists_in s σ) → packets σ ≡ returned s inputs σ n
 
@@ -35,8 +35,9 @@ abbrev pub AreClean : Settings → Inputs → (Stream → Tally) → Type 0
 AreClean s inputs tally = (n : ℕ) (σ : Stream) → super_frames s (counts_of inputs) ≡ Some n → IsTrue (exists_in s σ)
     → tally σ ≡ record { words = words_of s σ n; clean = words_of s σ n; corrected = 0; bad = 0; unphased = 0 }
 
--- The bytes have as many whole symbols as the transmission, and each cell on a payload carrier is within the tolerance of the cell
--- that is sent, by the settings of its symbol, on both axes, and has a weight of at least 1. All other cells and weights are free, and so are bytes behind the last whole symbol.
+-- The bytes have as many whole symbols as the transmission. Each cell on a payload carrier is within the tolerance of
+-- the sent cell, by the settings of its symbol, on both axes, and has a weight of at least 1. All other cells and
+-- weights are free, and so are bytes after the last whole symbol.
 pub record IsWithin (s : Settings) (inputs : Inputs) (bytes : List ℕ) : Type 0 where
   pub all : symbols s bytes ≡ symbols_of s inputs
   pub near : (m k : ℕ) → m < symbols_of s inputs → k < carriers s.mode → IsTrue (is_payload s.mode (m % 68) k)

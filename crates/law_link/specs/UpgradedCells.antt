@@ -1,4 +1,4 @@
--- The laws of upgraded cells, each the clause of a public function of the module laws.
+-- The laws of upgraded cells. Each is the clause of a public function of module laws.
 use Rattle.std.specs.Prelude.{◌≡◌, ℕ, ◌-◌, ◌%◌, ◌<◌, List, length, slice_index_or}
 use Rattle.code_paths.specs.declared.costs.CostPair.{CostPair}
 use Rattle.mode_set.specs.declared.modes.Stream.{Stream}
@@ -9,7 +9,7 @@ use Rattle.reception.specs.Costs.{costs}
 use Rattle.law_link.specs.OldCells.{old_symbols, old_symbol_cells, upgraded}
 use Rattle.law_link.specs.Plain.{IsPlainPairOf}
 
--- upgraded cells are as many whole symbols as the old ones, and no byte more
+-- upgraded cells are as many whole symbols as the old ones, with no bytes after them
 pub record AreWhole (s : Settings) (bytes : List ℕ) : Type 0 where
   pub many : symbols s (upgraded s.mode bytes) ≡ old_symbols s.mode bytes
   pub no_more : tail s (upgraded s.mode bytes) ≡ 0
@@ -17,11 +17,11 @@ pub record AreWhole (s : Settings) (bytes : List ℕ) : Type 0 where
 abbrev pub UpgradedAreWhole : Type 0
 UpgradedAreWhole = (s : Settings) (bytes : List ℕ) → AreWhole s bytes
 
--- both parts of each stay
+-- both parts of each cell stay
 abbrev pub UpgradedCellsAreOld : Type 0
 UpgradedCellsAreOld = (s : Settings) (bytes : List ℕ) (m : ℕ) → m < old_symbols s.mode bytes → symbol_cells s (upgraded s.mode bytes) m ≡ old_symbol_cells s.mode bytes m
 
--- the costs of upgraded cells, one pair for each step of the old symbols, are the costs of the old cells without weights
+-- upgraded cells, one cost pair for each step of the old symbols, have the costs of the old cells without weights
 pub record ArePlain (s : Settings) (bytes : List ℕ) (σ : Stream) : Type 0 where
   pub long : length (costs s (upgraded s.mode bytes) σ) ≡ steps_before s σ (old_symbols s.mode bytes)
   pub pairs : (m t : ℕ) (d : CostPair) → m < old_symbols s.mode bytes → IsStepOf s σ m t

@@ -1,4 +1,4 @@
-// The flat gain law, as contracts of functions that do nothing.
+// The flat gain law, as contracts of functions with empty bodies.
 ghost use Rattle.law_link.specs.FlatFiles.{FilesAreRestored, FilesAreWithin, FilesAreReturned, FilesAreClean};
 ghost use Rattle.law_link.specs.Flat.{FlatGainIsRemoved, StrongGainIsRemoved};
 ghost use Rattle.law_link.specs.Symbols.{SymbolsComeBack, TransmissionsComeBack, IsTolerated};
@@ -9,10 +9,9 @@ use crate::laws::noise;
 use pilots::pilots_are_around;
 use symbol_parameters::laws::settings;
 
-/// A symbol whose cells were all multiplied by one gain, of half the nominal amplitude to the whole,
-/// and rounded to within 1 on each axis, comes back: each part of each corrected cell is within 64 of
-/// what was sent, and its weight is at least 1. It is even within 17, with no bound on how strong the
-/// gain is.
+/// A symbol whose cells were all multiplied by one gain of half to full nominal amplitude, and rounded to within 1 on
+/// each axis, is restored: each part of each corrected cell is within 64 of the part sent, and its weight is at least
+/// 1. It is even within 17, for any gain, however strong.
 pub fn flat_gain_is_removed()
     ensures flat { FlatGainIsRemoved }
     ensures strong { StrongGainIsRemoved }
@@ -20,8 +19,7 @@ pub fn flat_gain_is_removed()
     pilots_are_around();
 }
 
-/// So do the symbols of a transmission, one by one and all of them, near enough for every
-/// constellation.
+/// So are the symbols of a transmission, one by one and all of them, closely enough for every constellation.
 pub fn transmissions_come_back()
     ensures symbols { SymbolsComeBack }
     ensures transmissions { TransmissionsComeBack }
@@ -31,9 +29,9 @@ pub fn transmissions_come_back()
     settings();
 }
 
-/// So does a whole file of cells, corrected symbol by symbol: each of its cells is within 64 of what was
-/// sent on both axes and has a weight of at least 1. A receiver that starts at zero returns its packets,
-/// and then null packets, and finds all its words clean.
+/// So is a whole file of cells, corrected symbol by symbol: each of its cells is within 64 of the cell sent on both
+/// axes and has a weight of at least 1. A receiver that starts at zero returns its packets, then null packets, with all
+/// words clean.
 pub fn files_come_back()
     ensures restored { FilesAreRestored }
     ensures within { FilesAreWithin }

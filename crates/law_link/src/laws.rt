@@ -1,4 +1,4 @@
-// The laws of own cells, as contracts of functions that do nothing.
+// The laws of a link, as contracts of functions with empty bodies.
 ghost use Rattle.std.specs.Prelude.{ℕ};
 ghost use Rattle.law_link.specs.Counted.{AreCounted};
 ghost use Rattle.law_link.specs.Laws.{NoiseLaw, NoiseIsClean, CellsAreRead, OwnAreWithin, CleanLaw, OwnAreClean, PacketsThenNulls};
@@ -22,7 +22,7 @@ fn counted_at(mode: Mode, l: u8)
     payload_carriers_are_numbered(mode, l);
 }
 
-// What holds of four symbols holds of all: the kinds of carriers repeat.
+// If it holds for four symbols, it holds for all: the kinds of carriers repeat.
 fn counted(mode: Mode)
     ensures { (l : ℕ) → AreCounted mode l }
 {
@@ -32,9 +32,9 @@ fn counted(mode: Mode)
     counted_at(mode, 3);
 }
 
-/// Cells within the tolerance of a transmission give its packets back, whatever stands on the carriers
-/// of pilots and TPS: for each stream that exists its packets and then null packets, one packet for
-/// each outer word of the super-frames but eleven, and all these words are clean.
+/// Cells within the tolerance of a transmission decode to its packets, whatever is on the pilot and TPS carriers: for
+/// each existing stream its packets, then null packets, one packet for each outer word of the super-frames except
+/// eleven, and all these words are clean.
 pub fn noise()
     ensures packets { NoiseLaw }
     ensures clean { NoiseIsClean }
@@ -60,8 +60,8 @@ pub fn noise()
     costs();
 }
 
-/// The cells of a transmission are read from its bytes, so they are within the tolerance of
-/// themselves, and a transmission gives its own packets back.
+/// The cells of a transmission are read from its bytes, so they are within its tolerance, and a transmission decodes to
+/// its own packets.
 pub fn own_cells()
     ensures cells { CellsAreRead }
     ensures within { OwnAreWithin }
@@ -72,7 +72,7 @@ pub fn own_cells()
     noise();
 }
 
-/// What comes back of a stream are its packets, and null packets behind them.
+/// The packets received of a stream are those sent, then null packets.
 pub fn packets_then_nulls()
     ensures { PacketsThenNulls }
 {

@@ -1,9 +1,9 @@
-//! What a receiver gives for a transmission's own cells, and for cells near them: laws of the
-//! definitions of sending and of receiving.
+//! The reception of a transmission's own cells, and of cells close to them: laws that relate the definitions of sending
+//! and of receiving.
 //!
-//! [`flat_gain`] is the law of a channel of one gain: the transmission comes back when its cells are corrected
-//! by the pilots of their own symbols. [`upgraded`] has the laws of cell files of version 1, which have four
-//! bytes a cell, neither header nor weights: the upgraded cells cost a receiver what they cost without
+//! [`flat_gain`] is the law of a flat channel (one gain for all carriers): the transmission is restored when its cells
+//! are corrected by the pilots of their own symbols. [`upgraded`] has the laws of cell files of version 1, with four
+//! bytes a cell, no header and no weights: for a receiver the upgraded cells have the costs of the old cells without
 //! weights. The crate has no code.
 #![tactic(auto)]
 

@@ -1,11 +1,11 @@
-// The laws of upgraded cells, as contracts of functions that do nothing.
+// The laws of upgraded cells, as contracts of functions with empty bodies.
 ghost use Rattle.law_link.specs.UpgradedCells.{UpgradedAreWhole, UpgradedCellsAreOld, UpgradedCostsArePlain};
 
 use reception::laws::costs;
 use soft_metric::laws::whole_weight_changes_nothing;
 
-/// Upgraded cells are as many whole symbols as the old ones, with the same parts, and they cost a receiver
-/// what the old cells cost without weights.
+/// Upgraded cells are as many whole symbols as the old ones, with the same parts, and for a receiver they have the
+/// costs of the old cells without weights.
 pub fn upgraded_costs()
     ensures whole { UpgradedAreWhole }
     ensures cells { UpgradedCellsAreOld }

@@ -8,7 +8,7 @@ use Rattle.spec_words.specs.Words.{numbers}
 use Rattle.outer_chain.specs.Words.{count}
 use Rattle.symbol_sums.proofs.Counting.{no_numbers, sum_more}
 
--- what each step adds is in all what there is at the end
+-- the sum of what each step adds is the final value
 pub added_up : (h v : ℕ → ℕ) (n : ℕ) → h 0 ≡ 0 → ((j : ℕ) → j < n → v j + h j ≡ h (suc j)) → sum_by v (numbers n) ≡ h n
 added_up h v zero e step = no_numbers v ∙ sym e
 added_up h v (suc n) e step =
@@ -16,7 +16,7 @@ added_up h v (suc n) e step =
     let rest = added_up h v n e (λ j l. step j (omega (arith, l))) in
     ap (λ (z : ℕ). sum_by v (numbers z)) next ∙ sum_more v n ∙ (omega (arith, rest, step n (omega arith)))
 
--- a run of numbers follows those below it
+-- consecutive numbers follow those below them
 pub run_added : (f : ℕ → ℕ) (a n : ℕ) → sum_by f (range_with_len a n) + sum_by f (numbers a) ≡ sum_by f (numbers (a + n))
 run_added f a zero =
     let e : a ≡ a + 0 = omega arith in
@@ -41,7 +41,7 @@ counted p (suc n) =
     let rest = counted p n in
     ap (λ (z : ℕ). count_by p (numbers z)) next ∙ (omega (arith, step, rest))
 
--- a count of more numbers
+-- a count over more numbers
 pub count_on : (p : ℕ → Bool) (a n : ℕ) → count p (a + n) ≡ count p a + count (λ i. p (a + i)) n
 unfolding count
 count_on p a zero = let e : a + 0 ≡ a = omega arith in ap (count p) e ∙ (omega arith)

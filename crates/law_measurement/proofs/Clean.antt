@@ -1,4 +1,4 @@
--- Near cells are measured without a fault.
+-- Close cells measure as free of errors.
 use Rattle.std.proofs.Common.{◌≡◌, ℕ, zero, suc, ◌+◌, ◌-◌, ◌*◌, ◌/◌, ◌%◌, ◌^◌, ◌<◌, ◌≤◌, Bool, true, false, cond, not, ◌&&◌, List, length, Option, Some, refl, sym, ap, ap₂, ◌∙◌, subst, arith, eqb}
 use Rattle.std.specs.Prelude.{ℤ, IsTrue, count_by, sum_by, slice_index, unwrap_or, option_map}
 use Rattle.std.specs.Bool.{beq}
@@ -48,7 +48,7 @@ use Rattle.law_measurement.proofs.Remade.{IsCoding, same_bit, remade_are_sent}
 use Rattle.law_measurement.proofs.Sent.{IsSending, known_is_first}
 use Rattle.law_measurement.proofs.Totals.{stream_sums}
 
--- ---- sums of nothing, and bounds
+-- ---- sums of zeros, and bounds
 
 none_in_range : (f : ℕ → ℕ) (a n : ℕ) → ((k : ℕ) → a ≤ k → k < a + n → f k ≡ 0) → sum_by f (range_with_len a n) ≡ 0
 none_in_range f a zero h = refl
@@ -95,7 +95,7 @@ nothing_repaired : (w c : List ℕ) (near : Option (List ℕ)) → w ≡ c → n
 unfolding repaired_in
 nothing_repaired w c near e f = ap₂ repaired_in e f ∙ nothing_apart c
 
--- ---- words of first sent bits
+-- ---- words of the first bits sent
 
 module _ (first : FirstBits) (packets : List (List ℕ)) (are : ArePackets packets) (bits : List Bool) (sent : AreFirstSent packets bits) where
   bytes_are : bytes_of bits ≡ outer_bytes packets (length bits / 8)
@@ -193,7 +193,7 @@ symbols_are : (s : Settings) (inputs : Inputs) (n : ℕ) → super_frames s (cou
 unfolding symbols_of
 symbols_are s inputs n e = ap (λ (o : Option ℕ). unwrap_or (option_map (λ k. 272 * k) o) (s.max_symbols + 1)) e
 
--- what is known of all that is measured
+-- the known facts on all that is measured
 pub record IsMeasuring : Type 0 where
   pub decoding : IsDecoding
   pub coding : IsCoding

@@ -1,4 +1,4 @@
--- Which symbols are compared from start zero.
+-- The symbols that are compared from start zero.
 use Rattle.std.proofs.Common.{◌≡◌, ℕ, zero, suc, ◌+◌, ◌*◌, ◌/◌, ◌<◌, ◌≤◌, Bool, true, false, cond, not, ◌&&◌, ◌||◌, List, length, ◌⊎◌, inl, inr, refl, sym, ap, ap₂, ◌∙◌, subst, arith}
 use Rattle.std.specs.Prelude.{IsTrue, count_by, nat_le}
 use Rattle.std.specs.List.{range_with_len}
@@ -32,13 +32,13 @@ use Rattle.measurement.specs.SuperFrames.{Knowns, compared_in}
 use Rattle.law_measurement.specs.Own.{pauses_after, SymbolsAreCompared}
 use Rattle.law_measurement.proofs.Long.{ended_long, given_long}
 
--- what is known of steps
+-- the known facts on steps
 pub record AreStepped : Type 0 where
   pub more : StepsOfOneMore
   pub grow : StepsGrow
   pub long : CostsAreSteps
 
--- ---- a stream that exists has 1512 steps a symbol at least
+-- ---- an existing stream has at least 1512 steps a symbol
 
 two_wide : (c : Shape) (h : Hierarchy) (σ : Stream) → (IsTrue (is_qpsk c) → IsTrue (is_flat h)) → IsTrue (has_stream h σ) → 2 ≤ width c h σ
 two_wide Qpsk Flat Hp kept there = omega arith
@@ -73,7 +73,7 @@ many_steps M8k w R7of8 l = omega (arith, l)
 some_steps : (s : Settings) (σ : Stream) → IsTrue (has_stream s.hierarchy σ) → 1512 ≤ need s σ
 some_steps s σ there = many_steps s.mode (width s.shape s.hierarchy σ) (rate s σ) (two_wide s.shape s.hierarchy σ s.kept.qpsk there)
 
--- ---- how many bits are known
+-- ---- the number of known bits
 
 first_length : (m : Mode) (n len : ℕ) → n ≤ len / (5 * carriers m) → (n * (5 * carriers m) ≤ len) × (n * (5 * carriers m) / (5 * carriers m) ≡ n)
 first_length M2k n len l = (omega (arith, l), omega arith)
@@ -93,7 +93,7 @@ known_so_far laws s bytes σ m bits k l =
 known_at_end : AreStepped → (s : Settings) (bytes : List ℕ) (σ : Stream) (m : ℕ) (bits : List Bool) → IsKnown s bytes σ m bits → symbols s bytes < m + 4 → length bits ≡ steps_before s σ (symbols s bytes)
 known_at_end laws s bytes σ m bits k l = ended_long memory (start_of s.start) (costs s bytes σ) bits (k.at_end l) ∙ laws.long s bytes σ
 
--- ---- they reach to the end of a symbol
+-- ---- they reach the end of a symbol
 
 -- symbols of one super-frame have its settings
 frame_of : (j m : ℕ) → 272 * j ≤ m → m < 272 * (j + 1) → m / 272 ≡ j
@@ -149,7 +149,7 @@ both_suffice : (s : Settings) (m : ℕ) (known : Stream → List Bool) → suffi
 unfolding is_compared
 both_suffice s m known p q = ap₂ (λ (x y : Bool). x && y) p q
 
--- LP goes on, or pauses
+-- LP continues, or pauses
 goes_on : (s : Settings) (j : ℕ) → IsTrue (has_stream (settings_in s j).hierarchy Lp) → IsTrue (has_stream (settings_in s (j + 1)).hierarchy Lp) ⊎ (pauses_after s j ≡ true)
 goes_on s j here = go (cases_Bool (has_stream (settings_in s (j + 1)).hierarchy Lp))
   where

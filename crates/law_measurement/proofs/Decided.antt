@@ -229,7 +229,7 @@ on_even c e r = ap (λ (z : ℕ). cond (eqb z 0) c.re c.im) r
 on_odd : (c : Cell) (e : ℕ) → e % 2 ≡ 1 → on_axis c e ≡ c.im
 on_odd c e r = ap (λ (z : ℕ). cond (eqb z 0) c.re c.im) r
 
--- what a law says of the bit of a place, from what it says of each axis
+-- a law on a label bit, from the law on each axis
 on_both : (P : ℤ → ℤ → ℕ → Bool → Type 0) (s : Shape) (h : Hierarchy) (y : ℕ → Bool) (cell : Cell) (e : ℕ) → e < label_bits s
     → ((a b c v : Bool) (j : ℕ) (x : ℤ) → j < label_bits s / 2 → e / 2 ≡ j → bit (take (label_bits s / 2) (a ∷ b ∷ c ∷ [])) j ≡ v → P x (value_of s h (take (label_bits s / 2) (a ∷ b ∷ c ∷ []))) e v)
     → P (on_axis cell e) (on_axis (map_cell s h y) e) e (y e)

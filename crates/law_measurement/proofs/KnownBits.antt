@@ -1,4 +1,4 @@
--- The bits that are known for a symbol begin those known for later ones, and those at the end.
+-- The bits known for a symbol are a prefix of those known for later ones, and of those at the end.
 use Rattle.std.proofs.Common.{◌≡◌, ℕ, ◌+◌, ◌*◌, ◌<◌, ◌≤◌, Bool, List, [], ◌++◌, take, drop, ◌⊎◌, inl, inr, refl, sym, ap, ◌∙◌, subst, arith, append_assoc, append-nil}
 use Rattle.std.proofs.lemmas.Bool.{cases_lt}
 use Rattle.std.proofs.lemmas.List.{take-append-drop, take-take}
@@ -27,7 +27,7 @@ prefix_of a b c p q = record { rest = p.rest ++ q.rest; is = q.is ∙ ap (λ (z 
 same_prefix : (a b : List Bool) → a ≡ b → IsPrefix a b
 same_prefix a b e = record { rest = []; is = sym e ∙ sym (append-nil a) }
 
--- what is known of decoding
+-- the known facts on decoding
 pub record IsDecoding : Type 0 where
   pub some_given : SomeAreGiven
   pub some_ended : SomeAreEnded
@@ -37,7 +37,7 @@ pub record IsDecoding : Type 0 where
   pub begins : GivenBeginsEnded
   pub costs : CostsGrow
 
--- there are known bits ..
+-- known bits exist ..
 pub some_known : IsDecoding → (s : Settings) (bytes : List ℕ) (σ : Stream) (m : ℕ) → (bits : List Bool) × IsKnown s bytes σ m bits
 some_known laws s bytes σ m = go (cases_lt (symbols s bytes) (m + 4))
   where
@@ -49,7 +49,7 @@ some_known laws s bytes σ m = go (cases_lt (symbols s bytes) (m + 4))
         let g = laws.some_given memory (start_of s.start) (costs s (first_symbols s (m + 4) bytes) σ) (is_start s.start) in
         (g.0, record { so_far = λ h. g.1; at_end = λ h. absurd (omega (arith, h, l)) })
 
--- .. one list
+-- .. and are unique
 pub known_once : IsDecoding → (s : Settings) (bytes : List ℕ) (σ : Stream) (m : ℕ) (a b : List Bool) → IsKnown s bytes σ m a → IsKnown s bytes σ m b → a ≡ b
 known_once laws s bytes σ m a b x y = go (cases_lt (symbols s bytes) (m + 4))
   where
@@ -57,7 +57,7 @@ known_once laws s bytes σ m a b x y = go (cases_lt (symbols s bytes) (m + 4))
     go (inl l) = laws.ended_once memory (start_of s.start) (costs s bytes σ) a b (x.at_end l) (y.at_end l)
     go (inr l) = laws.given_once memory (start_of s.start) (costs s (first_symbols s (m + 4) bytes) σ) a b (x.so_far l) (y.so_far l)
 
--- what first bytes give begins what more give, and what there is at the end
+-- the bits given for a prefix are a prefix of those for more bytes, and of those at the end
 given_on : IsDecoding → (s : Settings) (bytes more : List ℕ) (σ : Stream) (a b : List Bool) → Given memory (start_of s.start) (costs s bytes σ) a → Given memory (start_of s.start) (costs s (bytes ++ more) σ) b → IsPrefix a b
 given_on laws s bytes more σ a b x y =
     let g = laws.costs s bytes more σ in
@@ -68,7 +68,7 @@ given_ends laws s bytes more σ a b x y =
     let g = laws.some_given memory (start_of s.start) (costs s (bytes ++ more) σ) (is_start s.start) in
     prefix_of a g.0 b (given_on laws s bytes more σ a g.0 x g.1) (laws.begins memory (start_of s.start) (costs s (bytes ++ more) σ) g.0 b g.1 y)
 
--- the known bits of a symbol begin those at the end
+-- the known bits of a symbol are a prefix of those at the end
 pub known_begins : IsDecoding → (s : Settings) (bytes : List ℕ) (σ : Stream) (m : ℕ) (a last : List Bool) → IsKnown s bytes σ m a → Ended memory (start_of s.start) (costs s bytes σ) last → IsPrefix a last
 known_begins laws s bytes σ m a last x e = go (cases_lt (symbols s bytes) (m + 4))
   where

@@ -1,4 +1,4 @@
--- How many bits are given, and at the end, and how many bytes they make.
+-- The number of bits given, and at the end, and of their bytes.
 use Rattle.std.proofs.Common.{◌≡◌, ℕ, ◌+◌, ◌/◌, ◌<◌, ◌≤◌, Bool, List, [], ◌∷◌, length, drop, take, ◌⊎◌, inl, inr, sym, ap, ◌∙◌, subst, arith, length-append}
 use Rattle.std.proofs.lemmas.Bool.{cases_lt}
 use Rattle.std.proofs.lemmas.List.{length-drop}
@@ -9,7 +9,7 @@ use Rattle.code_paths.specs.declared.costs.CostPair.{CostPair}
 use Rattle.code_paths.specs.Streams.{Part, end_of, IsCut, IsOverdue, bits_of, Given, Ended}
 use Rattle.outer_chain.specs.Bits.{bytes_of}
 
--- each step of an ended part has its bit
+-- each step of an ended part has a bit
 cut_long : (most : ℕ) (a : Option (List Bool)) (c : List CostPair) (parts : List Part) (b : Option (List Bool)) (d : List CostPair) → IsCut most a c parts b d → length c ≡ length (bits_of parts) + length d
 cut_long most a c [] b d cut = sym (ap length cut.1) ∙ (omega arith)
 cut_long most a c (part ∷ parts) b d cut =
@@ -30,7 +30,7 @@ cut_open most a c [] b d cut o =
     (subst (λ (z : Option (List Bool)). IsOverdue most z (take (length c) c)) cut.0 (subst (IsOverdue most b) (cut.1 ∙ sym (take-length c)) o))
 cut_open most a c (part ∷ parts) b d cut o = cut_open most (Some (end_of part)) cut.0 parts b d cut.3 o
 
--- at most so many steps as the path memory holds have none so far
+-- at most as many steps as the path memory holds have no bit yet
 pub given_long : (most : ℕ) (a : Option (List Bool)) (c : List CostPair) (bits : List Bool) → Given most a c bits → length c ≤ length bits + most
 given_long most a c bits g = go (cases_lt (most + length g.shared) (length g.costs))
   where

@@ -1,4 +1,4 @@
--- What is known of the payload carriers of both modes.
+-- The known facts on the payload carriers of both modes.
 use Rattle.std.proofs.Common.{ℕ}
 use Rattle.mode_set.specs.declared.modes.Mode.{Mode}
 use Rattle.mode_set.specs.declared.modes.Mode.TheVariants.{M2k, M8k}

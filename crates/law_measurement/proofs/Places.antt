@@ -1,4 +1,4 @@
--- Each place of a label has a coded bit of its symbol, which is a sent bit of the steps of the symbol.
+-- Each label bit is a coded bit of its symbol, which is a sent bit of the steps of the symbol.
 use Rattle.std.proofs.Common.{◌≡◌, ℕ, zero, suc, ◌+◌, ◌-◌, ◌*◌, ◌/◌, ◌%◌, ◌<◌, ◌≤◌, ◌⊎◌, inl, inr, List, [], ◌∷◌, refl, sym, ap, ◌∙◌, subst, arith, Bool, true, false, cond, IsTrue}
 use Rattle.std.specs.Prelude.{slice_index, slice_index_or, nat_lt}
 use Rattle.std.proofs.lemmas.Bool.{cases_lt, lt-ltb, le-ltb}
@@ -23,7 +23,7 @@ use Rattle.bit_interleave.specs.Place.{place_in_label, word_of_bit, offset, stan
 use Rattle.symbol_interleave.specs.Carried.{h, carried, HIsAPermutation, PlacesAndWordsAgree}
 use Rattle.inner_chain.specs.Labels.{number_at}
 
--- ---- the word that a payload place carries
+-- ---- the word on a payload carrier
 pub word_within : HIsAPermutation → PlacesAndWordsAgree → (m : Mode) (odd : Bool) (q : ℕ) → q < payload m → carried m odd q < payload m
 word_within perm agree m true q l = (perm m).below q l
 word_within perm agree m false q l =
@@ -35,7 +35,7 @@ word_within perm agree m false q l =
     below_at : (a b n : ℕ) → a ≡ b → b < n → a < n
     below_at a b n e k = omega (arith, e, k)
 
--- ---- each place of a word has a coded bit of the symbol
+-- ---- each bit of a word is a coded bit of the symbol
 offset_small : (e : ℕ) → offset e < 126
 offset_small zero = omega arith
 offset_small (suc zero) = omega arith
@@ -52,7 +52,7 @@ index_within : (m : Mode) (w o : ℕ) → w < payload m → 126 * (w / 126) + (w
 index_within M2k w o l = omega (arith, l)
 index_within M8k w o l = omega (arith, l)
 
--- bit d of a stream with n bits a label, from place f on, stands at place e of word w, and is one of so many
+-- bit d of a stream with n bits a label, from bit f on, is bit e of word w, and one of `most`
 record At (n half f e w most : ℕ) : Type 0 where
   d : ℕ
   place : d % n / half + 2 * (d % n % half) + f ≡ e
@@ -113,7 +113,7 @@ at_6 m f e w l k b =
       within = p.2;
     }
 
--- the coded bit that stands at place e of word w
+-- the coded bit at bit e of word w
 record Placed (c : Shape) (hi : Hierarchy) (σ : Stream) (e w most : ℕ) : Type 0 where
   d : ℕ
   place : place_in_label c hi σ d ≡ e
@@ -177,7 +177,7 @@ number_within found s e w l b =
     below_at : (a b n : ℕ) → a ≡ b → b < n → a < n
     below_at a b n e k = omega (arith, e, k)
 
--- ---- sent bits of paths that begin alike
+-- ---- sent bits of paths with a common prefix
 last_step : (r : Rate) (i : ℕ) → step_in_period (slice_index_or (sent r) i (X 1)) ≤ steps_in_period r
 last_step R1of2 zero = omega arith
 last_step R1of2 (suc zero) = omega arith

@@ -1,4 +1,4 @@
--- Known bits that were sent make the labels, and so the cells, that were sent.
+-- Known bits that were sent give the labels, and so the cells, that were sent.
 use Rattle.std.proofs.Common.{◌≡◌, ℕ, zero, suc, ◌+◌, ◌-◌, ◌*◌, ◌/◌, ◌%◌, ◌<◌, ◌≤◌, Bool, true, false, cond, not, ◌&&◌, ◌||◌, List, [], ◌∷◌, ◌++◌, length, map, refl, sym, ap, ap₂, ◌∙◌, subst, arith}
 use Rattle.std.specs.Prelude.{IsTrue, nat_lt, nat_le, slice_index}
 use Rattle.std.proofs.lemmas.Bool.{and_parts, le-ltb, leb-true}
@@ -38,7 +38,7 @@ use Rattle.law_link.proofs.Cells.{carrier_of, point_is}
 use Rattle.law_measurement.specs.Remade.{first_bits, AreFirstSent, AreSentIn, RemadeAreSent, sent_error, ErrorIsFromSent}
 use Rattle.law_measurement.proofs.Places.{word_within, number_within, same_coded_bit}
 
--- what is known of the coding of a symbol
+-- the known facts on the coding of a symbol
 pub record IsCoding : Type 0 where
   pub counts : (m : Mode) (l : ℕ) → AreCounted m l
   pub stays : ModeStays
@@ -72,9 +72,9 @@ first_path packets n (suc (suc (suc (suc (suc (suc j)))))) l =
 known_is_sent : (packets : List (List ℕ)) (bits : List Bool) (k : ℕ) → AreFirstSent packets bits → k < 6 + length bits → known_path bits k ≡ path_of (outer_byte packets) k
 known_is_sent packets bits k sent l = ap (λ (z : List Bool). known_path z k) sent ∙ first_path packets (length bits) k l
 
--- ---- what a compared symbol has
+-- ---- the facts on a compared symbol
 
--- the stream of a place of the labels exists
+-- the stream of a label bit exists
 pub stream_there : (h : Hierarchy) (e : ℕ) → IsTrue (has_stream h (stream_at h e))
 stream_there Flat e = refl
 stream_there Alpha1 e = go (nat_lt e 2)
@@ -102,7 +102,7 @@ when_present : (p a b : Bool) → (not p || (a && b)) ≡ true → IsTrue p → 
 when_present true a b h p = (and_parts a b h).0
 when_present false a b h p = absurd (cc p)
 
--- its known bits reach to its end
+-- its known bits reach its end
 pub reaches : (s : Settings) (m : ℕ) (known : Stream → List Bool) (σ : Stream) → IsTrue (is_compared s m known) → IsTrue (is_present s m σ) → steps_before s σ (m + 1) ≤ length (known σ)
 reaches s m known σ c p =
     leb-true (steps_before s σ (m + 1)) (length (known σ))

@@ -1,4 +1,4 @@
--- Near cells make the decoder give the bits that were sent.
+-- From close cells the decoder gives the bits sent.
 use Rattle.std.proofs.Common.{◌≡◌, ℕ, zero, suc, ◌+◌, ◌-◌, ◌/◌, ◌<◌, ◌≤◌, Bool, false, List, [], ◌∷◌, ◌++◌, length, get_or, take, drop, replicate, refl, sym, ap, ◌∙◌, subst, arith, length-append}
 use Rattle.std.specs.Prelude.{Some}
 use Rattle.std.proofs.lemmas.List.{length-map}
@@ -34,7 +34,7 @@ use Rattle.law_measurement.specs.Remade.{first_bits, AreFirstSent}
 use Rattle.law_measurement.proofs.KnownBits.{IsDecoding, is_start, known_begins}
 use Rattle.law_measurement.proofs.Remade.{first_path}
 
--- what is known of sending and decoding
+-- the known facts on sending and decoding
 pub record IsSending : Type 0 where
   pub known : AreKnown
   pub steps : AreSteps
@@ -74,7 +74,7 @@ window_from path n t =
 first_long : (packets : List (List ℕ)) (n : ℕ) → length (first_bits packets n) ≡ n
 first_long packets n = length-map (numbers n) (bit_of_stream (outer_byte packets)) ∙ length-numbers n
 
--- six zeros, and the first bits that are sent
+-- six zeros, and the first bits sent
 unfoldable sent_path : List (List ℕ) → ℕ → List Bool
 sent_path packets n = replicate 6 false ++ first_bits packets n
 
@@ -128,7 +128,7 @@ all_speak laws s inputs bytes σ w = record {
         subst (λ (z : CostPair). SpeaksFor z (drop t p)) (sym (laws.listed.step s bytes σ m t d found.1 o))
         (step_speaks laws.known s inputs bytes m (t - steps_before s σ m) σ (drop t p) w (subst (λ (z : ℕ). m < z) w.all found.1) (laws.steps.streams s σ (m / 272) place.1).here place.0 ((laws.lists p t).x ∙ ap parity_x same) ((laws.lists p t).y ∙ ap parity_y same))
 
--- the bits at the end are those that were sent
+-- the bits at the end are the bits sent
 pub ended_is_sent : IsSending → (s : Settings) (inputs : Inputs) (bytes : List ℕ) (σ : Stream) (bits : List Bool) → s.start ≡ Zero → IsWithin s inputs bytes → Ended memory (start_of s.start) (costs s bytes σ) bits
     → bits ≡ first_bits (inputs σ) (steps_before s σ (symbols s bytes))
 ended_is_sent laws s inputs bytes σ bits e w ended =
@@ -136,13 +136,13 @@ ended_is_sent laws s inputs bytes σ bits e w ended =
     let from : Ended memory (Some (replicate 6 false)) (costs s bytes σ) bits = subst (λ (z : Start). Ended memory (start_of z) (costs s bytes σ) bits) e ended in
     laws.keeps.ended (replicate 6 false) (sent_path (inputs σ) n) bits (costs s bytes σ) (all_speak laws s inputs bytes σ w) from ∙ path_rest (inputs σ) n
 
--- bits that begin sent ones are the first sent ones
+-- a prefix of sent bits is the first sent bits
 front_is_first : (packets : List (List ℕ)) (bits last : List Bool) (n : ℕ) → IsPrefix bits last → length bits ≤ n → last ≡ first_bits packets n → AreFirstSent packets bits
 unfolding numbers
 front_is_first packets bits last n p l e =
     sym (take-append_seam bits p.rest) ∙ ap (take (length bits)) (sym p.is) ∙ ap (take (length bits)) e ∙ take-map-range_with_len (bit_of_stream (outer_byte packets)) 0 n (length bits) l
 
--- so are those that are known for a symbol
+-- the bits known for a symbol are the first sent bits
 pub known_is_first : IsDecoding → IsSending → (s : Settings) (inputs : Inputs) (bytes : List ℕ) (σ : Stream) (m : ℕ) (bits : List Bool) → s.start ≡ Zero → IsWithin s inputs bytes → IsKnown s bytes σ m bits → AreFirstSent (inputs σ) bits
 known_is_first decoding laws s inputs bytes σ m bits e w k =
     let last = decoding.some_ended memory (start_of s.start) (costs s bytes σ) (is_start s.start) in

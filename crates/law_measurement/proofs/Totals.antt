@@ -37,7 +37,7 @@ use Rattle.law_measurement.proofs.Long.{ended_long, length-bytes_of}
 use Rattle.law_measurement.proofs.KnownBits.{IsDecoding, some_known, known_once, known_begins, known_grows}
 use Rattle.law_measurement.proofs.Adding.{added_up, part_added, counted, count_on, count_alike, count_few, counts_join, all_counted, none_counted, no_count}
 
--- what is known of words, steps and reports
+-- the known facts on words, steps and reports
 pub record AreListed : Type 0 where
   pub more : MoreBits
   pub stays : WordStays
@@ -50,7 +50,7 @@ pub record AreListed : Type 0 where
   pub reports : ReportsOnce
   pub reported : ReportsAreSteps
 
--- ---- the words of bits that begin others
+-- ---- the words of a prefix of bits
 
 fewer_words : (a b : List Bool) → IsPrefix a b → word_count (bytes_of a) ≤ word_count (bytes_of b)
 fewer_words a b p = omega (arith, length-bytes_of a, length-bytes_of b, ap length p.is, length-append a p.rest)
@@ -60,7 +60,7 @@ same_word laws a b x p l =
     let m = laws.more a p.rest in
     ap (λ (z : List Bool). word_at (bytes_of z) x) p.is ∙ ap (λ (z : List ℕ). word_at z x) m.1 ∙ laws.stays (bytes_of a) m.0 x l
 
--- the sums of a stream that exists
+-- the sums of an existing stream
 pub stream_sums : (s : Settings) (bytes : List ℕ) (j : ℕ) (f : SuperFrame) (a : AreSums s bytes j f) (σ : Stream) → IsTrue (exists_in s σ) → AreStreamSums s bytes a.known j σ (sums_of σ f)
 stream_sums s bytes j f a Hp there = a.hp
 stream_sums s bytes j f a Lp there =
@@ -101,7 +101,7 @@ module _ (decoding : IsDecoding) (laws : AreListed) (s : Settings) (bytes : List
   begins : (m : ℕ) (σ : Stream) → IsPrefix (known_of m σ) (last σ)
   begins m σ = known_begins decoding s bytes σ m (known_of m σ) (last σ) (known_is m σ) (fin.decoded σ)
 
-  -- no super-frame takes words back
+  -- no super-frame reports fewer words than the one before
   told_up : (σ : Stream) (j : ℕ) → told_to σ j ≤ told s known_of σ j
   told_up σ zero = omega arith
   told_up σ (suc i) =
@@ -109,7 +109,7 @@ module _ (decoding : IsDecoding) (laws : AreListed) (s : Settings) (bytes : List
       (known_grows decoding s bytes σ (272 * i + 271) (272 * suc i + 271) (known_of (272 * i + 271) σ) (known_of (272 * suc i + 271) σ) (omega arith) (known_is (272 * i + 271) σ) (known_is (272 * suc i + 271) σ)) in
       omega (arith, more, laws.words s σ (i + 1) (suc i + 1) (omega arith))
 
-  -- the last one has all that are left
+  -- the last one has all remaining words
   all_words : (σ : Stream) (i : ℕ) → symbols s bytes ≤ 272 * (i + 1) → word_count (outer σ) ≤ words_before s σ (i + 1) - 11
   all_words σ i l =
       let long = ended_long memory (start_of s.start) (costs s bytes σ) (last σ) (fin.decoded σ) in
@@ -152,7 +152,7 @@ module _ (decoding : IsDecoding) (laws : AreListed) (s : Settings) (bytes : List
       ap (λ (z : List Bool). min (word_count (bytes_of z)) (words_before s σ (i + 1) - 11))
       (known_once decoding s bytes σ (272 * i + 271) (known (272 * i + 271) σ) (known_of (272 * i + 271) σ) (around (272 * i + 271) σ (omega arith) (omega arith)) (known_is (272 * i + 271) σ))
 
-  -- what a super-frame counts of its words
+  -- the counts of a super-frame's words
   counts_more : (σ : Stream) (j : ℕ) (known : Knowns) → AreKnownAround s bytes j known → told s known σ j ≡ told s known_of σ j → (v : ℕ) (p q : ℕ → Bool) → v ≡ count_by p (words_of s known σ j)
       → ((x : ℕ) → x < told s known_of σ j → p x ≡ q x) → v + count q (told_to σ j) ≡ count q (told s known_of σ j)
   counts_more σ j known around same v p q e agree =

@@ -1,4 +1,4 @@
--- What is measured of a transmission's own cells and of cells near them.
+-- Measurements of a transmission's own cells, and of cells close to them.
 use Rattle.std.specs.Prelude.{◌≡◌, ℕ, ◌+◌, ◌*◌, ◌^◌, ◌<◌, ◌≤◌, IsTrue, Bool, true, not, ◌&&◌, List, Some}
 use Rattle.mode_set.specs.StreamTable.{has_stream, label_bits}
 use Rattle.mode_set.specs.declared.modes.Shape.{Shape}
@@ -22,15 +22,16 @@ use Rattle.measurement.specs.SuperFrames.{AreSums}
 use Rattle.measurement.specs.Lines.{begun_by, MeasureFinal}
 use Rattle.law_measurement.specs.Totals.{sums_of}
 
--- within the tolerance of the point of a label the hard decisions are the bits of the label
+-- within the tolerance of the point of a label, the hard decisions are the bits of the label
 abbrev pub NearPointsAreDecided : Type 0
 NearPointsAreDecided = (s : Shape) (h : Hierarchy) (y : ℕ → Bool) (cell : Cell) (e : ℕ) → e < label_bits s → IsNear s h (map_cell s h y) cell → hard_bit s h cell e ≡ y e
 
--- LP pauses after super-frame j: it exists there and not in the next one
+-- LP pauses after super-frame j: it exists there but not in the next one
 abbrev pub pauses_after : Settings → ℕ → Bool
 pauses_after s j = has_stream (settings_in s j).hierarchy Lp && not (has_stream (settings_in s (j + 1)).hierarchy Lp)
 
--- All symbols of super-frame j are compared. At most two are not if LP pauses after it and it is not the last one of n.
+-- All symbols of super-frame j are compared. If LP pauses after it and it is not the last one of n, at most two are
+-- not.
 pub record AreCompared (s : Settings) (n j : ℕ) (f : SuperFrame) : Type 0 where
   pub most : 270 ≤ f.symbols
   pub few : f.symbols ≤ 272
@@ -48,7 +49,7 @@ pub record IsClean (t : StreamSums) : Type 0 where
   pub unphased : t.unphased ≡ 0
   pub repaired : t.repaired ≡ 0
 
--- super-frame j of n is measured without a fault
+-- the measurement of super-frame j of n shows no errors
 pub record IsMeasuredClean (s : Settings) (n j : ℕ) (f : SuperFrame) : Type 0 where
   pub compared : AreCompared s n j f
   pub muted : f.muted ≡ 0
@@ -58,7 +59,8 @@ pub record IsMeasuredClean (s : Settings) (n j : ℕ) (f : SuperFrame) : Type 0 
 abbrev pub tolerance_in : Settings → ℕ → ℕ
 tolerance_in s j = tolerance (settings_in s j).shape (settings_in s j).hierarchy
 
--- cells within the tolerance of a transmission, on both axes, are measured without a fault, and the error is bounded
+-- cells within the tolerance of a transmission, on both axes, measure as free of errors, with a bounded modulation
+-- error
 pub record IsMeasuredNear (s : Settings) (n j : ℕ) (f : SuperFrame) : Type 0 where
   pub clean : IsMeasuredClean s n j f
   pub error : f.error ≤ 2 * tolerance_in s j ^ 2 * f.cells
@@ -66,7 +68,7 @@ pub record IsMeasuredNear (s : Settings) (n j : ℕ) (f : SuperFrame) : Type 0 w
 abbrev pub NoiseIsMeasured : Type 0
 NoiseIsMeasured = (s : Settings) (inputs : Inputs) (bytes : List ℕ) (n j : ℕ) (f : SuperFrame) → s.start ≡ Zero → HavePackets s inputs → super_frames s (counts_of inputs) ≡ Some n → IsWithin s inputs bytes → j < n → AreSums s bytes j f → IsMeasuredNear s n j f
 
--- a transmission's own cells are measured without a fault and without an error
+-- a transmission's own cells measure as free of errors, with a modulation error of 0
 pub record IsMeasuredExact (s : Settings) (n j : ℕ) (f : SuperFrame) : Type 0 where
   pub clean : IsMeasuredClean s n j f
   pub error : f.error ≡ 0
@@ -74,11 +76,12 @@ pub record IsMeasuredExact (s : Settings) (n j : ℕ) (f : SuperFrame) : Type 0 
 abbrev pub OwnIsMeasured : Type 0
 OwnIsMeasured = (s : Settings) (inputs : Inputs) (n j : ℕ) (f : SuperFrame) → s.start ≡ Zero → HavePackets s inputs → super_frames s (counts_of inputs) ≡ Some n → j < n → AreSums s (tx s inputs) j f → IsMeasuredExact s n j f
 
--- This holds in the lines of a measurement: they have as many super-frames as the transmission, and each is measured so.
+-- The same in the lines of a measurement: they have as many super-frames as the transmission, and each measures so.
 abbrev pub FramesAreNear : Type 0
 FramesAreNear = (s : Settings) (inputs : Inputs) (bytes out : List ℕ) (n : ℕ) (m : MeasureFinal s bytes out) → s.start ≡ Zero → HavePackets s inputs → super_frames s (counts_of inputs) ≡ Some n → IsWithin s inputs bytes
     → (begun_by (symbols s bytes) ≡ n) × ((j : ℕ) → j < n → IsMeasuredNear s n j (m.frames j))
 
+-- For a transmission's own cells each measures as free of errors, with a modulation error of 0.
 abbrev pub FramesAreExact : Type 0
 FramesAreExact = (s : Settings) (inputs : Inputs) (out : List ℕ) (n : ℕ) (m : MeasureFinal s (tx s inputs) out) → s.start ≡ Zero → HavePackets s inputs → super_frames s (counts_of inputs) ≡ Some n
     → (begun_by (symbols s (tx s inputs)) ≡ n) × ((j : ℕ) → j < n → IsMeasuredExact s n j (m.frames j))

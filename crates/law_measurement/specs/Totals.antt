@@ -25,7 +25,7 @@ abbrev pub sums_of : Stream → SuperFrame → StreamSums
 sums_of Hp f = f.hp
 sums_of Lp f = unwrap_or f.lp nothing
 
--- the counts of a stream in all lines add up to those of its closing line
+-- the counts of a stream in all lines add up to its closing line
 pub record AreTotals (s : Settings) (bytes : List ℕ) (frames : ℕ → SuperFrame) (σ : Stream) (closing : StreamCounts) : Type 0 where
   pub words : over_frames s bytes frames (λ f. (sums_of σ f).words) ≡ closing.words
   pub clean : over_frames s bytes frames (λ f. (sums_of σ f).clean) ≡ closing.clean
@@ -34,7 +34,7 @@ pub record AreTotals (s : Settings) (bytes : List ℕ) (frames : ℕ → SuperFr
   pub unphased : over_frames s bytes frames (λ f. (sums_of σ f).unphased) ≡ closing.unphased
   pub unmerged : over_frames s bytes frames (λ f. (sums_of σ f).unmerged) ≡ closing.unmerged
 
--- so do those of each stream that exists, and the counts of TPS words
+-- the same for each existing stream, and for the counts of TPS words
 pub record AddUp (s : Settings) (bytes : List ℕ) (frames : ℕ → SuperFrame) (r : Reception) : Type 0 where
   pub streams : (σ : Stream) → IsTrue (exists_in s σ) → AreTotals s bytes frames σ (counts_of_stream r σ)
   pub read : over_frames s bytes frames (λ f. f.tps_read) ≡ r.read
@@ -44,6 +44,6 @@ pub record AddUp (s : Settings) (bytes : List ℕ) (frames : ℕ → SuperFrame)
 abbrev pub LinesAddUp : Type 0
 LinesAddUp = (s : Settings) (bytes out : List ℕ) (m : MeasureFinal s bytes out) → AddUp s bytes m.frames m.reception
 
--- its closing lines are those of each reception of the bytes
+-- its closing lines are those of any reception of the bytes
 abbrev pub ClosingIsReceived : Type 0
 ClosingIsReceived = (s : Settings) (bytes out : List ℕ) (m : MeasureFinal s bytes out) (r : Reception) → Final s bytes r → closing_lines s bytes m.reception ≡ closing_lines s bytes r

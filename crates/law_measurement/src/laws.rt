@@ -1,4 +1,4 @@
-// The laws of a measurement over its definitions, as contracts of functions that do nothing.
+// The laws of a measurement, as contracts of functions with empty bodies.
 ghost use Rattle.std.specs.Prelude.{ℕ};
 ghost use Rattle.law_link.specs.Counted.{AreCounted};
 ghost use Rattle.law_measurement.specs.Totals.{LinesAddUp, ClosingIsReceived};
@@ -27,7 +27,7 @@ fn counted_at(mode: Mode, l: u8)
     payload_carriers_are_numbered(mode, l);
 }
 
-// What holds of four symbols holds of all: the kinds of carriers repeat.
+// If it holds for four symbols, it holds for all: the kinds of carriers repeat.
 fn counted(mode: Mode)
     ensures { (l : ℕ) → AreCounted mode l }
 {
@@ -37,8 +37,8 @@ fn counted(mode: Mode)
     counted_at(mode, 3);
 }
 
-/// The counts of words and frames in the lines of all super-frames add up to those of the closing lines,
-/// which are those of a reception of the same bytes.
+/// The counts of words and frames over all super-frames add up to those of the closing lines, which are those of a
+/// reception of the same bytes.
 pub fn lines_add_up()
     ensures sums { LinesAddUp }
     ensures closing { ClosingIsReceived }
@@ -58,9 +58,9 @@ pub fn lines_add_up()
     outer_chain::laws::growth();
 }
 
-/// If the known bits of a compared symbol are those that were sent, the remade cells are the cells that were
-/// sent, from either start. If this holds of all compared symbols of a super-frame, its error is the error
-/// against what was sent, whatever was received.
+/// If the known bits of a compared symbol are the bits sent, the remade cells are the cells sent, for either start. If
+/// this holds for all compared symbols of a super-frame, its error is the error against the cells sent, whatever was
+/// received.
 pub fn decided_cells_are_sent()
     ensures cells { RemadeAreSent }
     ensures error { ErrorIsFromSent }
@@ -75,12 +75,12 @@ pub fn decided_cells_are_sent()
     sent_bits_have_steps();
 }
 
-/// Hard decisions of a cell within the tolerance of a point are the bits of the point's label.
+/// The hard decisions of a cell within the tolerance of a point are the bits of the point's label.
 pub fn near_points_are_decided()
     ensures { NearPointsAreDecided }
 {}
 
-/// From start zero all symbols of whole super-frames are compared, but for two before LP pauses.
+/// From start zero all symbols of whole super-frames are compared, except two before LP pauses.
 pub fn symbols_are_compared()
     ensures { SymbolsAreCompared }
 {
@@ -88,9 +88,9 @@ pub fn symbols_are_compared()
     costs();
 }
 
-/// Cells within the tolerance of a transmission are measured without a fault: nothing is wrong, muted, corrected,
-/// bad, unphased or repaired. The error is at most twice the squared tolerance for each cell. A transmission's own
-/// cells have no error.
+/// Cells within the tolerance of a transmission measure as free of errors: nothing is wrong, muted, corrected, bad,
+/// unphased or repaired. The error is at most twice the squared tolerance for each cell. A transmission's own cells
+/// have an error of 0.
 pub fn transmissions_are_measured()
     ensures noise { NoiseIsMeasured }
     ensures own { OwnIsMeasured }

@@ -1,4 +1,4 @@
--- A cell divided by a gain that is near, and its weight.
+-- A cell divided by a close gain, and its weight.
 use Rattle.std.proofs.Common.{◌≡◌, ℕ, ◌+◌, ◌*◌, ◌/◌, ◌^◌, ◌<◌, ◌≤◌, ap, refl, sym, ◌∙◌, arith, subst, Bool, min}
 use Rattle.std.specs.Prelude.{ℤ, pos, negsuc, ◌+ℤ◌, ◌-ℤ◌, ◌*ℤ◌, neg_ℤ, nat_abs, if◌then◌else◌}
 use borrow.Author.Differences.{up, down}
@@ -18,7 +18,7 @@ use Rattle.law_link.proofs.Rounding.{rounded, clamped}
 use Rattle.law_tracking.proofs.Received.{IsAmplitude, far, not_far}
 use Rattle.law_tracking.proofs.Time.{IsNear, true_gain}
 
--- the power of a gain that is near, by that of the channel
+-- the power of a close gain, relative to that of the channel
 pub record HasPower (p n : ℕ) : Type 0 where
   pub least : 450 * p ≤ n
   pub most : n ≤ 460 * p
@@ -78,7 +78,7 @@ told n a b x y u v r i amp bx by least near_u near_v got =
     let few : nat_abs E ≤ 256 * squares (nat_abs u) (nat_abs v) = omega (arith, more, all.below, enough, wide) in
     subst (λ (z : ℤ). nat_abs (pos 349520 *ℤ (r *ℤ u +ℤ i *ℤ v) -ℤ x *ℤ z) ≤ 256 * squares (nat_abs u) (nat_abs v)) (power_is u v) few
 
--- the same turned by a quarter
+-- the same after a quarter turn
 quarter : (a b x y r i : ℤ) → IsReceived a b x y r i → IsReceived a b y (neg_ℤ x) i (neg_ℤ r)
 quarter a b x y r i h =
     let a' = itself a in let b' = itself b in let x' = itself x in let y' = itself y in let r' = itself r in let i' = itself i in

@@ -1,4 +1,4 @@
--- The symbols that count for a point: those of the four at which it is a scattered pilot that pass a test.
+-- The symbols that count for a point: of the four where it is a scattered pilot, those that pass a test.
 use Rattle.std.proofs.Common.{◌≡◌, ℕ, zero, suc, ◌+◌, ◌-◌, ◌%◌, ◌<◌, ◌≤◌, List, [], ◌∷◌, length, refl, sym, ap, ◌∙◌, subst, arith, map, Bool, true, false, not, cond, get_or, inl, inr}
 use Rattle.std.specs.Prelude.{filter, ◌&&◌, nat_le, nat_lt}
 use Rattle.std.proofs.lemmas.Bool.{and_parts, ltb-true, leb-true, lt-ltb, le-leb, cases_lt}
@@ -38,7 +38,7 @@ some_of (x ∷ is) p (suc i) l e = by (p x) (some_of is p i (omega (arith, l)) e
     by true h = omega arith
     by false h = h
 
--- ---- the symbols that count are those that are there, or the good ones among them
+-- ---- the symbols that count are the present ones, or the good ones among them
 pub record IsCounting (c : Comb) (m d : ℕ) (ps : List ℕ) : Type 0 where
   pub test : ℕ → Bool
   pub is : ps ≡ filter test (four d)
@@ -57,7 +57,7 @@ counts_there {c} {m} {d} {ps} k i l =
     let h : i < length (filter k.test (four d)) = subst (λ (qs : List ℕ). i < length qs) k.is l in
     k.there (get_or ps i 0) (subst (λ (qs : List ℕ). k.test (get_or qs i 0) ≡ true) (sym k.is) (passes (four d) k.test i h))
 
--- what is there is in the file
+-- a present symbol is in the file
 pub inside : (c : Comb) (m p : ℕ) → is_there c m p ≡ true → symbol_at m p < c.count
 inside c m p e =
     let within = (and_parts (nat_le 7 (m + p)) (nat_le (m - 7) (symbol_at m p) && nat_lt (symbol_at m p) (window_end c m)) e).1 in
@@ -68,7 +68,7 @@ inside c m p e =
 pub first_there : (c : Comb) (m p : ℕ) → is_there c m p ≡ true → 7 ≤ m + p
 first_there c m p e = leb-true 7 (m + p) (and_parts (nat_le 7 (m + p)) (nat_le (m - 7) (symbol_at m p) && nat_lt (symbol_at m p) (window_end c m)) e).0
 
--- ---- each stands at one of the four
+-- ---- each is one of the four
 pub record IsPlace (d p : ℕ) : Type 0 where
   pub n : ℕ
   pub few : n < 4

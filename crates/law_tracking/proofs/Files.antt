@@ -1,4 +1,4 @@
--- The corrected cells of a file are read from its bytes, and so they are those of its corrected symbols.
+-- The corrected cells of a file are read from its bytes, so they are those of its corrected symbols.
 use Rattle.std.proofs.Common.{◌≡◌, ℕ, zero, suc, ◌+◌, ◌*◌, ◌/◌, ◌<◌, ◌≤◌, List, [], ◌∷◌, length, get_or, refl, sym, ap, ap₂, ◌∙◌, subst, arith}
 use Rattle.std.specs.Prelude.{ℤ, pos, nat_abs, ◌-ℤ◌, slice_index, Option, Some, option_map, unwrap_or}
 use Rattle.std.specs.Int.{w16}
@@ -36,13 +36,13 @@ use Rattle.law_tracking.proofs.Cell.{IsReceived, IsCorrected}
 use Rattle.law_tracking.proofs.Sent.{tx_sent}
 use Rattle.law_tracking.proofs.Symbols.{no_symbol, HaveArrived, all_corrected}
 
--- what is known of the bytes of cells
+-- the known facts on the bytes of cells
 pub record AreRead : Type 0 where
   pub long : FiveBytesACell
   pub cells : CellsAreReadBack
   pub weights : WeightsAreReadBack
 
--- ---- the symbols that were received
+-- ---- the received symbols
 abbrev symbol : Settings → List ℕ → ℕ → Symbol
 symbol s bytes m = record { cells = symbol_cells s bytes m; weights = symbol_weights s bytes m }
 
@@ -176,7 +176,7 @@ within wide law s inputs a b bytes flat some come =
       weight = λ m k l few free. (back.each m k l few).weight;
     }
 
--- a transmission of some number of super-frames has more symbols than four
+-- a transmission with a number of super-frames has more than four symbols
 frames : (s : Settings) (inputs : Inputs) (n : ℕ) → TheNumberIsFound → super_frames s (counts_of inputs) ≡ Some n → 4 ≤ symbols_of s inputs
 unfolding symbols_of
 frames s inputs n found e =

@@ -1,4 +1,4 @@
--- The gain at a carrier of a file that came through a channel of one gain.
+-- The gain at a carrier of a file received through a flat channel.
 use Rattle.std.proofs.Common.{◌≡◌, ℕ, ◌+◌, ◌-◌, ◌*◌, ◌<◌, ◌≤◌, List, [], ◌∷◌, length, get_or, ap, ap₂, sym, ◌∙◌, subst, arith}
 use Rattle.std.specs.Prelude.{ℤ, pos, neg_ℤ, nat_abs, ◌+ℤ◌, ◌-ℤ◌, ◌*ℤ◌, sum_by}
 use Rattle.std.proofs.lemmas.Int.{unsigned_abs-mul}
@@ -96,7 +96,7 @@ associative x y z =
     (same (less (ring.times re e) (ring.times im f)) (less (ring.times a re') (ring.times b im')) (omega arith))
     (same (plus (ring.times re f) (ring.times im e)) (plus (ring.times a im') (ring.times b re')) (omega arith))
 
--- ---- what the rows leave
+-- ---- the remainders of the rows
 last_part : (e r l : ℕ) (g x y u v : ℤ) → nat_abs x ≤ l → nat_abs y ≤ l → nat_abs (u -ℤ pos 4398046511104) + nat_abs v ≤ 951053430 → l ≤ 349520 * r → e + 951053430 * (349520 * r) ≤ 1233 * (4398046511104 * r)
     → Below (pos 72057594037927936 *ℤ g -ℤ (x *ℤ u -ℤ y *ℤ v)) e → Below (pos 16384 *ℤ g -ℤ x) (1233 * r)
 last_part e r l g x y u v hx hy close most room h =

@@ -1,4 +1,4 @@
--- The points at which pilots stand.
+-- The comb points of pilots.
 use Rattle.std.proofs.Common.{◌≡◌, ℕ, ◌*◌, ◌%◌, ◌<◌, length, get_or, refl, ap, ◌∙◌, arith, Bool, true, false}
 use Rattle.std.specs.Prelude.{if◌then◌else◌, count_by}
 use Rattle.std.proofs.lemmas.Bool.{eq-eqb, eqb-true}
@@ -27,7 +27,7 @@ pub scattered_is : (m : Mode) (l k : ℕ) → is_scattered l k ≡ true → is_p
 unfolding is_pilot kind
 scattered_is m l k e = ap (λ (t : Bool). is_for_pilots (if is_continual m k then Continual else if t then Scattered else others m l k)) e ∙ either (is_continual m k)
 
--- point j is a scattered pilot of symbol t where the remainders by 4 agree
+-- point j is a scattered pilot of symbol t if the remainders modulo 4 agree
 pub scattered_where : (t j : ℕ) → t % 4 ≡ j % 4 → is_scattered (t % 68) (3 * j) ≡ true
 unfolding is_scattered
 scattered_where t j e = eq-eqb (3 * j % 12) (3 * (t % 68 % 4)) (omega (arith, e))

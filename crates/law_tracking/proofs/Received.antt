@@ -1,4 +1,4 @@
--- Pilots that came through a channel of one gain, and the turn between two symbols of them.
+-- Pilots received through a flat channel, and the turn between two of their symbols.
 use Rattle.std.proofs.Common.{◌≡◌, ℕ, suc, ◌+◌, ◌*◌, ◌/◌, ◌^◌, ◌<◌, ◌≤◌, List, [], ◌∷◌, length, get_or, ap, ap₂, refl, sym, ◌∙◌, subst, arith}
 use Rattle.std.specs.Prelude.{ℤ, pos, negsuc, neg_ℤ, nat_abs, ◌+ℤ◌, ◌-ℤ◌, ◌*ℤ◌}
 use Rattle.std.proofs.lemmas.Int.{ints, unsigned_abs-mul}
@@ -24,7 +24,7 @@ amplitude a b h =
     let r = root_is_greatest n in
     record { least = r.greatest 8192 (omega (arith, h)); short = r.within; re = r.greatest (nat_abs a) (omega arith); im = r.greatest (nat_abs b) (omega arith); strong = h }
 
--- the value of a pilot that came through the gain (a + b i) / 16384
+-- the value of a pilot received through the gain (a + b i) / 16384
 pub record IsPilotOf (a b : ℤ) (z : Complex) : Type 0 where
   pub re : Below (pos 16384 *ℤ z.re -ℤ pos 21845 *ℤ a) 16384
   pub im : Below (pos 16384 *ℤ z.im -ℤ pos 21845 *ℤ b) 16384
@@ -132,7 +132,7 @@ forward_of x h =
 pub forward_forward : IsForward forward
 forward_forward = record { re = refl; im = omega arith }
 
--- ---- a value turned nearly forwards
+-- ---- a value turned nearly forward
 pub record IsTurned (a b : ℤ) (r : ℕ) (z : Complex) : Type 0 where
   pub re : Below (pos 16384 *ℤ z.re -ℤ pos 357908480 *ℤ a) (120156 * r)
   pub im : Below (pos 16384 *ℤ z.im -ℤ pos 357908480 *ℤ b) (120156 * r)

@@ -1,4 +1,4 @@
--- What the rows of the interpolation in frequency make of a channel with no delay, by tables.
+-- The rows of the interpolation in frequency on a channel without delay, by tables.
 use Rattle.std.proofs.Common.{◌≡◌, ℕ, zero, suc, ◌+◌, ◌-◌, ◌*◌, ◌%◌, ◌<◌, ◌≤◌, get_or, ap, ap₂, refl, sym, subst, arith, inl, inr, Bool, true, ltb}
 use Rattle.std.specs.Prelude.{pos, nat_abs, ◌-ℤ◌, ◌&&◌, sum_by}
 use Rattle.std.proofs.lemmas.Bool.{and_parts, ltb-true, cases_lt}
@@ -66,14 +66,14 @@ all_light G1of4 = refl
 pub rows_light : (g : Guard) (t : ℕ) → t < 34 → row_size g t ≤ 58154
 rows_light g t h = let e = ltb-true _ _ (below_at 34 (light g) t h (all_light g)) in omega (arith, e)
 
--- ---- a channel with no delay: twelve points by row t, the first one at point o, and the turn back
+-- ---- a channel without delay: twelve points by row t, the first one at point o, and the turn back
 abbrev pub row_sum : Guard → ℕ → ℕ → Complex
 row_sum g t o = sum_of (λ i. scaled (get_or (frequency_row g t) i (pos 0)) (turned_by (3 * (o + i) * slope g))) (numbers 12)
 
 abbrev pub seen : Guard → ℕ → ℕ → Complex
 seen g t o = times (row_sum g t o) (turned_by (63 * ((3 * o + t) * slope g)))
 
--- how far that is from 2^42
+-- the distance of that from 2^42
 abbrev pub off : Complex → ℕ
 off z = nat_abs (z.re -ℤ pos 4398046511104) + nat_abs z.im
 
@@ -117,7 +117,7 @@ uppers_8k G1of16 = refl
 uppers_8k G1of8 = refl
 uppers_8k G1of4 = refl
 
--- points 64 apart are turned alike
+-- points 64 apart have the same turn
 phase : (g : Guard) (o i : ℕ) → 3 * (o + i) * slope g % 64 ≡ 3 * (o % 64 + i) * slope g % 64
 phase G1of32 o i = omega arith
 phase G1of16 o i = omega arith

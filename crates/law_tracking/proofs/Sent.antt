@@ -1,4 +1,4 @@
--- The parts of the cells of a transmission are at most 21845, and its pilots are what the law asks for.
+-- The parts of the cells of a transmission are at most 21845, and its pilots are those of the law.
 use Rattle.std.proofs.Common.{◌≡◌, ℕ, ◌/◌, ◌%◌, ◌≤◌, List, [], ◌∷◌, take, refl, sym, arith, subst, Bool, true, false, ◌&&◌, ltb}
 use Rattle.std.specs.Prelude.{ℤ, pos, nat_abs}
 use Rattle.std.proofs.lemmas.Int.{ints}
@@ -104,12 +104,12 @@ kind_is_pilot s n labels k Scattered e = refl
 kind_is_pilot s n labels k Tps e = absurd cc
 kind_is_pilot s n labels k (Payload q) e = absurd cc
 
--- what a symbol has of a transmission
+-- the facts on a symbol of a transmission
 pub record IsSent (m : Mode) (l : ℕ) (sent : ℕ → Cell) : Type 0 where
   pub small : (k : ℕ) → IsSmall (sent k)
   pub pilots : (k : ℕ) → is_pilot m l k ≡ true → sent k ≡ record { re = unturned (reference k) (pos 21845); im = pos 0 }
 
--- whatever settings are announced
+-- for any announced settings
 sent_announcing : (s next : Settings) (n : ℕ) (labels : ℕ → ℕ → Bool) → IsSent s.mode (n % 68) (announcing_cell s next n labels)
 unfolding announcing_cell is_pilot
 sent_announcing s next n labels = record {

@@ -1,4 +1,4 @@
--- The symbols of a file that came through a channel of one gain, after their correction.
+-- The symbols of a file received through a flat channel, after correction.
 use Rattle.std.proofs.Common.{◌≡◌, ℕ, zero, suc, ◌+◌, ◌*◌, ◌/◌, ◌%◌, ◌^◌, ◌<◌, ◌≤◌, List, [], ◌∷◌, length, get_or, map, ap, refl, sym, subst, arith, min, max, Bool, true, false}
 use Rattle.std.specs.Prelude.{ℤ, pos, neg_ℤ, nat_abs, ◌+ℤ◌, ◌-ℤ◌, ◌*ℤ◌, ◌==◌, if◌then◌else◌, sum_by, slice_index}
 use Rattle.std.proofs.lemmas.List.Sums.{sum_by-cons}
@@ -33,7 +33,7 @@ no_symbol = record { cells = []; weights = [] }
 abbrev pub pilot_cell : ℕ → Cell
 pilot_cell k = record { re = unturned (reference k) (pos 21845); im = pos 0 }
 
--- what is known of symbols that came through a channel of one gain
+-- the known facts on symbols received through a flat channel
 pub record HaveArrived (s : Settings) (a b : ℤ) (sent : ℕ → ℕ → Cell) (symbols : List Symbol) : Type 0 where
   pub re : (m k : ℕ) → Below (sent m k).re 21845
   pub im : (m k : ℕ) → Below (sent m k).im 21845

@@ -10,7 +10,7 @@ use Rattle.tracking.specs.Moving.{tap}
 use Rattle.tracking.specs.declared.motion.Motion.{Motion}
 use Rattle.tracking.specs.declared.motion.Motion.TheVariants.{Slow, Fast}
 
--- those of four places that count
+-- those of the four places that count
 abbrev pub those : ℕ → Bool → Bool → Bool → Bool → List ℕ
 those d w x y z =
     let fourth = cond z (place d 3 ∷ []) [] in
@@ -35,7 +35,7 @@ for_bits_at : (f : Bool → Bool) (b : Bool) → for_bits f ≡ true → f b ≡
 for_bits_at f false h = (and_parts _ _ h).0
 for_bits_at f true h = (and_parts _ _ h).1
 
--- the absolute values are few
+-- the sum of absolute values is bounded
 abbrev small : Motion → ℕ → Bool → Bool → Bool → Bool → Bool
 small f d w x y z = ltb (size f d (those d w x y z)) 5621
 

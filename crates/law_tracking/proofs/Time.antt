@@ -1,4 +1,4 @@
--- The gain at a comb point of a file that came through a channel of one gain.
+-- The gain at a comb point of a file received through a flat channel.
 use Rattle.std.proofs.Common.{◌≡◌, ℕ, ◌+◌, ◌*◌, ◌%◌, ◌^◌, ◌<◌, ◌≤◌, List, length, get_or, ap, refl, sym, ◌∙◌, subst, arith, Bool, true, false}
 use Rattle.std.specs.Prelude.{ℤ, pos, nat_abs, ◌+ℤ◌, ◌-ℤ◌, ◌*ℤ◌, ◌==◌, if◌then◌else◌}
 use Rattle.std.proofs.lemmas.Int.{unsigned_abs-mul}
@@ -26,7 +26,7 @@ use Rattle.law_tracking.proofs.Forward.{IsForward, complex}
 use Rattle.law_tracking.proofs.Received.{IsAmplitude, IsPilotOf, ahead, ahead_sum, forward_of, forward_forward, IsTurned, turned_near}
 use Rattle.law_tracking.proofs.Weighted.{re_of_sum, weighted, one_target, nearest_off, im_of_sum}
 
--- g times the number is near the target on each axis
+-- g times the number is close to the target on each axis
 pub record IsNear (g e : ℕ) (x target : Complex) : Type 0 where
   pub re : Below (pos g *ℤ x.re -ℤ target.re) e
   pub im : Below (pos g *ℤ x.im -ℤ target.im) e
@@ -35,7 +35,7 @@ pub record IsNear (g e : ℕ) (x target : Complex) : Type 0 where
 abbrev pub true_gain : ℤ → ℤ → Complex
 true_gain a b = complex (pos 349520 *ℤ a) (pos 349520 *ℤ b)
 
--- the pilots of a file came through the gain (a + b i) / 16384
+-- the pilots of a file were received through the gain (a + b i) / 16384
 pub record HasThrough (a b : ℤ) (c : Comb) : Type 0 where
   pub pilot : (t j : ℕ) → t < c.count → j < points c.mode → is_pilot c.mode (t % 68) (3 * j) ≡ true → IsPilotOf a b (c.value t j)
 
@@ -59,7 +59,7 @@ chosen : (b : Bool) (x : Complex) → IsForward x → IsForward (if b then forwa
 chosen true x h = forward_forward
 chosen false x h = h
 
--- a part of the gain, by the sum of the taps times the values
+-- a part of the gain, from the sum of the taps times the values
 part_near : (x a : ℤ) (r s : ℕ) → s ≤ 5620 → 8192 ≤ r → Below (pos 16384 *ℤ x -ℤ pos 4096 *ℤ (pos 357908480 *ℤ a)) (s * (120156 * r)) → Below (pos 16384 *ℤ floor (x +ℤ pos (2 ^ 21)) (2 ^ 22) -ℤ pos 349520 *ℤ a) (162 * r)
 part_near x a r s few least h =
     let q = floor (x +ℤ pos (2 ^ 21)) (2 ^ 22) in

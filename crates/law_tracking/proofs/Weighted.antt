@@ -1,4 +1,4 @@
--- Weighted sums of values that are near their targets, and quotients rounded to the nearest.
+-- Weighted sums of values close to their targets, and quotients rounded to the nearest.
 use Rattle.std.proofs.Common.{◌≡◌, ℕ, suc, ◌+◌, ◌*◌, ◌<◌, List, [], ◌∷◌, length, get_or, ap, refl, ◌∙◌, subst, arith}
 use Rattle.std.specs.Prelude.{ℤ, pos, nat_abs, ◌+ℤ◌, ◌-ℤ◌, ◌*ℤ◌, sum_by}
 use Rattle.std.proofs.lemmas.Int.{ints}
@@ -22,7 +22,7 @@ unfolding sum_of
 im_of_sum [] f = refl
 im_of_sum (i ∷ is) f = ap (λ (z : ℤ). (f i).im +ℤ z) (im_of_sum is f)
 
--- the sum of weighted values is as near to that of the weighted targets as the sum of the weights' sizes allows
+-- the sum of weighted values is as close to that of the weighted targets as the sum of the weights' sizes allows
 step : (g : ℕ) (t v k s d : ℤ) → t *ℤ (pos g *ℤ v -ℤ k) +ℤ (pos g *ℤ s -ℤ d) ≡ pos g *ℤ (t *ℤ v +ℤ s) -ℤ (t *ℤ k +ℤ d)
 step g t v k s d =
     let g' = number g in let t' = itself t in let v' = itself v in let k' = itself k in let s' = itself s in let d' = itself d in
@@ -48,7 +48,7 @@ one_target (i ∷ is) t k =
     let s = sum_ℤ t is in
     ap (λ (z : ℤ). t i *ℤ k +ℤ z) (one_target is t k) ∙ same (plus (times (itself (t i)) (itself k)) (times (itself s) (itself k))) (times (plus (itself (t i)) (itself s)) (itself k)) (omega arith)
 
--- a quotient rounded to the nearest is half the divisor off at most
+-- a quotient rounded to the nearest is off by at most half the divisor
 pub nearest_off : (x : ℤ) (m : ℕ) → 0 < m → Below (pos (2 * m) *ℤ floor (x +ℤ pos m) (2 * m) -ℤ x) m
 nearest_off x m some =
     let q = floor (x +ℤ pos m) (2 * m) in

@@ -1,4 +1,4 @@
--- How large the gain at a comb point and the sums that it is made from can be.
+-- Bounds of the gain at a comb point, and of the sums that it is computed from.
 use Rattle.std.specs.Prelude.{ℕ, ◌^◌, ◌<◌, ◌≤◌, filter, map, nat_abs, sum_by, Bool}
 use Rattle.spec_words.specs.Words.{numbers}
 use Rattle.mode_set.specs.declared.modes.Guard.{Guard}
@@ -7,7 +7,7 @@ use Rattle.tracking.specs.InTime.{place, tap_at, point_gain}
 use Rattle.tracking.specs.declared.motion.Motion.{Motion}
 use Rattle.track_arithmetic.specs.Laws.{IsWithin}
 
--- the values are those of cells, or of cells that were negated
+-- the values are those of cells, some negated
 abbrev pub HasCells : Comb → Type 0
 HasCells c = (t j : ℕ) → t < c.count → IsWithin (2 ^ 15) (c.value t j)
 
@@ -15,7 +15,7 @@ HasCells c = (t j : ℕ) → t < c.count → IsWithin (2 ^ 15) (c.value t j)
 abbrev pub TurnsAreSmall : Type 0
 TurnsAreSmall = (c : Comb) (m t : ℕ) → IsWithin (2 ^ 14) (turn c m t)
 
--- the sum of the absolute values of the taps, whichever of the four symbols at which a point is a scattered pilot count
+-- a bound of the taps' absolute sum, whichever of the four symbols count
 abbrev pub SumsAreSmall : Type 0
 SumsAreSmall = (f : Motion) (d : ℕ) (counts : ℕ → Bool) → d < 4
     → sum_by (λ p. nat_abs (tap_at f d (filter counts (map (place d) (numbers 4))) p)) (filter counts (map (place d) (numbers 4))) ≤ 5620

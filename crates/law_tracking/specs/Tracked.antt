@@ -1,5 +1,5 @@
--- The flat gain law of channel tracking, for the cells of a file after its header: they came through a channel of one gain, and are corrected by the
--- scattered pilots of neighbouring symbols.
+-- The flat gain law of channel tracking for a file: its cells, after the header, were received through a flat channel,
+-- and are corrected by the scattered pilots of neighbouring symbols.
 use Rattle.std.specs.Prelude.{◌≡◌, ℕ, ◌<◌, ◌≤◌, List, flat_map, map, ℤ}
 use Rattle.spec_words.specs.Words.{numbers}
 use Rattle.mode_set.specs.StreamTable.{carriers}
@@ -23,19 +23,19 @@ use Rattle.law_link.specs.Flat.{IsFlat, CameThrough, IsRestored}
 unfoldable pub received : Settings → List ℕ → List Symbol
 received s bytes = map (λ m. record { cells = symbol_cells s bytes m; weights = symbol_weights s bytes m }) (numbers (symbols s bytes))
 
--- the bytes of their correction
+-- the bytes after correction
 unfoldable pub tracked_file : Settings → List ℕ → List ℕ
 tracked_file s bytes = flat_map (tracked_bytes s (received s bytes)) (numbers (symbols s bytes))
 
--- The bytes have the first whole symbols of the transmission, at least four. Each of their cells is the one that was sent, come through the gain
--- (a + b i) / 16384, and has a weight of at least 1.
+-- The bytes have the first whole symbols of the transmission, at least four. Each of their cells is the sent one,
+-- received through the gain (a + b i) / 16384, and has a weight of at least 1.
 pub record HaveBegun (s : Settings) (inputs : Inputs) (a b : ℤ) (bytes : List ℕ) : Type 0 where
   pub some : 4 ≤ symbols s bytes
   pub most : symbols s bytes ≤ symbols_of s inputs
   pub through : (m k : ℕ) → m < symbols s bytes → k < carriers s.mode → CameThrough a b (tx_cell s inputs m k) (cell_of (symbol_cells s bytes m) k)
   pub counts : (m k : ℕ) → m < symbols s bytes → k < carriers s.mode → 1 ≤ weight_of (symbol_weights s bytes m) k
 
--- such a beginning is restored to within 256 on both axes, symbol by symbol ..
+-- each symbol of such a file is restored to within 256 on both axes ..
 pub record AreTracked (s : Settings) (inputs : Inputs) (bytes : List ℕ) : Type 0 where
   pub all : symbols s (tracked_file s bytes) ≡ symbols s bytes
   pub each : (m k : ℕ) → m < symbols s bytes → k < carriers s.mode
@@ -55,12 +55,12 @@ IsWellTolerated = (s : Shape) (h : Hierarchy) → 256 ≤ tolerance s h
 abbrev pub TrackedAreWithin : Type 0
 TrackedAreWithin = (s : Settings) (inputs : Inputs) (a b : ℤ) (bytes : List ℕ) → IsFlat a b → 4 ≤ symbols s bytes → HaveCome s inputs a b bytes → IsWithin s inputs (tracked_file s bytes)
 
--- .. so what a receiver gives of it are the packets that were sent, and then null packets ..
+-- .. so a receiver gives the packets sent, then null packets ..
 abbrev pub TrackedAreReturned : Type 0
 TrackedAreReturned = (s : Settings) (inputs : Inputs) (a b : ℤ) (bytes : List ℕ) (r : Reception) → s.start ≡ Zero → HavePackets s inputs → IsFlat a b → HaveCome s inputs a b bytes
     → Final s (tracked_file s bytes) r → IsReturned s inputs r.packets
 
--- .. and all its words are clean
+-- .. and all words are clean
 abbrev pub TrackedAreClean : Type 0
 TrackedAreClean = (s : Settings) (inputs : Inputs) (a b : ℤ) (bytes : List ℕ) (r : Reception) → s.start ≡ Zero → HavePackets s inputs → IsFlat a b → HaveCome s inputs a b bytes
     → Final s (tracked_file s bytes) r → AreClean s inputs r.tally

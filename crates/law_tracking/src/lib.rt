@@ -1,8 +1,8 @@
-//! The flat gain law of channel tracking: a transmission that came through a channel of one gain comes
-//! back when its cells are corrected by the scattered pilots of neighbouring symbols.
+//! The flat gain law of channel tracking: a transmission received through a flat channel is restored when its cells are
+//! corrected by the scattered pilots of neighbouring symbols.
 //!
-//! [`gains`] has the laws of the gain at a comb point: how large it can be, and what it is on a steady
-//! channel. The crate has no code.
+//! [`gains`] has the laws of the gain at a comb point: its bound, and its value on a channel that does not change. The
+//! crate has no code.
 #![tactic(auto)]
 
 pub mod gains;

@@ -16,7 +16,7 @@ use Rattle.load_gen.specs.Draws.{after, word, byte_of, packet_byte, packet_of}
 use Rattle.load_gen.specs.Laws.{PacketsAreSound, PacketsAreBytes}
 use Rattle.load_gen.proofs.Steps.{draws_add, after_none, after_one, first_word}
 
--- a list over numbers, cut in two
+-- a list over numbers, in two parts
 split : (f : ℕ → ℕ) (n a m : ℕ) → map f (range_with_len a n) ++ map f (range_with_len (a + n) m) ≡ map f (range_with_len a (n + m))
 split f zero a m =
     let e : a + 0 ≡ a = omega arith in
@@ -47,7 +47,7 @@ four g k a is =
     (ap₂ (λ (b : ℕ) (bs : List ℕ). b ∷ bs) (byte_is g k 2 (a + 1 + 1) (omega arith) (omega arith))
     (ap (λ (b : ℕ). b ∷ []) (byte_is g k 3 (a + 1 + 1 + 1) (omega arith) (omega arith)))))
 
--- one word more
+-- one more word
 more_bytes : (g : Lcg) (k : ℕ) → map (byte_of g) (range_with_len 0 (4 * k)) ++ to_le_bytes w32 (pcg32 (after k g)).0 ≡ map (byte_of g) (range_with_len 0 (4 * suc k))
 more_bytes g k =
     let e : 4 * k + 4 ≡ 4 * suc k = omega arith in
@@ -62,7 +62,7 @@ more_after g k =
     let e : k + 1 ≡ suc k = omega arith in
     after_one (after k g) ∙ draws_add 1 k g ∙ ap (λ (n : ℕ). after n g) e
 
--- the bytes of k words, and the generator behind them
+-- the bytes of k words, and the generator after them
 pub words_are : (k : ℕ) (g : Lcg) → word_bytes (to_le_bytes w32) pcg32 k g ≡ (map (byte_of g) (range_with_len 0 (4 * k)), after k g)
 unfolding word_bytes
 words_are zero g = ap (λ (h : Lcg). ([], h)) (after_none g)
@@ -83,7 +83,7 @@ drawn g = ap (λ (p : List ℕ × Lcg). p.1) (words_are 47 g)
 pub put_behind : (ys zs : List ℕ) → ys ≡ zs → put_mid 1 187 (replicate 188 0x47) ys ≡ 0x47 ∷ zs
 put_behind ys zs is = ap (λ (l : List ℕ). 0x47 ∷ l) (append-nil ys ∙ is)
 
--- the sync byte in front, and the bit cleared
+-- the sync byte first, and the bit cleared
 pub cleared : (g : Lcg) (bytes : List ℕ) → bytes ≡ 0x47 ∷ map (byte_of g) (range_with_len 0 187) → set bytes 1 (bit_and (get_or bytes 1 0) 127) ≡ packet_of g
 unfolding packet_of
 cleared g bytes is =

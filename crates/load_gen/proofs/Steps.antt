@@ -19,7 +19,7 @@ pub draws_add : DrawsAdd
 unfolding after
 draws_add m n g = ap (λ (s : ℕ). record g { state = s }) (steps_add 64 multiplier_64 g.increment n m g.state)
 
--- no word drawn, one word drawn
+-- no word taken, one word taken
 pub after_none : (g : Lcg) → g ≡ after 0 g
 unfolding after state_after
 after_none g = refl

@@ -1,4 +1,4 @@
--- Laws of what is drawn, the clauses of public functions.
+-- Laws of random values. Each is the clause of a public function.
 use Rattle.std.specs.Prelude.{◌≡◌, ◌<◌, ◌+◌, ◌^◌, ℕ}
 use Rattle.std.specs.List.{All}
 use Rattle.rand_pcg.specs.Lcg.{Lcg}
@@ -13,7 +13,7 @@ DrawsAdd = (m n : ℕ) (g : Lcg) → after m (after n g) ≡ after (n + m) g
 abbrev pub WordsAreSmall : Type 0
 WordsAreSmall = (g : Lcg) → word g < 2 ^ 32
 
--- what is drawn as a packet is one
+-- a random packet is a packet
 abbrev pub PacketsAreSound : Type 0
 PacketsAreSound = (g : Lcg) → IsPacket (packet_of g)
 

@@ -1,7 +1,7 @@
-// The laws of what is drawn, as contracts of functions that do nothing.
+// The laws of random values, as contracts of functions with empty bodies.
 ghost use Rattle.load_gen.specs.Laws.{DrawsAdd, WordsAreSmall, PacketsAreSound, PacketsAreBytes};
 
-/// Words drawn one after another: n and then m are n + m.
+/// Taking n words and then m words is taking n + m.
 pub fn draws_add()
     ensures { DrawsAdd }
 {}
@@ -11,7 +11,7 @@ pub fn words_are_small()
     ensures { WordsAreSmall }
 {}
 
-/// What is drawn as a packet has 188 bytes, the first of which is 0x47.
+/// A random packet has 188 bytes, the first of them 0x47.
 pub fn packets_are_sound()
     ensures packet { PacketsAreSound }
     ensures bytes { PacketsAreBytes }

@@ -1,7 +1,7 @@
-//! Loads from a number: what a trial sends and how it disturbs it.
+//! Random loads from a number: what a trial sends and how it disturbs it.
 //!
-//! [`Load`] draws the words of one generator in order and makes counts, shifts, pieces, packets and
-//! bursts of them, so that a number gives the same load on every machine.
+//! [`Load`] takes the words of one generator in order and makes counts, shifts, pieces, packets and bursts of them, so
+//! that a number gives the same load on every machine.
 #![tactic(auto)]
 
 pub mod laws;

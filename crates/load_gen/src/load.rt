@@ -1,4 +1,4 @@
-// What is drawn from a number.
+// Random values from a number.
 ghost use Rattle.std.specs.Prelude.{◌≡◌, ◌≤◌, nat_abs};
 ghost use Rattle.load_gen.specs.Draws.{generator, after, word, count_of, shift_of, piece_of, packet_of, burst_length, burst_mask};
 
@@ -10,17 +10,17 @@ use ts_packet::{PACKET_LEN, Packet, SYNC};
 /// The generator's stream.
 const STREAM: u64 = 1;
 
-/// A run of bytes to be changed.
+/// A run of bytes to change.
 #[derive(Clone, Copy, Debug, Drop, PartialEq, Eq)]
 pub struct Burst {
-    /// How many bytes, from 1 to 96.
+    /// The number of bytes, 1 to 96.
     pub len: u8,
-    /// What is xored to each, from 1 to 255.
+    /// The mask to XOR onto each, 1 to 255.
     pub mask: u8,
 }
 
-/// Draws from a number, by the successive words of a PCG generator (XSH RR 64/32). Contracts see it
-/// as the generator, its state and its increment.
+/// Random values from a number, by the words of a PCG generator (XSH RR 64/32) in order. Contracts see the generator,
+/// its state and its increment.
 #[derive(Drop)]
 pub struct Load {
     words: Lcg64Xsh32,
@@ -35,7 +35,7 @@ impl Model for Load {
 }
 
 impl Load {
-    /// The load of this number: no word is drawn yet.
+    /// The load of this number, before its first word.
     pub fn start(number: u32) -> Load
         ensures start { result ≡ generator number }
     {
@@ -44,7 +44,7 @@ impl Load {
         }
     }
 
-    /// A count of packets, from 100 to 199. Draws one word.
+    /// A count of packets, from 100 to 199. Takes one word.
     pub fn count(&mut self) -> u32
         ensures value { result ≡ count_of self.old }
         ensures next { self.new ≡ after 1 self.old }
@@ -52,7 +52,7 @@ impl Load {
         100 + self.draw() % 100
     }
 
-    /// A shift of a cell's part, from `-delta` to `delta`, which is at most 5792. Draws one word.
+    /// A shift of a cell's part, from `-delta` to `delta`, which is at most 5792. Takes one word.
     pub fn shift(&mut self, delta: u16) -> i16
         requires { delta ≤ 5792 }
         ensures value { result ≡ shift_of delta self.old }
@@ -63,8 +63,8 @@ impl Load {
         above as i16 - delta as i16
     }
 
-    /// The length of the next piece of `rest` bytes: from 1 to 4096, `rest` at most, and 0 where `rest`
-    /// is. Draws one word.
+    /// The length of the next piece of `rest` bytes: from 1 to 4096, at most `rest`, and 0 if `rest` is 0. Takes one
+    /// word.
     pub fn piece(&mut self, rest: u32) -> u32
         ensures value { result ≡ piece_of rest self.old }
         ensures most { result ≤ rest }
@@ -74,8 +74,8 @@ impl Load {
         rest.min(1 + self.draw() % 4096)
     }
 
-    /// A packet without `transport_error_indicator`: behind the sync byte the bytes of 47 words, each
-    /// word's least significant byte first and the last byte of the last word left out. Draws 47 words.
+    /// A packet without `transport_error_indicator`: after the sync byte the bytes of 47 words, least significant byte
+    /// of each word first, without the last byte of the last word. Takes 47 words.
     pub fn packet(&mut self) -> Packet
         ensures value { result ≡ packet_of self.old }
         ensures next { self.new ≡ after 47 self.old }
@@ -89,7 +89,7 @@ impl Load {
         }
     }
 
-    /// A burst: its length, and then its mask. Draws two words.
+    /// A burst: its length, and then its mask. Takes two words.
     pub fn burst(&mut self) -> Burst
         ensures len { result.len ≡ burst_length self.old }
         ensures mask { result.mask ≡ burst_mask self.old }

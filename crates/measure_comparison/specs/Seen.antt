@@ -1,4 +1,4 @@
--- What is seen of what compares symbols.
+-- The visible state of a comparer.
 use Rattle.std.specs.Prelude.{ℕ, List}
 use Rattle.mode_set.specs.declared.settings.Settings.{Settings}
 use Rattle.mode_set.specs.declared.modes.Stream.{Stream}
@@ -12,7 +12,8 @@ pub record SymbolState : Type 0 where
   pub cells : List Cell
   pub weights : List ℕ
 
--- the settings, the inner coder, the symbols that are kept, number m at place m mod 4, and the number of the next symbol to be compared
+-- the settings, the inner coder, the symbols kept, number m at index m mod 4, and the number of the next symbol to
+-- compare
 pub record ComparerState : Type 0 where
   pub settings : Settings
   pub coder : TxState

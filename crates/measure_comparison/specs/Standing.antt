@@ -1,4 +1,4 @@
--- What compares symbols, and what a symbol is compared with.
+-- The state of a comparer, and the remade symbol that it compares with.
 use Rattle.std.specs.Prelude.{◌≡◌, ℕ, ◌%◌, Bool, true, false, List, Option, IfSome, IsNone, slice_index_or}
 use Rattle.mode_set.specs.declared.modes.Stream.{Stream}
 use Rattle.mode_set.specs.declared.modes.Stream.TheVariants.{Hp, Lp}
@@ -12,7 +12,7 @@ use Rattle.measure_known_bits.specs.Seen.{KnownState}
 use Rattle.measure_comparison.specs.Seen.{SymbolState, ComparerState, known_of}
 use Rattle.measure_known_bits.specs.Passing.{HasPassed, IsSettled, has_bits}
 
--- the encoder of each stream before symbol m, among the known bits
+-- the encoder of each stream before symbol m, in the known bits
 abbrev pub HavePassed : Settings → ℕ → KnownState → KnownState → TxState → (Stream → List Bool) → Type 0
 HavePassed s m hp lp coder known = (σ : Stream) → HasPassed s σ m (known_of hp lp σ) (register_of coder σ) (known σ)
 
@@ -28,7 +28,7 @@ pub record StandsBefore (m : ℕ) (x : ComparerState) (hp lp : KnownState) (know
   pub next : x.next ≡ m
   pub streams : HavePassed x.settings m hp lp x.coder known
 
--- symbol m with these cells beside its remade labels
+-- symbol m with these cells and its remade labels
 abbrev pub beside : Settings → SymbolState → (Stream → List Bool) → ℕ → Comparison
 beside s symbol known m = record {
   settings = settings_at s m;
@@ -43,6 +43,6 @@ pub record IsSummed (s : Settings) (symbol : SymbolState) (known : Stream → Li
   pub some : IfSome result (λ sums. (is_compared s m known ≡ true) × (sums ≡ symbol_sums (beside s symbol known m)))
   pub none : IsNone result → is_compared s m known ≡ false
 
--- the symbol that is kept at the place of symbol m
+-- the symbol kept at the index of symbol m
 abbrev pub kept_at : ComparerState → ℕ → SymbolState → SymbolState
 kept_at x m d = slice_index_or x.kept (m % 4) d

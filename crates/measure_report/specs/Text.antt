@@ -1,4 +1,4 @@
--- The lines of a measurement's report. Each ends with a line feed.
+-- The lines of the report on a measurement. Each ends with a line feed.
 use Rattle.std.specs.Prelude.{ℕ, List, [], ◌∷◌, ◌++◌, Option, None, Some, codes, decimal}
 use Rattle.mode_set.specs.declared.modes.Stream.{Stream}
 use Rattle.mode_set.specs.declared.modes.Stream.TheVariants.{Hp, Lp}
@@ -6,6 +6,7 @@ use Rattle.rx_report.specs.Streams.{stream_text}
 use Rattle.measure_report.specs.declared.sums.StreamSums.{StreamSums}
 use Rattle.measure_report.specs.declared.sums.SuperFrame.{SuperFrame}
 
+-- the line of a super-frame
 abbrev pub super_frame_line : SuperFrame → List ℕ
 super_frame_line f =
     codes "superframe " ++ decimal f.number
@@ -18,6 +19,7 @@ super_frame_line f =
     ++ codes " bad " ++ decimal f.tps_bad
     ++ codes "\n"
 
+-- the line of a stream
 abbrev pub stream_line : Stream → StreamSums → List ℕ
 stream_line σ t =
     stream_text σ
@@ -32,6 +34,7 @@ stream_line σ t =
     ++ codes " repaired " ++ decimal t.repaired
     ++ codes "\n"
 
+-- the line of LP, if it exists
 abbrev pub lp_lines : Option StreamSums → List (List ℕ)
 lp_lines None = []
 lp_lines (Some t) = stream_line Lp t ∷ []

@@ -1,4 +1,4 @@
-//! What a measurement counts in a symbol and in a super-frame, and the lines of its report.
+//! The counts of a measurement in a symbol and in a super-frame, and the lines of its report.
 #![tactic(auto)]
 
 mod sums;

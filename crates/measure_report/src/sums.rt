@@ -3,13 +3,13 @@
 /// The remade bits of one stream in a symbol.
 #[derive(Clone, Copy, Debug, Default, Drop, PartialEq, Eq)]
 pub struct BitSums {
-    /// Those on the payload cells that count.
+    /// The bits on the payload cells that count.
     pub bits: u64,
-    /// Those that the hard decision of the received cell does not equal.
+    /// Those where the hard decision of the received cell is wrong.
     pub wrong: u64,
 }
 
-/// The sums of a symbol that is compared with what its decided bits stand for.
+/// The sums of a symbol compared with the cells remade from its decided bits.
 #[derive(Clone, Copy, Debug, Default, Drop, PartialEq, Eq)]
 pub struct SymbolSums {
     /// The payload cells with a weight of at least 1: these count.
@@ -22,7 +22,7 @@ pub struct SymbolSums {
     pub error: u64,
     /// The bits of HP.
     pub hp: BitSums,
-    /// The bits of LP, none if it is absent.
+    /// The bits of LP; 0 if it is absent.
     pub lp: BitSums,
 }
 
@@ -31,13 +31,13 @@ pub struct SymbolSums {
 pub struct StreamSums {
     /// The remade bits of its compared symbols.
     pub bits: u64,
-    /// Those that the hard decisions do not equal.
+    /// Those where the hard decisions are wrong.
     pub wrong: u64,
     /// The received outer words.
     pub words: u64,
     /// Those that were codewords.
     pub clean: u64,
-    /// Those with one to eight wrong bytes, which were corrected.
+    /// Those with one to eight wrong bytes, all corrected.
     pub corrected: u64,
     /// Those without a nearest codeword.
     pub bad: u64,

@@ -41,8 +41,8 @@ fn stream_line_of(stream: Stream, sums: &StreamSums) -> Line
 }
 
 impl SuperFrame {
-    /// The lines of the super-frame in order, by their numbers from 0: `None` exactly past the last.
-    /// The line of LP is there if the transmission has LP.
+    /// The lines of the super-frame in order, numbered from 0; `None` exactly past the last. The line of LP is present
+    /// if the transmission has LP.
     pub fn line(&self, number: u8) -> Option<Line>
         ensures line { IfSome result (λ l. slice_get (lines self.now) number ≡ Some l.bytes) }
         ensures past { IsNone result ↔ (length (lines self.now) ≤ number) }

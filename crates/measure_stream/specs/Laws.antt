@@ -1,4 +1,4 @@
--- The laws of the meter of a stream, each the clause of a public function of the module laws.
+-- The laws of the meter of a stream. Each is the clause of a public function of module laws.
 use Rattle.std.specs.Prelude.{◌≡◌, ℕ, ◌+◌, ◌*◌, ◌≤◌, Bool, List, length}
 use Rattle.code_paths.specs.declared.costs.CostPair.{CostPair}
 use Rattle.inner_decoder.specs.Running.{BranchState}
@@ -11,7 +11,7 @@ use Rattle.measure_known_bits.specs.Passing.{HasPassed, IsSettled}
 use Rattle.measure_stream.specs.declared.stream.StreamMeter.{StreamMeter}
 use Rattle.measure_stream.specs.Standing.{Stands, IsReady, HasRun}
 
--- a meter that goes on is ready for a symbol
+-- a running meter is ready for a symbol
 abbrev pub StandsReady : Type 0
 StandsReady = (x : StreamMeter) (s : Settings) (σ : Stream) (j from : ℕ) (c : List CostPair) (bits : List Bool) (reports : List ℕ) → Stands so_far x s σ j from c bits reports → IsReady x
 
@@ -19,7 +19,7 @@ StandsReady = (x : StreamMeter) (s : Settings) (σ : Stream) (j from : ℕ) (c :
 abbrev pub RunsOn : Type 0
 RunsOn = (x : StreamMeter) (ran : BranchState) (pairs : List CostPair) → IsReady x → HasTaken pairs x.branch ran → HasRun (record x { branch = ran })
 
--- Counts are no more than their steps: a word has 1632 bits, and no super-frame has more than 5292 words of a stream.
+-- Bounds of counts by steps: a word has 1632 bits, and no super-frame has more than 5292 words of a stream.
 pub record AreFewOfSteps (x : StreamMeter) (j steps : ℕ) : Type 0 where
   pub decoder : x.branch.decoder.steps ≡ steps
   pub words : 1632 * x.words.all.words ≤ steps
@@ -28,8 +28,8 @@ pub record AreFewOfSteps (x : StreamMeter) (j steps : ℕ) : Type 0 where
 abbrev pub CountsAreFew : Type 0
 CountsAreFew = (x : StreamMeter) (s : Settings) (σ : Stream) (j from : ℕ) (c : List CostPair) (bits : List Bool) (reports : List ℕ) → Stands so_far x s σ j from c bits reports → AreFewOfSteps x j (length c)
 
--- Before symbol m the encoder has passed what it could. The decoder has had the first n symbols, three more at most: with the bits that it gives of
--- one symbol more there is room for the known bits, and also at the end.
+-- Before symbol m the encoder has passed all it could. The decoder has had the first n symbols, at most three more.
+-- There is space for the known bits, including those that one more symbol gives, and those at the end.
 abbrev pub RoomForSymbol : Type 0
 RoomForSymbol = (x : StreamMeter) (ran : BranchState) (pairs : List CostPair) (s : Settings) (σ : Stream) (j from m n : ℕ) (register : List Bool) (c : List CostPair) (bits : List Bool) (reports : List ℕ)
     → Stands so_far x s σ j from c bits reports → HasPassed s σ m x.known register bits → IsSettled x.known → length c ≡ steps_before s σ n → n ≤ m + 3 → length pairs ≤ 31752

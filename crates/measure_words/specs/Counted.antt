@@ -1,4 +1,4 @@
--- What the counts of words stand for.
+-- The meaning of the counts of words.
 use Rattle.std.specs.Prelude.{◌≡◌, ℕ, ◌+◌, ◌-◌, ◌<◌, ◌≤◌, min, List, Option, length, slice_index_or}
 use Rattle.std.specs.List.{range_with_len}
 use Rattle.spec_words.specs.Words.{numbers}
@@ -10,8 +10,8 @@ use Rattle.measure_words.specs.declared.counts.WordSums.{WordSums}
 use Rattle.measure_words.specs.Sums.{sums_over}
 use Rattle.measure_words.specs.Seen.{WordsState}
 
--- Of the words of these bytes the first `done` are counted: all of them; those from number `from` on that are below `limit`; and those
--- from `limit` on.
+-- The first `done` words of these bytes are counted: all of them; those from number `from` on and below `limit`; and
+-- those from `limit` on.
 pub record HasCounted (outer : Receiver) (all current later : WordSums) (bytes : List ℕ) (done from limit : ℕ) : Type 0 where
   pub receives : Receives outer bytes
   pub within : done ≤ word_count bytes
@@ -23,11 +23,11 @@ pub record HasCounted (outer : Receiver) (all current later : WordSums) (bytes :
   pub current_are : current ≡ sums_over near (word_at bytes) (range_with_len from (min done limit - from))
   pub later_are : later ≡ sums_over near (word_at bytes) (range_with_len limit (done - limit))
 
--- the words that wait are those from number `done` on
+-- the pending words are those from number `done` on
 abbrev pub AreWords : List ℕ → ℕ → List WordSlot → Type 0
 AreWords bytes done slots = (i : ℕ) (d : WordSlot) → i < length slots → (slice_index_or slots i d).word ≡ word_at bytes (done + i)
 
--- all words of these bytes are counted or wait
+-- all words of these bytes are counted or pending
 pub record Measures (x : WordsState) (bytes : List ℕ) (done from limit : ℕ) : Type 0 where
   pub counted : HasCounted x.outer x.all x.current x.later bytes done from limit
   pub waiting : done + length x.slots ≡ word_count bytes
@@ -37,7 +37,7 @@ pub record Measures (x : WordsState) (bytes : List ℕ) (done from limit : ℕ) 
 abbrev pub AreDecoded : List ℕ → ℕ → List WordSlot → Type 0
 AreDecoded bytes done slots = (i : ℕ) (d : WordSlot) → i < length slots → Decoded (word_at bytes (done + i)) (slice_index_or slots i d).word (slice_index_or slots i d).outcome
 
--- the words as they were received
+-- the words as received
 abbrev pub AreReceived : List ℕ → ℕ → List (List ℕ) → Type 0
 AreReceived bytes done received = (i : ℕ) (d : List ℕ) → i < length received → slice_index_or received i d ≡ word_at bytes (done + i)
 

@@ -1,4 +1,4 @@
--- The counts over received words (the words are those of EN 300 744, 4.3.2; the counts are this project's profile).
+-- The counts of received words (the words are those of EN 300 744, 4.3.2; the counts are this project's profile).
 use Rattle.std.specs.Prelude.{ℕ, suc, ◌+◌, ◌*◌, ◌≤◌, Bool, not, cond, ◌&&◌, List, Option, length, count_by, sum_by, slice_index}
 use Rattle.std.specs.Bool.{beq}
 use Rattle.spec_words.specs.Bits.{is_set}
@@ -9,14 +9,14 @@ use Rattle.outer_chain.specs.Running.{is_clean_outcome, is_corrected_outcome, is
 use Rattle.measurement.specs.SuperFrames.{repaired_in}
 use Rattle.measure_words.specs.declared.counts.WordSums.{WordSums}
 
--- the bits in which byte p of two words differs
+-- the number of bits in which byte p of two words differs
 abbrev pub byte_apart : List ℕ → List ℕ → ℕ → ℕ
 byte_apart v w p = count_by (λ i. not (beq (is_set (slice_index v p) i) (is_set (slice_index w p) i))) (numbers 8)
 
 abbrev pub no_sums : WordSums
 no_sums = record { words = 0; clean = 0; corrected = 0; bad = 0; unphased = 0; repaired = 0 }
 
--- the counts over the words of these numbers, by their nearest codewords
+-- the counts of the words of these numbers, from their nearest codewords
 abbrev pub sums_over : (ℕ → Option (List ℕ)) → (ℕ → List ℕ) → List ℕ → WordSums
 sums_over near word xs = record {
   words = length xs;
@@ -27,7 +27,7 @@ sums_over near word xs = record {
   repaired = sum_by (λ x. repaired_in (word x) (near x)) xs;
 }
 
--- one word more, with its outcome, with a phase or without one, and the bits that were repaired in it
+-- one more word, with its outcome, with a phase or without, and the number of bits repaired in it
 abbrev pub counted : WordSums → Outcome → Bool → ℕ → WordSums
 counted sums outcome phased repaired = record {
   words = sums.words + 1;
@@ -38,7 +38,7 @@ counted sums outcome phased repaired = record {
   repaired = sums.repaired + repaired;
 }
 
--- what n words come to at most: a word has 1632 bits
+-- the greatest counts of n words; a word has 1632 bits
 pub record AreFew (sums : WordSums) (n : ℕ) : Type 0 where
   pub words : sums.words ≤ n
   pub clean : sums.clean ≤ n

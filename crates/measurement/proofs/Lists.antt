@@ -1,4 +1,4 @@
--- Sums and counts over numbers in a row.
+-- Sums and counts over consecutive numbers.
 use Rattle.std.proofs.Common.{◌≡◌, ℕ, zero, suc, ◌+◌, ◌<◌, ◌≤◌, Bool, false, cond, List, ◌++◌, length, refl, sym, ap, ap₂, ◌∙◌, arith}
 use Rattle.std.specs.Prelude.{sum_by, count_by, All}
 use Rattle.std.specs.List.{range_with_len}

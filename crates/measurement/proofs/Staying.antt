@@ -1,4 +1,4 @@
--- More bytes leave the sums of a super-frame that is defined.
+-- More bytes leave the sums of a defined super-frame.
 use Rattle.std.proofs.Common.{◌≡◌, ℕ, ◌+◌, ◌-◌, ◌*◌, ◌/◌, ◌%◌, ◌<◌, ◌≤◌, min, Bool, true, false, cond, List, ◌++◌, length, refl, sym, ap, ap₂, ◌∙◌, subst, arith, length-append}
 use Rattle.std.specs.Prelude.{◌↔◌, ◌&&◌, nat_lt, nat_le, IsTrue, count_by}
 use Rattle.std.proofs.lemmas.Bool.{lt-leb}

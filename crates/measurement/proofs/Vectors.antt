@@ -55,14 +55,14 @@ null_words : words_before base Hp 1 - 11 ≡ 241
 unfolding words_before settings_in numbers
 null_words = refl
 
--- lines come after 275, 547 and 819 symbols, and at the end those of each super-frame that was begun
+-- lines appear after 275, 547 and 819 symbols, and at the end those of each super-frame begun
 defined : map defined_by (0 ∷ 274 ∷ 275 ∷ 546 ∷ 547 ∷ 818 ∷ 819 ∷ 1088 ∷ []) ≡ 0 ∷ 0 ∷ 1 ∷ 1 ∷ 2 ∷ 2 ∷ 3 ∷ 3 ∷ []
 defined = refl
 
 begun : map begun_by (0 ∷ 1 ∷ 272 ∷ 273 ∷ 274 ∷ 275 ∷ 1088 ∷ []) ≡ 0 ∷ 1 ∷ 1 ∷ 2 ∷ 2 ∷ 2 ∷ 4 ∷ []
 begun = refl
 
--- a symbol of 1512 steps is compared once all of them are known, and from any start the first one is not
+-- a symbol of 1512 steps is compared once all of them are known, but for start any the first one is not
 all_known : is_compared base 0 (λ σ. replicate 1512 false) ≡ true
 unfolding is_compared steps_before settings_in numbers
 all_known = refl

@@ -1,4 +1,4 @@
--- The decided bits that are known for a symbol, and the cells that they stand for (this project's profile).
+-- The decided bits known for a symbol, and the cells remade from them (this project's profile).
 use Rattle.std.specs.Prelude.{ℕ, ◌+◌, ◌*◌, ◌<◌, ◌≤◌, ◌%◌, nat_le, ◌&&◌, ◌||◌, not, Bool, true, false, List, ◌++◌, length, take, replicate}
 use Rattle.spec_words.specs.Bits.{bit}
 use Rattle.code_paths.specs.Streams.{Given, Ended}
@@ -20,12 +20,13 @@ use Rattle.reception.specs.Streams.{memory, start_of}
 abbrev pub first_symbols : Settings → ℕ → List ℕ → List ℕ
 first_symbols s n bytes = take (n * symbol_length s) bytes
 
--- the bits of a stream that are known for symbol m: those given of the first m + 4 symbols, or those at the end where fewer are whole
+-- the bits of a stream known for symbol m: those given of the first m + 4 symbols, or those at the end if there are
+-- fewer whole symbols
 pub record IsKnown (s : Settings) (bytes : List ℕ) (σ : Stream) (m : ℕ) (bits : List Bool) : Type 0 where
   pub so_far : m + 4 ≤ symbols s bytes → Given memory (start_of s.start) (costs s (first_symbols s (m + 4) bytes) σ) bits
   pub at_end : symbols s bytes < m + 4 → Ended memory (start_of s.start) (costs s bytes σ) bits
 
--- the path of known bits: six zeros and then the bits, whatever the start
+-- the path of known bits: six zeros, then the bits, for any start
 abbrev pub known_path : List Bool → ℕ → Bool
 known_path bits = bit (replicate 6 false ++ bits)
 
@@ -41,19 +42,21 @@ abbrev pub is_zero : Start → Bool
 is_zero Zero = true
 is_zero Any = false
 
--- the known bits of a stream reach to the end of symbol m, and with start any the register before it is known too; or the stream does not exist there
+-- the known bits of a stream reach the end of symbol m and, for start any, the register before it is known; or the
+-- stream does not exist there
 abbrev pub suffices : Settings → ℕ → (Stream → List Bool) → Stream → Bool
 suffices s m known σ = not (is_present s m σ) || (nat_le (steps_before s σ (m + 1)) (length (known σ)) && (is_zero s.start || nat_le 6 (steps_before s σ m)))
 
--- symbol m is compared if the known bits of each stream that exists in it suffice
+-- symbol m is compared if the known bits of each of its streams suffice
 unfoldable pub is_compared : Settings → ℕ → (Stream → List Bool) → Bool
 is_compared s m known = suffices s m known Hp && suffices s m known Lp
 
--- remade bit e on payload place q of symbol m: the coded bit that stands there, of the symbol's sent bits of the known paths
+-- remade bit e on payload carrier q of symbol m: the coded bit at that position, from the symbol's sent bits of the
+-- known paths
 unfoldable pub remade_bit : Settings → (Stream → List Bool) → ℕ → ℕ → ℕ → Bool
 remade_bit s known m q e = label_bit (settings_at s m) (is_odd m) (coded_bits (settings_at s m) (known_paths s known m)) q e
 
--- symbol m of the bytes beside its remade labels
+-- symbol m of the bytes with its remade labels
 unfoldable pub comparison : Settings → List ℕ → (Stream → List Bool) → ℕ → Comparison
 comparison s bytes known m = record {
   settings = settings_at s m;

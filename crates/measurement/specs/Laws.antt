@@ -1,4 +1,4 @@
--- The laws of measurement, each the clause of a public function of the module laws.
+-- The laws of measurement. Each is the clause of a public function of module laws.
 use Rattle.std.specs.Prelude.{◌≡◌, ℕ, ◌<◌, List, ◌++◌}
 use Rattle.mode_set.specs.declared.settings.Settings.{Settings}
 use Rattle.reception.specs.Cells.{symbols}
@@ -6,15 +6,15 @@ use Rattle.measure_report.specs.declared.sums.SuperFrame.{SuperFrame}
 use Rattle.measurement.specs.SuperFrames.{AreSums}
 use Rattle.measurement.specs.Lines.{defined_by, MeasureLive, MeasureFinal}
 
--- more bytes leave the sums of a super-frame that is defined
+-- more bytes leave the sums of a defined super-frame
 abbrev pub SumsStay : Type 0
 SumsStay = (s : Settings) (bytes more : List ℕ) (j : ℕ) (f : SuperFrame) → j < defined_by (symbols s bytes) → AreSums s bytes j f → AreSums s (bytes ++ more) j f
 
--- the sums of a super-frame are one record
+-- the sums of a super-frame are unique
 abbrev pub OneSums : Type 0
 OneSums = (s : Settings) (bytes : List ℕ) (j : ℕ) (f g : SuperFrame) → AreSums s bytes j f → AreSums s bytes j g → f ≡ g
 
--- what bytes tell so far begins what more bytes tell, so far and at the end
+-- the lines for bytes are a prefix of those for more bytes, so far and at the end
 abbrev pub LiveBeginsLive : Type 0
 LiveBeginsLive = (s : Settings) (bytes more out longer : List ℕ) → MeasureLive s bytes out → MeasureLive s (bytes ++ more) longer → (rest : List ℕ) × (longer ≡ out ++ rest)
 

@@ -20,7 +20,7 @@ use Rattle.measure_report.specs.declared.sums.SuperFrame.{SuperFrame}
 use Rattle.symbol_sums.specs.Comparing.{Comparison, cells_in, muted_in, power_in, error_in, bits_in, wrong_in}
 use Rattle.measurement.specs.Known.{IsKnown, is_compared, comparison}
 
--- the bits known for each symbol of each stream
+-- the bits of each stream known for each symbol
 abbrev pub Knowns : Type 0
 Knowns = ℕ → Stream → List Bool
 
@@ -28,11 +28,11 @@ Knowns = ℕ → Stream → List Bool
 abbrev pub symbols_of : ℕ → List ℕ
 symbols_of j = range_with_len (272 * j) 272
 
--- how many of them are compared
+-- the number of these that are compared
 abbrev pub compared_in : Settings → Knowns → ℕ → ℕ
 compared_in s known j = count_by (λ m. is_compared s m (known m)) (symbols_of j)
 
--- the sum of a quantity of a symbol over those that are compared
+-- the sum of a quantity over the compared symbols
 abbrev pub over_compared : Settings → List ℕ → Knowns → ℕ → (Comparison → ℕ) → ℕ
 over_compared s bytes known j f = sum_by (λ m. if is_compared s m (known m) then f (comparison s bytes (known m) m) else 0) (symbols_of j)
 
@@ -40,30 +40,30 @@ over_compared s bytes known j f = sum_by (λ m. if is_compared s m (known m) the
 abbrev pub known_with : Knowns → Stream → ℕ → List Bool
 known_with known σ j = known (272 * j + 271) σ
 
--- how many words of a stream are told with super-frame j and before: those known with its last symbol that end before the stream's
--- next super-frame, the eleven of the start-up left out
+-- the number of words of a stream reported up to super-frame j: those known with its last symbol that end before the
+-- stream's next super-frame, without the eleven of the start-up
 abbrev pub told : Settings → Knowns → Stream → ℕ → ℕ
 told s known σ j = min (word_count (bytes_of (known_with known σ j))) (words_before s σ (j + 1) - 11)
 
--- how many are told before it
+-- the number reported before it
 abbrev pub told_before : Settings → Knowns → Stream → ℕ → ℕ
 told_before s known σ zero = 0
 told_before s known σ (suc j) = told s known σ j
 
--- the words of super-frame j: those told with it and not before
+-- the words of super-frame j: those reported with it and not before
 abbrev pub words_of : Settings → Knowns → Stream → ℕ → List ℕ
 words_of s known σ j = range_with_len (told_before s known σ j) (told s known σ j - told_before s known σ j)
 
--- the bits in which two words of 204 bytes differ
+-- the number of bits in which two words of 204 bytes differ
 abbrev pub bits_apart : List ℕ → List ℕ → ℕ
 bits_apart v w = sum_by (λ p. count_by (λ i. not (beq (is_set (slice_index v p) i) (is_set (slice_index w p) i))) (numbers 8)) (numbers 204)
 
--- the bits that are repaired in a word: those in which it differs from its nearest codeword
+-- the number of bits repaired in a word: those that differ from its nearest codeword
 unfoldable pub repaired_in : List ℕ → Option (List ℕ) → ℕ
 repaired_in word None = 0
 repaired_in word (Some c) = bits_apart word c
 
--- whether a report at step `at`, counted from 1, is made in super-frame j
+-- whether a report at step `at`, counted from 1, falls in super-frame j
 abbrev pub is_reported_in : Settings → Stream → ℕ → ℕ → Bool
 is_reported_in s σ j at = nat_lt (steps_before s σ (272 * j)) at && nat_le at (steps_before s σ (272 * (j + 1)))
 
@@ -83,11 +83,11 @@ pub record AreStreamSums (s : Settings) (bytes : List ℕ) (known : Knowns) (j :
   pub are_reports : Reports memory (start_of s.start) (costs s bytes σ) reports
   pub unmerged : t.unmerged ≡ count_by (is_reported_in s σ j) reports
 
--- the bits known for the symbols of super-frame j, and for the one before them
+-- the bits known for the symbols of super-frame j and for the symbol before them
 abbrev pub AreKnownAround : Settings → List ℕ → ℕ → Knowns → Type 0
 AreKnownAround s bytes j known = (m : ℕ) (σ : Stream) → 272 * j ≤ m + 1 → m < 272 * (j + 1) → IsKnown s bytes σ m (known m σ)
 
--- the sums of super-frame j of the bytes: LP has sums where it exists in the transmission
+-- the sums of super-frame j; LP has sums if it exists in the transmission
 pub record AreSums (s : Settings) (bytes : List ℕ) (j : ℕ) (f : SuperFrame) : Type 0 where
   pub known : Knowns
   pub are_known : AreKnownAround s bytes j known

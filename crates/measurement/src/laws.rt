@@ -1,4 +1,4 @@
-// The laws of measurement, as contracts of functions that do nothing.
+// The laws of measurement, as contracts of functions with empty bodies.
 ghost use Rattle.measurement.specs.Laws.{SumsStay, OneSums, LiveBeginsLive, LiveBeginsFinal};
 
 use code_paths::{ended_once, given_once, reports_grow, reports_once};
@@ -17,7 +17,7 @@ pub fn sums_stay()
     reception::laws::events();
 }
 
-/// A super-frame has one record of sums.
+/// The sums of a super-frame are unique.
 pub fn one_sums()
     ensures law { OneSums }
 {
@@ -27,7 +27,7 @@ pub fn one_sums()
     outer_chain::laws::growth();
 }
 
-/// What bytes tell so far begins what more bytes tell, so far and at the end.
+/// The lines for bytes are a prefix of those for more bytes, so far and at the end.
 pub fn beginnings()
     ensures live { LiveBeginsLive }
     ensures last { LiveBeginsFinal }

@@ -1,4 +1,4 @@
--- What is seen of a measurer.
+-- The visible state of a measurer.
 use Rattle.std.specs.Prelude.{ℕ, Bool, List}
 use Rattle.mode_set.specs.declared.modes.Stream.{Stream}
 use Rattle.mode_set.specs.declared.modes.Stream.TheVariants.{Hp, Lp}
@@ -8,7 +8,7 @@ use Rattle.measure_stream.specs.declared.stream.StreamMeter.{StreamMeter}
 use Rattle.measure_comparison.specs.Seen.{ComparerState}
 use Rattle.measurer.specs.declared.current.Current.{Current}
 
--- what measures the symbols: the comparer, the meter of each stream, and the sums of the super-frame so far
+-- the measuring parts: the comparer, the meter of each stream, and the sums of the super-frame so far
 pub record MeterState : Type 0 where
   pub comparer : ComparerState
   pub hp : StreamMeter

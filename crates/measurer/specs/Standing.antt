@@ -1,4 +1,4 @@
--- What a measurer stands for.
+-- The meaning of a measurer's state.
 use Rattle.std.specs.Prelude.{◌≡◌, ℕ, ◌+◌, ◌-◌, ◌*◌, ◌<◌, ◌≤◌, Bool, true, false, List, ⊤}
 use Rattle.mode_set.specs.declared.modes.Stream.{Stream}
 use Rattle.mode_set.specs.declared.settings.Settings.{Settings}
@@ -21,8 +21,8 @@ use Rattle.measurer.specs.declared.current.Current.{Current}
 use Rattle.measurer.specs.Seen.{MeterState, meter_of, MeasurerState}
 use Rattle.measurer.specs.Sums.{AreSummed}
 
--- The meter of a stream stands for the costs of the bytes and the bits of its decoder. Its first word of the super-frame is the first one
--- that is not told before, by the bits known for the symbol before the super-frame.
+-- The meter of a stream matches the costs of the bytes and the bits of its decoder. Its first word of the super-frame
+-- is the first one not reported before, by the bits known for the symbol before the super-frame.
 pub record MeterStands (moment : Moment) (x : StreamMeter) (s : Settings) (bytes : List ℕ) (σ : Stream) (j : ℕ) (bits : List Bool) : Type 0 where
   pub from : ℕ
   pub reports : List ℕ
@@ -37,8 +37,8 @@ symbol_of s bytes m = record { cells = symbol_cells s bytes m; weights = symbol_
 abbrev pub KeepsLast : Settings → List ℕ → ℕ → ComparerState → Type 0
 KeepsLast s bytes n x = (m : ℕ) (d : SymbolState) → m < n → n ≤ m + 4 → kept_at x m d ≡ symbol_of s bytes m
 
--- The meters of both streams, the comparer and the sums stand for the bytes: the symbols before the next one to be compared are compared or
--- left out, and those of the super-frame among them are summed.
+-- The meters of both streams, the comparer and the sums match the bytes. The symbols before the next one to compare
+-- were compared or left out, and those in the super-frame are summed.
 pub record MetersStand (moment : Moment) (s : Settings) (bytes : List ℕ) (x : MeterState) : Type 0 where
   pub bits : Stream → List Bool
   pub meters : (σ : Stream) → MeterStands moment (meter_of x σ) s bytes σ x.current.number (bits σ)
@@ -47,13 +47,13 @@ pub record MetersStand (moment : Moment) (s : Settings) (bytes : List ℕ) (x : 
   pub keeps : KeepsLast s bytes (symbols s bytes) x.comparer
   pub summed : AreSummed s bytes x.comparer.next x.current
 
--- the reader of TPS words stands for the bytes, and the counts of frames are those of the super-frames before
+-- the reader of TPS words matches the bytes, and the counts of frames are those of the super-frames before
 pub record FramesStand (s : Settings) (bytes : List ℕ) (frames : FrameReader) (x : Current) : Type 0 where
   pub reader : FrameStands s.mode frames (tps_cells s bytes) (symbols s bytes)
   pub before : CountsWords (frame_bits (tps_cells s bytes)) (4 * x.number) x.read_before x.bad_before
 
--- So it is between two symbols: all symbols but the last three are compared or left out, and the super-frame is that of the next one. The
--- encoders have passed all known bits before it.
+-- The state between two symbols: all symbols except the last three were compared or left out, and the super-frame is
+-- that of the next one. The encoders have passed all known bits before it.
 pub record GoOn (s : Settings) (bytes : List ℕ) (x : MeterState) : Type 0 where
   pub next : x.comparer.next ≡ symbols s bytes - 3
   pub number : x.current.number ≡ defined_by (symbols s bytes)
@@ -61,7 +61,7 @@ pub record GoOn (s : Settings) (bytes : List ℕ) (x : MeterState) : Type 0 wher
   pub lp_settled : IsSettled x.lp.known
   pub stand : MetersStand so_far s bytes x
 
--- until the end the parts of a measurer stand for the bytes
+-- until the end the parts of a measurer match the bytes
 pub record IsMeasuring (x : MeasurerState) (bytes : List ℕ) : Type 0 where
   pub meters : GoOn x.settings bytes x.meter
   pub frames : FramesStand x.settings bytes x.frames x.meter.current
@@ -79,7 +79,7 @@ abbrev pub GoesOn : Moment → MeasurerState → List ℕ → Type 0
 GoesOn so_far x bytes = IsMeasuring x bytes
 GoesOn at_end x bytes = ⊤
 
--- A measurer stands for the bytes that it has had and for the lines that it gave in all: those that are defined so far, or all at the end.
+-- The state of a measurer matches the bytes received and all lines given: those defined so far, or all at the end.
 pub record StandsFor (moment : Moment) (x : MeasurerState) (bytes lines : List ℕ) : Type 0 where
   pub ended : x.ended ≡ is_end moment
   pub taken : x.taken ≡ symbols x.settings bytes

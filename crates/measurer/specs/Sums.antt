@@ -15,7 +15,7 @@ use Rattle.measurer.specs.declared.current.Current.{Current}
 abbrev pub nothing_of : ℕ → ℕ → ℕ → Current
 nothing_of j read bad = record { number = j; symbols = 0; sums = no_sums; read_before = read; bad_before = bad }
 
--- a symbol more, if it is compared
+-- one more symbol, if it is compared
 abbrev pub with_symbol : Current → Option SymbolSums → Current
 with_symbol x None = x
 with_symbol x (Some sums) = record x { symbols = x.symbols + 1; sums = plus x.sums sums }
@@ -24,7 +24,7 @@ with_symbol x (Some sums) = record x { symbols = x.symbols + 1; sums = plus x.su
 abbrev pub first_of : ℕ → ℕ → List ℕ
 first_of j k = range_with_len (272 * j) k
 
--- the sum of a quantity of a symbol over those of them that are compared
+-- the sum of a quantity over those of them that are compared
 abbrev pub over_first : Settings → List ℕ → Knowns → ℕ → ℕ → (Comparison → ℕ) → ℕ
 over_first s bytes known j k f = sum_by (λ m. if is_compared s m (known m) then f (comparison s bytes (known m) m) else 0) (first_of j k)
 
@@ -40,10 +40,10 @@ pub record AreFirstSums (s : Settings) (bytes : List ℕ) (known : Knowns) (j k 
   pub lp_bits : x.sums.lp.bits ≡ over_first s bytes known j k (λ c. bits_in c Lp)
   pub lp_wrong : x.sums.lp.wrong ≡ over_first s bytes known j k (λ c. wrong_in c Lp)
 
--- bits known for the symbols from number `from` on that are below `to`
+-- the bits known for the symbols from number `from` on and below `to`
 abbrev pub AreKnown : Settings → List ℕ → ℕ → ℕ → Knowns → Type 0
 AreKnown s bytes from to known = (m : ℕ) (σ : Stream) → from ≤ m → m < to → IsKnown s bytes σ m (known m σ)
 
--- by the known bits the sums are those of the symbols of the super-frame below number `next`
+-- by the known bits, the sums are those of the symbols of the super-frame below number `next`
 abbrev pub AreSummed : Settings → List ℕ → ℕ → Current → Type 0
 AreSummed s bytes next x = (known : Knowns) → AreKnown s bytes (272 * x.number) next known → AreFirstSums s bytes known x.number (next - 272 * x.number) x

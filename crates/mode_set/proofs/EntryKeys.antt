@@ -1,4 +1,4 @@
--- The keys of an entry's table are those of the members that it shows.
+-- The keys of an entry's table are those of its members.
 use Rattle.std.proofs.Common.{◌≡◌, ℕ, Bool, ◌&&◌, List, [], ◌∷◌, map, String, Global, string_bytes, refl, sym, ap, ◌∙◌}
 use Rattle.std.specs.List.{list_all}
 use Rattle.std.specs.Map as entries

@@ -1,4 +1,4 @@
--- What the types of settings and entries keep has no two proofs.
+-- The invariants of settings and entries have at most one proof.
 use Rattle.std.proofs.Common.{◌≡◌, ℕ, ◌≤◌, Option}
 use Rattle.std.specs.Prelude.{is_some, not, true}
 use Rattle.mode_set.specs.Kept.{IsKept, IsKeptEntry, is_flat, is_qpsk}

@@ -1,4 +1,4 @@
--- The divisions of the stream table leave no rest.
+-- The divisions of the stream table leave no remainder.
 use Rattle.std.proofs.Common.{◌≡◌, ℕ, ◌*◌, ◌/◌, refl, arith}
 use Rattle.mode_set.specs.StreamTable.{payload, width, rate, steps_in_period, sent_in_period, need, words_per_super_frame}
 use Rattle.mode_set.specs.Laws.{HasWholePeriods}

@@ -1,4 +1,4 @@
--- Plans of documents, accepted and refused, computed on the definitions.
+-- Plans of documents, accepted and rejected, computed on the definitions.
 use Rattle.std.proofs.Common.{◌≡◌, ℕ, [], ◌∷◌, List, Option, map, refl, false}
 use Rattle.std.specs.Prelude.{codes, pos, Some, is_some, option_map}
 use Rattle.toml.specs.Data.{Data, string, integer, array, table, no_items, item, no_members, member}
@@ -25,7 +25,7 @@ clashing = table (
     (member (codes "constellation") (string (codes "qpsk"))
     (member (codes "hierarchy") (string (codes "2")) (member (codes "rate_hp") (string (codes "1/2")) (member (codes "rate_lp") (string (codes "3/4")) no_members)))))
 
--- another key
+-- an unknown key
 abbrev named : Data
 named = table (
     member (codes "after") (integer (pos 1))

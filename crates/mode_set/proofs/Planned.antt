@@ -1,4 +1,4 @@
--- The plan that the entries of an array come to, one after another.
+-- The plan of an array's entries, one after another.
 use Rattle.std.proofs.Common.{◌≡◌, ℕ, ◌+◌, ◌<◌, ◌≤◌, nat_lt, Bool, true, false, ◌&&◌, IsTrue, List, [], ◌∷◌, ◌++◌, ◌-◌, length, take, drop, get_or, replicate, Option, Some, None, Result, Ok, Err, refl, sym, ap, ◌∙◌, subst, inl, inr, Global, arith, length-append}
 use Rattle.std.specs.Prelude.{Vec, nat_le, is_some, option_map, option_and_then, unwrap_or}
 use Rattle.std.specs.Result.{result_ok}
@@ -27,7 +27,7 @@ use Rattle.mode_set.proofs.Pushing.{both, and_also}
 use denote.Ref.{Bor}
 use denote.Struct.Props.{props, ≡_prop}
 
--- what the type of plans keeps has no two proofs
+-- the invariant of plans has at most one proof
 filled_prop : (count : ℕ) (entries : List Entry) → IsProp (IsFilled count entries)
 filled_prop count entries x y =
     let few_prop : IsProp (count ≤ 16) = hlevel props in
@@ -39,7 +39,7 @@ filled_prop count entries x y =
 abbrev made : (count : ℕ) (entries : List Entry) → IsFilled count entries → Plan
 made count entries kept = record { entries = entries; count = count; kept = kept }
 
--- plans of equal parts are equal
+-- plans with equal parts are equal
 alike : (n : ℕ) (xs : List Entry) (h : IsFilled n xs) (count : ℕ) → n ≡ count → (entries : List Entry) → xs ≡ entries → (kept : IsFilled count entries) → made n xs h ≡ made count entries kept
 alike n xs h count c = subst (λ (k : ℕ). (entries : List Entry) → xs ≡ entries → (kept : IsFilled k entries) → made n xs h ≡ made k entries kept) c
     (λ entries e. subst (λ (ys : List Entry). (kept : IsFilled n ys) → made n xs h ≡ made n ys kept) e (λ kept. ap (made n xs) (filled_prop n xs h kept)))
@@ -62,7 +62,7 @@ no_plan_if : (es : List Entry) (fits : Bool) (kept : fits ≡ true → IsFilled 
 no_plan_if es true kept e = absurd (false≢true (sym e))
 no_plan_if es false kept e = refl
 
--- in a list that rises an entry may follow those before it
+-- in a rising list an entry may follow those before it
 rising_parts : (l : List Entry) (e : Entry) (r : List Entry) → IsTrue (is_rising (l ++ e ∷ r)) → IsTrue (nat_lt 0 e.after) × IsTrue (list_all (λ f. nat_lt f.after e.after) l)
 rising_parts [] e r h = ((both _ _ (both _ _ h).0).0, refl)
 rising_parts (x ∷ l) e r h =
@@ -108,20 +108,20 @@ unchanged : (o : Option (List Entry)) → o ≡ option_map (λ k. k) o
 unchanged None = refl
 unchanged (Some k) = refl
 
--- the entries of more values behind some
+-- the entries of more values after some
 further : (xs ys : List Value) (l : List Entry) → entries_in (items_view xs) ≡ Some l → entries_in (items_view (xs ++ ys)) ≡ option_map (λ k. l ++ k) (entries_in (items_view ys))
 further [] ys l e = unchanged (entries_in (items_view ys)) ∙ ap (λ (m : List Entry). option_map (λ k. m ++ k) (entries_in (items_view ys))) (same_list [] l e)
 further (x ∷ xs) ys l e = with_more (entry_at x) (entries_in (items_view xs)) (entries_in (items_view (xs ++ ys))) (entries_in (items_view ys)) l e (λ m. further xs ys m)
 
--- one more that is an entry
+-- one more value that is an entry
 pub one_more : (xs : List Value) (v : Value) (l : List Entry) (e : Entry) → entries_in (items_view xs) ≡ Some l → entry_at v ≡ Some e → entries_in (items_view (xs ++ v ∷ [])) ≡ Some (l ++ e ∷ [])
 one_more xs v l e is one = further xs (v ∷ []) l is ∙ ap (λ (o : Option Entry). option_map (λ k. l ++ k) (with_first o (Some []))) one
 
--- one that is none
+-- one value that is not
 pub no_entry : (xs : List Value) (v : Value) (ys : List Value) (l : List Entry) → entries_in (items_view xs) ≡ Some l → entry_at v ≡ None → option_and_then plan_of (entries_in (items_view (xs ++ v ∷ ys))) ≡ None
 no_entry xs v ys l is none = ap (option_and_then plan_of) (further xs (v ∷ ys) l is ∙ ap (λ (o : Option Entry). option_map (λ k. l ++ k) (with_first o (entries_in (items_view ys)))) none)
 
--- one that may not follow
+-- one that must not follow
 pub not_following : (xs : List Value) (v : Value) (ys : List Value) (l : List Entry) (e : Entry) → entries_in (items_view xs) ≡ Some l → entry_at v ≡ Some e → may_follow l e ≡ false
     → option_and_then plan_of (entries_in (items_view (xs ++ v ∷ ys))) ≡ None
 not_following xs v ys l e is one late =
@@ -132,7 +132,7 @@ not_following xs v ys l e is one late =
     go None = refl
     go (Some k) = refused l e k late
 
--- the values up to one, it, and those behind it
+-- the values before an index, the one there, and those after it
 module _ (vs : List Value) (i : ℕ) (v : Value) (within : i < length vs) (is : v ≡ get_or vs i v) (l : List Entry) (before : entries_in (items_view (take i vs)) ≡ Some l) where
   next : take (i + 1) vs ≡ take i vs ++ v ∷ []
   next = take_more vs i v within ∙ ap (λ (x : Value). take i vs ++ x ∷ []) (sym is)
@@ -152,12 +152,12 @@ module _ (vs : List Value) (i : ℕ) (v : Value) (within : i < length vs) (is : 
 pub all_are : (vs : List Value) (i : ℕ) (p : Plan) → length vs ≤ i → entries_in (items_view (take i vs)) ≡ Some (entries_of p) → Some p ≡ option_and_then plan_of (entries_in (items_view vs))
 all_are vs i p past is = sym (ap (λ (xs : List Value). option_and_then plan_of (entries_in (items_view xs))) (sym (take_all i vs past)) ∙ ap (option_and_then plan_of) is ∙ plan_back p)
 
--- a plan has the entries that it is made of
+-- a plan has the entries that it was made from
 entries_if : (es : List Entry) (fits : Bool) (kept : fits ≡ true → IsFilled (length es) (filled es)) (p : Plan) → plan_if es fits kept ≡ Some p → entries_of p ≡ es
 entries_if es true kept p is = sym (ap (λ (o : Option Plan). entries_of (unwrap_or o no_plan)) is) ∙ take_front es (replicate (16 - length es) filler)
 entries_if es false kept p is = absurd (false≢true (ap is_some is))
 
--- a plan that a file states has one entry or more
+-- a stated plan has at least one entry
 pub some_is : (o : Option (List Entry)) (p : Plan) → option_and_then plan_of o ≡ Some p → (length (entries_of p) ≡ 0 → ⊥) → Some p ≡ option_and_then some_plan o
 some_is None p is some = absurd (false≢true (ap is_some is))
 some_is (Some []) p is some = absurd (some (ap length (entries_if [] (is_plan []) (kept_plan []) p is)))

@@ -35,7 +35,7 @@ positive n other = lt-ltb 0 n (omega (arith, other))
 pub below : (n : ℕ) → n ≤ 16 → (n ≡ 16 → ⊥) → n < 16
 below n few other = omega (arith, few, other)
 
--- behind so many, a filler is replaced
+-- the first padding entry is replaced
 set_behind : (l : List Entry) (k : ℕ) (e : Entry) → set (l ++ replicate (suc k) filler) (length l) e ≡ (l ++ e ∷ []) ++ replicate k filler
 set_behind [] k e = refl
 set_behind (x ∷ l) k e = ap (λ (xs : List Entry). x ∷ xs) (set_behind l k e)
@@ -44,7 +44,7 @@ length_end : (l : List Entry) (e : Entry) → length (l ++ e ∷ []) ≡ length 
 length_end [] e = refl
 length_end (x ∷ l) e = let r = length_end l e in omega (arith, r)
 
--- a number above 0 and above all that rise
+-- a number above 0 and above all of a rising list
 rising_end : (l : List Entry) (e : Entry) → IsTrue (is_rising l) → IsTrue (nat_lt 0 e.after) → IsTrue (list_all (λ f. nat_lt f.after e.after) l) → IsTrue (is_rising (l ++ e ∷ []))
 rising_end [] e r z a = and_also _ _ (and_also _ _ z refl) refl
 rising_end (x ∷ l) e r z a =

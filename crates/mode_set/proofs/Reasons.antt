@@ -1,4 +1,4 @@
--- The first reason that holds has its cause in the document.
+-- The first reason that applies has its cause in the document.
 use Rattle.std.proofs.Common.{◌≡◌, ℕ, Bool, true, false, List, [], ◌∷◌, Option, Some, None, IfSome, is_some, Result, Ok, Err, refl, sym, ap, ◌∙◌}
 use Rattle.std.specs.Bool.{beq}
 use Rattle.std.proofs.lemmas.Bool.{false≢true}
@@ -29,7 +29,7 @@ beq_same true false h = absurd (false≢true h)
 beq_same false true h = absurd (false≢true h)
 beq_same false false h = refl
 
--- a fact of each reason is one of the first that holds
+-- a fact on every reason holds for the first that applies
 first_has : (P : SettingsError → Type 0) (rs : List (Option SettingsError)) → AllByRecursion (λ r. IfSome r P) rs → IfSome (first_of rs) P
 first_has P [] h = tt
 first_has P (None ∷ rs) h = first_has P rs h.1
@@ -124,6 +124,6 @@ module _ (ms : Members) where
     ),
   )
 
-  -- an answer that is the first reason has its cause in the document
+  -- an error that is the first reason has its cause in the document
   pub cause_of : (r : Result Settings SettingsError) (e : SettingsError) → result_err r ≡ first_of (reasons ms) → r ≡ Err e → HasCause ms e
   cause_of r e first is = let found : first_of (reasons ms) ≡ Some e = sym first ∙ ap result_err is in rw found at reason_has

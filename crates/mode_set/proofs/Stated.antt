@@ -1,4 +1,4 @@
--- The settings that a document states are one.
+-- The settings that a document states are unique.
 use Rattle.std.proofs.Common.{◌≡◌, ℕ, Bool, true, false, not, ◌||◌, List, Option, Some, IfOk, Result, Ok, Err, refl, sym}
 use Rattle.std.specs.Prelude.{is_some}
 use Rattle.std.specs.Bool.{beq}
@@ -46,7 +46,7 @@ stated s ms h =
     (made s (fit s.shape s.hierarchy s.rate_lp s.workers s.max_symbols) (kept_if s.shape s.hierarchy s.rate_lp s.workers s.max_symbols)
     (fits s.shape s.hierarchy s.rate_lp s.workers s.max_symbols s.kept))))))))))))
 
--- an answer with settings has those that the bytes state
+-- a result with settings has those that the bytes state
 pub recorded : (bytes : List ℕ) (ms : Members) (r : Result Settings SettingsError) → document bytes ≡ Some ms → IfOk r (States ms) → IfOk r (λ s. IsStatedBy s bytes)
 unfolding settings_of
 recorded bytes ms (Ok s) d h = rw d (stated s ms h)

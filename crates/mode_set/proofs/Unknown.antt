@@ -49,7 +49,7 @@ length_map (k ∷ ks) = ap suc (length_map ks)
 place_map : (p : List ℕ → Bool) (ks : List (String Global)) → position p (map string_bytes ks) ≡ position (λ k. p (string_bytes k)) ks
 place_map p ks = rw (prefix_map (λ k. not (p k)) ks, length_map ks) refl
 
--- the place in the map is the place in the document
+-- the index in the map is the index in the document
 pub place : (es : List Entry) → position (λ k. not (is_key (string_bytes k))) (entries.keys_of es) ≡ first_unknown (members_view es)
 place es = sym (place_map (λ k. not (is_key k)) (entries.keys_of es)) ∙ ap (position (λ k. not (is_key k))) (sym (texts es))
 
@@ -66,7 +66,7 @@ known_member : (q : List ℕ) (ks : List Key) → list_any (λ k. bytes_eq q (ke
 known_member q [] = refl
 known_member q (k ∷ ks) = rw (same_texts q (key_text k), known_member q ks) refl
 
--- the keys at the front that pass a test
+-- the first keys that pass a test
 module _ (p : List ℕ → Bool) where
   abbrev front : List (List ℕ) → List (List ℕ)
   front [] = []
@@ -97,7 +97,7 @@ either : (b c : Bool) → (b || c) ≡ true → (b ≡ true) ⊎ (c ≡ true)
 either true c h = inl refl
 either false c h = inr h
 
--- whatever is among the known keys at the front is a known key
+-- every one of the known keys at the start is a known key
 front_here : (b : Bool) (k : List ℕ) (ks : List (List ℕ)) (q : List ℕ) → is_key k ≡ b → is_member same (cond b (k ∷ front is_key ks) []) q ≡ true
     → (is_member same (front is_key ks) q ≡ true → is_member same (map key_text all_keys) q ≡ true) → is_member same (map key_text all_keys) q ≡ true
 front_here true k ks q known h later = elim (either (same q k) (is_member same (front is_key ks) q) h) [
@@ -119,6 +119,6 @@ if_placed : (b : Bool) (n : ℕ) → n ≤ 11 → IfSome (cond b (Some n) None) 
 if_placed true n h = h
 if_placed false n h = tt
 
--- the place of the first unknown key is at most eleven
+-- the index of the first unknown key is at most eleven
 pub few : (es : List Entry) → IsStrictlySortedBy string_cmp (entries.keys_of es) → IfSome (first_unknown (members_view es)) (λ n. n ≤ 11)
 few es sorted = if_placed _ _ (omega (arith, few_known (keys_of (members_view es)) (ascending es sorted), prefix_twice is_key (keys_of (members_view es))))

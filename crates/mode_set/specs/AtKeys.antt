@@ -1,4 +1,4 @@
--- A settings document, and what stands at its keys.
+-- A settings document, and the values at its keys.
 use Rattle.std.specs.Prelude.{ℕ, not, ◌&&◌, if◌then◌else◌, List, [], ◌∷◌, Option, Some, None, is_some, Result, Ok, Err}
 use Rattle.std.specs.Bool.{beq}
 use Rattle.std.specs.Str.{is_utf8}
@@ -20,35 +20,35 @@ use Rattle.mode_set.specs.declared.modes.Guard.{Guard}
 use Rattle.mode_set.specs.declared.modes.Start.{Start}
 use Rattle.mode_set.specs.declared.modes.Start.TheVariants.{Zero}
 
--- the table of a document, where its bytes are UTF-8 and TOML
+-- the table of a document, if its bytes are UTF-8 and TOML
 abbrev pub document : List ℕ → Option Members
 document bytes = if is_utf8 bytes then parse_document bytes else None
 
--- the keys of a table, in its order, which is byte order
+-- the keys of a table, in byte order
 abbrev pub keys_of : Members → List (List ℕ)
 keys_of no_members = []
 keys_of (member k d ms) = k ∷ keys_of ms
 
--- what stands at a key
+-- the value at a key
 abbrev pub at : Key → Members → Option Data
 at k ms = get_member (key_text k) ms
 
--- what stands there has another type or value than the table's
+-- an error if that value has a wrong type or is not allowed
 abbrev pub accepted : {T : Type 0} → Key → Option T → Result T SettingsError
 accepted k None = Err (Value k)
 accepted k (Some v) = Ok v
 
--- the value of a key that has to be there
+-- the value of a mandatory key
 abbrev pub required : {T : Type 0} → Key → (Data → Option T) → Option Data → Result T SettingsError
 required k value None = Err (Missing k)
 required k value (Some d) = accepted k (value d)
 
--- the value of a key that has a default
+-- the value of a key with a default
 abbrev pub with_default : {T : Type 0} → Key → T → (Data → Option T) → Option Data → Result T SettingsError
 with_default k default value None = Ok default
 with_default k default value (Some d) = accepted k (value d)
 
--- the value of a key that may be absent
+-- the value of an optional key
 abbrev pub if_present : {T : Type 0} → Key → (Data → Option T) → Option Data → Result (Option T) SettingsError
 if_present k value None = Ok None
 if_present k value (Some d) = with_some (accepted k (value d))
@@ -88,17 +88,17 @@ workers_in ms = with_default key.Workers 1 (a_number 1 16) (at key.Workers ms)
 abbrev pub max_symbols_in : Members → Result ℕ SettingsError
 max_symbols_in ms = with_default key.MaxSymbols 1000000 (a_number 1 4294967295) (at key.MaxSymbols ms)
 
--- QPSK stands without a hierarchy
+-- QPSK allows no hierarchy
 abbrev pub hierarchy_clash : Result Shape SettingsError → Result Hierarchy SettingsError → Option SettingsError
 hierarchy_clash (Ok s) (Ok h) = if is_qpsk s && not (is_flat h) then Some (Clash key.Hierarchy) else None
 hierarchy_clash _ _ = None
 
--- the LP rate stands exactly with a hierarchy
+-- the LP rate is given exactly if there is a hierarchy
 abbrev pub rate_lp_clash : Result Hierarchy SettingsError → Result (Option Rate) SettingsError → Option SettingsError
 rate_lp_clash (Ok h) (Ok r) = if beq (is_some r) (is_flat h) then Some (Clash key.RateLp) else None
 rate_lp_clash _ _ = None
 
--- the first of some reasons that holds
+-- the first error in a list
 abbrev pub first_of : List (Option SettingsError) → Option SettingsError
 first_of [] = None
 first_of (None ∷ more) = first_of more

@@ -1,4 +1,4 @@
--- What each refusal says of the document.
+-- What each error says of the document.
 use Rattle.std.specs.Prelude.{◌≡◌, ◌≢◌, Bool, true, false, is_some, IsTrue, IsFalse, IsSomeAnd, Option, Some, None, Ok}
 use Rattle.toml.specs.Data.{Data, Members}
 use Rattle.mode_set.specs.AtKeys.{at, shape_in, hierarchy_in, rate_lp_in}
@@ -15,7 +15,7 @@ use Rattle.mode_set.specs.declared.modes.Hierarchy.TheVariants.{Flat}
 use Rattle.mode_set.specs.declared.modes.Hierarchy.{Hierarchy as HierarchyOf}
 use Rattle.mode_set.specs.declared.modes.Rate.{Rate}
 
--- the keys that have to be there
+-- the mandatory keys
 abbrev pub is_required : Key → Bool
 is_required Mode = true
 is_required Constellation = true
@@ -29,7 +29,7 @@ is_required Workers = false
 is_required MaxSymbols = false
 is_required Plan = false
 
--- whether a value is one that the key may have
+-- whether a key may have a value
 abbrev pub fits : Key → Data → Bool
 fits Mode d = is_some (a_word mode_words d)
 fits Constellation d = is_some (a_word shape_words d)
@@ -49,7 +49,7 @@ IsMissing k ms = IsTrue (is_required k) × (at k ms ≡ None)
 abbrev pub HasWrongValue : Key → Members → Type 0
 HasWrongValue k ms = IsSomeAnd (at k ms) (λ d. IsFalse (fits k d))
 
--- QPSK with a hierarchy, or an LP rate without a hierarchy or none with one
+-- QPSK with a hierarchy, an LP rate without a hierarchy, or a hierarchy without an LP rate
 abbrev pub Clashes : Key → Members → Type 0
 Clashes Hierarchy ms = (shape_in ms ≡ Ok Qpsk) × (hierarchy_in ms ≢ Ok Flat)
 Clashes RateLp ms = (h : HierarchyOf) × ((r : Option Rate) × ((hierarchy_in ms ≡ Ok h) × (rate_lp_in ms ≡ Ok r) × (is_some r ≡ is_flat h)))

@@ -1,4 +1,4 @@
--- What a settings document says, and the first reason to refuse it.
+-- The settings that a document states, and the first reason to reject it.
 use Rattle.std.specs.Prelude.{◌≡◌, ℕ, not, List, [], ◌∷◌, Option, Some, None, position, Ok}
 use Rattle.std.specs.Result.{result_err}
 use Rattle.toml.specs.Data.{Members}
@@ -10,16 +10,16 @@ use Rattle.mode_set.specs.declared.error.SettingsError.{SettingsError}
 use Rattle.mode_set.specs.declared.error.SettingsError.TheVariants.{NotToml, Unknown}
 use Rattle.mode_set.specs.declared.settings.Settings.{Settings}
 
--- the place of the first key that is none of the table
+-- the index of the first unknown key
 abbrev pub first_unknown : Members → Option ℕ
 first_unknown ms = position (λ k. not (is_key k)) (keys_of ms)
 
--- a key that is none of the table
+-- the error for an unknown key
 abbrev pub unknown : Option ℕ → Option SettingsError
 unknown None = None
 unknown (Some n) = Some (Unknown n)
 
--- the reasons to refuse a document, in the order in which they are tried
+-- the reasons to reject a document, in the order of the tests
 abbrev pub reasons : Members → List (Option SettingsError)
 reasons ms =
     unknown (first_unknown ms) ∷ result_err (mode_in ms) ∷ result_err (shape_in ms) ∷ result_err (hierarchy_in ms)
@@ -27,7 +27,7 @@ reasons ms =
     ∷ result_err (start_in ms) ∷ result_err (workers_in ms) ∷ result_err (max_symbols_in ms) ∷ result_err (plan_in ms)
     ∷ hierarchy_clash (shape_in ms) (hierarchy_in ms) ∷ rate_lp_clash (hierarchy_in ms) (rate_lp_in ms) ∷ []
 
--- the refusal of the bytes of a settings file, if there is one
+-- the error for the bytes of a settings file, if there is one
 abbrev pub refusal : List ℕ → Option SettingsError
 refusal bytes = of_document (document bytes)
   where
@@ -35,7 +35,7 @@ refusal bytes = of_document (document bytes)
     of_document None = Some NotToml
     of_document (Some ms) = first_of (reasons ms)
 
--- the settings are what stands at each key
+-- each setting is the value at its key
 pub record States (ms : Members) (s : Settings) : Type 0 where
   pub mode : mode_in ms ≡ Ok s.mode
   pub shape : shape_in ms ≡ Ok s.shape
@@ -49,6 +49,6 @@ pub record States (ms : Members) (s : Settings) : Type 0 where
   pub max_symbols : max_symbols_in ms ≡ Ok s.max_symbols
   pub plan : plan_in ms ≡ Ok s.plan
 
--- the settings are those of a document
+-- the settings are those that the bytes state
 abbrev pub IsStatedBy : Settings → List ℕ → Type 0
 IsStatedBy s bytes = settings_of bytes ≡ Some s

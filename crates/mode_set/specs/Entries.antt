@@ -5,15 +5,15 @@ use Rattle.mode_set.specs.Plans.{entries_of}
 use Rattle.mode_set.specs.declared.entry.Entry.{Entry}
 use Rattle.mode_set.specs.declared.settings.Settings.{Settings}
 
--- the settings' own parameters, from super-frame 0 on
+-- the settings' own parameters, valid from super-frame 0
 abbrev pub top : Settings → Entry
 top s = record { after = 0; shape = s.shape; hierarchy = s.hierarchy; rate_hp = s.rate_hp; rate_lp = s.rate_lp; kept = record { qpsk = s.kept.qpsk; lp = s.kept.lp } }
 
--- the last entry of the plan whose number is at most j; the settings' own parameters where there is none
+-- the last plan entry whose number is at most j; without one, the settings' own parameters
 abbrev pub entry : Settings → ℕ → Entry
 entry s j = unwrap_or (find (λ e. nat_le e.after j) (reverse (entries_of s.plan))) (top s)
 
--- LP exists where the settings' own parameters or those of an entry have it
+-- LP exists if the settings or an entry of the plan have it
 abbrev pub has_lp : Settings → Bool
 has_lp s = is_some s.rate_lp || list_any (λ e. is_some e.rate_lp) (entries_of s.plan)
 

@@ -1,4 +1,4 @@
--- What the type of settings keeps.
+-- The invariant of valid settings.
 use Rattle.std.specs.Prelude.{◌≡◌, ℕ, ◌≤◌, Option, IsTrue, Bool, true, false, is_some, not, ◌&&◌, ◌||◌, nat_le}
 use Rattle.std.specs.Bool.{beq}
 use Rattle.mode_set.specs.declared.modes.Shape.{Shape}
@@ -7,6 +7,7 @@ use Rattle.mode_set.specs.declared.modes.Hierarchy.{Hierarchy}
 use Rattle.mode_set.specs.declared.modes.Hierarchy.TheVariants.{Flat, Alpha1, Alpha2, Alpha4}
 use Rattle.mode_set.specs.declared.modes.Rate.{Rate}
 
+-- there is no hierarchy
 abbrev pub is_flat : Hierarchy → Bool
 is_flat Flat = true
 is_flat Alpha1 = false
@@ -18,7 +19,7 @@ is_qpsk Qpsk = true
 is_qpsk Qam16 = false
 is_qpsk Qam64 = false
 
--- QPSK stands without a hierarchy, the LP rate stands exactly with one, and the numbers are in range
+-- QPSK has no hierarchy, the LP rate is given exactly with one, and the numbers are in range
 pub record IsKept (shape : Shape) (hierarchy : Hierarchy) (rate_lp : Option Rate) (workers max_symbols : ℕ) : Type 0 where
   pub qpsk : IsTrue (is_qpsk shape) → IsTrue (is_flat hierarchy)
   pub lp : is_some rate_lp ≡ not (is_flat hierarchy)
@@ -26,15 +27,15 @@ pub record IsKept (shape : Shape) (hierarchy : Hierarchy) (rate_lp : Option Rate
   pub few_workers : workers ≤ 16
   pub some_symbol : 1 ≤ max_symbols
 
--- the first two of these, of the parameters of super-frames
+-- the first two conditions, for the parameters of super-frames
 pub record IsKeptEntry (shape : Shape) (hierarchy : Hierarchy) (rate_lp : Option Rate) : Type 0 where
   pub qpsk : IsTrue (is_qpsk shape) → IsTrue (is_flat hierarchy)
   pub lp : is_some rate_lp ≡ not (is_flat hierarchy)
 
--- whether parameters are so
+-- whether parameters fit one another
 abbrev pub fit_together : Shape → Hierarchy → Option Rate → Bool
 fit_together shape hierarchy rate_lp = (not (is_qpsk shape) || is_flat hierarchy) && beq (is_some rate_lp) (not (is_flat hierarchy))
 
--- whether they and the numbers are those of settings
+-- whether the parameters fit and the numbers are in range
 abbrev pub fit : Shape → Hierarchy → Option Rate → ℕ → ℕ → Bool
 fit shape hierarchy rate_lp workers most = fit_together shape hierarchy rate_lp && (nat_le 1 workers && (nat_le workers 16 && nat_le 1 most))

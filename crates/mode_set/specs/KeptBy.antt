@@ -1,4 +1,4 @@
--- What the tests for settings, entries and plans find is what their types keep.
+-- The checks of settings, entries and plans imply the invariants of their types.
 use Rattle.std.specs.Prelude.{◌≡◌, ℕ, nat_le, Bool, true, false, not, ◌&&◌, ◌||◌, List, [], ◌∷◌, ◌++◌, ◌-◌, length, take, replicate, Option, is_some, refl}
 use Rattle.std.specs.Bool.{beq}
 use Rattle.std.proofs.Common.{◌∙◌, sym, ap, arith, length-append}

@@ -4,7 +4,7 @@ use Rattle.std.specs.List.{list_any}
 use Rattle.mode_set.specs.declared.key.Key.{Key}
 use Rattle.mode_set.specs.declared.key.Key.TheVariants.{Mode, Constellation, Hierarchy, RateHp, RateLp, Guard, CellId, Start, Workers, MaxSymbols, Plan}
 
--- a key as it stands in a document
+-- the text of a key in a document
 abbrev pub key_text : Key → List ℕ
 key_text Mode = codes "mode"
 key_text Constellation = codes "constellation"
@@ -18,9 +18,10 @@ key_text Workers = codes "workers"
 key_text MaxSymbols = codes "max_symbols"
 key_text Plan = codes "plan"
 
--- all of them, in the order in which they are tried
+-- all keys, in the order of the tests
 abbrev pub all_keys : List Key
 all_keys = Mode ∷ Constellation ∷ Hierarchy ∷ RateHp ∷ RateLp ∷ Guard ∷ CellId ∷ Start ∷ Workers ∷ MaxSymbols ∷ Plan ∷ []
 
+-- whether a text is a key of the document
 abbrev pub is_key : List ℕ → Bool
 is_key text = list_any (λ key. bytes_eq text (key_text key)) all_keys

@@ -1,10 +1,10 @@
--- Symbols have whole puncturing periods, super-frames whole outer words (EN 300 744, 4.7).
+-- A symbol holds whole puncturing periods, a super-frame whole outer words (EN 300 744, 4.7).
 use Rattle.std.specs.Prelude.{◌≡◌, ℕ, ◌*◌, ◌/◌}
 use Rattle.mode_set.specs.StreamTable.{rate, coded, need, steps_in_period, sent_in_period, words_per_super_frame}
 use Rattle.mode_set.specs.declared.modes.Stream.{Stream}
 use Rattle.mode_set.specs.declared.settings.Settings.{Settings}
 
--- the periods of a symbol
+-- the puncturing periods of a symbol
 abbrev pub periods : Settings → Stream → ℕ
 periods s σ = coded s σ / sent_in_period (rate s σ)
 

@@ -1,4 +1,4 @@
--- The streams of a transmission, and how much a symbol and a super-frame carry of each.
+-- The streams of a transmission, and the size of a symbol and a super-frame in each.
 use Rattle.std.specs.Prelude.{ℕ, ◌+◌, ◌-◌, ◌*◌, ◌/◌, Bool, true, not, if◌then◌else◌, unwrap_or}
 use Rattle.mode_set.specs.Kept.{is_flat}
 use Rattle.mode_set.specs.declared.modes.Mode.{Mode}
@@ -28,7 +28,7 @@ label_bits Qpsk = 2
 label_bits Qam16 = 4
 label_bits Qam64 = 6
 
--- HP is always there, LP exactly with a hierarchy
+-- HP always exists, LP exactly if there is a hierarchy
 abbrev pub has_stream : Hierarchy → Stream → Bool
 has_stream h Hp = true
 has_stream h Lp = not (is_flat h)
@@ -50,6 +50,7 @@ steps_in_period R7of8 = 7
 abbrev pub sent_in_period : Rate → ℕ
 sent_in_period r = steps_in_period r + 1
 
+-- the code rate of a stream
 abbrev pub rate : Settings → Stream → Rate
 rate s Hp = s.rate_hp
 rate s Lp = unwrap_or s.rate_lp R1of2
@@ -58,7 +59,7 @@ rate s Lp = unwrap_or s.rate_lp R1of2
 abbrev pub coded : Settings → Stream → ℕ
 coded s σ = payload s.mode * width s.shape s.hierarchy σ
 
--- the input bits of a symbol, which are its steps
+-- the input bits of a symbol, one for each step
 abbrev pub need : Settings → Stream → ℕ
 need s σ = coded s σ * steps_in_period (rate s σ) / sent_in_period (rate s σ)
 

@@ -1,4 +1,4 @@
--- The values that a settings document has at its keys.
+-- The allowed values of each key in a settings document.
 use Rattle.std.specs.Prelude.{codes, ℕ, ℤ, pos, ◌&&◌, if◌then◌else◌, nat_le, List, [], ◌∷◌, Option, Some, None, option_map, option_and_then, find, bytes_eq}
 use Rattle.toml.specs.Data.{Data, as_str, as_integer}
 use Rattle.mode_set.specs.declared.modes.Mode.{Mode}
@@ -32,18 +32,19 @@ guard_words = (codes "1/32", G1of32) ∷ (codes "1/16", G1of16) ∷ (codes "1/8"
 abbrev pub start_words : List (List ℕ × Start)
 start_words = (codes "zero", Zero) ∷ (codes "any", Any) ∷ []
 
--- what a text chooses in a table of words
+-- the choice of a text in a table
 abbrev pub chosen : {T : Type 0} → List (List ℕ × T) → List ℕ → Option T
 chosen words text = option_map (λ word. word.1) (find (λ word. bytes_eq text word.0) words)
 
--- a string that is one of the words
+-- a string that is in the table
 abbrev pub a_word : {T : Type 0} → List (List ℕ × T) → Data → Option T
 a_word words d = option_and_then (chosen words) (as_str d)
 
--- a whole number from least to most
+-- an integer from `least` to `most`
 abbrev pub in_range : ℕ → ℕ → ℤ → Option ℕ
 in_range least most (pos n) = if nat_le least n && nat_le n most then Some n else None
 in_range least most _ = None
 
+-- an integer in this range
 abbrev pub a_number : ℕ → ℕ → Data → Option ℕ
 a_number least most d = option_and_then (in_range least most) (as_integer d)

@@ -1,4 +1,4 @@
-// What stands at the keys of a table.
+// The values at the keys of a table.
 ghost use Rattle.std.specs.Prelude.{◌≡◌, ◌∷◌, [], ◌≤◌, option_map, IfOk, Ok, is_ok};
 ghost use Rattle.toml.specs.Data.{get_member};
 ghost use Rattle.toml.specs.View.{view, table_view};
@@ -11,21 +11,21 @@ use crate::words::Word;
 use crate::{Hierarchy, Key, Rate, SettingsError, Shape};
 use toml::{Table, Value};
 
-// What stands at a text.
+// The value at a key, given as a text.
 pub(crate) fn member_at<'a>(table: &'a Table, text: &str) -> Option<&'a Value>
     ensures { option_map (λ v. view v.now) result ≡ get_member text.now (table_view table.now) }
 {
     table.get(text)
 }
 
-// What stands at a key.
+// The value at a key.
 pub(crate) fn value_at<'a>(table: &'a Table, key: Key) -> Option<&'a Value>
     ensures { option_map (λ v. view v.now) result ≡ at key (table_view table.now) }
 {
     member_at(table, key.text())
 }
 
-// A value that a word chooses.
+// A value selected by a word.
 fn word_of<T: Word>(value: &Value, key: Key) -> Result<T, SettingsError>
     ensures { result ≡ accepted key (a_word T.words (view value.now)) }
 {
@@ -35,7 +35,7 @@ fn word_of<T: Word>(value: &Value, key: Key) -> Result<T, SettingsError>
     }
 }
 
-// A whole number from least to most.
+// An integer from `least` to `most`.
 pub(crate) fn number_of(
     value: &Value,
     key: Key,
@@ -51,7 +51,7 @@ pub(crate) fn number_of(
     }
 }
 
-// The value of a key that has to be there, which a word chooses.
+// The value of a mandatory key, selected by a word.
 pub(crate) fn required_word<T: Word>(table: &Table, key: Key) -> Result<T, SettingsError>
     ensures { result ≡ required key (a_word T.words) (at key (table_view table.now)) }
 {
@@ -61,7 +61,7 @@ pub(crate) fn required_word<T: Word>(table: &Table, key: Key) -> Result<T, Setti
     }
 }
 
-// The value of a key that has a default, which a word chooses.
+// The value of a key with a default, selected by a word.
 pub(crate) fn word_or<T: Word>(table: &Table, key: Key, default: T) -> Result<T, SettingsError>
     ensures { result ≡ with_default key default (a_word T.words) (at key (table_view table.now)) }
 {
@@ -71,7 +71,7 @@ pub(crate) fn word_or<T: Word>(table: &Table, key: Key, default: T) -> Result<T,
     }
 }
 
-// The value of a key that may be absent, which a word chooses.
+// The value of an optional key, selected by a word.
 pub(crate) fn word_if_present<T: Word>(table: &Table, key: Key) -> Result<Option<T>, SettingsError>
     ensures { result ≡ if_present key (a_word T.words) (at key (table_view table.now)) }
 {
@@ -81,7 +81,7 @@ pub(crate) fn word_if_present<T: Word>(table: &Table, key: Key) -> Result<Option
     }
 }
 
-// The number of a key that has a default.
+// The number of a key with a default.
 pub(crate) fn number_or(
     table: &Table,
     key: Key,
@@ -99,7 +99,7 @@ pub(crate) fn number_or(
     }
 }
 
-// Choices that fit one another, or the first clash.
+// Parameters that fit one another, or the first clash.
 pub(crate) fn check_fit(
     shape: Shape,
     hierarchy: Hierarchy,

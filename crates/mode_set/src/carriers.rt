@@ -8,9 +8,9 @@ ghost use Rattle.std.proofs.Common.{inl, inr};
 
 use crate::Mode;
 
-/// A transmission mode as a type, for code that is generic in it (EN 300 744, 4.4 and 4.3.4).
+/// A transmission mode as a type, for generic code (EN 300 744, 4.4 and 4.3.4).
 ///
-/// The four numbers are one of the two rows of the standard, that of `MODE`.
+/// The four numbers are those of one mode in the standard, that of `MODE`.
 pub trait Carriers {
     /// The mode itself.
     const MODE: Mode;

@@ -8,13 +8,13 @@ ghost use Rattle.mode_set.specs.declared.modes.Hierarchy.{Hierarchy as Hierarchy
 
 use crate::{Hierarchy, Shape};
 
-/// A constellation with its levels as a type, for code that is generic in it (EN 300 744, 4.3.5).
+/// A constellation with its levels as a type, for generic code (EN 300 744, 4.3.5).
 ///
 /// A constellation without a hierarchy has the levels of α = 1.
 pub trait Constellation {
     /// The constellation.
     const SHAPE: Shape;
-    /// A hierarchy that has these levels: none for QPSK, else that of the α.
+    /// A hierarchy with these levels: none for QPSK, otherwise that of the α.
     const HIERARCHY: Hierarchy;
     /// v, the bits of a label.
     const V: u8;
@@ -25,7 +25,7 @@ pub trait Constellation {
 
     ghost V: { ℕ };
 
-    /// The levels of an axis, from the outermost to the innermost, as 16384 times the standard's normalised values.
+    /// The levels of an axis, outermost first, as 16384 times the standard's normalised values.
     fn levels() -> &'static [u16]
         ensures { result.now ≡ levels SHAPE HIERARCHY };
 

@@ -25,8 +25,8 @@ impl Settings {
         own(self)
     }
 
-    /// The parameters of a super-frame: those of the plan's last entry whose number is at most the
-    /// super-frame's, or the settings' own where there is none.
+    /// The parameters of a super-frame: those of the plan's last entry whose number is at most the super-frame's;
+    /// without one, the settings' own.
     pub fn entry(&self, super_frame: u32) -> Entry
         ensures is { result ≡ entry self.now super_frame }
         ensures first { super_frame ≡ 0 → result ≡ top self.now }
@@ -34,8 +34,7 @@ impl Settings {
         self.plan.until(super_frame).unwrap_or(own(self))
     }
 
-    /// Whether some super-frame may have the LP stream: it is among the settings' own parameters, or
-    /// among those of an entry.
+    /// Whether some super-frame may have the LP stream: the settings' own parameters have it, or those of an entry.
     pub fn has_lp(&self) -> bool
         ensures { result ≡ has_lp self.now }
     {

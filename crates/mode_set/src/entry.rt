@@ -5,7 +5,7 @@ use crate::{Hierarchy, Rate, Shape};
 
 /// The parameters of the super-frames from a number on: constellation, hierarchy and code rates.
 ///
-/// QPSK stands without a hierarchy, and `rate_lp` is there exactly with one.
+/// QPSK has no hierarchy, and `rate_lp` is present exactly with a hierarchy.
 #[derive(Clone, Copy, Debug, PartialEq, Eq)]
 pub struct Entry {
     /// The number of the first super-frame that has these parameters.

@@ -2,7 +2,7 @@
 ghost use Rattle.std.specs.Prelude.{◌≡◌};
 ghost use Rattle.mode_set.specs.Keys.{key_text, is_key};
 
-/// A key of a settings document, in the order in which the keys are tried.
+/// A key of a settings document, in the order in which the keys are checked.
 #[derive(Clone, Copy, Debug, PartialEq, Eq)]
 pub enum Key {
     /// The transmission mode.
@@ -19,18 +19,18 @@ pub enum Key {
     Guard,
     /// The identifier of the cell.
     CellId,
-    /// What the receiver takes the register of the inner code to be.
+    /// The initial register of the inner code that the receiver assumes.
     Start,
     /// The workers of the receiver.
     Workers,
     /// The limit of symbols.
     MaxSymbols,
-    /// The entries from which on other parameters hold.
+    /// The entries with later changes of parameters.
     Plan,
 }
 
 impl Key {
-    /// The key as it stands in a document, and as the program prints it.
+    /// The key as written in a document and as printed by the program.
     pub fn text(self) -> &'static str
         ensures { result.now ≡ key_text self }
     {

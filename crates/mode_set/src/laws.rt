@@ -1,4 +1,4 @@
-// The laws of the stream table, as contracts of functions that do nothing.
+// The laws of the stream table, as contracts of functions with empty bodies.
 ghost use Rattle.mode_set.specs.Laws.{SymbolsHaveWholePeriods, SuperFramesHaveWholeWords};
 
 /// A symbol has a whole number of puncturing periods of each stream.

@@ -1,4 +1,4 @@
-// What a transmission can choose.
+// The choices of a transmission.
 
 /// The transmission mode: the number of carriers of an OFDM symbol (EN 300 744, 4.4).
 #[derive(Clone, Copy, Debug, PartialEq, Eq)]
@@ -20,8 +20,8 @@ pub enum Shape {
     Qam64,
 }
 
-/// Whether two streams share the cells, and how far apart the inner points of the quadrants stand
-/// (EN 300 744, 4.3.4.1 and 4.3.5).
+/// Whether two streams share the cells, and the distance of the inner points of the quadrants (EN 300 744, 4.3.4.1 and
+/// 4.3.5).
 #[derive(Clone, Copy, Debug, PartialEq, Eq)]
 pub enum Hierarchy {
     /// One stream, no hierarchy.
@@ -49,7 +49,7 @@ pub enum Rate {
     R7of8,
 }
 
-/// The guard interval as a fraction of the useful symbol, which is signalled only (EN 300 744, 4.6).
+/// The guard interval as a fraction of the useful symbol; it is only signalled (EN 300 744, 4.6).
 #[derive(Clone, Copy, Debug, PartialEq, Eq)]
 pub enum Guard {
     /// 1/32.
@@ -62,17 +62,16 @@ pub enum Guard {
     G1of4,
 }
 
-/// What the receiver takes the register of the inner code to be before the first symbol.
+/// The register of the inner code that the receiver assumes before the first symbol.
 #[derive(Clone, Copy, Debug, PartialEq, Eq)]
 pub enum Start {
     /// Six zeros: the cells begin with the transmission.
     Zero,
-    /// Any of the 64 registers: the cells begin in its midst.
+    /// Any of the 64 registers: the cells begin within the transmission.
     Any,
 }
 
-/// A transport stream of the transmission: of high priority, or of low priority, which is there
-/// with a hierarchy alone.
+/// A transport stream of the transmission: of high priority, or of low priority, which exists only with a hierarchy.
 #[derive(Clone, Copy, Debug, PartialEq, Eq)]
 pub enum Stream {
     /// High priority.

@@ -30,7 +30,7 @@ fn all_of_entry(table: &Table) -> bool
     table.keys().all(|key| is_of_entry(key.as_str()))
 }
 
-// The same of the table's members.
+// The same for the table's members.
 fn keys_are_of_entry(table: &Table) -> bool
     ensures { result ≡ has_entry_keys (table_view table.now) }
 {
@@ -44,7 +44,7 @@ fn after(table: &Table) -> Option<u32>
     number_of(member_at(table, "after")?, Key::Plan, 1, u32::MAX).ok()
 }
 
-// The entry that a table states, if it states one.
+// The entry that a table states, if any.
 fn entry(table: &Table) -> Option<Entry>
     ensures { result ≡ entry_in (table_view table.now) }
 {
@@ -73,7 +73,7 @@ fn entry_of(value: &Value) -> Option<Entry>
     entry(value.as_table()?)
 }
 
-// The plan of an array's entries, which may have none.
+// The plan of an array's entries; it may be empty.
 fn entries(values: &[Value]) -> Option<Plan>
     ensures { result ≡ option_and_then plan_of (entries_in (items_view values.now)) }
 {
@@ -97,7 +97,7 @@ fn plan(value: &Value) -> Option<Plan>
     Some(plan)
 }
 
-// The plan of the document, which has no entry where the key is absent.
+// The plan of the document, which is empty if the key is absent.
 pub(crate) fn plan_or_none(table: &Table) -> Result<Plan, SettingsError>
     ensures { result ≡ plan_in (table_view table.now) }
 {

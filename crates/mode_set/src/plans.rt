@@ -7,7 +7,7 @@ ghost use Rattle.mode_set.specs.declared.entry.Entry.{Entry as AnyEntry};
 
 use crate::{Entry, Hierarchy, Plan, Rate, Shape};
 
-// What stands behind the last entry of a plan.
+// The padding after the last entry of a plan.
 fn no_entry() -> Entry
     ensures { result ≡ filler }
 {
@@ -27,7 +27,7 @@ fn are_before(entries: &[Entry], super_frame: u32) -> bool
     entries.iter().all(|entry| entry.after < super_frame)
 }
 
-// The last entry that begins at a super-frame or before.
+// The last entry that begins at a super-frame or before it.
 fn last_until(entries: &[Entry], super_frame: u32) -> Option<Entry>
     ensures { result ≡ find (λ e. nat_le e.after super_frame) (reverse entries.now) }
 {
@@ -48,7 +48,7 @@ fn any_lp(entries: &[Entry]) -> bool
 }
 
 impl Plan {
-    /// No entry: the parameters never change.
+    /// The empty plan: the parameters never change.
     pub fn none() -> Plan
         ensures { result ≡ no_plan }
     {
@@ -66,7 +66,7 @@ impl Plan {
         self.count as usize
     }
 
-    /// Entry number `i`, from 0 and below `len`.
+    /// Entry `i`, counted from 0; `i` is below `len`.
     pub fn get(&self, i: usize) -> Entry
         requires { i < length (entries_of self.now) }
         ensures { (d : AnyEntry) → result ≡ get_or (entries_of self.now) i d }
@@ -74,8 +74,7 @@ impl Plan {
         self.entries[i]
     }
 
-    /// Appends an entry where there is room and its number is above 0 and above those of the others.
-    /// It tells whether.
+    /// Appends an entry if there is room and its number is above 0 and above all others. Returns whether it did.
     pub fn push(&mut self, entry: Entry) -> bool
         ensures tells { result ≡ may_follow (entries_of self.old) entry }
         ensures pushed { IsTrue result → entries_of self.new ≡ entries_of self.old ++ entry ∷ [] }
@@ -94,7 +93,7 @@ impl Plan {
         true
     }
 
-    // The last entry that begins at a super-frame or before.
+    // The last entry that begins at a super-frame or before it.
     pub(crate) fn until(&self, super_frame: u32) -> Option<Entry>
         ensures is { result ≡ find (λ e. nat_le e.after super_frame) (reverse (entries_of self.now)) }
         ensures first { super_frame ≡ 0 → result ≡ None }

@@ -1,4 +1,4 @@
-// Settings out of a TOML document.
+// Reading settings from a TOML document.
 ghost use Rattle.std.specs.Prelude.{◌≡◌, ℕ, IsSomeAnd, ◌≢◌, ◌≤◌, Some, None, IfOk, IfSome, IfErr, not, position, string_bytes, Err};
 ghost use Rattle.toml.specs.View.{table_view};
 ghost use Rattle.mode_set.specs.AtKeys.{document, cell_id_in, keys_of, first_of};
@@ -22,7 +22,7 @@ use crate::{Hierarchy, Key, Settings, SettingsError, Shape, Start};
 use std::alloc::Global;
 use toml::Table;
 
-// The number of a key that may be absent.
+// The number of an optional key.
 fn cell_id(table: &Table) -> Result<Option<u16>, SettingsError>
     ensures { result ≡ cell_id_in (table_view table.now) }
 {
@@ -32,7 +32,7 @@ fn cell_id(table: &Table) -> Result<Option<u16>, SettingsError>
     }
 }
 
-// The place of the first key that is none of the eleven.
+// The index of the first unknown key.
 fn place_of_unknown(table: &Table) -> Option<usize>
     ensures place { result ≡ position (λ k. not (is_key (string_bytes k))) (keys table.now) }
     ensures ordered { IsStrictlySortedBy string_cmp (keys table.now) }
@@ -40,7 +40,7 @@ fn place_of_unknown(table: &Table) -> Option<usize>
     table.keys().position(|key| !is_known(key.as_str()))
 }
 
-// The same of the document.
+// The same for the document.
 fn first_unknown_key(table: &Table) -> Option<usize>
     ensures place { result ≡ first_unknown (table_view table.now) }
     ensures few { IfSome result (λ n. n ≤ 11) }
@@ -49,7 +49,7 @@ fn first_unknown_key(table: &Table) -> Option<usize>
     place_of_unknown(table)
 }
 
-// The document has no other key than the eleven.
+// The document has only the eleven keys.
 fn check_keys(table: &Table) -> Result<(), SettingsError>
     ensures unknown { result_err result ≡ unknown (first_unknown (table_view table.now)) }
     ensures byte_order { IsStrictlySortedBy (slice_cmp nat_cmp) (keys_of (table_view table.now)) }
@@ -109,14 +109,13 @@ fn table_of(alloc: Global, bytes: &[u8]) -> Result<Table, SettingsError>
 impl Settings {
     /// Reads the settings of a TOML document.
     ///
-    /// Of the reasons to refuse it the first is answered, in the order of `SettingsError`: no TOML, an
-    /// unknown key, then the keys in the order of `Key`, then the two clashes. Memory may be wanting
-    /// at any point.
+    /// The first reason to reject it is returned, in the order of `SettingsError`: not TOML, an unknown key, then the
+    /// keys in the order of `Key`, then the two clashes. Memory may be lacking at any point.
     pub fn read(alloc: Global, bytes: &[u8]) -> Result<Settings, SettingsError>
         ensures record { IfOk result (λ s. IsStatedBy s bytes.now) }
         ensures first_reason { result ≢ Err SettingsError.Memory → result_err result ≡ refusal bytes.now }
 
-        // What each answer says of the document, which follows from these two.
+        // The meaning of each error, which follows from these two clauses.
         ensures not_toml { result ≡ Err SettingsError.NotToml → document bytes.now ≡ None }
         ensures unknown { (n : ℕ) → result ≡ Err (SettingsError.Unknown n)
             → IsSomeAnd (document bytes.now) (λ ms. first_unknown ms ≡ Some n) }

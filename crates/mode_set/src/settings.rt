@@ -5,8 +5,8 @@ use crate::{Guard, Hierarchy, Mode, Plan, Rate, Shape, Start};
 
 /// The settings of a transmission and of its reception.
 ///
-/// QPSK stands without a hierarchy, `rate_lp` is there exactly with one, `workers` is 1 to 16 and
-/// `max_symbols` is at least 1.
+/// QPSK has no hierarchy, `rate_lp` is present exactly with a hierarchy, `workers` is 1 to 16 and `max_symbols` is at
+/// least 1.
 #[derive(Clone, Copy, Debug, PartialEq, Eq)]
 pub struct Settings {
     /// The number of carriers.
@@ -19,17 +19,17 @@ pub struct Settings {
     pub rate_hp: Rate,
     /// The inner code's rate of the LP stream.
     pub rate_lp: Option<Rate>,
-    /// The guard interval that is signalled.
+    /// The signalled guard interval.
     pub guard: Guard,
-    /// The cell identifier that is signalled, if one is.
+    /// The signalled cell identifier, if any.
     pub cell_id: Option<u16>,
-    /// The register that the receiver begins with.
+    /// The initial register of the receiver.
     pub start: Start,
-    /// The most threads that decode the outer words of a symbol, 1 to 16.
+    /// The most threads for decoding the outer words of a symbol, 1 to 16.
     pub workers: u8,
-    /// The most OFDM symbols that are sent or received.
+    /// The most OFDM symbols to send or receive.
     pub max_symbols: u32,
-    /// How the constellation, the hierarchy and the rates change at super-frames.
+    /// The changes of constellation, hierarchy and rates at super-frames.
     pub plan: Plan,
     ghost kept: { IsKept shape hierarchy rate_lp workers max_symbols },
 }

@@ -1,4 +1,4 @@
-// How much a symbol and a super-frame carry of each stream.
+// The size of a symbol and a super-frame in each stream.
 ghost use Rattle.std.specs.Prelude.{◌≡◌, ◌*◌, ◌<◌, ◌≤◌, IsTrue};
 ghost use Rattle.mode_set.specs.Kept.{is_flat, is_qpsk};
 ghost use Rattle.mode_set.specs.StreamTable.{carriers, payload, label_bits, has_stream, width, steps_in_period, sent_in_period, rate, coded, need, words_per_super_frame};
@@ -28,7 +28,7 @@ impl Mode {
 }
 
 impl Shape {
-    /// The bits of a label, which are the bits that a cell carries (EN 300 744, 4.3.4.1).
+    /// The bits of a label, which are the bits carried by a cell (EN 300 744, 4.3.4.1).
     pub fn label_bits(self) -> u8
         ensures { result ≡ label_bits self }
     {
@@ -39,7 +39,7 @@ impl Shape {
         }
     }
 
-    /// Whether it is QPSK, which stands without a hierarchy.
+    /// Whether it is QPSK, which has no hierarchy.
     pub fn is_qpsk(self) -> bool
         ensures { result ≡ is_qpsk self }
     {
@@ -97,7 +97,7 @@ impl Rate {
     }
 }
 
-/// The bits of each label that carry the stream, 0 where it does not exist (EN 300 744, 4.3.4.1).
+/// The bits of each label that carry the stream, 0 if it does not exist (EN 300 744, 4.3.4.1).
 pub fn stream_width(shape: Shape, hierarchy: Hierarchy, stream: Stream) -> u8
     ensures width { result ≡ width shape hierarchy stream }
     ensures few { result ≤ 6 }
@@ -128,7 +128,7 @@ impl Settings {
         }
     }
 
-    /// The coded bits of the stream in a symbol, 0 where it does not exist (EN 300 744, 4.3.4.1).
+    /// The coded bits of the stream in a symbol, 0 if it does not exist (EN 300 744, 4.3.4.1).
     pub fn coded(&self, stream: Stream) -> u32
         ensures coded { result ≡ coded self.now stream }
         ensures few { result ≤ 36288 }
@@ -136,7 +136,7 @@ impl Settings {
         self.mode.payload() * stream_width(self.shape, self.hierarchy, stream) as u32
     }
 
-    /// The input bits of the stream in a symbol, one a step of the inner code.
+    /// The input bits of the stream in a symbol, one for each step of the inner code.
     ///
     /// A symbol has whole puncturing periods of each stream, so nothing is rounded.
     pub fn need(&self, stream: Stream) -> u32
@@ -148,7 +148,7 @@ impl Settings {
         self.coded(stream) * rate.steps_in_period() as u32 / rate.sent_in_period() as u32
     }
 
-    /// The outer words of the stream in a super-frame (EN 300 744, 4.7), 0 where it does not exist.
+    /// The outer words of the stream in a super-frame (EN 300 744, 4.7), 0 if it does not exist.
     ///
     /// A super-frame has whole words of each stream, so nothing is rounded.
     pub fn words_per_super_frame(&self, stream: Stream) -> u32

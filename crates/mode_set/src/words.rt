@@ -1,10 +1,10 @@
-// The words that a settings document chooses a value by.
+// The words that select a value in a settings document.
 ghost use Rattle.std.specs.Prelude.{◌≡◌, ℕ, List};
 ghost use Rattle.mode_set.specs.Values.{chosen, mode_words, shape_words, hierarchy_words, rate_words, guard_words, start_words};
 
 use crate::{Guard, Hierarchy, Mode, Rate, Shape, Start};
 
-/// A value that a document names by a word.
+/// A value that a document selects by a word.
 pub(crate) trait Word: Copy {
     ghost words: { List (List ℕ × Self) };
 

@@ -18,7 +18,7 @@ use Rattle.transmission.proofs.Rounding.{enough, least}
 use Rattle.modulator.specs.Carrying.{AreLeastFor}
 
 -- ---- lists whose numbers rise
--- the first i entries of a list have begun by a super-frame, the others begin behind it
+-- the first i entries of a list have begun by a super-frame, the others begin after it
 pub record IsBetween (l : List Entry) (i start : ℕ) : Type 0 where
   pub begun : (k : ℕ) → k < i → (get_or l k filler).after ≤ start
   pub later : (k : ℕ) → i ≤ k → k < length l → start < (get_or l k filler).after
@@ -77,7 +77,7 @@ not_yet n a l = go (cases_Bool (nat_le n a))
     go (inl e) = absurd (let m = leb-true n a e in omega (arith, m, l))
     go (inr e) = e
 
--- from one change up to the next one the parameters are those of its first super-frame
+-- from one change to the next the parameters are those of its first super-frame
 pub stays_between : (s : Settings) (i start j : ℕ) → IsBetween (entries_of s.plan) i start → start ≤ j → ((k : ℕ) → i ≤ k → k < length (entries_of s.plan) → j < (get_or (entries_of s.plan) k filler).after)
     → entry s j ≡ entry s start
 stays_between s i start j is from before = same_entry s j start each
@@ -104,7 +104,7 @@ words_up_to more s σ start words span (suc k) alike l =
     let product : suc k * words ≡ k * words + words = omega arith in
     omega (arith, next, one, rest, product)
 
--- the words that a call gives are those of each of these super-frames
+-- the words that a call returns are those of each of these super-frames
 pub alike_between : ParametersChange → (s : Settings) (σ : Stream) (i start span words : ℕ) → IsBetween (entries_of s.plan) i start
     → ((k : ℕ) → i ≤ k → k < length (entries_of s.plan) → start + span ≤ (get_or (entries_of s.plan) k filler).after)
     → words ≡ words_per_super_frame (with_entry s (entry s start)) σ → AreAlike s σ start words span
@@ -156,7 +156,7 @@ module _ (grow : WordsGrow) (more : WordsOfOneMore) (s : Settings) (σ : Stream)
               at (inl m) = early k (omega (arith, m)) h
               at (inr m) = late (k - start) (omega (arith, m)) (omega (arith, m, l))
 
-  -- where super-frames carry nothing any more, and had too little before, no number suffices
+  -- if super-frames carry no more words, and had too few before, no number suffices
   pub none_least : words_before s σ start < wanted → ((span : ℕ) → AreAlike s σ start words span) → words ≡ 0 → (n : ℕ) → wanted ≤ words_before s σ n → ⊥
   none_least few alike none n h = go (cases_lt n start)
     where
@@ -177,7 +177,7 @@ pub alike_later : ParametersChange → (s : Settings) (σ : Stream) (i start wor
     → words ≡ words_per_super_frame (with_entry s (entry s start)) σ → (span : ℕ) → AreAlike s σ start words span
 alike_later change s σ i start words is all are span = alike_between change s σ i start span words is (λ k m less. absurd (omega (arith, m, less, all))) are
 
--- up to the next change, too
+-- the same up to the next change
 pub alike_to_next : ParametersChange → (s : Settings) (σ : Stream) (i start next words : ℕ) → IsTrue (is_rising (entries_of s.plan)) → IsBetween (entries_of s.plan) i start → i < length (entries_of s.plan)
     → next ≡ (get_or (entries_of s.plan) i filler).after → words ≡ words_per_super_frame (with_entry s (entry s start)) σ → (start ≤ next) × AreAlike s σ start words (next - start)
 alike_to_next change s σ i start next words rising is less at are =
@@ -196,7 +196,7 @@ alike_to_next change s σ i start next words rising is less at are =
         go (inl l) here = let up = numbers_rise (entries_of s.plan) i k rising l few in omega (arith, here, up)
         go (inr l) here = let e : k ≡ i = omega (arith, l, m) in subst (λ (z : ℕ). start + (next - start) ≤ (get_or (entries_of s.plan) z filler).after) (sym e) (omega (arith, here))
 
--- how the loop goes on past a change
+-- how the loop continues after a change
 pub go_on : WordsOfOneMore → (s : Settings) (σ : Stream) (i start next words carried wanted : ℕ) → IsTrue (is_rising (entries_of s.plan)) → IsBetween (entries_of s.plan) i start → i < length (entries_of s.plan)
     → next ≡ (get_or (entries_of s.plan) i filler).after → start ≤ next → AreAlike s σ start words (next - start) → carried ≡ words_before s σ start → carried < wanted → (next - start) * words < wanted - carried
     → (carried + (next - start) * words ≡ words_before s σ (start + (next - start))) × (carried + (next - start) * words < wanted) × IsBetween (entries_of s.plan) (i + 1) (start + (next - start))

@@ -98,7 +98,7 @@ holds_rest sender waiting new packets n taken k now h l e en =
           ∙ ap (λ (z : ℕ). bits_from (path_of (outer_byte packets)) z (1632 * n - taken - k)) place ∙ ap (bits_from (path_of (outer_byte packets)) (now + 6)) rest;
     }
 
--- ---- other packets that begin alike
+-- ---- other packets with a common prefix
 same_paths : SameBeginning → (packets other : List (List ℕ)) (n i : ℕ) → ((j : ℕ) → j < n → packet_at packets j ≡ packet_at other j) → i < 1632 * n + 6 → path_of (outer_byte packets) i ≡ path_of (outer_byte other) i
 same_paths alike packets other n i same l = same_path (outer_byte packets) (outer_byte other) (204 * n) i (alike packets other n same) (omega (arith, l))
 
@@ -109,7 +109,7 @@ holds_other alike sender waiting packets other n taken h same = record {
   bits = h.bits ∙ same_run (path_of (outer_byte packets)) (path_of (outer_byte other)) (taken + 6) (1632 * n - taken) (λ i l. same_paths alike packets other n i same (omega (arith, l, h.within)));
 }
 
--- the register, too
+-- the same for the register
 pub register_other : SameBeginning → (packets other : List (List ℕ)) (n taken : ℕ) (register : List Bool) → taken ≤ 1632 * n → ((i : ℕ) → i < n → packet_at packets i ≡ packet_at other i) → register ≡ bits_from (path_of (outer_byte packets)) taken 6
     → register ≡ bits_from (path_of (outer_byte other)) taken 6
 register_other alike packets other n taken register within same e = e ∙ same_run (path_of (outer_byte packets)) (path_of (outer_byte other)) taken 6 (λ i l. same_paths alike packets other n i same (omega (arith, l, within)))

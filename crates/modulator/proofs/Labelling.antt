@@ -1,4 +1,4 @@
--- The labels of a symbol, whatever the streams.
+-- The labels of a symbol, for any streams.
 use Rattle.std.proofs.Common.{◌≡◌, ℕ, ◌+◌, ◌^◌, ◌<◌, ◌≤◌, Bool, false, List, [], ◌++◌, length, take, get_or, sym, ap, ◌∙◌, subst, arith}
 use Rattle.std.proofs.lemmas.List.{get_or_append_left, get_or-append-add, get_or-take, length-take-le}
 use Rattle.spec_words.specs.Bits.{bit, is_set}
@@ -11,7 +11,7 @@ use Rattle.inner_chain.specs.Labels.{Paths, TxState, IsBefore, AppendsLabels, la
 use Rattle.frame_build.specs.Symbol.{Agree, bits_of}
 use Rattle.modulator.proofs.Runs.{run_is}
 
--- a path that begins with the register and the waiting bits
+-- a path that begins with the register and the pending bits
 abbrev pub own_paths : TxState → List Bool → List Bool → Paths
 own_paths st hp lp Hp = bit (st.hp ++ hp)
 own_paths st hp lp Lp = bit (st.lp ++ lp)
@@ -38,7 +38,7 @@ own_hp s st hp lp e l = own_input st.hp hp (need s Hp) e l
 pub own_lp : (s : Settings) (st : TxState) (hp lp : List Bool) → length st.lp ≡ 6 → need s Lp ≤ length lp → take (need s Lp) lp ≡ bits_from (own_paths st hp lp Lp) 6 (need s Lp)
 own_lp s st hp lp e l = own_input st.lp lp (need s Lp) e l
 
--- labels behind nothing
+-- labels with nothing before them
 only_labels : (s : Settings) (odd : Bool) (bits : Stream → ℕ → Bool) (old new : List ℕ) (a : AppendsLabels s odd bits old new) → old ≡ [] → new ≡ a.labels
 only_labels s odd bits old new a e = a.is ∙ ap (λ (z : List ℕ). z ++ a.labels) e
 

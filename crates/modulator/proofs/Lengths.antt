@@ -1,4 +1,4 @@
--- The number of super-frames is the greater one of those of the streams.
+-- The number of super-frames is the greater of those of the streams.
 use Rattle.std.proofs.Common.{◌≡◌, ℕ, ◌+◌, ◌<◌, ◌≤◌, ◌⊎◌, inl, inr, true, false, sym, ap, ◌∙◌, arith, max}
 use Rattle.std.specs.Prelude.{None}
 use Rattle.std.proofs.Math.Nat.{le-max_left, le-max_right, max-le}

@@ -14,7 +14,7 @@ use Rattle.forney.specs.Values.{values}
 pub length-run : (f : ℕ → Bool) (t n : ℕ) → length (bits_from f t n) ≡ n
 length-run f t n = length-map-range_with_len f t n
 
--- one run behind another
+-- one run after another
 pub runs_join : (f : ℕ → Bool) (t a b : ℕ) → bits_from f t (a + b) ≡ bits_from f t a ++ bits_from f (t + a) b
 runs_join f t zero b = let none : 0 + b ≡ b = omega arith in let here : t + 0 ≡ t = omega arith in ap (bits_from f t) none ∙ ap (λ (z : ℕ). bits_from f z b) (sym here)
 runs_join f t (suc a) b =
@@ -50,7 +50,7 @@ same_run f g t zero same = refl
 same_run f g t (suc n) same =
     ap (λ (z : Bool). z ∷ bits_from f (t + 1) n) (same t (omega arith)) ∙ ap (λ (z : List Bool). g t ∷ z) (same_run f g (t + 1) n (λ i l. same i (omega (arith, l))))
 
--- the bits of bytes of a stream, one after another, are a run of its path
+-- the bits of consecutive bytes of a stream are a run of its path
 pub bytes_run : BytesArePaths → (bytes : ℕ → ℕ) (p n : ℕ) → bits_of_bytes (values bytes p n) ≡ bits_from (path_of bytes) (8 * p + 6) (8 * n)
 unfolding values
 bytes_run law bytes p zero = refl
@@ -80,7 +80,7 @@ bits_push : (xs : List ℕ) (b : ℕ) → bits_of_bytes (xs ++ b ∷ []) ≡ bit
 bits_push [] b = append-nil (spelled 8 b)
 bits_push (x ∷ xs) b = ap (λ (z : List Bool). spelled 8 x ++ z) (bits_push xs b) ∙ sym (append_assoc (spelled 8 x) (bits_of_bytes xs) (spelled 8 b))
 
--- a byte more of a word
+-- one more byte of a word
 pub byte_more : (old now new : List Bool) (w : List ℕ) (i : ℕ) → i < length w → now ≡ old ++ bits_of_bytes (take i w) → new ≡ now ++ spelled 8 (get_or w i 0) → new ≡ old ++ bits_of_bytes (take (i + 1) w)
 byte_more old now new w i l e is =
     is ∙ ap (λ (z : List Bool). z ++ spelled 8 (get_or w i 0)) e ∙ append_assoc old (bits_of_bytes (take i w)) (spelled 8 (get_or w i 0))

@@ -1,4 +1,4 @@
--- What a modulator stands for, step by step.
+-- The state of a modulator, step by step.
 use Rattle.std.proofs.Common.{◌≡◌, ℕ, zero, suc, ◌+◌, ◌-◌, ◌*◌, ◌/◌, ◌%◌, ◌^◌, ◌<◌, ◌≤◌, Bool, true, false, cond, List, [], ◌∷◌, ◌++◌, length, take, drop, refl, sym, ap, ◌∙◌, subst, arith}
 use Rattle.std.specs.Prelude.{Option, Some, None, IfSome, nat_lt}
 use Rattle.std.proofs.lemmas.Bool.{lt-ltb, le-ltb, ltb-false}
@@ -72,7 +72,7 @@ want_is more m s made p next room kept wants.Hp hp lp none = sym (want_hp more m
 want_is more m s made p next room kept wants.Lp hp lp none = let both = lp refl in sym (want_lp more m s made p next room kept both.0 both.1)
 want_is more m s made p next room kept wants.Symbol hp lp none = let both = none refl in sym (want_none more m s made p next room kept both.0 both.1)
 
--- the same by settings that are those of the symbol
+-- the same with the settings of the symbol
 pub want_at : StepsOfOneMore → (m : Mode) (s z : Settings) (made : ℕ) (p : Parts) (next : NextSymbol) (room : ℕ) → z ≡ settings_at s made → IsKept m s made p next room → (w : Want)
     → (w ≡ wants.Hp → length p.hp_waiting < need z Hp) → (w ≡ wants.Lp → (need z Hp ≤ length p.hp_waiting) × (length p.lp_waiting < need z Lp)) → (w ≡ wants.Symbol → (need z Hp ≤ length p.hp_waiting) × (need z Lp ≤ length p.lp_waiting))
     → stream_of w ≡ wanted (transmitter s made p)
@@ -82,7 +82,7 @@ want_at more m s z made p next room is kept w hp lp none =
     (λ e. subst (λ (y : Settings). (need y Hp ≤ length p.hp_waiting) × (length p.lp_waiting < need y Lp)) is (lp e))
     (λ e. subst (λ (y : Settings). (need y Hp ≤ length p.hp_waiting) × (need y Lp ≤ length p.lp_waiting)) is (none e))
 
--- where a symbol is wanted its bits wait
+-- if a symbol is wanted, its bits are pending
 enough : (a b need w : ℕ) → b ≡ a + need → (a + w) % 1632 ≡ 0 → rounded_up b 1632 ≤ (a + w) / 1632 → need ≤ w
 enough a b need w next e l = omega (arith, next, e, l)
 
@@ -110,7 +110,7 @@ register_at path n register e = let same : n + 0 ≡ n = omega arith in e ∙ sy
 register_of_path : (path : ℕ → Bool) (n : ℕ) (register : List Bool) → register ≡ bits_from (from_step path n) 0 6 → register ≡ bits_from path n 6
 register_of_path path n register e = let same : n + 0 ≡ n = omega arith in e ∙ run_from path n 0 n 6 same
 
--- behind a symbol of so many steps
+-- the register after a symbol of k steps
 register_behind : (path : ℕ → Bool) (n k u : ℕ) (register : List Bool) → u ≡ n + k → register ≡ bits_from (from_step (from_step path n) k) 0 6 → register ≡ bits_from (from_step path u) 0 6
 register_behind path n k u register e is =
     let none : k + 0 ≡ k = omega arith in
@@ -156,7 +156,7 @@ has_put_nothing none s p inner hp lp hp_sends lp_sends hp_bits lp_bits inputs = 
 pub none_put : NoSteps → (s : Settings) (p : Parts) → p.hp_waiting ≡ [] → p.lp_waiting ≡ [] → ((transmitter s 0 p).hp ≡ 0) × ((transmitter s 0 p).lp ≡ 0)
 none_put none s p hp_bits lp_bits = ((no_bits (steps_before s Hp 0) p.hp_waiting (none s Hp) hp_bits).0, (no_bits (steps_before s Lp 0) p.lp_waiting (none s Lp) lp_bits).0)
 
--- ---- other streams that begin alike
+-- ---- other streams with a common prefix
 pub other_streams : SameBeginning → OtherStreams
 other_streams alike t inputs other h same = record {
   settings = h.settings;
@@ -186,7 +186,7 @@ one_packet a old new e = (go (length old) (length new) e, λ h. rest (length old
     rest : (x y : ℕ) → y ≡ x + 1632 → (a + x) % 1632 ≡ 0 → (a + y) % 1632 ≡ 0
     rest x y e h = omega (arith, e, h)
 
--- what putting a packet does to a stream
+-- the effect of a packet on a stream
 abbrev pub Feeds : Sender → List Bool → Sender → List Bool → List ℕ → Type 0
 Feeds sender waiting new_sender new_waiting packet = (packets : List (List ℕ)) (n taken : ℕ) → HoldsBits sender waiting packets n taken → packet ≡ packet_at packets n → HoldsBits new_sender new_waiting packets (n + 1) taken
 
@@ -353,13 +353,13 @@ put_kept more m s z made p next room inner inputs is kept none same at h =
 pub stands_kept : (old new : Transmitter) (packets : Inputs) → new.hp ≡ old.hp → new.lp ≡ old.lp → (HasPut old packets → HasPut new packets) → StandsFor old packets → StandsFor new packets
 stands_kept old new packets hp lp put st = record { hp = st.hp ∙ sym hp; lp = st.lp ∙ sym lp; put = put st.put }
 
--- what is written is the symbol of the transmission
+-- the bytes written are the symbol of the transmission
 tx_symbol_is : (s : Settings) (inputs : Inputs) (m : ℕ)
     → tx_symbol s inputs m ≡ announcing_bytes (settings_at s m) (announced_at s m) m (label_bit (settings_at s m) (is_odd m) (coded_bits (settings_at s m) (paths_at s inputs m)))
 unfolding tx_symbol tx_label
 tx_symbol_is s inputs m = refl
 
--- the modulator after a symbol, whose parts took these bits
+-- the modulator after a symbol, with these bits taken from its parts
 pub record AfterSymbol (old new : Transmitter) : Type 0 where
   pub hp : new.hp ≡ old.hp
   pub lp : new.lp ≡ old.lp
@@ -368,7 +368,7 @@ pub record AfterSymbol (old new : Transmitter) : Type 0 where
 taken_at : (s z : Settings) (σ : Stream) (waiting new : List Bool) → z ≡ s → new ≡ drop (need z σ) waiting → drop (need s σ) waiting ≡ new
 taken_at s z σ waiting new e is = sym (is ∙ ap (λ (y : Settings). drop (need y σ) waiting) e)
 
--- what the inner coder did with the settings of the symbol
+-- the effect of the inner coder with the settings of the symbol
 abbrev pub GoesOn : Settings → Parts → TxState → Type 0
 GoesOn z p inner = (paths : Paths) → IsBefore p.inner paths → take (need z Hp) p.hp_waiting ≡ input_bits z paths Hp → take (need z Lp) p.lp_waiting ≡ input_bits z paths Lp → IsBefore inner (behind z paths)
 
@@ -385,7 +385,7 @@ symbol_made more m s z made p next room inner hp lp is kept none same eh el goes
           (goes (paths_at s inputs made) h.inner (hp_input more m s z made p next room inputs is kept none h) (lp_input more m s z made p next room inputs is kept none h)) h;
     }))
 
--- the labels that the inner coder gave with the settings of the symbol
+-- the labels from the inner coder with the settings of the symbol
 abbrev pub Labels : Settings → ℕ → Parts → List ℕ → Type 0
 Labels z made p labels = (paths : Paths) → IsBefore p.inner paths → take (need z Hp) p.hp_waiting ≡ input_bits z paths Hp → take (need z Lp) p.lp_waiting ≡ input_bits z paths Lp
     → Agree z (bits_of labels) (label_bit z (is_odd made) (coded_bits z paths))
@@ -394,7 +394,7 @@ pub record AreCells (s : Settings) (made : ℕ) : Type 0 where
   pub repeats : (a b : Settings) (l : ℕ → ℕ → Bool) → announcing_bytes a b made l ≡ announcing_bytes a b (made % 272) l
   pub follow : (a b : Settings) (l k : ℕ → ℕ → Bool) → a.mode ≡ s.mode → Agree a l k → announcing_bytes a b made l ≡ announcing_bytes a b made k
 
--- what is written, by settings that are those of the symbol and of the next super-frame
+-- the bytes written, with the settings of the symbol and of the next super-frame
 pub bytes_made : ModeStays → StepsOfOneMore → (m : Mode) (s z now coming : Settings) (made : ℕ) (p : Parts) (next : NextSymbol) (room : ℕ) (labels : List ℕ) (inputs : Inputs)
     → z ≡ settings_at s made → now ≡ settings_at s made → coming ≡ announced_at s made → IsKept m s made p next room → wanted (transmitter s made p) ≡ None
     → AreCells s made → Labels z made p labels → HasPut (transmitter s made p) inputs → announcing_bytes now coming next.number (bits_of labels) ≡ tx_symbol s inputs made
@@ -409,7 +409,7 @@ bytes_made stay more m s z now coming made p next room labels inputs ez en ec ke
     ∙ cells.follow (settings_at s made) (announced_at s made) (bits_of labels) (label_bit (settings_at s made) (is_odd made) (coded_bits (settings_at s made) (paths_at s inputs made))) (stay s (made / 272)) agree
     ∙ sym (tx_symbol_is s inputs made)
 
--- what is kept after a symbol
+-- the invariant after a symbol
 pub kept_made : StepsOfOneMore → (m : Mode) (s z : Settings) (made : ℕ) (p : Parts) (next after : NextSymbol) (room left : ℕ) (inner : TxState) (hp lp : List Bool) → z ≡ settings_at s made → IsKept m s made p next room → wanted (transmitter s made p) ≡ None
     → made < 2 ^ 32 → inner.settings ≡ p.inner.settings → length inner.hp ≡ 6 → length inner.lp ≡ 6 → after.settings ≡ next.settings → after.number ≡ (next.number + 1) % 272 → left ≡ room
     → hp ≡ drop (need z Hp) p.hp_waiting → lp ≡ drop (need z Lp) p.lp_waiting → IsKept m s (made + 1) (parts_of p.hp_sender p.lp_sender hp lp inner) after left

@@ -1,4 +1,4 @@
--- What is seen of a modulator, and what it stands for.
+-- The visible state of a modulator, and its meaning.
 use Rattle.std.specs.Prelude.{◌≡◌, ℕ, ◌+◌, ◌/◌, ◌%◌, ◌^◌, ◌≤◌, Bool, List, [], ◌∷◌, ◌++◌, length, Option, Some, None, IfSome}
 use Rattle.mode_set.specs.StreamTable.{payload}
 use Rattle.mode_set.specs.declared.modes.Mode.{Mode}
@@ -14,7 +14,7 @@ use Rattle.transmission.specs.Transmission.{Inputs, by_stream, paths_at}
 use Rattle.transmission.specs.Agenda.{next_stream}
 use Rattle.modulator.specs.Streams.{HoldsBits}
 
--- what a modulator's parts hold: the sender of each stream's outer code, the bits of each that wait for symbols, the inner coder
+-- the parts of a modulator: the sender of each stream's outer code, the pending bits of each stream, the inner coder
 pub record Parts : Type 0 where
   pub hp_sender : Sender
   pub lp_sender : Sender
@@ -22,7 +22,8 @@ pub record Parts : Type 0 where
   pub lp_waiting : List Bool
   pub inner : TxState
 
--- what is seen: the settings, the symbols made so far, the packets put of each stream; and the parts, which contracts only hand on
+-- the visible state: the settings, the symbols made, the packets put into each stream, and the parts, which contracts
+-- only pass on
 pub record Transmitter : Type 0 where
   pub settings : Settings
   pub made : ℕ
@@ -30,14 +31,15 @@ pub record Transmitter : Type 0 where
   pub lp : ℕ
   pub parts : Parts
 
--- the packets put of a stream: each has 1632 bits, which symbols took or which wait
+-- the packets put into a stream: 1632 bits each, used by symbols or pending
 abbrev pub packets_in : ℕ → List Bool → ℕ
 packets_in taken waiting = (taken + length waiting) / 1632
 
 abbrev pub transmitter : Settings → ℕ → Parts → Transmitter
 transmitter s made parts = record { settings = s; made = made; hp = packets_in (steps_before s Hp made) parts.hp_waiting; lp = packets_in (steps_before s Lp made) parts.lp_waiting; parts = parts }
 
--- what a modulator keeps: its parts are of the same settings and at the same symbol, no more symbols were made than 32 bits count, each stream has whole packets, and there is room for the labels of a symbol
+-- The invariant of a modulator. Its parts have the same settings and symbol, it has made at most 2^32 symbols, each
+-- stream has whole packets, and there is space for the labels of a symbol.
 pub record IsKept (m : Mode) (s : Settings) (made : ℕ) (parts : Parts) (next : NextSymbol) (room : ℕ) : Type 0 where
   pub mode : s.mode ≡ m
   pub inner : parts.inner.settings ≡ s
@@ -50,28 +52,29 @@ pub record IsKept (m : Mode) (s : Settings) (made : ℕ) (parts : Parts) (next :
   pub lp_whole : (steps_before s Lp made + length parts.lp_waiting) % 1632 ≡ 0
   pub labels : payload s.mode ≤ room
 
--- the stream of which the next symbol wants a packet; none where the packets suffice
+-- the stream of the next packet to put; none if the next symbol has enough
 abbrev pub wanted : Transmitter → Option Stream
 wanted t = next_stream t.settings t.made t.hp t.lp
 
--- The packets put are the first ones of these streams, which null packets follow without end; of their bits those of the symbols made were taken.
+-- The packets put are the first ones of these streams, followed by null packets without end. The symbols made used the
+-- first of their bits.
 pub record HasPut (t : Transmitter) (inputs : Inputs) : Type 0 where
   pub settings : t.parts.inner.settings ≡ t.settings
   pub hp : HoldsBits t.parts.hp_sender t.parts.hp_waiting (inputs Hp) t.hp (steps_before t.settings Hp t.made)
   pub lp : HoldsBits t.parts.lp_sender t.parts.lp_waiting (inputs Lp) t.lp (steps_before t.settings Lp t.made)
   pub inner : IsBefore t.parts.inner (paths_at t.settings inputs t.made)
 
--- The modulator stands for these packet lists: they are the packets put.
+-- The packets put into the modulator are exactly these lists.
 pub record StandsFor (t : Transmitter) (packets : Inputs) : Type 0 where
   pub hp : length (packets Hp) ≡ t.hp
   pub lp : length (packets Lp) ≡ t.lp
   pub put : HasPut t packets
 
--- a packet is the next one of these streams that is wanted
+-- the packet is the next wanted one of these streams
 abbrev pub IsNext : Transmitter → Inputs → List ℕ → Type 0
 IsNext t inputs packet = IfSome (wanted t) (λ σ. packet ≡ packet_at (inputs σ) (by_stream t.hp t.lp σ))
 
--- a packet more of a stream
+-- one more packet of a stream
 abbrev pub with_packet : Inputs → Option Stream → List ℕ → Inputs
 with_packet packets None p σ = packets σ
 with_packet packets (Some Hp) p Hp = packets Hp ++ p ∷ []
@@ -83,7 +86,7 @@ with_packet packets (Some Lp) p Lp = packets Lp ++ p ∷ []
 abbrev pub no_packets : Inputs
 no_packets σ = []
 
--- as many packets more of each stream as a wanted one gives it
+-- the wanted stream has one more packet
 abbrev pub HasOneMore : Option Stream → Transmitter → Transmitter → Type 0
 HasOneMore None old new = (new.hp ≡ old.hp) × (new.lp ≡ old.lp)
 HasOneMore (Some Hp) old new = (new.hp ≡ old.hp + 1) × (new.lp ≡ old.lp)

@@ -5,11 +5,12 @@ use Rattle.puncture.specs.SentBits.{path_of, bits_from}
 use Rattle.outer_chain.specs.Sent.{packet_at, outer_byte}
 use Rattle.outer_chain.specs.Sending.{Sender, Sends}
 
--- the first n packets of a stream, null packets behind its end
+-- the first n packets of a stream, with null packets past its end
 abbrev pub first_of : List (List ℕ) → ℕ → List (List ℕ)
 first_of packets n = map (packet_at packets) (numbers n)
 
--- The first n packets of a stream were put, and symbols took that many bits of their outer words, of 1632 bits each: the sender of the outer code has had the packets, and the other bits wait.
+-- The first n packets of a stream were put, and symbols used `taken` bits of their outer words, of 1632 bits each. The
+-- outer-code sender has had the packets, and the other bits are pending.
 pub record HoldsBits (sender : Sender) (waiting : List Bool) (packets : List (List ℕ)) (n taken : ℕ) : Type 0 where
   pub sends : Sends sender (first_of packets n)
   pub within : taken ≤ 1632 * n

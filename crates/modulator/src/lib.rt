@@ -1,8 +1,7 @@
-//! The transmitter: transport packets of one stream or two become the symbols of a transmission, one
-//! after another.
+//! The transmitter: transport packets of one or two streams become the symbols of a transmission, one after another.
 //!
-//! EN 300 744, clause 4. The order of work is this project's own: packets are taken as the next symbol
-//! wants them, those of the high priority stream first.
+//! EN 300 744, clause 4. The order of work is this project's own: packets are taken when the next symbol needs them,
+//! those of the high priority stream first.
 #![tactic(auto)]
 
 pub mod laws;

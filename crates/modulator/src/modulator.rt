@@ -24,7 +24,7 @@ use symbol_parameters::parameters_of_symbol;
 use transmission::laws::super_frames as super_frames_are_least;
 use ts_packet::Packet;
 
-// What the next symbol wants, by the bits that wait.
+// What the next symbol needs, given the pending bits.
 fn want_of(settings: &Settings, hp: &WaitBuf, lp: &WaitBuf) -> Want
     ensures hp { result ≡ Want.Hp → length hp.now < need settings.now streams.Hp }
     ensures lp { result ≡ Want.Lp → (need settings.now streams.Hp ≤ length hp.now) × (length lp.now < need settings.now streams.Lp) }
@@ -49,12 +49,11 @@ fn settings_of_next(settings: &Settings, made: u64) -> Settings
     settings.with_entry(&parameters_of_symbol(settings, made))
 }
 
-/// A transmitter: packets are put as [`wants`](Modulator::wants) asks for them, and symbols are made of
-/// them.
+/// A transmitter: packets are put in as [`wants`](Modulator::wants) asks for them, and symbols are made from them.
 ///
-/// It is seen as its settings, the number of symbols made and the numbers of packets put of each stream.
-/// It stands for the packets put (`StandsFor`), and so for the beginning of every transmission of streams
-/// that begin with them (`HasPut`). No call but `new` takes memory.
+/// Contracts see its settings, the number of symbols made and the number of packets put into each stream. Its state
+/// matches the packets put (`StandsFor`), and so the start of every transmission of streams that begin with them
+/// (`HasPut`). Only `new` allocates memory.
 #[derive(Drop)]
 pub struct Modulator<M: Carriers> {
     settings: Settings,
@@ -62,7 +61,7 @@ pub struct Modulator<M: Carriers> {
     lp: StreamTx,
     inner: InnerTx<M>,
     out: SymbolOut<M>,
-    // The labels of the last symbol, in room for those of any.
+    // The labels of the last symbol, with space for any.
     labels: Vec<u8>,
     made: u64,
 }
@@ -79,7 +78,7 @@ impl<M: Carriers> Model for Modulator<M> {
 }
 
 impl<M: Carriers> Modulator<M> {
-    /// The modulator before the first packet. It takes all its memory; the only error is want of it.
+    /// The modulator before the first packet. It allocates all its memory; the only error is lack of memory.
     pub fn new(alloc: Global, settings: &Settings) -> Result<Self, AllocError>
         requires { settings.now.mode ≡ M.MODE }
         ensures settings { IfOk result (λ tx. tx.settings ≡ settings.now) }
@@ -101,8 +100,8 @@ impl<M: Carriers> Modulator<M> {
         })
     }
 
-    /// What is to be done next: HP where the packets of HP do not suffice for the next symbol, else LP
-    /// likewise, else the symbol. Where there is no LP in the symbol's super-frame it is never wanted.
+    /// What to do next: put a packet of HP if the next symbol needs one, otherwise one of LP if it needs one, otherwise
+    /// make the symbol. LP is never wanted if the symbol's super-frame has no LP.
     pub fn wants(&self) -> Want
         ensures { stream_of result ≡ wanted self.now }
     {
@@ -111,7 +110,7 @@ impl<M: Carriers> Modulator<M> {
         want_of(&settings, &self.hp.waiting, &self.lp.waiting)
     }
 
-    /// Puts the next packet of the stream that is wanted.
+    /// Puts in the next packet of the wanted stream.
     pub fn put(&mut self, packet: &Packet)
         requires wanted { wanted self.old ≢ None }
         ensures settings { self.new.settings ≡ self.old.settings }
@@ -130,9 +129,9 @@ impl<M: Carriers> Modulator<M> {
         }
     }
 
-    /// Makes the next symbol of the transmission and appends its bytes, five for each carrier: its cell
-    /// and the weight 15. They are those behind the header of a cell file. It is called where `wants`
-    /// answers `Symbol` and fewer than 2^32 symbols are made, and the spare of `to` has room for the bytes.
+    /// Makes the next symbol of the transmission and appends its bytes, five for each carrier: its cell and weight 15.
+    /// They are those after the header of a cell file. Call it if `wants` returns `Symbol` and fewer than 2^32 symbols
+    /// were made; the spare capacity of `to` must suffice for the bytes.
     pub fn symbol(&mut self, to: &mut Vec<u8>)
         requires wanted { wanted self.old ≡ None }
         requires few { self.old.made < 2 ^ 32 }
@@ -144,7 +143,7 @@ impl<M: Carriers> Modulator<M> {
         ensures put { (inputs : Inputs) → HasPut self.old inputs → HasPut self.new inputs }
         ensures stands { (packets : Inputs) → StandsFor self.old packets → StandsFor self.new packets }
 
-        // The bytes are those of the next symbol of every transmission that begins with the packets put.
+        // The bytes are those of the next symbol in every transmission that begins with the packets put.
         ensures bytes { (inputs : Inputs) → HasPut self.old inputs → to.new.items ≡ to.old.items ++ tx_symbol self.old.settings inputs self.old.made }
         ensures len { vec_len to.new ≡ vec_len to.old + 5 * M.K }
         ensures capacity { vec_capacity to.new ≡ vec_capacity to.old }
@@ -167,9 +166,9 @@ impl<M: Carriers> Modulator<M> {
         self.made += 1;
     }
 
-    /// Makes the next symbol, and writes its bytes over the slice, which has five for each carrier: those
-    /// that [`symbol`](Modulator::symbol) appends, on the same conditions but for the room. It is the faster
-    /// of the two.
+    /// Makes the next symbol, and writes its bytes over the slice, which has five for each carrier: the bytes that
+    /// [`symbol`](Modulator::symbol) appends, on the same conditions except for the capacity. It is the faster of the
+    /// two.
     pub fn symbol_into(&mut self, to: &mut [u8])
         requires wanted { wanted self.old ≡ None }
         requires few { self.old.made < 2 ^ 32 }
@@ -181,7 +180,7 @@ impl<M: Carriers> Modulator<M> {
         ensures put { (inputs : Inputs) → HasPut self.old inputs → HasPut self.new inputs }
         ensures stands { (packets : Inputs) → StandsFor self.old packets → StandsFor self.new packets }
 
-        // The bytes are those of the next symbol of every transmission that begins with the packets put.
+        // The bytes are those of the next symbol in every transmission that begins with the packets put.
         ensures bytes { (inputs : Inputs) → HasPut self.old inputs → to.new ≡ tx_symbol self.old.settings inputs self.old.made }
     {
         steps();
@@ -203,16 +202,16 @@ impl<M: Carriers> Modulator<M> {
         self.made = made + 1;
     }
 
-    /// The symbols made so far.
+    /// The number of symbols made so far.
     pub fn made(&self) -> u64
         ensures { result ≡ self.now.made }
     {
         self.made
     }
 
-    /// The super-frames of a transmission of so many packets: the least number, at least 1, that carries
-    /// the packets of each stream and eleven words more. It is `None` exactly where no number does, since
-    /// a stream is absent from some super-frame on. Each stream has at most 100,000,000 packets.
+    /// The super-frames of a transmission with these numbers of packets: the least number, at least 1, that carries the
+    /// packets of each stream and eleven words more. `None` exactly if no number does, as a stream is absent from some
+    /// super-frame on. Each stream has at most 100,000,000 packets.
     pub fn super_frames(settings: &Settings, n_hp: u64, n_lp: u64) -> Option<u64>
         requires hp { n_hp ≤ 100000000 }
         requires lp { n_lp ≤ 100000000 }

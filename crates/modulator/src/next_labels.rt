@@ -10,8 +10,8 @@ use bit_pack::WaitBuf;
 use inner_chain::InnerTx;
 use mode_set::{Carriers, Entry};
 
-/// Takes the bits of the next symbol of each stream, and puts the symbol's labels in the place of those
-/// that stand in `labels`. `entry` has the symbol's parameters.
+/// Takes the bits of the next symbol of each stream, and replaces the content of `labels` by the symbol's labels.
+/// `entry` has the symbol's parameters.
 pub(crate) fn next_labels<M: Carriers>(
     entry: &Entry,
     odd: bool,

@@ -1,4 +1,4 @@
-// A stream on its way from its packets to the symbols.
+// A stream between its packets and the symbols.
 ghost use Rattle.std.specs.Prelude.{◌≡◌, ◌+◌, ◌*◌, ◌<◌, ◌≤◌, ◌++◌, ℕ, List, [], length, IfOk};
 ghost use Rattle.bit_pack.specs.Queue.{bits_of_bytes};
 ghost use Rattle.outer_chain.specs.Sent.{packet_at};
@@ -12,7 +12,7 @@ use puncture::bytes_are_paths;
 use std::alloc::{AllocError, Global};
 use ts_packet::Packet;
 
-/// The outer coder of a stream, and the bits of its outer words that wait for symbols.
+/// The outer coder of a stream, and the pending bits of its outer words.
 #[derive(Drop)]
 pub(crate) struct StreamTx {
     pub outer: OuterTx,
@@ -31,7 +31,7 @@ fn push_word(word: &[u8], to: &mut WaitBuf)
 }
 
 impl StreamTx {
-    /// No packet was put. It takes all its memory.
+    /// Before the first packet. It allocates all its memory.
     pub fn new(alloc: Global) -> Result<StreamTx, AllocError>
         ensures outer { IfOk result (λ stream. Sends stream.outer []) }
         ensures waiting { IfOk result (λ stream. stream.waiting ≡ []) }
@@ -42,7 +42,7 @@ impl StreamTx {
         })
     }
 
-    /// Puts a packet: the 1632 bits of the next outer word wait behind the others.
+    /// Puts in a packet: the 1632 bits of the next outer word become pending.
     pub fn put(&mut self, packet: &Packet)
         requires room { length self.old.waiting + 1632 ≤ 36864 }
         ensures amount { length self.new.waiting ≡ length self.old.waiting + 1632 }

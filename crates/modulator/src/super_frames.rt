@@ -1,4 +1,4 @@
-// How many super-frames carry the words of a stream.
+// The number of super-frames that carry the words of a stream.
 ghost use Rattle.std.specs.Prelude.{◌≡◌, ◌+◌, ◌*◌, ◌<◌, ◌≤◌, IfSome, IfNone};
 ghost use Rattle.spec_words.specs.Words.{rounded_up};
 ghost use Rattle.modulator.specs.Carrying.{IsLeastFor};
@@ -6,8 +6,8 @@ ghost use Rattle.modulator.specs.Carrying.{IsLeastFor};
 use mode_set::{Settings, Stream};
 use symbol_parameters::laws::{settings as super_frame_settings, words as words_of_super_frames};
 
-// The least number of super-frames that carry so many words, where each carries `words`; none where they
-// carry nothing.
+// The least number of super-frames that carry `wanted` words, at `words` each; none if `words` is 0 and words are
+// wanted.
 fn super_frames_of(wanted: u64, words: u32) -> Option<u64>
     requires some { 0 < wanted }
     requires few { wanted ≤ 100000011 }
@@ -20,7 +20,7 @@ fn super_frames_of(wanted: u64, words: u32) -> Option<u64>
     Some(wanted.div_ceil(words as u64))
 }
 
-// The same among the next `span` super-frames.
+// The same within the next `span` super-frames.
 fn super_frames_within(wanted: u64, words: u32, span: u32) -> Option<u64>
     requires some { 0 < wanted }
     requires few { wanted ≤ 100000011 }
@@ -34,8 +34,8 @@ fn super_frames_within(wanted: u64, words: u32, span: u32) -> Option<u64>
     Some(more)
 }
 
-/// The least number of super-frames that carry so many words of a stream; none where no number does. It
-/// goes from change to change of the parameters, since between them all super-frames carry as much.
+/// The least number of super-frames that carry `wanted` words of a stream; none if no number does. It advances from
+/// change to change of the parameters, as all super-frames between them carry the same number.
 pub(crate) fn super_frames_for(settings: &Settings, stream: Stream, wanted: u64) -> Option<u64>
     requires some { 0 < wanted }
     requires few { wanted ≤ 100000011 }

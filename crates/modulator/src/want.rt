@@ -1,11 +1,11 @@
-// What a modulator wants.
+// What a modulator wants next.
 
 /// What a modulator wants next: a packet of the HP or of the LP stream, or to make a symbol.
 #[derive(Clone, Copy, Debug, PartialEq, Eq)]
 pub enum Want {
-    /// The packets of HP do not suffice for the next symbol.
+    /// The next symbol needs a packet of HP.
     Hp,
-    /// Those of HP suffice, those of LP do not.
+    /// It needs a packet of LP, but none of HP.
     Lp,
     /// The packets suffice for the next symbol.
     Symbol,

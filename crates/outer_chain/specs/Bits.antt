@@ -1,4 +1,4 @@
--- Bytes of bits, the most significant bit first.
+-- Bytes as bits, most significant bit first.
 use Rattle.std.specs.Prelude.{◌≡◌, ℕ, ◌+◌, ◌-◌, ◌/◌, ◌%◌, ◌<◌, Bool, cond, List, [], ◌∷◌, ◌++◌, map}
 use Rattle.spec_words.specs.Words.{numbers}
 use Rattle.spec_words.specs.Bits.{is_set, spelled}
@@ -16,14 +16,14 @@ bytes_of _ = []
 abbrev pub bit_of_stream : (ℕ → ℕ) → ℕ → Bool
 bit_of_stream bytes i = is_set (bytes (i / 8)) (7 - i % 8)
 
--- the bits of a byte and more
+-- the first byte of a list of bits
 abbrev pub ByteOfBits : Type 0
 ByteOfBits = (byte : ℕ) (rest : List Bool) → byte < 256 → bytes_of (spelled 8 byte ++ rest) ≡ byte ∷ bytes_of rest
 
--- the first n bits of a stream of bytes are its first bytes
+-- the first n bits of a stream of bytes contain its first bytes
 abbrev pub FirstBits : Type 0
 FirstBits = (bytes : ℕ → ℕ) (n : ℕ) → ((p : ℕ) → bytes p < 256) → bytes_of (map (bit_of_stream bytes) (numbers n)) ≡ values bytes 0 (n / 8)
 
--- more bits leave the whole bytes before
+-- more bits leave the earlier whole bytes unchanged
 abbrev pub MoreBits : Type 0
 MoreBits = (bits more : List Bool) → (rest : List ℕ) × (bytes_of (bits ++ more) ≡ bytes_of bits ++ rest)

@@ -1,4 +1,4 @@
--- What a receiver has written, where its words are decoded beside one another and finished in order.
+-- The output of a receiver whose words are decoded in parallel and finished in order.
 use Rattle.std.specs.Prelude.{◌≡◌, ℕ, ◌+◌, ◌<◌, ◌≤◌, Bool, true, false, not, cond, Option, Some, None, List, [], ◌∷◌, ◌++◌}
 use Rattle.rs204.specs.Decoded.{Decoded}
 use Rattle.rs204.specs.declared.outcome.Outcome.{Outcome}
@@ -7,7 +7,7 @@ use Rattle.outer_chain.specs.Words.{word_at, word_count, IsNear, phase_of, phase
 use Rattle.outer_chain.specs.Nears.{near_of}
 use Rattle.outer_chain.specs.Receiving.{Receiver, Receives}
 
--- the counts of no word
+-- the counts of no words
 abbrev pub no_words : Tally
 no_words = record { words = 0; clean = 0; corrected = 0; bad = 0; unphased = 0 }
 
@@ -26,7 +26,7 @@ is_bad_outcome Clean = false
 is_bad_outcome (Corrected n) = false
 is_bad_outcome Bad = true
 
--- one word more, with its outcome and its phase
+-- the counts after one more word of this outcome and phase
 abbrev pub counted : Tally → Outcome → Option ℕ → Tally
 counted tally outcome phase = record {
   words = tally.words + 1;
@@ -36,12 +36,13 @@ counted tally outcome phase = record {
   unphased = cond (not (has phase)) 1 0 + tally.unphased;
 }
 
--- the bytes of a packet, where there is one
+-- the bytes of a packet, if there is one
 abbrev pub bytes_given : Option (List ℕ) → List ℕ
 bytes_given None = []
 bytes_given (Some packet) = packet
 
--- a receiver that has had these bytes, and has finished as many of their words: what it wrote for them and how it counted them; the words behind those wait to be finished
+-- A receiver after these bytes that has finished the first `done` words: what it wrote for them, and their counts. The
+-- words after them are still waiting.
 pub record Finished (receiver : Receiver) (bytes out : List ℕ) (tally : Tally) (done : ℕ) : Type 0 where
   pub receives : Receives receiver bytes
   pub within : done ≤ word_count bytes
@@ -51,11 +52,11 @@ pub record Finished (receiver : Receiver) (bytes out : List ℕ) (tally : Tally)
   pub is : out ≡ packets_to near (word_at bytes) done
   pub tally_is : tally ≡ tally_to near (word_at bytes) done
 
--- at first
+-- at the start
 abbrev pub NothingFinished : Type 0
 NothingFinished = (receiver : Receiver) → Receives receiver [] → receiver.phase ≡ None → Finished receiver [] [] no_words 0
 
--- a byte more, whether a word ends or not
+-- one more byte, whether it ends a word or not
 abbrev pub TookByte : Type 0
 TookByte = (old new : Receiver) (bytes out : List ℕ) (tally : Tally) (done byte : ℕ) → Finished old bytes out tally done
     → Receives new (bytes ++ byte ∷ []) → new.phase ≡ old.phase → Finished new (bytes ++ byte ∷ []) out tally done
@@ -70,6 +71,6 @@ FinishedWord = (old new : Receiver) (bytes out after decoded : List ℕ) (tally 
 abbrev pub AllFinished : Type 0
 AllFinished = (receiver : Receiver) (bytes out : List ℕ) (tally : Tally) → Finished receiver bytes out tally (word_count bytes) → Packets bytes out × Tallies bytes tally
 
--- a word that waits stays as it is while bytes come
+-- more bytes leave a waiting word unchanged
 abbrev pub WordStays : Type 0
 WordStays = (bytes more : List ℕ) (n : ℕ) → n < word_count bytes → word_at (bytes ++ more) n ≡ word_at bytes n

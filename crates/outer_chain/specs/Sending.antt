@@ -1,4 +1,4 @@
--- What a sender of the outer code stands for.
+-- The state of an outer-code sender.
 use Rattle.std.specs.Prelude.{◌≡◌, ℕ, ◌*◌, ◌%◌, List, length}
 use Rattle.forney.specs.Values.{values}
 use Rattle.forney.specs.Delays.{Delays, Interleaves}

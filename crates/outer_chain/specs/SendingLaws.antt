@@ -1,8 +1,8 @@
--- The laws of what is sent, each the clause of a public function of the module laws.
+-- The laws of the bytes sent. Each is the clause of a public function of module laws.
 use Rattle.std.specs.Prelude.{◌≡◌, ℕ, ◌*◌, ◌<◌, List, ◌++◌, length, slice_index}
 use Rattle.outer_chain.specs.Sent.{packet_at, outer_byte, outer_bytes, sent_bytes}
 
--- the bytes of n packets depend on no other packet
+-- the bytes of the first n packets depend only on them
 abbrev pub SameBeginning : Type 0
 SameBeginning = (packets other : List (List ℕ)) (n : ℕ) → ((i : ℕ) → i < n → packet_at packets i ≡ packet_at other i) → (p : ℕ) → p < 204 * n → outer_byte packets p ≡ outer_byte other p
 
@@ -10,6 +10,6 @@ SameBeginning = (packets other : List (List ℕ)) (n : ℕ) → ((i : ℕ) → i
 abbrev pub MorePacketsSent : Type 0
 MorePacketsSent = (packets more : List (List ℕ)) → outer_bytes (packets ++ more) (204 * length packets) ≡ sent_bytes packets
 
--- the first bytes are byte after byte
+-- a prefix of the stream holds its bytes in order
 abbrev pub ByteAfterByte : Type 0
 ByteAfterByte = (packets : List (List ℕ)) (n p : ℕ) → p < n → slice_index (outer_bytes packets n) p ≡ outer_byte packets p

@@ -1,4 +1,4 @@
--- What the outer coding of a stream of packets gives (EN 300 744, 4.3.1 and 4.3.2).
+-- The output of outer coding for a stream of packets (EN 300 744, 4.3.1 and 4.3.2).
 use Rattle.std.specs.Prelude.{ℕ, zero, suc, ◌*◌, ◌/◌, ◌%◌, ◌<◌, List, [], ◌++◌, length, slice_index, slice_index_or}
 use Rattle.ts_packet.specs.Packet.{IsPacket, null_packet}
 use Rattle.dispersal.specs.Packet.{dispersed}
@@ -14,15 +14,15 @@ packet_at packets i = slice_index_or packets i null_packet
 abbrev pub code_at : List (List ℕ) → ℕ → List ℕ
 code_at packets i = codeword (dispersed (i % 8) (packet_at packets i))
 
--- byte p of the outer words, one after another
+-- byte p of the concatenated outer words
 unfoldable pub coded_byte : List (List ℕ) → ℕ → ℕ
 coded_byte packets p = slice_index (code_at packets (p / 204)) (p % 204)
 
--- byte p that the outer coding gives: these bytes, interleaved
+-- byte p after outer coding: these bytes, interleaved
 abbrev pub outer_byte : List (List ℕ) → ℕ → ℕ
 outer_byte packets = interleaved (coded_byte packets)
 
--- the first n of them
+-- its first n bytes
 unfoldable pub outer_bytes : List (List ℕ) → ℕ → List ℕ
 outer_bytes packets n = values (outer_byte packets) 0 n
 
@@ -30,7 +30,7 @@ outer_bytes packets n = values (outer_byte packets) 0 n
 abbrev pub sent_bytes : List (List ℕ) → List ℕ
 sent_bytes packets = outer_bytes packets (204 * length packets)
 
--- n lists, one after another
+-- the concatenation of n lists
 unfoldable pub joined : (ℕ → List ℕ) → ℕ → List ℕ
 joined part zero = []
 joined part (suc n) = joined part n ++ part n
@@ -39,7 +39,7 @@ joined part (suc n) = joined part n ++ part n
 abbrev pub first_packets : List (List ℕ) → ℕ → List ℕ
 first_packets packets n = joined (packet_at packets) n
 
--- lists of 188 bytes that begin with the sync byte
+-- lists of 188 bytes, the first of them the sync byte
 pub record ArePackets (packets : List (List ℕ)) : Type 0 where
   pub each : (i : ℕ) → i < length packets → IsPacket (packet_at packets i)
   pub bytes : (i : ℕ) → i < length packets → AreBytes (packet_at packets i)

@@ -1,4 +1,5 @@
--- Received words, and the packets that they give (EN 300 744, 4.3.1 and 4.3.2, read backwards; start-up words, phases and marks are the profile of this project).
+-- Received words, and the packets decoded from them (EN 300 744, 4.3.1 and 4.3.2, inverted; start-up words, phases and
+-- marks are the profile of this project).
 use Rattle.std.specs.Prelude.{◌≡◌, ℕ, zero, suc, ◌+◌, ◌-◌, ◌*◌, ◌/◌, ◌%◌, ◌<◌, ◌≤◌, Bool, true, false, cond, ◌==◌, not, ◌&&◌, Option, Some, None, List, [], ◌++◌, length, take, slice_index}
 use Rattle.ts_packet.specs.Packet.{marked}
 use Rattle.dispersal.specs.Packet.{undone}
@@ -6,20 +7,20 @@ use Rattle.rs204.specs.Codes.{IsCodeword, distance}
 use Rattle.forney.specs.Values.{values, stream_of}
 use Rattle.forney.specs.Interleaving.{deinterleaved}
 
--- how many whole words there are behind the eleven of the start-up
+-- the number of whole words after the eleven of the start-up
 abbrev pub word_count : List ℕ → ℕ
 word_count bytes = length bytes / 204 - 11
 
--- received word n: 204 deinterleaved bytes, the words of the start-up not counted
+-- received word n: 204 deinterleaved bytes, the start-up words not counted
 unfoldable pub word_at : List ℕ → ℕ → List ℕ
 word_at bytes n = values (deinterleaved (stream_of bytes)) (204 * (n + 11)) 204
 
--- the nearest codeword: the one within distance 8, where there is one
+-- the nearest codeword: the one within distance 8, if there is one
 abbrev pub IsNear : List ℕ → Option (List ℕ) → Type 0
 IsNear word (Some c) = IsCodeword c × (distance word c ≤ 8)
 IsNear word None = (c : List ℕ) → IsCodeword c → 8 < distance word c
 
--- whether it is the first of a group of eight, whose sync byte is inverted
+-- whether a codeword begins a group of eight: its sync byte is inverted
 abbrev pub begins_group : Option (List ℕ) → Bool
 begins_group None = false
 begins_group (Some c) = slice_index c 0 == 0xB8
@@ -28,36 +29,37 @@ abbrev pub next_phase : Option ℕ → Option ℕ
 next_phase None = None
 next_phase (Some f) = Some ((f + 1) % 8)
 
--- the phase of a word, by the phase of the word before it
+-- the phase of a word, from the phase of the word before it
 abbrev pub phase_of : Option (List ℕ) → Option ℕ → Option ℕ
 phase_of near before = cond (begins_group near) (Some 0) (next_phase before)
 
--- the phase of the word before word n: of no word, where n is 0
+-- the phase of the word before word n; none if n is 0
 unfoldable pub phase_before : (ℕ → Option (List ℕ)) → ℕ → Option ℕ
 phase_before near zero = None
 phase_before near (suc n) = phase_of (near n) (phase_before near n)
 
--- the packet of a word with a phase: of the nearest codeword, or of the word as it is, and then marked
+-- the packet of a word with a phase: from the nearest codeword or, without one, from the word itself with the error
+-- indicator set
 abbrev pub packet_of : ℕ → List ℕ → Option (List ℕ) → List ℕ
 packet_of phase word (Some c) = undone phase (take 188 c)
 packet_of phase word None = marked (undone phase (take 188 word))
 
--- the packet that a word gives
+-- the packet of a word, if the word has a phase
 abbrev pub given_packet : Option ℕ → List ℕ → Option (List ℕ) → Option (List ℕ)
 given_packet None word near = None
 given_packet (Some phase) word near = Some (packet_of phase word near)
 
--- what is written for a word
+-- the bytes written for a word
 abbrev pub written : Option ℕ → List ℕ → Option (List ℕ) → List ℕ
 written None word near = []
 written (Some phase) word near = packet_of phase word near
 
--- what is written for the first n words
+-- the bytes written for the first n words
 unfoldable pub packets_to : (ℕ → Option (List ℕ)) → (ℕ → List ℕ) → ℕ → List ℕ
 packets_to near word zero = []
 packets_to near word (suc n) = packets_to near word n ++ written (phase_before near (suc n)) (word n) (near n)
 
--- the packets of these interleaved bytes are these bytes: one packet for each word with a phase
+-- the output is the packets of these interleaved bytes: one for each word with a phase
 pub record Packets (bytes out : List ℕ) : Type 0 where
   pub near : ℕ → Option (List ℕ)
   pub is_near : (n : ℕ) → n < word_count bytes → IsNear (word_at bytes n) (near n)
@@ -80,10 +82,12 @@ abbrev pub has : {A : Type 0} → Option A → Bool
 has None = false
 has (Some x) = true
 
+-- a clean word equals its nearest codeword
 abbrev pub is_clean : List ℕ → Option (List ℕ) → Bool
 is_clean word None = false
 is_clean word (Some c) = distance word c == 0
 
+-- the counts of the first n words, from the nearest codeword of each
 abbrev pub tally_to : (ℕ → Option (List ℕ)) → (ℕ → List ℕ) → ℕ → Tally
 tally_to near word n = record {
   words = n;
@@ -93,7 +97,7 @@ tally_to near word n = record {
   unphased = count (λ k. not (has (phase_before near (suc k)))) n;
 }
 
--- the counts of the words of these interleaved bytes
+-- the counts of the words in these interleaved bytes
 pub record Tallies (bytes : List ℕ) (tally : Tally) : Type 0 where
   pub near : ℕ → Option (List ℕ)
   pub is_near : (n : ℕ) → n < word_count bytes → IsNear (word_at bytes n) (near n)

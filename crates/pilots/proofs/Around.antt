@@ -13,7 +13,7 @@ use Rattle.pilots.specs.Carriers.{kind, is_continual, is_scattered, is_tps}
 use Rattle.pilots.specs.declared.carrier_kind.CarrierKind.TheVariants.{Continual, Scattered, Tps, Payload}
 use Rattle.pilots.specs.Around.{is_for_pilots, is_pilot, pilot_below, pilot_above, StandsBetween}
 
--- the first number below n that passes, where d passes
+-- the first number below n that passes, if d passes
 pub record IsFirst (n d : ℕ) (test : ℕ → Bool) (r : ℕ) : Type 0 where
   pub most : r ≤ d
   pub passes : test r ≡ true
@@ -64,7 +64,7 @@ first_is_pilot m l = continual_is_pilot m l 0 (continual_first m)
 pub last_is_pilot : (m : Mode) (l : ℕ) → is_pilot m l (carriers m - 1) ≡ true
 last_is_pilot m l = continual_is_pilot m l (carriers m - 1) (continual_last m)
 
--- ---- the definitions' pilots
+-- ---- the pilots of the definitions
 below_first : (m : Mode) (l k : ℕ) → IsFirst (k + 1) k (λ j. is_pilot m l (k - j)) (first_below (k + 1) (λ j. is_pilot m l (k - j)))
 below_first m l k = let e : 0 ≡ k - k = omega arith in first_passes (k + 1) k (λ j. is_pilot m l (k - j)) (omega arith) (ap (is_pilot m l) (sym e) ∙ first_is_pilot m l)
 

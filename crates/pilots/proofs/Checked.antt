@@ -32,7 +32,8 @@ abbrev pub is_empty : List ℕ → Bool
 is_empty [] = true
 is_empty (x ∷ xs) = false
 
--- in the i places from k on, of which n payload carriers stand below the first: the tables tell how many stand below each, and those from k on are the list
+-- for i carriers from k on, with n payload carriers below the first: the tables give the number below each, and the
+-- payload carriers from k on are the list
 unfoldable pub walks : ℕ → ℕ → ℕ → ℕ → List ℕ → Bool
 walks symbol zero k n xs = (n == 1512) && is_empty xs
 walks symbol (suc i) k n xs =

@@ -1,4 +1,4 @@
--- The kinds of the carriers by their places in a period of 1704 carriers.
+-- The kinds of the carriers by their positions in a period of 1704 carriers.
 use Rattle.std.proofs.Common.{◌≡◌, ℕ, zero, suc, ◌+◌, ◌*◌, ◌/◌, ◌%◌, ◌<◌, ◌≤◌, List, [], ◌∷◌, length, refl, sym, ap, ◌∙◌, subst, arith, Bool, true, false, not, cond, ◌||◌, filter, count_by, get_or}
 use Rattle.std.specs.Prelude.{◌==◌, if◌then◌else◌, slice_index}
 use Rattle.std.specs.Bool.{beq}
@@ -43,7 +43,7 @@ unfolding is_payload is_free
 payload_is m l k lt = rw (continual_is m k lt, tps_is m k lt, scattered_is l k)
 
 module _ (symbol : ℕ) (few : symbol < 4) where
-  -- by the place in the period alone
+  -- by the position in the period only
   abbrev free_at : ℕ → Bool
   free_at k = is_free symbol (k % 1704)
 
@@ -92,7 +92,7 @@ taken symbol = refl
 at_1 : (symbol : ℕ) → symbol < 4 → below symbol 1 ≡ 0
 at_1 symbol few = below_is symbol few 1 (omega arith) ∙ none_below (is_free symbol) (taken symbol)
 
--- each symbol has exactly as many payload carriers as the mode names
+-- each symbol has exactly as many payload carriers as the mode says
 pub many : (m : Mode) (l : ℕ) → length (payload_carriers m l) ≡ payload m
 unfolding payload_carriers
 many M2k l = length-filter (is_payload M2k l) (numbers 1705) ∙ count_is M2k l 1705 (omega arith) ∙ omega (arith, at_1 (l % 4) (below_symbol l))
@@ -135,7 +135,7 @@ pub kind_is : (m : Mode) (l k : ℕ) → k < carriers m → kind m l k ≡ chose
 unfolding kind
 kind_is m l k lt = rw (continual_is m k lt, tps_is m k lt, scattered_is l k, count_is m l k (omega (arith, lt)))
 
--- each kind by what the tables say
+-- each kind from the tables
 differs : (a b : ℕ) → (a ≡ b → ⊥) → (a == b) ≡ false
 differs a b ne = from (a == b) refl
   where
@@ -187,7 +187,7 @@ in_mode : (m : Mode) (b t q : ℕ) {k : ℕ} → b ≡ q / 1512 → t < 1704 →
 in_mode M2k b t q e small lt is = omega (arith, e, small, lt, is)
 in_mode M8k b t q e small lt is = omega (arith, e, small, lt, is)
 
--- the carrier that the table names
+-- the carrier in the table
 pub named : (m : Mode) (l q : ℕ) → q < payload m → let k = 1704 * (q / 1512) + slice_index (payload_places (l % 4)) (q % 1512) in (k < carriers m) × (kind m l k ≡ Payload q)
 named m l q lt =
     let symbol = l % 4 in

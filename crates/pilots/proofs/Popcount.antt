@@ -20,7 +20,7 @@ even_part q p low n e = omega (arith, e)
 low_odd : (n j : ℕ) → n % 2 ^ suc j % 2 ≡ n % 2
 low_odd n j = even_part (n / 2 ^ suc j) (2 ^ j) (n % 2 ^ suc j) n (ap (λ (z : ℕ). n / 2 ^ suc j * z + n % 2 ^ suc j) (sym (pow-suc 2 j)) ∙ shr_split n (suc j))
 
--- the bits from i on of n are those from 0 on of n / 2 ^ i
+-- the bits of n from i on are those of n / 2 ^ i from 0 on
 shifted : (n i j : ℕ) → count_by (is_set n) (range_with_len (suc i) j) ≡ count_by (is_set (n / 2)) (range_with_len i j)
 shifted n i zero = refl
 shifted n i (suc j) =

@@ -1,4 +1,4 @@
--- Numbers in a row that pass a test: how many, and which.
+-- Consecutive numbers that pass a test: how many, and which.
 use Rattle.std.proofs.Common.{◌≡◌, ℕ, zero, suc, ◌+◌, ◌<◌, List, ◌∷◌, ◌++◌, length, refl, sym, ap, ◌∙◌, subst, arith, Bool, true, false, cond, ◌&&◌, ◌-◌, get_or, filter, count_by}
 use Rattle.std.specs.List.{range_with_len}
 use Rattle.std.proofs.lemmas.Bool.{and_parts}
@@ -12,7 +12,7 @@ range_split a (suc m) n =
     let same : a + 1 + m ≡ a + suc m = omega arith in
     ap (range_with_len a) left ∙ ap (λ (zs : List ℕ). a ∷ zs) (range_split (a + 1) m n ∙ ap (λ (z : ℕ). range_with_len (a + 1) m ++ range_with_len z n) same)
 
--- the first number counts by itself
+-- the first number is counted separately
 pub count_first : (p : ℕ → Bool) (a n : ℕ) → count_by p (range_with_len a (suc n)) ≡ cond (p a) 1 0 + count_by p (range_with_len (a + 1) n)
 count_first p a n = sum_by-cons (λ x. cond (p x) 1 0) a (range_with_len (a + 1) n)
 
@@ -28,7 +28,7 @@ same_count p q a (suc n) same =
     let rest : count_by p (range_with_len (a + 1) n) ≡ count_by q (range_with_len (a + 1) n) = same_count p q (a + 1) n (λ i l. let next : a + suc i ≡ a + 1 + i = omega arith in subst (λ (z : ℕ). p z ≡ q z) next (same (suc i) (omega arith))) in
     count_first p a n ∙ ap (λ (b : Bool). cond b 1 0 + count_by p (range_with_len (a + 1) n)) first ∙ ap (λ (z : ℕ). cond (q a) 1 0 + z) rest ∙ sym (count_first q a n)
 
--- a test that repeats counts the same one period on
+-- a test that repeats has the same count one period later
 pub shifted_count : (p : ℕ → Bool) (period a n : ℕ) → ((k : ℕ) → p (period + k) ≡ p k) → count_by p (range_with_len (period + a) n) ≡ count_by p (range_with_len a n)
 shifted_count p period a zero again = refl
 shifted_count p period a (suc n) again =
@@ -54,7 +54,7 @@ counted_at p a (suc n) (suc k) l passes =
     ap (λ (z : ℕ). get_or (filter p (range_with_len a (suc n))) z 0) (count_first p a k)
     ∙ pick a (p a) (filter p (range_with_len (a + 1) n)) (count_by p (range_with_len (a + 1) k)) (a + 1 + k) rest ∙ sym next
 
--- an element of the filtered list passes, stands within, and has its own number as count
+-- an element of the filtered list passes, is in range, and its index is its own count
 pub record IsCounted (p : ℕ → Bool) (a n q k : ℕ) : Type 0 where
   pub at : get_or (filter p (range_with_len a n)) q 0 ≡ a + k
   pub within : k < n
@@ -83,7 +83,7 @@ counted p a (suc n) q l = by_case (p a) refl q l (λ x. counted p (a + 1) n x)
 split_count : (p : ℕ → Bool) (k j : ℕ) → count_by p (range_with_len 0 (k + j)) ≡ count_by p (range_with_len 0 k) + count_by p (range_with_len (0 + k) j)
 split_count p k j = ap (count_by p) (range_split 0 k j) ∙ count_by-append p (range_with_len 0 k) (range_with_len (0 + k) j)
 
--- the count grows where a number passes
+-- the count grows if a number passes
 pub count_less : (p : ℕ → Bool) (n k : ℕ) → k < n → p k ≡ true → count_by p (range_with_len 0 k) < count_by p (range_with_len 0 n)
 count_less p n k l passes =
     let size : n ≡ k + suc (n - k - 1) = omega arith in

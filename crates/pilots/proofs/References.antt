@@ -10,7 +10,7 @@ use Rattle.pilots.specs.Reference.{eleven_from, reference}
 use Rattle.pilots.specs.Tables.{in_set, reference_words}
 use Rattle.pilots.proofs.Periods.{same_bools}
 
--- the eleven bits one place on
+-- the next eleven bits
 abbrev pub next_eleven : List Bool → List Bool
 next_eleven xs = drop 1 xs ++ xor (bit xs 0) (bit xs 2) ∷ []
 

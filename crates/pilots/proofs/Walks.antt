@@ -1,4 +1,4 @@
--- What the computed walk over the tables shows.
+-- The meaning of the computed walk over the tables.
 use Rattle.std.proofs.Common.{◌≡◌, ℕ, zero, suc, ◌+◌, ◌<◌, List, [], ◌∷◌, refl, sym, ap, ◌∙◌, arith, Bool, true, false, cond, filter, count_by}
 use Rattle.std.specs.Prelude.{◌==◌}
 use Rattle.std.specs.List.{range_with_len}
@@ -8,7 +8,7 @@ use Rattle.pilots.specs.Tables.{payload_set, below_words, rank, is_free}
 use Rattle.pilots.proofs.Ranges.{count_first}
 use Rattle.pilots.proofs.Checked.{walks, begins, tail, is_empty}
 
--- the payload carriers below a place by the tables
+-- the number of payload carriers below a carrier, from the tables
 abbrev pub below : ℕ → ℕ → ℕ
 below symbol k = rank (payload_set symbol) (below_words symbol) k
 
@@ -53,7 +53,7 @@ walk_list symbol (suc i) k n xs w =
     by_case true (x ∷ xs) e f = let same : x ≡ k = eqb-true _ _ e in cc
     by_case false xs e f = f
 
--- the same from place 0 on
+-- the same from carrier 0 on
 pub rank_is : (symbol i : ℕ) (xs : List ℕ) → walks symbol i 0 0 xs ≡ true → (k : ℕ) → k < i → below symbol k ≡ count_by (is_free symbol) (numbers k)
 unfolding numbers
 rank_is symbol i xs w k l =

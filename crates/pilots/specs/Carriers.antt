@@ -1,4 +1,4 @@
--- What each carrier of a symbol is for (EN 300 744, 4.4, 4.5.3, 4.5.4 and 4.6).
+-- The kind of each carrier of a symbol (EN 300 744, 4.4, 4.5.3, 4.5.4 and 4.6).
 use Rattle.std.specs.Prelude.{◌≡◌, ℕ, ◌+◌, ◌*◌, ◌%◌, ◌<◌, ◌↔◌, ◌==◌, Bool, not, ◌||◌, if◌then◌else◌, List, [], ◌∷◌, map, filter, flat_map, count_by, slice_index}
 use Rattle.spec_words.specs.Words.{numbers, is_among}
 use Rattle.mode_set.specs.StreamTable.{carriers, payload}
@@ -15,7 +15,7 @@ continual_2k = 0 ∷ 48 ∷ 54 ∷ 87 ∷ 141 ∷ 156 ∷ 192 ∷ 201 ∷ 255 �
 abbrev pub tps_2k : List ℕ
 tps_2k = 34 ∷ 50 ∷ 209 ∷ 346 ∷ 413 ∷ 569 ∷ 595 ∷ 688 ∷ 790 ∷ 901 ∷ 1073 ∷ 1219 ∷ 1262 ∷ 1286 ∷ 1469 ∷ 1594 ∷ 1687 ∷ []
 
--- in the 8K mode the list of the 2K mode stands four times, 1704 carriers apart
+-- the 8K mode repeats the list of the 2K mode four times, 1704 carriers apart
 abbrev pub in_mode : Mode → List ℕ → List ℕ
 in_mode M2k ks = ks
 in_mode M8k ks = flat_map (λ j. map (λ k. 1704 * j + k) ks) (numbers 4)
@@ -30,7 +30,7 @@ is_continual m k = is_among (in_mode m continual_2k) k
 unfoldable pub is_tps : Mode → ℕ → Bool
 is_tps m k = is_among (tps_carriers m) k
 
--- the scattered pilots of symbol l stand at 3 (l mod 4) + 12 p (4.5.3)
+-- the scattered pilots of symbol l are the carriers 3 (l mod 4) + 12 p (4.5.3)
 unfoldable pub is_scattered : ℕ → ℕ → Bool
 is_scattered l k = k % 12 == 3 * (l % 4)
 
@@ -38,11 +38,11 @@ is_scattered l k = k % 12 == 3 * (l % 4)
 unfoldable pub is_payload : Mode → ℕ → ℕ → Bool
 is_payload m l k = not (is_continual m k || is_scattered l k || is_tps m k)
 
--- the payload carriers of symbol l, rising: the q-th has q of them below it
+-- the payload carriers of symbol l, rising; q of them are below the q-th
 unfoldable pub payload_carriers : Mode → ℕ → List ℕ
 payload_carriers m l = filter (is_payload m l) (numbers (carriers m))
 
--- what carrier k of symbol l is for: a payload carrier has as its number how many are below it
+-- the kind of carrier k of symbol l; a payload carrier is numbered by how many are below it
 unfoldable pub kind : Mode → ℕ → ℕ → CarrierKind
 kind m l k =
     if is_continual m k then Continual
@@ -50,6 +50,6 @@ kind m l k =
     else if is_tps m k then Tps
     else Payload (count_by (is_payload m l) (numbers k))
 
--- k is the q-th payload carrier exactly where its kind says so
+-- k is the q-th payload carrier exactly if its kind says so
 abbrev pub AreNumbered : Mode → ℕ → Type 0
 AreNumbered m l = (k q : ℕ) → k < carriers m → (kind m l k ≡ Payload q) ↔ ((q < payload m) × (slice_index (payload_carriers m l) q ≡ k))

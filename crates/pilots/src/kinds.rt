@@ -10,10 +10,10 @@ use crate::payload_carriers::PAYLOAD_CARRIERS;
 use crate::sets::{BELOW, CONTINUAL, PAYLOAD, TPS, TPS_2K, TPS_8K};
 use mode_set::Mode;
 
-// The pilots and the TPS carriers repeat after so many carriers ..
+// The pilots and the TPS carriers repeat after this number of carriers ..
 const PERIOD: u32 = 1704;
 
-// .. of which so many are payload carriers in every symbol.
+// .. of which this number are payload carriers in every symbol.
 const PAYLOAD_IN_PERIOD: u32 = 1512;
 
 fn is_in(set: &[u64; 27], place: u32) -> bool
@@ -23,7 +23,7 @@ fn is_in(set: &[u64; 27], place: u32) -> bool
     set[(place / 64) as usize] >> (place % 64) & 1 == 1
 }
 
-// The members of a set below a place; `below` has those below the first place of each word.
+// The number of members of a set below a carrier; `below` has those below the start of each word.
 fn members_below(set: &[u64; 27], below: &[u16; 27], place: u32) -> u32
     requires { place < 1704 }
     ensures { result ≡ rank set.now below.now place }
@@ -45,7 +45,7 @@ fn tps() -> &'static [u64; 27]
     &TPS
 }
 
-// The set of the payload carriers of a symbol, and how many stand below each of its words.
+// The set of the payload carriers of a symbol, and the number of them below each word.
 fn payload(symbol: usize) -> (&'static [u64; 27], &'static [u16; 27])
     requires { symbol < 4 }
     ensures set { result.0.now ≡ payload_set symbol }
@@ -54,9 +54,8 @@ fn payload(symbol: usize) -> (&'static [u64; 27], &'static [u16; 27])
     (&PAYLOAD[symbol], &BELOW[symbol])
 }
 
-/// What carrier `k` of symbol `l` of a frame is for (EN 300 744, 4.4). A carrier that is both a
-/// continual and a scattered pilot is `Continual`. The number of a payload carrier is below the
-/// mode's count of them.
+/// The kind of carrier `k` in symbol `l` of a frame (EN 300 744, 4.4). A carrier that is both a continual and a
+/// scattered pilot is `Continual`. The index of a payload carrier is below their number in the mode.
 pub fn kind(mode: Mode, l: u8, k: u32) -> CarrierKind
     requires symbol { l < 68 }
     requires carrier { k < carriers mode }

@@ -1,4 +1,4 @@
-// Facts about carriers that hold for every symbol. Each stands as what an empty function ensures.
+// Laws of carriers for all symbols. Each is the contract of a function with an empty body.
 ghost use Rattle.std.specs.Prelude.{◌≡◌, ℕ, ◌+◌, ◌%◌, ◌<◌, IsTrue, length};
 ghost use Rattle.spec_words.specs.Bits.{xor};
 ghost use Rattle.mode_set.specs.StreamTable.{carriers, payload};
@@ -13,8 +13,8 @@ pub fn symbols_have_as_many_payload_carriers(mode: Mode, l: u8)
     ensures { length (payload_carriers mode l) ≡ payload mode }
 {}
 
-/// A carrier is the `q`-th payload carrier exactly where its kind says so, so `carrier` and `kind`
-/// are inverse.
+/// A carrier is the `q`-th payload carrier exactly if its kind says so; so `carrier` and `kind` are inverse to each
+/// other.
 pub fn payload_carriers_are_numbered(mode: Mode, l: u8)
     ensures { AreNumbered mode l }
 {}
@@ -32,8 +32,8 @@ pub fn reference_recurs(k: u32)
     ensures rule { reference (k + 11) ≡ xor (reference k) (reference (k + 2)) }
 {}
 
-/// Each carrier of a symbol is a pilot or stands between two that are at most twelve carriers apart
-/// (EN 300 744, 4.5.3 and 4.5.4).
+/// Each carrier of a symbol is a pilot or between two pilots at most twelve carriers apart (EN 300 744, 4.5.3 and
+/// 4.5.4).
 pub fn pilots_are_around()
     ensures { PilotsAreAround }
 {}

@@ -1,5 +1,5 @@
-//! What each carrier of an OFDM symbol is for: continual and scattered pilots, TPS carriers and
-//! payload carriers, and the reference sequence that sets the signs of the pilots.
+//! The kind of each carrier of an OFDM symbol: continual and scattered pilots, TPS carriers and payload carriers, and
+//! the reference sequence for the signs of the pilots.
 //!
 //! EN 300 744, 4.4, 4.5 and 4.6.
 #![tactic(auto)]

@@ -1,4 +1,4 @@
-// The payload carriers of a period of 1704 carriers, rising, in the symbols 0 to 3.
+// The payload carriers of a period of 1704 carriers, rising, in symbols 0 to 3.
 
 /// For each symbol number modulo 4, the 1512 payload carriers below carrier 1704.
 #[rattlefmt::skip]

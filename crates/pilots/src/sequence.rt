@@ -3,7 +3,7 @@ ghost use Rattle.std.specs.Prelude.{◌≡◌};
 ghost use Rattle.pilots.specs.Reference.{reference};
 ghost use Rattle.pilots.specs.Tables.{reference_words};
 
-// The sequence repeats after so many bits.
+// The sequence repeats after this number of bits.
 const PERIOD: u32 = 2047;
 
 // One period: bit k is bit k mod 64 of word k div 64.
@@ -25,8 +25,8 @@ fn bits() -> &'static [u64; 32]
     &BITS
 }
 
-/// Bit w_k of the reference sequence, which gives the pilots of carrier `k` their sign
-/// (EN 300 744, 4.5.2): a pilot is negative where it is 1.
+/// Bit w_k of the reference sequence, which gives the pilots of carrier `k` their sign (EN 300 744, 4.5.2): a pilot is
+/// negative if it is 1.
 pub fn reference(k: u32) -> bool
     ensures { result ≡ reference k }
 {

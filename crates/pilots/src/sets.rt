@@ -24,7 +24,7 @@ pub(crate) static TPS: [u64; 27] = [
     0x0400000000000000, 0x0000000000000000, 0x0000000000800000,
 ];
 
-/// The payload carriers of the symbols 0 to 3, and so of every symbol by its number modulo 4.
+/// The payload carriers of symbols 0 to 3, and so of every symbol by its number modulo 4.
 #[rattlefmt::skip]
 pub(crate) static PAYLOAD: [[u64; 27]; 4] = [
     [
@@ -65,7 +65,7 @@ pub(crate) static PAYLOAD: [[u64; 27]; 4] = [
     ],
 ];
 
-/// How many payload carriers stand below the first one of each word of `PAYLOAD`.
+/// The number of payload carriers below each word of `PAYLOAD`.
 #[rattlefmt::skip]
 pub(crate) static BELOW: [[u16; 27]; 4] = [
     [

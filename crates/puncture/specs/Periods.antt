@@ -1,25 +1,26 @@
--- What a table over the places of a period holds.
+-- The contents of the tables over the places of a puncturing period.
 use Rattle.std.specs.Prelude.{◌≡◌, ℕ, zero, suc, ◌+◌, ◌*◌, ◌/◌, ◌%◌, ◌<◌, ◌≤◌, List, slice_index_or}
 use Rattle.spec_words.specs.Bits.{spelled}
 use Rattle.mode_set.specs.StreamTable.{steps_in_period}
 use Rattle.mode_set.specs.declared.modes.Rate.{Rate}
 use Rattle.puncture.specs.Steps.{needed, bits_of_steps}
 
--- how many bits are sent of n steps from step t on
+-- the number of bits sent in n steps from step t on
 unfoldable pub sent_of_steps : Rate → ℕ → ℕ → ℕ
 sent_of_steps r t zero = 0
 sent_of_steps r t (suc n) = needed r t + sent_of_steps r (t + 1) n
 
--- what is sent of eight steps from a place of the period on: of a byte of X beside a Y of zeros, and of a byte of Y beside an X of zeros
+-- the bits sent in eight steps from a place of the period on: for a byte of X with Y all zero, and for a byte of Y with
+-- X all zero
 pub record AreWords (r : Rate) (place byte : ℕ) (words : ℕ × ℕ) : Type 0 where
   pub x : (t : ℕ) → place ≡ t % steps_in_period r → spelled (sent_of_steps r t 8) words.0 ≡ bits_of_steps r t (spelled 8 byte) (spelled 8 0)
   pub y : (t : ℕ) → place ≡ t % steps_in_period r → spelled (sent_of_steps r t 8) words.1 ≡ bits_of_steps r t (spelled 8 0) (spelled 8 byte)
 
--- the first n words, those of the 256 bytes of each place together
+-- the first n table entries: 256 bytes for each place
 pub record AreAllWords (r : Rate) (n : ℕ) (words : List (ℕ × ℕ)) : Type 0 where
   pub at : (k : ℕ) → k < n → AreWords r (k / 256) (k % 256) (slice_index_or words k (0, 0))
 
--- how many bits are sent of eight steps from a place on, and the place behind them
+-- the number of bits sent in eight steps from a place on, and the place after them
 pub record IsEnd (r : Rate) (place : ℕ) (end : ℕ × ℕ) : Type 0 where
   pub count : (t : ℕ) → place ≡ t % steps_in_period r → end.0 ≡ sent_of_steps r t 8
   pub few : end.0 ≤ 16

@@ -1,4 +1,4 @@
--- Each level is the nearest whole number, by computing.
+-- Each level is the nearest integer, by computation.
 use Rattle.std.proofs.Common.{zero, suc, refl, arith, lit<}
 use Rattle.spec_words.specs.Words.{numbers}
 use Rattle.mode_set.specs.declared.modes.Shape.TheVariants.{Qpsk, Qam16, Qam64}

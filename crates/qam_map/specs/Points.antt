@@ -1,4 +1,4 @@
--- The constellations: labels and levels of an axis, and cells (EN 300 744, 4.3.5).
+-- The constellations: labels, levels of an axis, and cells (EN 300 744, 4.3.5).
 use Rattle.std.specs.Prelude.{◌≡◌, ℕ, ◌+◌, ◌-◌, ◌*◌, ◌/◌, ◌%◌, ◌^◌, ◌<◌, ◌==◌, Bool, true, false, List, [], ◌∷◌, ◌++◌, length, map, filter, find, flat_map, zip, sum, reverse, take, slice_index, nat_lt, ℤ, pos, ◌-ℤ◌, neg_ℤ, nat_abs, if◌then◌else◌}
 use Rattle.std.specs.Bool.{beq}
 use Rattle.std.specs.List.{position_or_len}
@@ -18,25 +18,25 @@ magnitudes Qpsk = [] ∷ []
 magnitudes Qam16 = (false ∷ []) ∷ (true ∷ []) ∷ []
 magnitudes Qam64 = (false ∷ false ∷ []) ∷ (false ∷ true ∷ []) ∷ (true ∷ true ∷ []) ∷ (true ∷ false ∷ []) ∷ []
 
--- the number of a level, from the outermost on, that the bits after the sign choose
+-- the index of the level, outermost first, that the bits after the sign select
 abbrev pub ring_of : Shape → Bool → Bool → ℕ
 ring_of s outer inner = position_or_len (λ m. pointwise beq m (take (label_bits s / 2 - 1) (outer ∷ inner ∷ []))) (magnitudes s)
 
--- a value of an axis, and the bits of the label that choose it, sign first
+-- a value of an axis, and the label bits that select it, sign first
 pub record Point : Type 0 where
   pub label : List Bool
   pub value : ℤ
 
--- the points of an axis: 0 is the sign of the positive ones
+-- the points of an axis; sign 0 is positive
 abbrev pub points : Shape → Hierarchy → List Point
 points s h = let positive = zip (magnitudes s) (levels s h) in
     map (λ p. record { label = false ∷ p.0; value = pos p.1 }) positive ++ map (λ p. record { label = true ∷ p.0; value = neg_ℤ (pos p.1) }) positive
 
--- the value that the bits of a label choose on an axis
+-- the value that label bits select on an axis
 abbrev pub value_of : Shape → Hierarchy → List Bool → ℤ
 value_of s h y = option_map_or (λ (p : Point). p.value) (find (λ p. pointwise beq p.label y) (points s h)) (pos 0)
 
--- the bits of a label on its real axis, y0 y2 y4, and on its imaginary axis, y1 y3 y5
+-- the label bits of the real axis, y0 y2 y4, and of the imaginary axis, y1 y3 y5
 abbrev pub real_bits : Shape → (ℕ → Bool) → List Bool
 real_bits s y = map (λ i. y (2 * i)) (numbers (label_bits s / 2))
 
@@ -47,14 +47,15 @@ imaginary_bits s y = map (λ i. y (2 * i + 1)) (numbers (label_bits s / 2))
 abbrev pub map_cell : Shape → Hierarchy → (ℕ → Bool) → Cell
 map_cell s h y = record { re = value_of s h (real_bits s y); im = value_of s h (imaginary_bits s y) }
 
--- the value of a cell on the axis of place e of the label
+-- the value of a cell on the axis of label bit e
 abbrev pub on_axis : Cell → ℕ → ℤ
 on_axis c e = if e % 2 == 0 then c.re else c.im
 
+-- the distance of two values of an axis
 abbrev pub distance : ℤ → ℤ → ℕ
 distance x n = nat_abs (x -ℤ n)
 
--- the least distance of two values of an axis
+-- the least distance between two values of an axis
 abbrev pub spacing : Shape → Hierarchy → ℕ
 spacing s h = let values = map (λ (p : Point). p.value) (points s h) in
     least (filter (λ d. nat_lt 0 d) (flat_map (λ x. map (distance x) values) values))
@@ -63,20 +64,20 @@ spacing s h = let values = map (λ (p : Point). p.value) (points s h) in
 abbrev pub tolerance : Shape → Hierarchy → ℕ
 tolerance s h = spacing s h / 4
 
--- the standard's levels, whole numbers from the innermost to the outermost: α, α + 2, ..
+-- the standard's levels, integers from innermost to outermost: α, α + 2, ..
 abbrev pub amplitudes : Shape → Hierarchy → List ℕ
 amplitudes s h = map (λ i. alpha h + 2 * i) (numbers (length (levels s h)))
 
--- the standard's norm: the mean of a² on both axes
+-- the standard's norm: the mean of a² over both axes
 abbrev pub norm : Shape → Hierarchy → ℕ
 norm s h = 2 * sum (map (λ a. a ^ 2) (amplitudes s h)) / length (levels s h)
 
--- a value is the whole number nearest to 16384 a / √N
+-- a value is the integer nearest to 16384 a / √N
 pub record IsNearest (norm a n : ℕ) : Type 0 where
   pub above : (2 * n - 1) ^ 2 * norm < 4 * 16384 ^ 2 * a ^ 2
   pub below : 4 * 16384 ^ 2 * a ^ 2 < (2 * n + 1) ^ 2 * norm
 
--- each level is the nearest value of the standard's level; QPSK has α = 1
+-- each level is the value nearest to the standard's level; QPSK has α = 1
 abbrev pub LevelsAreNearest : Type 0
 LevelsAreNearest = (s : Shape) (h : Hierarchy) (k : ℕ) → (s ≡ Qpsk → alpha h ≡ 1) → k < length (levels s h) →
     IsNearest (norm s h) (slice_index (amplitudes s h) k) (slice_index (reverse (levels s h)) k)

@@ -1,6 +1,6 @@
 // A cell of an OFDM symbol.
 
-/// What one carrier carries in one symbol, as 16384 times the standard's normalised value.
+/// The value of one carrier in one symbol, as 16384 times the standard's normalised value.
 #[derive(Clone, Copy, Debug, Default, PartialEq, Eq)]
 pub struct Cell {
     /// The real part.

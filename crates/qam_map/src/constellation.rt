@@ -11,8 +11,8 @@ use mode_set::{
     Constellation, Hierarchy, Qam16A1, Qam16A2, Qam16A4, Qam64A1, Qam64A2, Qam64A4, Qpsk, Shape,
 };
 
-/// The levels of an axis, from the outermost to the innermost, as 16384 times the standard's
-/// normalised values (EN 300 744, 4.3.5): those of the constellation's type in `mode_set`.
+/// The levels of an axis, outermost first, as 16384 times the standard's normalised values (EN 300 744, 4.3.5): those
+/// of the constellation's type in `mode_set`.
 ///
 /// QPSK has one level, 16-QAM two and 64-QAM four. Without a hierarchy they are those of α = 1.
 pub fn levels(shape: Shape, hierarchy: Hierarchy) -> &'static [u16]
@@ -34,7 +34,7 @@ pub fn levels(shape: Shape, hierarchy: Hierarchy) -> &'static [u16]
     }
 }
 
-// The number of a level, from the outermost on, which the bits after the sign choose.
+// The index of the level, outermost first, that the bits after the sign select.
 fn ring(shape: Shape, outer: bool, inner: bool) -> u8
     ensures is { result ≡ ring_of shape outer inner }
     ensures small { (hierarchy : AnyHierarchy) → result < length (levels_of shape hierarchy) }
@@ -51,7 +51,7 @@ fn ring(shape: Shape, outer: bool, inner: bool) -> u8
     }
 }
 
-// The value that three bits choose on an axis: the sign, and those after it.
+// The value that three bits select on an axis: the sign, and the bits after it.
 fn axis_value(shape: Shape, hierarchy: Hierarchy, sign: bool, outer: bool, inner: bool) -> i16
     ensures { result ≡ value_of shape hierarchy (take (label_bits shape / 2) (sign ∷ outer ∷ inner ∷ [])) }
 {
@@ -66,9 +66,9 @@ fn bit(label: u8, place: u8) -> bool
     (label >> place) & 1 == 1
 }
 
-/// The cell of a label: bit e of the label is y_e of EN 300 744, 4.3.5. y0, y2 and y4 choose the
-/// real part, y1, y3 and y5 the imaginary part; the first of them is the sign. The label is below 2^v,
-/// where v is the number of bits a cell.
+/// The cell of a label: bit e of the label is y_e of EN 300 744, 4.3.5. y0, y2 and y4 select the real part, y1, y3 and
+/// y5 the imaginary part; the first of them is the sign. The label is below 2^v, where v is the number of bits of a
+/// cell.
 pub fn map(shape: Shape, hierarchy: Hierarchy, label: u8) -> Cell
     requires { label < 2 ^ label_bits shape }
     ensures { result ≡ map_cell shape hierarchy (is_set label) }
@@ -91,8 +91,8 @@ pub fn map(shape: Shape, hierarchy: Hierarchy, label: u8) -> Cell
     }
 }
 
-/// The least distance of two values of an axis: of two levels side by side, or of the innermost one
-/// and its opposite.
+/// The least distance between two values of an axis: between adjacent levels, or between the innermost one and its
+/// opposite.
 pub fn spacing(shape: Shape, hierarchy: Hierarchy) -> u16
     ensures spacing { result ≡ spacing_of shape hierarchy }
     ensures some { 3153 ≤ result }
@@ -108,8 +108,8 @@ pub fn spacing(shape: Shape, hierarchy: Hierarchy) -> u16
     }
 }
 
-/// How far a cell may be from its point on each axis so that each bit of the point costs less than
-/// the other bit: a quarter of the spacing, rounded down.
+/// How far a cell may be from its point on each axis so that each bit of the point still costs less than its
+/// complement: a quarter of the spacing, rounded down.
 pub fn tolerance(shape: Shape, hierarchy: Hierarchy) -> u16
     ensures { result ≡ tolerance_of shape hierarchy }
 {

@@ -1,4 +1,4 @@
--- What a receiver stands for when it is fed, and at its end.
+-- The state of a receiver when it is fed, and at its end.
 use Rattle.std.proofs.Common.{◌≡◌, ℕ, ◌+◌, ◌-◌, ◌*◌, ◌/◌, ◌<◌, Bool, true, false, List, [], ◌++◌, take, map, refl, sym, ap, ap₂, ◌∙◌, subst, arith, append-nil}
 use Rattle.std.specs.Prelude.{Option, ◌↔◌, IsTrue}
 use Rattle.code_paths.specs.declared.costs.CostPair.{CostPair}
@@ -31,7 +31,7 @@ use Rattle.receiver.specs.Standing.{is_end, StreamStands, StreamGave, StandsFor}
 use Rattle.inner_receiver.specs.declared.frames.FrameReader.{FrameReader}
 use Rattle.receiver.proofs.Stepping.{received}
 
--- a receiver by its parts
+-- a receiver from its parts
 abbrev pub state : CostsState → StreamState → StreamState → FrameReader → Bool → ReceiverState
 state c hp lp frames ended = record { settings = c.settings; rest = c.rest; taken = c.taken; hp = hp; lp = lp; frames = frames; ended = ended }
 
@@ -39,7 +39,7 @@ abbrev pub by_stream : {A : Type 0} → A → A → Stream → A
 by_stream hp lp Hp = hp
 by_stream hp lp Lp = lp
 
--- the reader of TPS words needs the cells of the symbols that it had, and no others
+-- the reader of TPS words depends only on the cells of the symbols that it has had
 frames_alike : BitsOfCells → (mode : Mode) (x : FrameReader) (cells longer : ℕ → List Cell) (n : ℕ) → ((m : ℕ) → m < n → longer m ≡ cells m) → FrameStands mode x cells n → FrameStands mode x longer n
 frames_alike bits mode x cells longer n same h = record {
   symbol = h.symbol;
@@ -53,7 +53,7 @@ frames_alike bits mode x cells longer n same h = record {
   };
 }
 
--- what both streams and the reader stand for is a reception
+-- the states of both streams and the reader make a reception
 pub made : ByteOfBits → AllFinished → (moment : Moment) (x : ReceiverState) (bytes : List ℕ) (r : Reception) → x.ended ≡ is_end moment → x.taken ≡ symbols x.settings bytes → x.rest ≡ unfinished x.settings bytes
     → ((σ : Stream) → StreamStands moment (stream_of x σ) (start_of x.settings.start) (costs x.settings bytes σ) (r.packets σ) (r.tally σ) (r.reports σ))
     → FrameStands x.settings.mode x.frames (tps_cells x.settings bytes) (symbols x.settings bytes) → x.frames.read ≡ r.read → x.frames.bad ≡ r.bad → StandsFor moment x bytes r
@@ -125,16 +125,16 @@ feeds_within same stay bits costs_same one all old new hp lp frames ended bytes 
     subst (λ (z : Settings). Feeds (StandsFor so_far (state new hp lp frames ended)) z bytes piece r n out) kept
     (within same stay bits costs_same one all old new hp lp frames ended bytes piece n r out kept (fed bytes (record { taken = h.taken; rest = h.rest })) part none h)
 
--- ---- bytes that end a symbol
+-- ---- bytes that complete a symbol
 
--- what the streams and the reader make of the cells of a symbol
+-- the effect of a symbol's cells on the streams and the reader
 pub record TakesSymbol (new : CostsState) (hp lp new_hp new_lp : StreamState) (frames new_frames : FrameReader) (hp_steps lp_steps : List ℕ) (out : Output) : Type 0 where
   pub hp_gave : (a : Option (List Bool)) (c : List CostPair) (given : List ℕ) (tally : Tally) (steps : List ℕ) → StreamStands so_far hp a c given tally steps → StreamGave so_far new_hp a (c ++ new.hp) given (steps ++ hp_steps) [] out.hp
   pub lp_gave : (a : Option (List Bool)) (c : List CostPair) (given : List ℕ) (tally : Tally) (steps : List ℕ) → StreamStands so_far lp a c given tally steps → StreamGave so_far new_lp a (c ++ new.lp) given (steps ++ lp_steps) [] out.lp
   pub events_are : out.events ≡ map (event_at Hp) hp_steps ++ map (event_at Lp) lp_steps
   pub framed : (shown : ℕ → List Cell) (n : ℕ) → shown n ≡ map (cell_of new.cells) (tps_carriers new.settings.mode) → FrameStands new.settings.mode frames shown n → FrameStands new.settings.mode new_frames shown (n + 1)
 
--- the laws that a whole symbol wants
+-- the laws that a whole symbol needs
 pub record SymbolLaws : Type 0 where
   pub next : OneSymbolMore
   pub stay : TpsCellsStay
@@ -236,7 +236,7 @@ finishes one all cells hp lp new_hp new_lp frames ended bytes r out none hp_ends
     stands : StandsFor at_end (state cells new_hp new_lp frames true) bytes after
     stands = made one all at_end (state cells new_hp new_lp frames true) bytes after refl h.taken h.rest streams h.frames h.read h.bad
 
--- ---- at first
+-- ---- at the start
 
 no_symbols : (m : Mode) → 0 / (5 * carriers m) ≡ 0
 no_symbols M2k = refl

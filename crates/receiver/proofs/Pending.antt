@@ -1,4 +1,4 @@
--- Words that wait to be finished, and their packets.
+-- Words to be finished, and their packets.
 use Rattle.std.proofs.Common.{◌≡◌, ℕ, ◌+◌, ◌-◌, ◌*◌, ◌%◌, ◌<◌, ◌≤◌, Bool, not, cond, inl, inr, ◌⊎◌, List, [], ◌∷◌, ◌++◌, length, get_or, refl, sym, ap, ap₂, ◌∙◌, subst, arith, length-append, append_assoc, append-nil}
 use Rattle.std.specs.Prelude.{Option, Some, None, is_some}
 use Rattle.std.proofs.lemmas.Bool.{cases_lt}
@@ -20,7 +20,7 @@ use Rattle.rx_report.specs.declared.counts.StreamCounts.{StreamCounts}
 use Rattle.reception.specs.Lines.{stream_counts}
 use Rattle.receiver.specs.Words.{AreWords, AreDecoded, DecodesAll, Took, Passed, Collected, counted, Wrote, Gives, AreFew}
 
--- ---- a byte more
+-- ---- one more byte
 
 finished_more : TookByte → (old new : Receiver) (bytes given : List ℕ) (tally : Tally) (done byte : ℕ) → Finished old bytes given tally done → ((z : List ℕ) → Receives old z → Receives new (z ++ byte ∷ [])) → new.phase ≡ old.phase → Finished new (bytes ++ byte ∷ []) given tally done
 finished_more took old new bytes given tally done byte h stands phase = took old new bytes given tally done byte h (stands bytes h.receives) phase
@@ -70,7 +70,7 @@ ends_or bytes = go (cases_lt 0 (length bytes % 204)) (cases_lt 0 (word_count byt
     go (inr l) (inl w) = inl (omega (arith, l), w)
     go (inr l) (inr w) = inr (λ e. omega (arith, w, e.1))
 
--- the word that the byte ends, or none, was put behind the slots
+-- the word that the byte completes, or none, was appended to the slots
 pub took_put : TookByte → WordStays → (old new : Receiver) (bytes given : List ℕ) (tally : Tally) (done byte : ℕ) (before after : List WordSlot) → Finished old bytes given tally done
     → ((z : List ℕ) → Receives old z → Receives new (z ++ byte ∷ [])) → new.phase ≡ old.phase
     → ((z : List ℕ) → Receives old z → EndsWord (z ++ byte ∷ []) → after ≡ before ++ undecoded (z ++ byte ∷ []) (word_count (z ++ byte ∷ []) - 1) ∷ [])

@@ -1,4 +1,4 @@
--- What a stream stands for, from symbol to symbol.
+-- The state of a stream, from symbol to symbol.
 use Rattle.std.proofs.Common.{◌≡◌, ℕ, suc, ◌+◌, ◌*◌, ◌^◌, ◌<◌, ◌≤◌, Bool, List, [], ◌∷◌, ◌++◌, length, refl, sym, ap, ◌∙◌, subst, arith, length-append, append_assoc}
 use Rattle.std.specs.Prelude.{Option, All}
 use Rattle.std.proofs.lemmas.List.Elements.{All-nil, All-append, All-head, All-tail}
@@ -41,14 +41,14 @@ no_bytes (a ∷ b ∷ c ∷ d ∷ e ∷ f ∷ []) l = refl
 no_bytes (a ∷ b ∷ c ∷ d ∷ e ∷ f ∷ g ∷ []) l = refl
 no_bytes (a ∷ b ∷ c ∷ d ∷ e ∷ f ∷ g ∷ h ∷ w) l = absurd (omega (arith, l))
 
--- the whole bytes of bytes' bits and fewer than eight more
+-- the whole bytes of the bits of bytes and of fewer than eight more
 bytes_back : ByteOfBits → (bytes : List ℕ) (w : List Bool) → All (λ b. b < 256) bytes → length w < 8 → bytes_of (bits_of_bytes bytes ++ w) ≡ bytes
 bytes_back one [] w s l = no_bytes w l
 bytes_back one (b ∷ bytes) w s l =
     ap bytes_of (append_assoc (spelled 8 b) (bits_of_bytes bytes) w) ∙ one b (bits_of_bytes bytes ++ w) (All-head (λ b. b < 256) b bytes s)
     ∙ ap (λ z. b ∷ z) (bytes_back one bytes w (All-tail (λ b. b < 256) b bytes s) l)
 
--- what a stream has written are the packets of its bits, and so its counts
+-- the bytes written for a stream are the packets of its bits, and so are its counts
 pub received : ByteOfBits → AllFinished → (moment : Moment) (x : StreamState) (a : Option (List Bool)) (c : List CostPair) (given : List ℕ) (tally : Tally) (steps : List ℕ) → (h : StreamStands moment x a c given tally steps)
     → Packets (bytes_of h.bits) given × Tallies (bytes_of h.bits) tally
 received one all moment x a c given tally steps h =
@@ -56,13 +56,13 @@ received one all moment x a c given tally steps h =
     let both = all x.outer h.bytes given tally h.finished in
     (subst (λ z. Packets z given) same both.0, subst (λ z. Tallies z tally) same both.1)
 
--- bits that were given and bits that came go on to bytes and the bits that are left
+-- bits given and new bits divide into bytes and the bits left
 rejoined : (bits : List Bool) (bytes more : List ℕ) (wait came all left : List Bool) → bits ≡ bits_of_bytes bytes ++ wait → all ≡ wait ++ came → all ≡ bits_of_bytes more ++ left → bits ++ came ≡ bits_of_bytes (bytes ++ more) ++ left
 rejoined bits bytes more wait came all left e f g =
     ap (λ z. z ++ came) e ∙ append_assoc (bits_of_bytes bytes) wait came ∙ ap (λ z. bits_of_bytes bytes ++ z) (sym f ∙ g)
     ∙ sym (append_assoc (bits_of_bytes bytes) (bits_of_bytes more) left) ∙ ap (λ z. z ++ left) (sym (bits_append bytes more))
 
--- a symbol more: its pairs were run, and the bits that came were given on
+-- one more symbol: its pairs were run, and the new bits passed on
 pub symbol_gave : (old ran new : BranchState) (outer next : Receiver) (before between after : StreamCounts) (xs : List CostPair) (to more : List ℕ)
     → HasTaken xs old ran → new ≡ record ran { wait = new.wait } → length new.wait < 8
     → ((bytes given : List ℕ) (tally : Tally) → Finished outer bytes given tally (word_count bytes) → Gives ran.wait new.wait next bytes given tally to more before between)
@@ -90,7 +90,7 @@ symbol_gave old ran new outer next before between after xs to more run rest few 
       };
     }
 
--- the end: what was left was decoded and given on
+-- the end: the rest was decoded and passed on
 pub finish_gave : (old ended new : BranchState) (outer next : Receiver) (before after : StreamCounts) (to more : List ℕ)
     → HasEnded old ended → new ≡ record ended { wait = new.wait } → length new.wait < 8
     → ((bytes given : List ℕ) (tally : Tally) → Finished outer bytes given tally (word_count bytes) → Gives ended.wait new.wait next bytes given tally to more before after)
@@ -116,7 +116,7 @@ finish_gave old ended new outer next before after to more finish rest few give a
       };
     }
 
--- at first
+-- at the start
 pub nothing_stands : (x : StreamState) (a : Option (List Bool)) → HasGiven so_far x.branch.decoder a [] [] [] → x.branch.loaded ≡ [] → x.branch.wait ≡ [] → Finished x.outer [] [] no_words 0
     → x.counts ≡ stream_counts no_words 0 → StreamStands so_far x a [] [] no_words []
 nothing_stands x a given loaded wait finished counts = record {
@@ -135,7 +135,7 @@ pub length_ats : (es : List Unmerged) → length (ats es) ≡ length es
 length_ats [] = refl
 length_ats (e ∷ es) = ap suc (length_ats es)
 
--- ---- what a stream keeps
+-- ---- the invariant of a stream
 
 pub may_take : (x : StreamRx) (xs : List CostPair) (taken : ℕ) → IsKeptStream x taken → taken < 2 ^ 32 → length xs ≤ 31752 → MayRunOver xs x.branch
 may_take x xs taken h l few = record {
@@ -157,6 +157,6 @@ keeps x y ran xs taken h long run rest ready few = record {
   counts = few_more _ (40 * taken + 40) (40 * (taken + 1)) (omega arith) (few (40 * taken) h.counts);
 }
 
--- at first
+-- at the start
 pub first_kept : (x : StreamRx) (taken : ℕ) → IsReady x → x.branch.decoder.steps ≡ 0 → AreFew x.counts 0 → IsKeptStream x taken
 first_kept x taken ready none counts = record { ready = ready; steps_were = omega (arith, none); counts = few_more _ 0 (40 * taken) (omega arith) counts }

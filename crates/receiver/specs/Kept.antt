@@ -1,4 +1,4 @@
--- What a receiver keeps.
+-- The invariant of a receiver.
 use Rattle.std.specs.Prelude.{◌≡◌, ℕ, ◌+◌, ◌^◌, ◌<◌, ◌≤◌, Bool, false}
 use Rattle.receiver.specs.Ready.{IsKeptStream}
 use Rattle.inner_receiver.specs.declared.frames.FrameReader.{FrameReader}

@@ -7,7 +7,7 @@ use Rattle.receiver.specs.declared.stream.StreamRx.{StreamRx}
 abbrev pub seen : StreamRx → StreamState
 seen x = record { branch = x.branch; outer = x.outer; counts = x.counts }
 
--- no pair is loaded, fewer than eight bits wait, and all words are finished
+-- no pair is loaded, fewer than eight bits are pending, and all words are finished
 pub record IsReady (x : StreamRx) : Type 0 where
   pub going : x.branch.decoder.ended ≡ false
   pub loaded : x.branch.loaded ≡ []
@@ -16,7 +16,8 @@ pub record IsReady (x : StreamRx) : Type 0 where
   pub slots : 24 ≤ vec_capacity x.slots
   pub started : Started x.outer
 
--- a stream whose decoder has run a symbol: no pair is loaded, and all words but those of the bits that wait are finished
+-- a stream whose decoder has run a symbol: no pair is loaded, and all words are finished except those of the pending
+-- bits
 pub record MayGive (x : StreamRx) : Type 0 where
   pub going : x.branch.decoder.ended ≡ false
   pub loaded : x.branch.loaded ≡ []
@@ -24,7 +25,7 @@ pub record MayGive (x : StreamRx) : Type 0 where
   pub slots : 24 ≤ vec_capacity x.slots
   pub started : Started x.outer
 
--- a stream after so many symbols, each of at most 31,752 steps, before it has ended
+-- a stream after `taken` symbols, each of at most 31,752 steps, before it has ended
 pub record IsKeptStream (x : StreamRx) (taken : ℕ) : Type 0 where
   pub ready : IsReady x
   pub steps_were : x.branch.decoder.steps ≤ 31752 * taken

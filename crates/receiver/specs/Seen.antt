@@ -1,4 +1,4 @@
--- What is seen of a receiver.
+-- The visible state of a receiver.
 use Rattle.std.specs.Prelude.{ℕ, Bool, List}
 use Rattle.mode_set.specs.declared.modes.Stream.{Stream}
 use Rattle.mode_set.specs.declared.modes.Stream.TheVariants.{Hp, Lp}
@@ -8,7 +8,7 @@ use Rattle.outer_chain.specs.Receiving.{Receiver}
 use Rattle.rx_report.specs.declared.counts.StreamCounts.{StreamCounts}
 use Rattle.inner_receiver.specs.declared.frames.FrameReader.{FrameReader}
 
--- of one stream: its decoder, its outer receiver and its counts
+-- of a stream: its decoder, its outer receiver and its counts
 pub record StreamState : Type 0 where
   pub branch : BranchState
   pub outer : Receiver

@@ -1,4 +1,4 @@
--- What a receiver stands for.
+-- The meaning of a receiver's state.
 use Rattle.std.specs.Prelude.{◌≡◌, ℕ, ◌<◌, Bool, true, false, List, [], ◌++◌, All, Option, length}
 use Rattle.code_paths.specs.declared.costs.CostPair.{CostPair}
 use Rattle.bit_pack.specs.Queue.{bits_of_bytes}
@@ -20,8 +20,8 @@ abbrev pub is_end : Moment → Bool
 is_end so_far = false
 is_end at_end = true
 
--- A stream stands for a start, the costs that it was given, and what it gave: the bytes of packets, the counts of words and the
--- reports. Of the bits that its decoder gave whole bytes were taken, fewer than eight wait.
+-- The state of a stream matches a start, the costs received, and its output: the bytes of packets, the counts of words
+-- and the reports. Whole bytes of the decoder's bits were taken; fewer than eight bits are pending.
 pub record StreamStands (moment : Moment) (x : StreamState) (a : Option (List Bool)) (c : List CostPair) (given : List ℕ) (tally : Tally) (steps : List ℕ) : Type 0 where
   pub bits : List Bool
   pub has_given : HasGiven moment x.branch.decoder a c bits steps
@@ -33,14 +33,15 @@ pub record StreamStands (moment : Moment) (x : StreamState) (a : Option (List Bo
   pub finished : Finished x.outer bytes given tally (word_count bytes)
   pub counts : x.counts ≡ stream_counts tally (length steps)
 
--- a stream gave more: what it wrote behind `old`
+-- a stream gave more output, after `old`
 pub record StreamGave (moment : Moment) (x : StreamState) (a : Option (List Bool)) (c : List CostPair) (given steps : List ℕ) (old new : List ℕ) : Type 0 where
   pub written : List ℕ
   pub is : new ≡ old ++ written
   pub tally : Tally
   pub stands : StreamStands moment x a c (given ++ written) tally steps
 
--- A receiver stands for the bytes that it has had and for what it gave: each stream for the costs of their whole symbols.
+-- The state of a receiver matches the bytes received and the output given, each stream with the costs of their whole
+-- symbols.
 pub record StandsFor (moment : Moment) (x : ReceiverState) (bytes : List ℕ) (r : Reception) : Type 0 where
   pub ended : x.ended ≡ is_end moment
   pub taken : x.taken ≡ symbols x.settings bytes
@@ -51,7 +52,7 @@ pub record StandsFor (moment : Moment) (x : ReceiverState) (bytes : List ℕ) (r
   pub bad : x.frames.bad ≡ r.bad
   pub receives : Receives moment x.settings bytes r
 
--- a decoder's branch stands for a start and costs, and for the bits that the definitions give for them at a moment
+-- the branch of a decoder matches a start, costs, and the bits that the definitions give for them at a moment
 pub record HasBits (moment : Moment) (branch : BranchState) (a : Option (List Bool)) (c : List CostPair) : Type 0 where
   pub bits : List Bool
   pub decoder : DecoderStands moment branch.decoder a c bits

@@ -1,4 +1,4 @@
--- How the bits of a stream become words, and the words packets.
+-- From the bits of a stream to words, and from words to packets.
 use Rattle.std.specs.Prelude.{◌≡◌, ℕ, ◌+◌, ◌<◌, ◌≤◌, Bool, not, cond, List, [], ◌∷◌, ◌++◌, All, length, slice_index_or}
 use Rattle.bit_pack.specs.Queue.{bits_of_bytes}
 use Rattle.spec_words.specs.Bits.{spelled}
@@ -31,20 +31,20 @@ pub record Started (outer : Receiver) : Type 0 where
   pub tally : Tally
   pub finished : Finished outer bytes given tally (word_count bytes)
 
--- a byte more: the slots go on holding the words that are not finished
+-- one more byte; the slots still hold the unfinished words
 pub record Took (outer : Receiver) (byte : ℕ) (bytes given : List ℕ) (tally : Tally) (done : ℕ) (old new : List WordSlot) : Type 0 where
   pub finished : Finished outer (bytes ++ byte ∷ []) given tally done
   pub all : done + length old ≡ word_count bytes → done + length new ≡ word_count (bytes ++ byte ∷ [])
   pub words : done + length old ≡ word_count bytes → AreWords bytes done old → AreWords (bytes ++ byte ∷ []) done new
 
--- the same, where the byte is the first of the bits that wait
+-- the same, if the byte is the first of the pending bits
 pub record Passed (wait left : List Bool) (outer : Receiver) (bytes given : List ℕ) (tally : Tally) (done : ℕ) (old new : List WordSlot) : Type 0 where
   pub byte : ℕ
   pub small : byte < 256
   pub bits : wait ≡ spelled 8 byte ++ left
   pub took : Took outer byte bytes given tally done old new
 
--- of the bits that wait, k bytes were taken
+-- k bytes of the pending bits were taken
 pub record Collected (wait : List Bool) (bytes given : List ℕ) (tally : Tally) (done k : ℕ) (outer : Receiver) (left : List Bool) (slots : List WordSlot) : Type 0 where
   pub more : List ℕ
   pub long : length more ≡ k
@@ -54,7 +54,7 @@ pub record Collected (wait : List Bool) (bytes given : List ℕ) (tally : Tally)
   pub all : done + length slots ≡ word_count (bytes ++ more)
   pub words : AreWords (bytes ++ more) done slots
 
--- words were finished up to number `done`, and their packets written behind what stood there
+-- words were finished up to number `done`, and their packets written after `old`
 pub record Wrote (outer : Receiver) (bytes given : List ℕ) (done : ℕ) (old new : List ℕ) (before after : StreamCounts) (tally : Tally) : Type 0 where
   pub written : List ℕ
   pub is : new ≡ old ++ written
@@ -62,7 +62,7 @@ pub record Wrote (outer : Receiver) (bytes given : List ℕ) (done : ℕ) (old n
   pub finished : Finished outer bytes (given ++ written) now done
   pub counts : (unmerged : ℕ) → before ≡ stream_counts tally unmerged → after ≡ stream_counts now unmerged
 
--- what became of the bits that waited: whole bytes of them were taken, all words are finished, and the packets are written
+-- the result for the pending bits: whole bytes were taken, all words are finished, and the packets are written
 pub record Gives (wait left : List Bool) (outer : Receiver) (bytes given : List ℕ) (tally : Tally) (old new : List ℕ) (before after : StreamCounts) : Type 0 where
   pub more : List ℕ
   pub bits : wait ≡ bits_of_bytes more ++ left
@@ -73,7 +73,7 @@ pub record Gives (wait left : List Bool) (outer : Receiver) (bytes given : List 
   pub finished : Finished outer (bytes ++ more) (given ++ written) now (word_count (bytes ++ more))
   pub counts : (unmerged : ℕ) → before ≡ stream_counts tally unmerged → after ≡ stream_counts now unmerged
 
--- one word more, with its outcome, and with a phase or without one
+-- the counts after one more word of this outcome, with a phase or without
 abbrev pub counted : StreamCounts → Outcome → Bool → StreamCounts
 counted counts outcome phased = record {
   words = counts.words + 1;

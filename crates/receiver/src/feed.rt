@@ -24,11 +24,10 @@ use inner_receiver::{FrameReader, SymbolCosts, take_symbol};
 use survivor_ring::RingSurvivors;
 use word_workers::{Gate, OpenGate};
 
-/// Receives the cells of a transmission, as bytes that are cut anywhere, and gives the packets of its
-/// streams as far as they are decided.
+/// Receives the cells of a transmission, as bytes in pieces of any length, and gives the packets of its streams as far
+/// as they are decided.
 ///
-/// It stands for the bytes that it has had and for what it gave. No call but `new` takes memory or is
-/// refused.
+/// Its state matches the bytes received and the output given. Only `new` allocates memory; no call can fail after it.
 #[derive(Drop)]
 pub struct Receiver<M: Carriers> {
     cells: SymbolCosts<M>,
@@ -58,8 +57,8 @@ impl<M: Carriers> Model for Receiver<M> {
 }
 
 impl<M: Carriers> Receiver<M> {
-    /// A receiver that has had no byte. It takes all its memory, enough for any parameters of the mode; the only error is want
-    /// of it.
+    /// A receiver that has received no byte. It allocates all its memory, enough for any parameters of the mode; the
+    /// only error is lack of memory.
     pub fn new(alloc: Global, settings: &Settings) -> Result<Self, AllocError>
         requires mode { settings.now.mode ≡ M.MODE }
         ensures settings { IfOk result (λ x. x.settings ≡ settings.now) }
@@ -78,8 +77,8 @@ impl<M: Carriers> Receiver<M> {
         })
     }
 
-    /// Takes bytes from the front of the piece, as many as it has or the current symbol wants, and answers
-    /// how many. `out` has then exactly what became defined by them.
+    /// Takes bytes from the start of the piece, all of them or as many as the current symbol needs, and returns their
+    /// number. `out` then has exactly the output that they make definite.
     ///
     /// Fewer than 2^32 symbols were received so far, and the receiver has not ended.
     pub fn feed<R: Threads + Sync>(&mut self, rt: &R, piece: &[u8], out: &mut RxOut) -> usize
@@ -94,8 +93,8 @@ impl<M: Carriers> Receiver<M> {
         self.feed_gated(rt, &OpenGate, piece, out)
     }
 
-    /// Does what `feed` does, for every gate: the workers that decode the outer words of a symbol, and the
-    /// inner decoders of two streams, enter it.
+    /// Does what `feed` does, for every gate: the workers that decode the outer words of a symbol, and the inner
+    /// decoders of two streams, enter it.
     pub fn feed_gated<R: Threads + Sync, G: Gate>(
         &mut self,
         rt: &R,
@@ -137,7 +136,7 @@ impl<M: Carriers> Receiver<M> {
         count
     }
 
-    /// Ends the reception: `out` has then the rest of the packets.
+    /// Ends the reception: `out` then has the rest of the packets.
     ///
     /// The receiver has not ended.
     pub fn finish<R: Threads + Sync>(&mut self, rt: &R, out: &mut RxOut)
@@ -156,14 +155,14 @@ impl<M: Carriers> Receiver<M> {
         self.ended = true;
     }
 
-    /// Was `finish` called?
+    /// Whether `finish` was called.
     pub fn ended(&self) -> bool
         ensures { result ≡ self.now.ended }
     {
         self.ended
     }
 
-    /// The whole symbols received so far.
+    /// The number of whole symbols received so far.
     pub fn symbols(&self) -> u64
         ensures number { result ≡ self.now.taken }
         ensures symbols { (moment : Moment) (bytes : List ℕ) (r : Reception) → StandsFor moment self.now bytes r → result ≡ symbols self.now.settings bytes }
@@ -186,9 +185,9 @@ impl<M: Carriers> Receiver<M> {
         }
     }
 
-    /// The inner decoder of a stream that exists in the transmission. It stands for the costs of the whole symbols and the bits
-    /// given of them, and after `finish` for the bits at the end: no bit waits then, and one state is alive, the last six bits of
-    /// the path.
+    /// The inner decoder of a stream that exists in the transmission. It matches the costs of the whole symbols and the
+    /// bits given for them, and after `finish` the bits at the end: then no bit is pending, and the one alive state is
+    /// the last six bits of the path.
     pub fn branch(&self, stream: Stream) -> &Branch<LaneAcs, RingSurvivors<2048>>
         requires exists { IsTrue (exists_in self.now.settings stream) }
         ensures branch { result.now ≡ (stream_of self.now stream).branch }

@@ -1,10 +1,9 @@
-//! The receiver: from bytes of cells, cut anywhere, to the packets of one or two transport streams.
+//! The receiver: from bytes of cells, in pieces of any length, to the packets of one or two transport streams.
 //!
-//! [`Receiver`] takes bytes of cells in pieces of any length and gives, after each, what became defined
-//! by them: of each symbol the cells give the costs of each stream's steps, the streaming decoders the
-//! bits on which all survivors agree, these the outer words, and the words the packets. It reads the TPS
-//! words of the frames beside. What is given is the live output of the definitions in `reception`, and at
-//! the end the final one.
+//! [`Receiver`] takes bytes of cells in pieces and gives, after each, the output that they make definite. The cells of
+//! each symbol give the costs of each stream's steps, the streaming decoders the bits on which all survivors agree,
+//! these the outer words, and the words the packets. It also reads the TPS words of the frames. Its output is the live
+//! output of the definitions in `reception`, and at the end the final one.
 #![tactic(auto)]
 
 mod feed;

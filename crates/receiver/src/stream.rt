@@ -1,4 +1,4 @@
-// The receiving of one stream, symbol by symbol.
+// The reception of one stream, symbol by symbol.
 ghost use Rattle.std.specs.Prelude.{◌≡◌, ◌+◌, ◌<◌, ◌≤◌, ◌^◌, ◌++◌, [], ℕ, List, Bool, length, vec_len, vec_capacity, IfOk, true};
 ghost use Rattle.std.specs.declared.option.Option.{Option};
 ghost use Rattle.code_paths.specs.declared.costs.CostPair.{CostPair as Pair};
@@ -22,17 +22,17 @@ use std::thread::Threads;
 use inner_receiver::{StreamBranch, begin, end};
 use word_workers::{Gate, OpenGate};
 
-/// The decoder of one stream, and what becomes of the bits that it gives: bytes, words, packets and counts.
+/// The decoder of one stream, and what its bits become: bytes, words, packets and counts.
 #[derive(Drop)]
 pub(crate) struct StreamRx {
     pub(crate) branch: StreamBranch,
     pub(crate) outer: OuterRx,
-    // The words that a symbol completes, none between two symbols.
+    // The words that a symbol completes; none between two symbols.
     pub(crate) slots: Vec<WordSlot>,
     pub(crate) counts: StreamCounts,
 }
 
-/// The counts of nothing.
+/// Counts of zero.
 fn no_counts() -> StreamCounts
     ensures { result ≡ stream_counts no_words 0 }
 {
@@ -47,7 +47,7 @@ fn no_counts() -> StreamCounts
 }
 
 impl StreamRx {
-    /// A stream of which nothing was received. The only error is want of memory.
+    /// A stream that has received nothing. The only error is lack of memory.
     pub(crate) fn new(alloc: Global, start: Start) -> Result<Self, AllocError>
         ensures ready { IfOk result (λ x. IsReady x) }
         ensures steps { IfOk result (λ x. x.branch.decoder.steps ≡ 0) }
@@ -63,8 +63,7 @@ impl StreamRx {
         })
     }
 
-    /// Takes the whole bytes of the bits that wait, decodes the words that end with them, and appends
-    /// their packets.
+    /// Takes the whole bytes of the pending bits, decodes the words that end with them, and appends their packets.
     fn give<R: Threads + Sync, G: Gate>(&mut self, rt: &R, gate: &G, workers: u8, to: &mut Vec<u8>)
         requires some_worker { 1 ≤ workers }
         requires few_workers { workers ≤ 16 }
@@ -99,8 +98,8 @@ impl StreamRx {
         self.counts.unmerged += reports.len() as u64;
     }
 
-    /// Gives on what the decoder gave in a symbol: decodes the words that are then complete and appends
-    /// their packets, and counts the reports.
+    /// Processes the decoder's output for a symbol: decodes the words then complete and appends their packets, and
+    /// counts the reports.
     pub(crate) fn give_on<R: Threads + Sync, G: Gate>(
         &mut self,
         rt: &R,
@@ -125,7 +124,7 @@ impl StreamRx {
         self.report();
     }
 
-    /// Decodes what is left, and appends the packets of the words that are then complete.
+    /// Decodes the rest, and appends the packets of the words then complete.
     pub(crate) fn finish<R: Threads + Sync>(&mut self, rt: &R, workers: u8, to: &mut Vec<u8>)
         requires some_worker { 1 ≤ workers }
         requires few_workers { workers ≤ 16 }

@@ -1,4 +1,4 @@
-// From the bits that a decoder gives to packets.
+// From the bits of a decoder to packets.
 ghost use Rattle.std.specs.Prelude.{◌≡◌, ◌+◌, ◌-◌, ◌*◌, ◌/◌, ◌<◌, ◌≤◌, ◌^◌, ◌++◌, [], ℕ, List, not, cond, length, vec_len, vec_capacity};
 ghost use Rattle.rs204.specs.Decoded.{Decoded};
 ghost use Rattle.outer_chain.specs.Words.{Tally, word_at, word_count};
@@ -29,7 +29,7 @@ fn take_byte(outer: &mut OuterRx, byte: u8, slots: &mut Vec<WordSlot>)
     outer.put_byte(byte, slots);
 }
 
-/// Takes the first byte of the bits that wait, of which there are eight at least.
+/// Takes the first byte of the pending bits, of which there are at least eight.
 fn pass_byte(branch: &mut StreamBranch, outer: &mut OuterRx, slots: &mut Vec<WordSlot>)
     requires wait { 8 ≤ length branch.old.wait }
     requires room { vec_len slots.old < vec_capacity slots.old }
@@ -44,8 +44,7 @@ fn pass_byte(branch: &mut StreamBranch, outer: &mut OuterRx, slots: &mut Vec<Wor
     }
 }
 
-/// Takes the whole bytes of the bits that wait, and keeps the words that end with them, of which there
-/// are 24 at most.
+/// Takes the whole bytes of the pending bits, and keeps the words that end with them, at most 24.
 pub(crate) fn collect(branch: &mut StreamBranch, outer: &mut OuterRx, slots: &mut Vec<WordSlot>)
     requires started { Started outer.old }
     requires none { slots.old.items ≡ [] }
@@ -62,7 +61,7 @@ pub(crate) fn collect(branch: &mut StreamBranch, outer: &mut OuterRx, slots: &mu
     }
 }
 
-/// Decodes each word, by so many workers.
+/// Decodes each word, with `workers` workers.
 pub(crate) fn decode<R: Threads + Sync, G: Gate>(
     rt: &R,
     gate: &G,
@@ -78,7 +77,7 @@ pub(crate) fn decode<R: Threads + Sync, G: Gate>(
     decode_all(rt, workers, gate, slots.as_mut_slice());
 }
 
-/// One where the outcome is that of a clean, a corrected or a bad word.
+/// A one for the kind of outcome: clean, corrected or bad.
 fn kinds(outcome: Outcome) -> (u64, u64, u64)
     ensures clean { result.0 ≡ cond (is_clean_outcome outcome) 1 0 }
     ensures corrected { result.1 ≡ cond (is_corrected_outcome outcome) 1 0 }
@@ -92,7 +91,7 @@ fn kinds(outcome: Outcome) -> (u64, u64, u64)
     }
 }
 
-/// One where there is no phase.
+/// A one if there is no phase.
 fn without(phased: bool) -> u64
     ensures is { result ≡ cond (not phased) 1 0 }
     ensures small { result ≤ 1 }
@@ -125,7 +124,7 @@ fn append(bytes: &[u8], to: &mut Vec<u8>)
     }
 }
 
-/// Appends the packet of a word, where it has one.
+/// Appends the packet of a word, if it has one.
 fn append_packet(packet: &Option<Packet>, to: &mut Vec<u8>)
     requires room { vec_len to.old + 188 ≤ vec_capacity to.old }
     ensures items { to.new.items ≡ to.old.items ++ bytes_given packet.now }
@@ -137,7 +136,7 @@ fn append_packet(packet: &Option<Packet>, to: &mut Vec<u8>)
     }
 }
 
-/// Finishes a decoded word: counts it and writes its packet, where it has one.
+/// Finishes a decoded word: counts it and writes its packet, if it has one.
 fn finish_word(outer: &mut OuterRx, slot: &WordSlot, counts: &mut StreamCounts, to: &mut Vec<u8>)
     requires room { vec_len to.old + 188 ≤ vec_capacity to.old }
     requires few { AreFew counts.old (2 ^ 62) }

@@ -1,4 +1,4 @@
--- The number of workers stands in no definition of what is received.
+-- No definition of a reception depends on the number of workers.
 use Rattle.std.proofs.Common.{◌≡◌, ℕ, ◌+◌, ◌%◌, ◌/◌, ◌++◌, ◌&&◌, List, Option, map, refl, sym, ap, subst}
 use Rattle.std.specs.Prelude.{Some, None, nat_lt, nat_le, filter, find, flat_map, reverse, sum_by, unwrap_or}
 use Rattle.std.proofs.Math.Bridge.{le_prop}
@@ -37,12 +37,12 @@ use Rattle.reception.specs.Alike.{DifferInWorkers, SameCosts, SameEvents, SameFi
 abbrev pub with_workers : (s : Settings) (w : ℕ) → IsKept s.shape s.hierarchy s.rate_lp w s.max_symbols → Settings
 with_workers s w k = record s { workers = w; kept = k }
 
--- a fact of the settings of these fields, whatever keeps them
+-- a fact on the settings with these fields, for any proof of their invariant
 abbrev Of : (Settings → Type 0) → ℕ → Mode → Shape → Hierarchy → Rate → Option Rate → Guard → Option ℕ → Start → ℕ → Plan → Type 0
 Of Fact w mode shape hierarchy rate_hp rate_lp guard cell_id start most plan =
     (k : IsKept shape hierarchy rate_lp w most) → Fact (record { mode = mode; shape = shape; hierarchy = hierarchy; rate_hp = rate_hp; rate_lp = rate_lp; guard = guard; cell_id = cell_id; start = start; workers = w; max_symbols = most; plan = plan; kept = k })
 
--- what is so with another number of workers is so of settings that differ in it alone
+-- what holds with another number of workers holds for settings that differ only in it
 pub over : (Fact : Settings → Type 0) (s t : Settings) → DifferInWorkers s t → ((k : IsKept s.shape s.hierarchy s.rate_lp t.workers s.max_symbols) → Fact (with_workers s t.workers k)) → Fact t
 over Fact s t d base =
     let a = subst (λ (x : Mode). Of Fact t.workers x s.shape s.hierarchy s.rate_hp s.rate_lp s.guard s.cell_id s.start s.max_symbols s.plan) (sym d.mode) base in
@@ -58,7 +58,7 @@ over Fact s t d base =
     m t.kept
 
 module _ (s : Settings) (w : ℕ) (k : IsKept s.shape s.hierarchy s.rate_lp w s.max_symbols) where
-  -- its costs are the same, and that they are small has no two proofs
+  -- its costs are the same, and their bound has at most one proof
   pair_alike : (cells : List Cell) (weights : List ℕ) (l : ℕ) (σ : Stream) (t : ℕ) → pair_of s cells weights l σ t ≡ pair_of (with_workers s w k) cells weights l σ t
   unfolding pair_of weighted_costs_on costs_on
   pair_alike cells weights l σ t = λ i.
@@ -77,7 +77,7 @@ module _ (s : Settings) (w : ℕ) (k : IsKept s.shape s.hierarchy s.rate_lp w s.
   pairs_alike cells weights l σ = λ i. map (λ t. pair_alike cells weights l σ t i) (numbers (need s σ))
 
 module _ (s : Settings) (w : ℕ) (k : IsKept s.shape s.hierarchy s.rate_lp w s.max_symbols) where
-  -- the settings with the parameters that were found, or with their own
+  -- the settings with the parameters found, or with their own
   abbrev with_found : Settings → Option Entry → Settings
   with_found z e = with_entry z (unwrap_or e (top z))
 

@@ -22,7 +22,7 @@ kept_16 r = record { qpsk = λ q. q; lp = refl; some_worker = omega arith; few_w
 abbrev pub base : Settings
 base = record { mode = M2k; shape = Qpsk; hierarchy = Flat; rate_hp = R1of2; rate_lp = None; guard = G1of32; cell_id = None; start = Zero; workers = 1; max_symbols = 1000000; plan = no_plan; kept = kept_flat }
 
--- the same, received from its midst
+-- the same, received from the middle on
 abbrev pub midst : Settings
 midst = record { mode = M2k; shape = Qpsk; hierarchy = Flat; rate_hp = R1of2; rate_lp = None; guard = G1of32; cell_id = None; start = Any; workers = 1; max_symbols = 1000000; plan = no_plan; kept = kept_flat }
 

@@ -1,4 +1,4 @@
--- What first bytes give begins what more give.
+-- The output of a prefix is a prefix of the output.
 use Rattle.std.proofs.Common.{◌≡◌, ℕ, ◌+◌, ◌-◌, ◌*◌, ◌/◌, ◌<◌, ◌≤◌, Bool, false, List, ◌++◌, length, map, sym, ap, ap₂, ◌∙◌, subst, subst₂, arith, length-append, append_assoc, append-nil}
 use Rattle.std.specs.Prelude.{◌↔◌, IsTrue, filter, flat_map, All}
 use Rattle.outer_chain.specs.Words.{count}

@@ -59,7 +59,7 @@ symbol_costs_long : (s : Settings) (bytes : List ℕ) (σ : Stream) (m : ℕ) �
 unfolding symbol_costs
 symbol_costs_long s bytes σ m = length-map (numbers (steps_of s σ m)) (pair_of (settings_at s m) (symbol_cells s bytes m) (symbol_weights s bytes m) (m % 68) σ) ∙ length-numbers (steps_of s σ m)
 
--- what is known of the steps of symbols
+-- the known facts on the steps of symbols
 pub record AreSteps : Type 0 where
   pub none : NoSteps
   pub more : StepsOfOneMore
@@ -87,7 +87,7 @@ cost_of_step steps s bytes σ m t d l w =
     ∙ part_is (symbol_costs s bytes σ) (steps_before s σ) (between steps s bytes σ) (steps.grow s σ) d (symbols s bytes) m i (steps.none s σ) l within
     ∙ cost_in_symbol s bytes σ m i d few
 
--- a stream that has no steps has no costs
+-- a stream without steps has no costs
 empty_list : (xs : List CostPair) → length xs ≡ 0 → xs ≡ []
 empty_list [] e = refl
 empty_list (x ∷ xs) e = absurd (omega (arith, e))

@@ -20,7 +20,7 @@ upper : four (pair_of midst (replicate 1705 (record { re = pos 0; im = pos 11585
 unfolding pair_of weighted_costs_on costs_on cost payload_carriers is_payload is_continual is_scattered is_tps tps_carriers h words_from numbers
 upper = refl
 
--- by the least weight above 0, and by none
+-- with the least weight above 0, and with weight 0
 least : four (pair_of midst (replicate 1705 (record { re = pos 0; im = pos 11585 })) (replicate 1705 1) 0 Hp 0) ≡ 34 ∷ 34 ∷ 0 ∷ 136 ∷ []
 unfolding pair_of weighted_costs_on costs_on cost payload_carriers is_payload is_continual is_scattered is_tps tps_carriers h words_from numbers
 least = refl
@@ -29,7 +29,7 @@ none : four (pair_of midst (replicate 1705 (record { re = pos 0; im = pos 11585 
 unfolding pair_of weighted_costs_on costs_on cost payload_carriers is_payload is_continual is_scattered is_tps tps_carriers h words_from numbers
 none = refl
 
--- LP at 3/4: all cells are the outer level and the inner one; X of step 1 is not sent
+-- LP at 3/4: all cells are the outer level and the inner one; X of step 1 is punctured
 lower_0 : four (pair_of (layered R3of4) (replicate 1705 (record { re = pos 14654; im = neg_ℤ (pos 7327) })) (replicate 1705 15) 1 Lp 0) ≡ 0 ∷ 204 ∷ 204 ∷ 0 ∷ []
 unfolding pair_of weighted_costs_on costs_on cost payload_carriers is_payload is_continual is_scattered is_tps tps_carriers h words_from numbers
 lower_0 = refl

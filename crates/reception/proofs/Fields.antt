@@ -70,7 +70,7 @@ find_guard P d = listed P (G1of32 ∷ G1of16 ∷ G1of8 ∷ G1of4 ∷ []) all (fi
     all n G1of8 p = n.1.1.0 p
     all n G1of4 p = n.1.1.1.0 p
 
--- ---- all fields, one inside the other
+-- ---- all fields, nested
 
 module _ (P : TpsWord → Type 0) (decide : (t : TpsWord) → Decided (P t)) where
   abbrev fields : ℕ → Bool → Shape → Hierarchy → Rate → Rate → Guard → Mode → ℕ → TpsWord

@@ -1,4 +1,4 @@
--- The events of one symbol more.
+-- The events of one more symbol.
 use Rattle.std.proofs.Common.{◌≡◌, ℕ, suc, ◌+◌, ◌<◌, ◌≤◌, Bool, true, false, refl, List, ◌++◌, length, map, sym, ap, ap₂, ◌∙◌, subst, arith, length-append, append-nil}
 use Rattle.std.specs.Prelude.{◌&&◌, nat_lt, nat_le, filter, flat_map, All}
 use Rattle.std.proofs.lemmas.Bool.{lt-ltb, le-ltb, lt-leb, le-leb}
@@ -19,7 +19,7 @@ use Rattle.reception.proofs.CostLists.{AreSteps, costs_are_steps, next_costs}
 use Rattle.reception.proofs.Symbols.{one_symbol_more}
 use Rattle.reception.proofs.Reported.{IsBetween, reports_are_steps, new_reports_are_later}
 
--- whether a step, counted from 1, is one of symbol m, where `first` says how many steps come before a symbol
+-- whether a step, counted from 1, is in symbol m; `first` gives the number of steps before a symbol
 abbrev pub in_symbol : (ℕ → ℕ) → ℕ → ℕ → Bool
 in_symbol first m at = nat_lt (first m) at && nat_le at (first (m + 1))
 
@@ -27,7 +27,7 @@ no_and : (b c : Bool) → c ≡ false → (b && c) ≡ false
 no_and true c e = e
 no_and false c e = refl
 
--- a step behind it, one before it, and one of it
+-- a step after the symbol, one before it, and one in it
 pub is_behind : (first : ℕ → ℕ) (m at : ℕ) → first (m + 1) < at → in_symbol first m at ≡ false
 is_behind first m at l = no_and (nat_lt (first m) at) (nat_le at (first (m + 1))) (lt-leb at (first (m + 1)) l)
 
@@ -37,7 +37,7 @@ is_before first m at l = ap (λ (b : Bool). b && nat_le at (first (m + 1))) (le-
 is_here : (first : ℕ → ℕ) (m at : ℕ) → IsBetween (first m) (first (m + 1)) at → in_symbol first m at ≡ true
 is_here first m at h = ap (λ (b : Bool). b && nat_le at (first (m + 1))) (lt-ltb (first m) at h.0) ∙ le-leb at (first (m + 1)) h.1
 
--- old reports lie in old symbols, new ones in the new symbol
+-- old reports are in old symbols, new ones in the new symbol
 old_only : (first : ℕ → ℕ) (n m : ℕ) (rs us : List ℕ) → first (m + 1) ≤ first n → All (IsBetween (first n) (first (n + 1))) us → filter (in_symbol first m) (rs ++ us) ≡ filter (in_symbol first m) rs
 old_only first n m rs us l h =
     filter-append (in_symbol first m) rs us

@@ -1,4 +1,4 @@
--- Each word has a nearest codeword or none, so bytes give packets and a tally.
+-- Each word has a nearest codeword or none, so packets and a tally exist.
 use Rattle.std.proofs.Common.{◌≡◌, ℕ, zero, suc, ◌<◌, ◌≤◌, List, [], ◌∷◌, length, take, ◌⊎◌, inl, inr, refl, sym, subst, arith, length-take-le}
 use Rattle.std.specs.Prelude.{Option, Some, None}
 use Rattle.std.proofs.lemmas.Bool.{cases_lt}

@@ -1,4 +1,4 @@
--- What no bytes give.
+-- The output for no bytes.
 use Rattle.std.proofs.Common.{◌≡◌, ℕ, ◌/◌, Bool, false, List, [], length, drop, inl, refl, sym, ap, subst, arith, length-append}
 use Rattle.std.specs.Prelude.{Option, None, replicate}
 use Rattle.std.proofs.lemmas.List.{length-take}
@@ -23,7 +23,7 @@ zeros = replicate 6 false
 quiet : (most : ℕ) (a : Option (List Bool)) → IsQuiet most a [] 1
 quiet most a t l o = omega (arith, o.over, length-take {A = CostPair} t [])
 
--- the path of no step from six zeros
+-- the path of no steps from six zeros
 least_to : (start : Start) → LeastTo (start_of start) [] zeros zeros
 least_to Zero = record { path = record { long = refl; start = refl }; ends = refl; first = λ q i d. inl (sym d) }
 least_to Any = record { path = record { long = refl; start = tt }; ends = refl; first = λ q i d. inl (sym d) }

@@ -1,4 +1,4 @@
--- Lists that are put together part by part, and filters.
+-- Lists joined part by part, and filters.
 use Rattle.std.proofs.Common.{◌≡◌, ℕ, zero, suc, ◌+◌, ◌<◌, Bool, true, false, cond, List, [], ◌∷◌, ◌++◌, length, refl, sym, ap, ap₂, ◌∙◌, arith, length-append, append_assoc, append-nil}
 use Rattle.std.specs.Prelude.{flat_map, filter, All}
 use Rattle.std.proofs.lemmas.List.Concat.{flat_map-append}
@@ -51,7 +51,7 @@ none_kept {A} p (x ∷ xs) h = go (p x) refl (λ f. none_kept p xs f) h
     go true e rest f = absurd (omega (arith, ap length f))
     go false e rest f = All-cons (λ x. p x ≡ false) x xs e (rest f)
 
--- what is not longer than its beginning is no longer
+-- a list that continues itself with ys has ys empty
 pub nothing_more : {A : Type 0} (xs ys : List A) → xs ≡ xs ++ ys → ys ≡ []
 nothing_more xs [] h = refl
 nothing_more xs (y ∷ ys) h = absurd (omega (arith, ap length h, length-append xs (y ∷ ys)))

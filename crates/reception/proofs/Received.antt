@@ -49,7 +49,7 @@ count_more f n (suc d) =
     let s = count_step f (d + n) in
     (omega (arith, e, r.0, s.0), omega (arith, e, r.1, s.1))
 
--- the frames of longer bytes that are read, and those that are not
+-- the frames of longer bytes that are readable, and those that are not
 counted : (word longer : ℕ → List Bool) (n m read bad more_read more_bad : ℕ) → n ≤ m → ((f : ℕ) → f < n → longer f ≡ word f) → CountsWords word n read bad → CountsWords longer m more_read more_bad
     → (read ≤ more_read) × (more_read ≤ read + (m - n)) × (read + bad ≡ n) × (more_read + more_bad ≡ m)
 counted word longer n m read bad more_read more_bad l same x y =
@@ -65,7 +65,7 @@ frames_once s bytes read bad more_read more_bad x y =
     let r = counted (frame_bits (tps_cells s bytes)) (frame_bits (tps_cells s bytes)) (symbols s bytes / 68) (symbols s bytes / 68) read bad more_read more_bad (omega arith) (λ f l. refl) x y in
     (omega (arith, r.0, r.1), omega (arith, r.0, r.1, r.2, r.3))
 
--- the bits of a frame depend on its cells
+-- the bits of a frame depend only on its cells
 pub same_bits : BitsOfCells
 unfolding frame_bits bits_from
 same_bits cells longer f h =

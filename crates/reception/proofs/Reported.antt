@@ -16,7 +16,7 @@ use Rattle.reception.proofs.Numbered.{none_pass, all_pass, none_kept, nothing_mo
 abbrev pub IsBetween : ℕ → ℕ → ℕ → Type 0
 IsBetween n m at = (n < at) × (at ≤ m)
 
--- the ends of parts of c behind n steps
+-- the ends of the parts of c after n steps
 ends_between : (most : ℕ) (a : Option (List Bool)) (c : List CostPair) (ps : List Part) (b : Option (List Bool)) (d : List CostPair) (n : ℕ) → IsCut most a c ps b d → All (IsBetween n (n + length c)) (ends_of n ps)
 ends_between most a c [] b d n h = All-nil (IsBetween n (n + length c))
 ends_between most a c (p ∷ ps) b d n h =
@@ -35,7 +35,7 @@ le_false a b h = grind arith
 false_gt : (a b : ℕ) → nat_le a b ≡ false → b < a
 false_gt a b h = grind arith
 
--- the parts of the first t costs: those that end within
+-- the parts of the first t costs: those that end within them
 record Front (most : ℕ) (a : Option (List Bool)) (c : List CostPair) (ps : List Part) (n t : ℕ) : Type 0 where
   parts : List Part
   start : Option (List Bool)
@@ -88,7 +88,7 @@ front most a c (p ∷ ps) b d n t l h =
 pub reports_are_steps : ReportsAreSteps
 reports_are_steps most a c rs r = subst (All (IsBetween 0 (length c))) (sym r.is) (subst (λ n. All (IsBetween 0 n) (ends_of 0 r.parts)) (let e : 0 + length c ≡ length c = omega arith in e) (ends_between most a c r.parts r.start r.costs 0 r.cut))
 
--- the reports of the first costs are those numbered within
+-- the reports of the first costs are those numbered within them
 first_reports : (most : ℕ) (a : Option (List Bool)) (c : List CostPair) (rs : List ℕ) (t : ℕ) → t ≤ length c → Reports most a c rs → Reports most a (take t c) (filter (λ at. nat_le at t) rs)
 first_reports most a c rs t l r =
     let f = front most a c r.parts r.start r.costs 0 t l r.cut in

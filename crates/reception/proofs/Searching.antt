@@ -1,4 +1,4 @@
--- Searches that end: below a number, in a list, among the lists of so many bytes.
+-- Searches that end: below a number, in a list, among the lists of n bytes.
 use Rattle.std.proofs.Common.{◌≡◌, ℕ, zero, suc, ◌<◌, ◌≤◌, Bool, true, false, List, [], ◌∷◌, length, ◌⊎◌, inl, inr, refl, sym, ap, subst, arith}
 use Rattle.std.specs.Prelude.{IsTrue, ◌↔◌}
 use Rattle.std.specs.List.{AllByRecursion}
@@ -6,7 +6,7 @@ use Rattle.std.proofs.lemmas.Bool.{cases_lt, cases_order, true≢false}
 use Rattle.rs204.specs.Codes.{AreBytes}
 use Rattle.code_paths.proofs.Deciding.{Decided}
 
--- ---- what is decided
+-- ---- decided facts
 
 pub same_number : (a b : ℕ) → Decided (a ≡ b)
 same_number a b = go (cases_order a b)
@@ -28,7 +28,7 @@ both (inl a) (inl b) = inl (a, b)
 both (inl a) (inr n) = inr (λ h. n h.1)
 both (inr n) b = inr (λ h. n h.0)
 
--- what is to hold where a test passes, or fails
+-- a fact that must hold if a test passes, or if it fails
 pub if_true : {A : Type 0} (b : Bool) → Decided A → Decided (b ≡ true → A)
 if_true true (inl a) = inl (λ e. a)
 if_true true (inr n) = inr (λ h. n (h refl))
@@ -39,7 +39,7 @@ if_false false (inl a) = inl (λ e. a)
 if_false false (inr n) = inr (λ h. n (h refl))
 if_false true d = inl (λ e. absurd (true≢false e))
 
--- the test of what is decided
+-- the test of a decided fact
 pub test : {A : Type 0} → Decided A → Bool
 test (inl a) = true
 test (inr n) = false

@@ -1,4 +1,4 @@
--- It can be decided whether the TPS word of a frame is read, so the frames of bytes are counted.
+-- It is decidable whether the TPS word of a frame is readable, so the frames of bytes can be counted.
 use Rattle.std.proofs.Common.{◌≡◌, ℕ, zero, suc, ◌+◌, ◌-◌, ◌/◌, ◌≤◌, Bool, cond, true, false, List, inl, inr, refl, arith}
 use Rattle.std.specs.Prelude.{IsTrue, IsFalse}
 use Rattle.outer_chain.specs.Words.{count}
@@ -47,7 +47,7 @@ is_code : (t : TpsWord) → IsTpsWord (tps_word t)
 unfolding tps_word
 is_code t = is_word (tps_info t) (length-info t)
 
--- valid fields whose word is near
+-- valid fields whose word is close
 abbrev AreNear : List Bool → TpsWord → Type 0
 AreNear bits t = IsValid t × (bit_distance bits (tps_word t) ≤ 2)
 

@@ -22,7 +22,7 @@ use Rattle.reception.specs.Lines.{events, event_lines, closing_lines}
 use Rattle.reception.specs.Laws.{no_words, nothing}
 use Rattle.reception.proofs.Base.{base, midst, layered}
 
--- two symbols whose cells are all (0, 11585), with whole weight
+-- two symbols with all cells (0, 11585), at full weight
 abbrev two_symbols : List ℕ
 two_symbols = concat (replicate 3410 (0x00 ∷ 0x00 ∷ 0x2D ∷ 0x41 ∷ 0x0F ∷ []))
 
@@ -49,7 +49,7 @@ abbrev by_stream : List ℕ → List ℕ → Stream → List ℕ
 by_stream hp lp Hp = hp
 by_stream hp lp Lp = lp
 
--- nothing but these reports
+-- only these reports
 abbrev reported : List ℕ → List ℕ → Reception
 reported hp lp = record { packets = λ σ. []; reports = by_stream hp lp; tally = λ σ. no_words; read = 0; bad = 0 }
 
@@ -77,7 +77,7 @@ order : event_lines (layered R1of2) (replicate 25575 0) (reported (2049 ∷ 3024
 unfolding events settings_in steps_before numbers digits
 order = refl
 
--- the word of frame 1, and two TPS cells of its symbols; those of the symbols a to b are negated
+-- the word of frame 1, and two TPS cells of its symbols, negated in symbols a to b
 abbrev word : List Bool
 word = tps_word (signalled base 1)
 
@@ -88,7 +88,7 @@ clean : frame_bits (sent_cells 100 100) 0 ≡ word
 unfolding frame_bits bits_from numbers tps_word tps_info sync_word length_bits shape_bits hierarchy_bits rate_bits guard_bits mode_bits tps_parity vote tps_sign reference eleven_from
 clean = refl
 
--- the cells of the symbols 5 to 59 negated: two bits flip
+-- the cells of symbols 5 to 59 negated: two bits flip
 two_flips : bit_distance (frame_bits (sent_cells 5 59) 0) word ≡ 2
 unfolding frame_bits bits_from numbers tps_word tps_info sync_word length_bits shape_bits hierarchy_bits rate_bits guard_bits mode_bits tps_parity vote tps_sign reference eleven_from
 two_flips = refl

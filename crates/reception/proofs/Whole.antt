@@ -1,4 +1,4 @@
--- Bytes have a reception at each moment.
+-- Bytes have a reception at every moment.
 use Rattle.std.proofs.Common.{refl}
 use Rattle.rs204.specs.Laws.{MessageHasCodeword, CodewordIsOne}
 use Rattle.outer_chain.specs.Bits.{bytes_of}

@@ -1,4 +1,4 @@
--- Whole symbols are received as the bytes that begin with them.
+-- Whole symbols have the reception of the bytes that begin with them.
 use Rattle.std.proofs.Common.{◌≡◌, ℕ, ◌+◌, ◌*◌, ◌/◌, ◌%◌, ◌<◌, Bool, List, ◌++◌, length, drop, ◌∙◌, sym, ap, subst, arith, length-take-le, take-append-drop}
 use Rattle.std.specs.Prelude.{IsTrue, ◌↔◌, flat_map}
 use Rattle.std.proofs.Math.Nat.{div-mul-le_self}
@@ -19,7 +19,7 @@ use Rattle.reception.specs.Streams.{memory, start_of, Reception, Final}
 use Rattle.reception.specs.Laws.{IsWithin, SameSymbols, SameCosts, TailIsUnfinished, TpsCellsStay, BitsOfCells}
 use Rattle.reception.specs.WholeSymbols.{AreReceivedAlike, WholeSymbolsAlike, whole_symbols}
 
--- ---- by the mode: n bytes cut into symbols
+-- ---- by the mode: n bytes divided into symbols
 
 many : (m : Mode) (n : ℕ) → (n * (5 * carriers m)) / (5 * carriers m) ≡ n
 many M2k n = omega arith
@@ -36,7 +36,7 @@ part_of M8k n = omega arith
 before_frame_end : (n f m : ℕ) → f < n / 68 → m < 68 * f + 68 → m < n
 before_frame_end n f m l k = omega (arith, l, k)
 
--- ---- a reception by cells with the same costs, symbols and words
+-- ---- a reception from cells with the same costs, symbols and words
 
 same_frames : (s : Settings) (a b : List ℕ) (read bad : ℕ) → symbols s a ≡ symbols s b → ((f : ℕ) → f < symbols s b / 68 → frame_bits (tps_cells s b) f ≡ frame_bits (tps_cells s a) f) → CountsFrames s a read bad → CountsFrames s b read bad
 same_frames s a b read bad is word frames = record {

@@ -1,4 +1,4 @@
--- Settings that differ in the number of workers alone, and what is received by them.
+-- Settings that differ only in the number of workers, and their receptions.
 use Rattle.std.specs.Prelude.{◌≡◌, ℕ, List}
 use Rattle.mode_set.specs.declared.modes.Stream.{Stream}
 use Rattle.mode_set.specs.declared.settings.Settings.{Settings}
@@ -20,7 +20,7 @@ pub record DifferInWorkers (s t : Settings) : Type 0 where
   pub max_symbols : t.max_symbols ≡ s.max_symbols
   pub plan : t.plan ≡ s.plan
 
--- then the live output of bytes by the ones is theirs by the others ..
+-- the live output of bytes is the same under both ..
 abbrev pub SameLive : Type 0
 SameLive = (s t : Settings) (bytes : List ℕ) (r : Reception) → DifferInWorkers s t → Live s bytes r → Live t bytes r
 

@@ -1,19 +1,19 @@
--- The bytes of symbols, their cells and the weights of these (this project's own format: five bytes a carrier, carriers rising).
+-- The bytes, cells and weights of symbols (this project's own format: five bytes a carrier, carriers rising).
 use Rattle.std.specs.Prelude.{ℕ, ◌*◌, ◌/◌, ◌%◌, List, length, take, drop}
 use Rattle.mode_set.specs.StreamTable.{carriers}
 use Rattle.mode_set.specs.declared.settings.Settings.{Settings}
 use Rattle.qam_map.specs.declared.cell.Cell.{Cell}
 use Rattle.frame_build.specs.Symbol.{cells_from, weights_from}
 
--- the bytes of a symbol: five for each of the K carriers
+-- the bytes of a symbol: five for each of K carriers
 abbrev pub symbol_length : Settings → ℕ
 symbol_length s = 5 * carriers s.mode
 
--- the whole symbols of the bytes
+-- the number of whole symbols in the bytes
 abbrev pub symbols : Settings → List ℕ → ℕ
 symbols s bytes = length bytes / symbol_length s
 
--- the bytes after them
+-- the number of bytes after them
 abbrev pub tail : Settings → List ℕ → ℕ
 tail s bytes = length bytes % symbol_length s
 

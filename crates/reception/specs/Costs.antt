@@ -1,4 +1,4 @@
--- The costs that the cells of symbols, by their weights, give to the decoder of a stream.
+-- The costs for the decoder of a stream, from the cells and weights of symbols.
 use Rattle.std.specs.Prelude.{ℕ, ◌%◌, List, map, flat_map}
 use Rattle.spec_words.specs.Words.{numbers}
 use Rattle.code_paths.specs.declared.costs.CostPair.{CostPair}
@@ -8,7 +8,7 @@ use Rattle.symbol_parameters.specs.Spans.{settings_at, steps_of}
 use Rattle.inner_chain.specs.PairLists.{pair_of}
 use Rattle.reception.specs.Cells.{symbols, symbol_cells, symbol_weights}
 
--- the cost pairs of symbol m by the settings of its super-frame, one for each of its steps; it is symbol m mod 68 of its frame
+-- the cost pairs of symbol m, one for each step, by the settings of its super-frame; it is symbol m mod 68 of its frame
 unfoldable pub symbol_costs : Settings → List ℕ → Stream → ℕ → List CostPair
 symbol_costs s bytes σ m = map (pair_of (settings_at s m) (symbol_cells s bytes m) (symbol_weights s bytes m) (m % 68) σ) (numbers (steps_of s σ m))
 

@@ -1,4 +1,4 @@
--- What a receiver gives when it is fed.
+-- The output of a receiver when it is fed.
 use Rattle.std.specs.Prelude.{◌≡◌, ℕ, ◌-◌, min, List, [], ◌++◌, length, take}
 use Rattle.mode_set.specs.declared.modes.Stream.{Stream}
 use Rattle.mode_set.specs.declared.modes.Stream.TheVariants.{Hp, Lp}
@@ -8,7 +8,7 @@ use Rattle.reception.specs.Cells.{symbol_length, symbols, tail}
 use Rattle.reception.specs.Streams.{Reception, Live, Final}
 use Rattle.reception.specs.Lines.{events}
 
--- what a call gives: the bytes of the packets of each stream, and reports
+-- the output of a call: the bytes of the packets of each stream, and reports
 pub record Output : Type 0 where
   pub hp : List ℕ
   pub lp : List ℕ
@@ -18,16 +18,17 @@ abbrev pub packets_of : Output → Stream → List ℕ
 packets_of out Hp = out.hp
 packets_of out Lp = out.lp
 
--- `out` is what the reception `after` of the bytes `new` has behind `before`, that of the bytes `old`
+-- `out` is the part of `after`, the reception of the bytes `new`, that follows `before`, the reception of the bytes
+-- `old`
 pub record Follows (s : Settings) (old new : List ℕ) (before after : Reception) (out : Output) : Type 0 where
   pub packets : (σ : Stream) → after.packets σ ≡ before.packets σ ++ packets_of out σ
   pub events_are : events s (symbols s new) after.reports ≡ events s (symbols s old) before.reports ++ out.events
 
--- how many bytes of a piece are taken: as many as it has, or as are missing from the symbol
+-- the number of bytes taken from a piece: all of it, or what the symbol still lacks
 abbrev pub taken : Settings → List ℕ → List ℕ → ℕ
 taken s bytes piece = min (length piece) (symbol_length s - tail s bytes)
 
--- What `feed` makes of a receiver that stood for these bytes and had given this reception.
+-- The effect of `feed` on a receiver that has had these bytes and given this reception.
 pub record Feeds (Stands : List ℕ → Reception → Type 0) (s : Settings) (bytes piece : List ℕ) (before : Reception) (n : ℕ) (out : Output) : Type 0 where
   pub after : Reception
   pub count : n ≡ taken s bytes piece
@@ -35,7 +36,7 @@ pub record Feeds (Stands : List ℕ → Reception → Type 0) (s : Settings) (by
   pub live : Live s (bytes ++ take n piece) after
   pub follows : Follows s bytes (bytes ++ take n piece) before after out
 
--- What `finish` makes of it.
+-- The effect of `finish`.
 pub record Finishes (Ends : List ℕ → Reception → Type 0) (s : Settings) (bytes : List ℕ) (before : Reception) (out : Output) : Type 0 where
   pub after : Reception
   pub ends : Ends bytes after

@@ -1,4 +1,4 @@
--- The laws of reception, each the clause of a public function of the module laws.
+-- The laws of reception. Each is the clause of a public function of module laws.
 use Rattle.std.specs.Prelude.{◌≡◌, ℕ, ◌+◌, ◌-◌, ◌*◌, ◌%◌, ◌<◌, ◌≤◌, Bool, false, List, [], ◌++◌, map, length, drop, slice_index_or, Option, All}
 use Rattle.code_paths.specs.declared.costs.CostPair.{CostPair}
 use Rattle.code_paths.specs.Streams.{Given, Reports}
@@ -16,21 +16,21 @@ use Rattle.reception.specs.Frames.{tps_cells, frame_bits}
 use Rattle.reception.specs.Streams.{memory, start_of, Reception, Live, Final}
 use Rattle.reception.specs.Lines.{event_at, events}
 
--- bytes that do not end the unfinished symbol
+-- bytes that do not complete the unfinished symbol
 abbrev pub IsWithin : Settings → List ℕ → List ℕ → Type 0
 IsWithin s bytes more = tail s bytes + length more < symbol_length s
 
--- bytes that end it
+-- bytes that complete it
 abbrev pub EndsSymbol : Settings → List ℕ → List ℕ → Type 0
 EndsSymbol s bytes more = tail s bytes + length more ≡ symbol_length s
 
 -- ---- symbols
 
--- bytes within a symbol leave the number of whole symbols
+-- bytes within a symbol do not change the number of whole symbols
 abbrev pub SameSymbols : Type 0
 SameSymbols = (s : Settings) (bytes more : List ℕ) → IsWithin s bytes more → symbols s (bytes ++ more) ≡ symbols s bytes
 
--- bytes that end a symbol make it one more, with no byte behind it
+-- bytes that complete a symbol add one, and no byte remains after it
 abbrev pub OneSymbolMore : Type 0
 OneSymbolMore = (s : Settings) (bytes more : List ℕ) → EndsSymbol s bytes more → (symbols s (bytes ++ more) ≡ symbols s bytes + 1) × (tail s (bytes ++ more) ≡ 0)
 
@@ -44,12 +44,12 @@ TailIsUnfinished = (s : Settings) (bytes : List ℕ) → length (unfinished s by
 abbrev pub MoreUnfinished : Type 0
 MoreUnfinished = (s : Settings) (bytes more : List ℕ) → IsWithin s bytes more → unfinished s (bytes ++ more) ≡ unfinished s bytes ++ more
 
--- the bytes of the symbol that is ended
+-- the bytes of the completed symbol
 abbrev pub EndedSymbol : Type 0
 EndedSymbol = (s : Settings) (bytes more : List ℕ) → EndsSymbol s bytes more
     → (bytes_of_symbol s (bytes ++ more) (symbols s bytes) ≡ unfinished s bytes ++ more) × (unfinished s (bytes ++ more) ≡ [])
 
--- more bytes leave the cells of whole symbols
+-- more bytes leave the cells of whole symbols unchanged
 abbrev pub CellsStay : Type 0
 CellsStay = (s : Settings) (bytes more : List ℕ) (m : ℕ) → m < symbols s bytes → symbol_cells s (bytes ++ more) m ≡ symbol_cells s bytes m
 
@@ -59,7 +59,7 @@ WeightsStay = (s : Settings) (bytes more : List ℕ) (m : ℕ) → m < symbols s
 abbrev pub TpsCellsStay : Type 0
 TpsCellsStay = (s : Settings) (bytes more : List ℕ) (m : ℕ) → m < symbols s bytes → tps_cells s (bytes ++ more) m ≡ tps_cells s bytes m
 
--- the bits of a frame depend on the cells of its symbols
+-- the bits of a frame depend only on the cells of its symbols
 abbrev pub BitsOfCells : Type 0
 BitsOfCells = (cells longer : ℕ → List Cell) (frame : ℕ) → ((m : ℕ) → m < 68 * frame + 68 → longer m ≡ cells m) → frame_bits longer frame ≡ frame_bits cells frame
 
@@ -82,7 +82,7 @@ NoCosts = (s : Settings) (σ : Stream) → costs s [] σ ≡ []
 abbrev pub CostsAreSteps : Type 0
 CostsAreSteps = (s : Settings) (bytes : List ℕ) (σ : Stream) → length (costs s bytes σ) ≡ steps_before s σ (symbols s bytes)
 
--- step t is a step of the symbol that it falls in, counted there from 0
+-- step t belongs to its symbol, and counts from 0 there
 abbrev pub CostOfStep : Type 0
 CostOfStep = (s : Settings) (bytes : List ℕ) (σ : Stream) (m t : ℕ) (d : CostPair) → m < symbols s bytes → IsStepOf s σ m t
     → slice_index_or (costs s bytes σ) t d ≡ pair_of (settings_at s m) (symbol_cells s bytes m) (symbol_weights s bytes m) (m % 68) σ (t - steps_before s σ m)
@@ -93,19 +93,19 @@ NoCostsWithout = (s : Settings) (bytes : List ℕ) (σ : Stream) → exists_in s
 
 -- ---- reports and events
 
--- reports are steps, counted from 1
+-- reports are numbers of steps, counted from 1
 abbrev pub ReportsAreSteps : Type 0
 ReportsAreSteps = (most : ℕ) (a : Option (List Bool)) (c : List CostPair) (rs : List ℕ) → Reports most a c rs → All (λ at. (0 < at) × (at ≤ length c)) rs
 
--- new reports are steps behind those before
+-- new reports name later steps
 abbrev pub NewReportsAreLater : Type 0
 NewReportsAreLater = (most : ℕ) (a : Option (List Bool)) (c more : List CostPair) (rs us : List ℕ) → Reports most a c rs → Reports most a (c ++ more) (rs ++ us) → All (λ at. (length c < at) × (at ≤ length c + length more)) us
 
--- the reports of each stream, as the bytes have them
+-- the reports of each stream for these bytes
 abbrev pub AreReports : Settings → List ℕ → (Stream → List ℕ) → Type 0
 AreReports s bytes reports = (σ : Stream) → Reports memory (start_of s.start) (costs s bytes σ) (reports σ)
 
--- a symbol more: its reports follow, HP before LP
+-- one more symbol: its reports follow, HP before LP
 abbrev pub NextEvents : Type 0
 NextEvents = (s : Settings) (bytes more : List ℕ) (before new : Stream → List ℕ) → EndsSymbol s bytes more → AreReports s bytes before → AreReports s (bytes ++ more) (λ σ. before σ ++ new σ)
     → events s (symbols s bytes + 1) (λ σ. before σ ++ new σ) ≡ events s (symbols s bytes) before ++ (map (event_at Hp) (new Hp) ++ map (event_at Lp) (new Lp))
@@ -115,7 +115,7 @@ NoEvents = (s : Settings) (reports : Stream → List ℕ) → events s 0 reports
 
 -- ---- receptions
 
--- two receptions are the same in all that is received
+-- two receptions are equal in everything received
 pub record AreSame (r q : Reception) : Type 0 where
   pub packets : (σ : Stream) → r.packets σ ≡ q.packets σ
   pub reports : (σ : Stream) → r.reports σ ≡ q.reports σ
@@ -130,7 +130,7 @@ OneLive = (s : Settings) (bytes : List ℕ) (r q : Reception) → Live s bytes r
 abbrev pub OneFinal : Type 0
 OneFinal = (s : Settings) (bytes : List ℕ) (r q : Reception) → Final s bytes r → Final s bytes q → AreSame r q
 
--- what is live stays: longer bytes only add to it
+-- the live output only grows with longer bytes
 pub record Grows (r q : Reception) : Type 0 where
   pub packets : (σ : Stream) → (rest : List ℕ) × (q.packets σ ≡ r.packets σ ++ rest)
   pub reports : (σ : Stream) → (rest : List ℕ) × (q.reports σ ≡ r.reports σ ++ rest)
@@ -140,7 +140,7 @@ pub record Grows (r q : Reception) : Type 0 where
 abbrev pub LiveGrows : Type 0
 LiveGrows = (s : Settings) (bytes more : List ℕ) (r q : Reception) → Live s bytes r → Live s (bytes ++ more) q → Grows r q
 
--- the final output begins with the live one, and has its reports and frames
+-- the final output begins with the live one, and has the same reports and frames
 pub record Ends (r q : Reception) : Type 0 where
   pub packets : (σ : Stream) → (rest : List ℕ) × (q.packets σ ≡ r.packets σ ++ rest)
   pub reports : (σ : Stream) → q.reports σ ≡ r.reports σ
@@ -155,11 +155,11 @@ FinalEndsLive = (s : Settings) (bytes : List ℕ) (r q : Reception) → Live s b
 abbrev pub no_words : Tally
 no_words = record { words = 0; clean = 0; corrected = 0; bad = 0; unphased = 0 }
 
--- nothing is received
+-- nothing received
 abbrev pub nothing : Reception
 nothing = record { packets = λ σ. []; reports = λ σ. []; tally = λ σ. no_words; read = 0; bad = 0 }
 
--- no costs give no bit
+-- no costs give no bits
 abbrev pub NothingGiven : Type 0
 NothingGiven = (most : ℕ) (start : Start) → Given most (start_of start) [] []
 

@@ -19,21 +19,22 @@ use Rattle.reception.specs.Streams.{Reception}
 abbrev pub event_at : Stream → ℕ → Event
 event_at σ at = record { stream = σ; at = at }
 
--- the reports of a stream in symbol m: the step counted as `at` from 1 is one of that symbol
+-- the reports of a stream in symbol m: those at steps of that symbol, counted from 1
 abbrev pub events_of : Settings → (Stream → List ℕ) → ℕ → Stream → List Event
 events_of s reports m σ = map (event_at σ) (filter (λ at. nat_lt (steps_before s σ m) at && nat_le at (steps_before s σ (m + 1))) (reports σ))
 
--- all reports of n symbols: symbol after symbol, HP before LP
+-- all reports of n symbols in order, HP before LP
 unfoldable pub events : Settings → ℕ → (Stream → List ℕ) → List Event
 events s n reports = flat_map (λ m. events_of s reports m Hp ++ events_of s reports m Lp) (numbers n)
 
 abbrev pub stream_counts : Tally → ℕ → StreamCounts
 stream_counts t unmerged = record { words = t.words; clean = t.clean; corrected = t.corrected; bad = t.bad; unphased = t.unphased; unmerged = unmerged }
 
+-- the counts of a stream
 abbrev pub counts_of_stream : Reception → Stream → StreamCounts
 counts_of_stream r σ = stream_counts (r.tally σ) (length (r.reports σ))
 
--- the counts of a reception of these bytes: of LP where it exists in the transmission
+-- the counts of a reception of these bytes; those of LP if it exists in the transmission
 abbrev pub counts_of : Settings → List ℕ → Reception → Counts
 counts_of s bytes r = record {
   symbols = symbols s bytes;
@@ -44,9 +45,10 @@ counts_of s bytes r = record {
   lp = if exists_in s Lp then Some (counts_of_stream r Lp) else None;
 }
 
+-- the lines of the reports, in order
 abbrev pub event_lines : Settings → List ℕ → Reception → List ℕ
 event_lines s bytes r = flat_map event_line (events s (symbols s bytes) r.reports)
 
--- the lines at the end
+-- the closing lines
 abbrev pub closing_lines : Settings → List ℕ → Reception → List ℕ
 closing_lines s bytes r = concat (text.closing_lines (counts_of s bytes r))

@@ -1,4 +1,4 @@
--- Bytes have a reception at each moment, and what first bytes give begins what more give.
+-- Bytes always have a reception, and the output of a prefix is a prefix of the output.
 use Rattle.std.specs.Prelude.{◌≡◌, ℕ, List, ◌++◌}
 use Rattle.mode_set.specs.declared.modes.Stream.{Stream}
 use Rattle.mode_set.specs.declared.settings.Settings.{Settings}
@@ -6,14 +6,14 @@ use Rattle.reception.specs.Streams.{Reception, Live, Final}
 use Rattle.reception.specs.Lines.{event_lines}
 use Rattle.reception.specs.Laws.{IsWithin}
 
--- bytes have a live output, and a final one
+-- bytes have a live output and a final one
 abbrev pub SomeLive : Type 0
 SomeLive = (s : Settings) (bytes : List ℕ) → (r : Reception) × Live s bytes r
 
 abbrev pub SomeFinal : Type 0
 SomeFinal = (s : Settings) (bytes : List ℕ) → (r : Reception) × Final s bytes r
 
--- what longer bytes give begins with what these give: the packets of each stream, and the event lines
+-- the output of longer bytes begins with that of these: the packets of each stream, and the event lines
 pub record Begins (s : Settings) (bytes longer : List ℕ) (r q : Reception) : Type 0 where
   pub packets : (σ : Stream) → (rest : List ℕ) × (q.packets σ ≡ r.packets σ ++ rest)
   pub lines : (rest : List ℕ) × (event_lines s longer q ≡ event_lines s bytes r ++ rest)
@@ -24,6 +24,6 @@ LiveBeginsLive = (s : Settings) (bytes more : List ℕ) (r q : Reception) → Li
 abbrev pub LiveBeginsFinal : Type 0
 LiveBeginsFinal = (s : Settings) (bytes more : List ℕ) (r q : Reception) → Live s bytes r → Final s (bytes ++ more) q → Begins s bytes (bytes ++ more) r q
 
--- bytes that do not end a symbol give nothing
+-- bytes that do not complete a symbol add no output
 abbrev pub WholeSymbolsGive : Type 0
 WholeSymbolsGive = (s : Settings) (bytes more : List ℕ) (r : Reception) → IsWithin s bytes more → Live s (bytes ++ more) r → Live s bytes r

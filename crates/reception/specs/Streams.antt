@@ -1,4 +1,4 @@
--- What a receiver gives for the bytes of cells: as far as it is decided, and at the end.
+-- The output of a receiver for a cell file: what is decided so far, and at the end.
 use Rattle.std.specs.Prelude.{ℕ, Bool, false, List, Option, Some, None, replicate}
 use Rattle.code_paths.specs.declared.costs.CostPair.{CostPair}
 use Rattle.code_paths.specs.Streams.{Given, Ended, Reports}
@@ -11,11 +11,11 @@ use Rattle.mode_set.specs.declared.settings.Settings.{Settings}
 use Rattle.reception.specs.Costs.{costs}
 use Rattle.reception.specs.Frames.{CountsFrames}
 
--- the steps of the path memory
+-- the path memory, in steps
 abbrev pub memory : ℕ
 memory = 2048
 
--- the register before the first step: six zeros, or free
+-- the register before the first step: six zeros, or any
 abbrev pub start_of : Start → Option (List Bool)
 start_of Zero = Some (replicate 6 false)
 start_of Any = None
@@ -25,13 +25,13 @@ pub data Moment : Type 0 where
   so_far : Moment
   at_end : Moment
 
--- the inner bits of these costs: the bits given, or those at the end
+-- the inner bits of these costs: the bits given so far, or those at the end
 abbrev pub IsDecoded : Moment → Option (List Bool) → List CostPair → List Bool → Type 0
 IsDecoded so_far = Given memory
 IsDecoded at_end = Ended memory
 
--- what is received: of each stream the bytes of its packets, the steps of its unmerged reports and the counts of its words, and
--- how many frames have a TPS word that is read, and how many have none
+-- everything received: for each stream the bytes of its packets, the steps of its unmerged reports and the counts of
+-- its words; and the number of frames with a readable TPS word, and without
 pub record Reception : Type 0 where
   pub packets : Stream → List ℕ
   pub reports : Stream → List ℕ
@@ -39,7 +39,7 @@ pub record Reception : Type 0 where
   pub read : ℕ
   pub bad : ℕ
 
--- what the bytes give at a moment
+-- the output for the bytes at a moment
 pub record Receives (moment : Moment) (s : Settings) (bytes : List ℕ) (r : Reception) : Type 0 where
   pub bits : Stream → List Bool
   pub decoded : (σ : Stream) → IsDecoded moment (start_of s.start) (costs s bytes σ) (bits σ)

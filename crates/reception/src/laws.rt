@@ -1,4 +1,4 @@
-// The laws of reception, as contracts of functions that do nothing.
+// The laws of reception, as contracts of functions with empty bodies.
 ghost use Rattle.reception.specs.Laws.{SameSymbols, OneSymbolMore, TailIsUnfinished, MoreUnfinished, EndedSymbol, CellsStay, WeightsStay, TpsCellsStay, BitsOfCells, CostsGrow, SameCosts, NextCosts, NoCosts, CostsAreSteps, CostOfStep, NoCostsWithout, ReportsAreSteps, NewReportsAreLater, NextEvents, NoEvents, OneLive, OneFinal, LiveGrows, FinalEndsLive, NothingGiven, NothingLive};
 
 use code_paths::{
@@ -6,7 +6,7 @@ use code_paths::{
 };
 use symbol_parameters::laws::steps;
 
-/// Bytes end a symbol or do not, and more bytes leave its cells.
+/// Bytes complete a symbol or not, and more bytes leave its cells.
 pub fn symbols()
     ensures same { SameSymbols }
     ensures next { OneSymbolMore }
@@ -32,7 +32,7 @@ pub fn costs()
     steps();
 }
 
-/// Reports are steps of their symbols, and a symbol's events follow those before.
+/// Reports are steps of their symbols, and a symbol's events follow the earlier ones.
 pub fn events()
     ensures steps { ReportsAreSteps }
     ensures later { NewReportsAreLater }
@@ -43,7 +43,7 @@ pub fn events()
     reports_once();
 }
 
-/// Bytes have one live and one final output; the live one only grows, and begins the final one.
+/// Bytes have one live and one final output; the live one only grows, and is a prefix of the final one.
 pub fn receptions()
     ensures live { OneLive }
     ensures last { OneFinal }
@@ -60,7 +60,7 @@ pub fn receptions()
     outer_chain::laws::bits();
 }
 
-/// No bytes give nothing.
+/// No bytes give no output.
 pub fn nothing()
     ensures given { NothingGiven }
     ensures live { NothingLive }

@@ -1,7 +1,7 @@
-// The laws, as contracts of functions that do nothing.
+// The laws, as contracts of functions with empty bodies.
 ghost use Rattle.reception.specs.Moments.{SomeLive, SomeFinal, LiveBeginsLive, LiveBeginsFinal, WholeSymbolsGive};
 
-/// Bytes have a live and a final output.
+/// Bytes always have a live and a final output.
 pub fn existence()
     ensures live { SomeLive }
     ensures last { SomeFinal }
@@ -10,7 +10,7 @@ pub fn existence()
     rs204::laws::codewords();
 }
 
-/// The live output of first bytes begins both outputs of more, and bytes within a symbol leave it.
+/// The live output of a prefix is a prefix of both outputs of more bytes, and bytes within a symbol do not change it.
 pub fn beginnings()
     ensures live { LiveBeginsLive }
     ensures last { LiveBeginsFinal }

@@ -1,15 +1,14 @@
-// The laws of the number of workers, as contracts of functions that do nothing.
+// The laws of the number of workers, as contracts of functions with empty bodies.
 ghost use Rattle.reception.specs.Alike.{SameCosts, SameEvents, SameFinal, SameLines, SameLive, SameStreams};
 
-/// By settings that differ in the number of workers alone the same is received, and the lines of the
-/// report are the same.
+/// Settings that differ only in the number of workers give the same reception and the same lines of the report.
 pub fn workers()
     ensures live { SameLive }
     ensures last { SameFinal }
     ensures lines { SameLines }
 {}
 
-/// By such settings the streams, the costs of each and the events of its reports are the same.
+/// Such settings give the same streams, the same costs of each, and the same events of their reports.
 pub fn costs()
     ensures streams { SameStreams }
     ensures costs { SameCosts }

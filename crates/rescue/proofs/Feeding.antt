@@ -1,4 +1,4 @@
--- What a receiver that rescues words stands for when it is fed, and at its end.
+-- The state of a rescuing receiver when it is fed, and at its end.
 use Rattle.std.proofs.Common.{◌≡◌, ℕ, Bool, true, false, List, [], ◌++◌, take, map, refl, sym, ap, ◌∙◌, subst, append-nil}
 use Rattle.std.specs.Prelude.{Option}
 use Rattle.code_paths.specs.declared.costs.CostPair.{CostPair}
@@ -25,7 +25,7 @@ use Rattle.rescue.specs.Standing.{is_end, StreamStands, StreamGave, StandsFor}
 use Rattle.rescue.proofs.Rooms.{settled}
 use Rattle.rescue.proofs.Giving.{rescued}
 
--- a receiver by its parts
+-- a receiver from its parts
 abbrev pub state : CostsState → StreamState → StreamState → Bool → RescueState
 state c hp lp ended = record { settings = c.settings; rest = c.rest; taken = c.taken; hp = hp; lp = lp; ended = ended }
 
@@ -33,12 +33,12 @@ abbrev pub by_stream : {A : Type 0} → A → A → Stream → A
 by_stream hp lp Hp = hp
 by_stream hp lp Lp = lp
 
--- the margins of a stream are those that are known
+-- the margins of a stream are the known ones
 known : (moment : Moment) (x : StreamState) (a : Option (List Bool)) (c : List CostPair) (given : List ℕ) (tally : RescueTally) (steps : List ℕ) → (h : StreamStands moment x a c given tally steps) → AreKnown moment a c h.ms
 known so_far x a c given tally steps h = settled x.margins a c h.ms h.known.0 h.known.1 h.known.2
 known at_end x a c given tally steps h = h.known
 
--- what both streams stand for is what is rescued
+-- the states of both streams make a rescue
 made : ByteOfBits → AllRescued → (moment : Moment) (x : RescueState) (bytes : List ℕ) (r : Rescue) → x.ended ≡ is_end moment → x.taken ≡ symbols x.settings bytes → x.rest ≡ unfinished x.settings bytes
     → ((σ : Stream) → StreamStands moment (stream_of x σ) (start_of x.settings.start) (costs x.settings bytes σ) (r.packets σ) (r.tally σ) (r.reports σ)) → StandsFor moment x bytes r
 made one all moment x bytes r ended count rest streams = record {
@@ -101,15 +101,15 @@ feeds_within same costs_same one all old new hp lp ended bytes piece n r out kep
     subst (λ (z : Settings). Feeds (StandsFor so_far (state new hp lp ended)) z bytes piece r n out) kept
     (within same costs_same one all old new hp lp ended bytes piece n r out kept (fed bytes (record { taken = h.taken; rest = h.rest })) part none h)
 
--- ---- bytes that end a symbol
+-- ---- bytes that complete a symbol
 
--- what the streams make of the costs of a symbol
+-- the effect of a symbol's costs on the streams
 pub record TakesSymbol (new : CostsState) (hp lp new_hp new_lp : StreamState) (hp_steps lp_steps : List ℕ) (out : Output) : Type 0 where
   pub hp_gave : (a : Option (List Bool)) (c : List CostPair) (given : List ℕ) (tally : RescueTally) (steps : List ℕ) → StreamStands so_far hp a c given tally steps → StreamGave so_far new_hp a (c ++ new.hp) given (steps ++ hp_steps) [] out.hp
   pub lp_gave : (a : Option (List Bool)) (c : List CostPair) (given : List ℕ) (tally : RescueTally) (steps : List ℕ) → StreamStands so_far lp a c given tally steps → StreamGave so_far new_lp a (c ++ new.lp) given (steps ++ lp_steps) [] out.lp
   pub events_are : out.events ≡ map (event_at Hp) hp_steps ++ map (event_at Lp) lp_steps
 
--- the laws that a whole symbol wants
+-- the laws that a whole symbol needs
 pub record SymbolLaws : Type 0 where
   pub next : OneSymbolMore
   pub events_next : NextEvents
@@ -202,7 +202,7 @@ finishes one all cells hp lp new_hp new_lp ended bytes r out none hp_ends lp_end
     stands : StandsFor at_end (state cells new_hp new_lp true) bytes after
     stands = made one all at_end (state cells new_hp new_lp true) bytes after refl h.taken h.rest streams
 
--- ---- at first
+-- ---- at the start
 
 pub new_stands : NoCosts → ByteOfBits → AllRescued → (cells : CostsState) (hp lp : StreamState) (s : Settings) → cells.settings ≡ s → HasHad cells []
     → StreamStands so_far hp (start_of s.start) [] [] no_words [] → StreamStands so_far lp (start_of s.start) [] [] no_words [] → StandsFor so_far (state cells hp lp false) [] nothing

@@ -1,4 +1,4 @@
--- What a stream stands for, from symbol to symbol.
+-- The state of a stream, from symbol to symbol.
 use Rattle.std.proofs.Common.{◌≡◌, ℕ, suc, ◌+◌, ◌<◌, ◌≤◌, Bool, inl, inr, ◌⊎◌, List, [], ◌∷◌, ◌++◌, length, take, drop, refl, sym, ap, ap₂, ◌∙◌, subst, arith, length-append, append_assoc}
 use Rattle.std.specs.Prelude.{Option, All, min}
 use Rattle.std.proofs.lemmas.Bool.{cases_lt}
@@ -29,13 +29,13 @@ bits_append : (a b : List ℕ) → bits_of_bytes (a ++ b) ≡ bits_of_bytes a ++
 bits_append [] b = refl
 bits_append (x ∷ a) b = ap (λ z. spelled 8 x ++ z) (bits_append a b) ∙ sym (append_assoc (spelled 8 x) (bits_of_bytes a) (bits_of_bytes b))
 
--- bits that were given and bits that came go on to bytes and the bits that are left
+-- bits given and new bits divide into bytes and the bits left
 rejoined : (bits : List Bool) (bytes more : List ℕ) (wait came all left : List Bool) → bits ≡ bits_of_bytes bytes ++ wait → all ≡ wait ++ came → all ≡ bits_of_bytes more ++ left → bits ++ came ≡ bits_of_bytes (bytes ++ more) ++ left
 rejoined bits bytes more wait came all left e f g =
     ap (λ z. z ++ came) e ∙ append_assoc (bits_of_bytes bytes) wait came ∙ ap (λ z. bits_of_bytes bytes ++ z) (sym f ∙ g)
     ∙ sym (append_assoc (bits_of_bytes bytes) (bits_of_bytes more) left) ∙ ap (λ z. z ++ left) (sym (bits_append bytes more))
 
--- a queue that grew, and of which the first items went on
+-- a queue that grew, after its first items were taken
 requeued : (done queue more longer left : List ℕ) (n : ℕ) → longer ≡ queue ++ more → left ≡ drop n longer → (done ++ queue) ++ more ≡ (done ++ take n longer) ++ left
 requeued done queue more longer left n e f =
     append_assoc done queue more ∙ ap (λ z. done ++ z) (sym e ∙ sym (take-append-drop n longer)) ∙ sym (append_assoc done (take n longer) (drop n longer)) ∙ ap (λ z. (done ++ take n longer) ++ z) (sym f)
@@ -47,7 +47,7 @@ one_is_empty xs ys left rest n e f g = go (cases_lt (length ys) (length xs))
     go (inl l) = inr (g ∙ drop_all n ys (omega (arith, e, l)))
     go (inr l) = inl (f ∙ drop_all n xs (omega (arith, e, l)))
 
--- the decoder gave more, more margins are known, and both went on as far as they go together
+-- the decoder gave more, more margins are known, and both were passed on as far as they match
 pub gave : (moment : Moment) (x y : StreamState) (ran : BranchState) (k : ℕ) (longer surer : List ℕ) (a : Option (List Bool)) (c d : List CostPair) (given : List ℕ) (tally : RescueTally) (steps later to more : List ℕ) → (h : StreamStands so_far x a c given tally steps)
     → (came : List Bool) → ran.wait ≡ x.branch.wait ++ came → HasGiven moment ran.decoder a d (h.bits ++ came) later → ran.loaded ≡ []
     → Passes k ran y.branch x.bytes longer → length y.branch.wait < 8
@@ -79,7 +79,7 @@ gave moment x y ran k longer surer a c d given tally steps later to more h came 
       };
     }
 
--- a symbol more
+-- one more symbol
 pub symbol_gave : (x y : StreamState) (ran : BranchState) (k : ℕ) (longer surer : List ℕ) (pairs : List CostPair) (to more : List ℕ) → HasTaken pairs x.branch ran → Passes k ran y.branch x.bytes longer → length y.branch.wait < 8
     → Pushes pairs x.margins y.margins x.byte_margins surer → length y.margins.waiting < 1280 → (256 ≤ length x.margins.waiting → 256 ≤ length y.margins.waiting)
     → GivesWords longer surer x.words y.bytes y.byte_margins y.words to more → y.unmerged ≡ x.unmerged + length (ats ran.events)
@@ -104,7 +104,7 @@ finish_gave x y ended k longer surer to more end p few all g unmerged a c given 
     let s = all a c h.ms h.known.0 in
     gave at_end x y ended k longer surer a c c given tally steps steps to more h r.more r.appended r.given end.loaded p few s.more s.whole s.appends g (unmerged ∙ h.unmerged)
 
--- how many bits wait when a symbol was run
+-- the number of pending bits after running a symbol
 pub ran_wait : (x ran : BranchState) (pairs : List CostPair) (a : Option (List Bool)) (c : List CostPair) (bits : List Bool) (steps : List ℕ) → HasTaken pairs x ran → HasGiven so_far x.decoder a c bits steps → length x.wait < 8 → length pairs ≤ 31752 → length ran.wait ≤ 33807
 ran_wait x ran pairs a c bits steps run h few most =
     let r = run.gave a c bits steps h in
@@ -128,21 +128,21 @@ no_bytes (a ∷ b ∷ c ∷ d ∷ e ∷ f ∷ []) l = refl
 no_bytes (a ∷ b ∷ c ∷ d ∷ e ∷ f ∷ g ∷ []) l = refl
 no_bytes (a ∷ b ∷ c ∷ d ∷ e ∷ f ∷ g ∷ h ∷ w) l = absurd (omega (arith, l))
 
--- the whole bytes of bytes' bits and fewer than eight more
+-- the whole bytes of the bits of bytes and of fewer than eight more
 bytes_back : ByteOfBits → (bytes : List ℕ) (w : List Bool) → All (λ b. b < 256) bytes → length w < 8 → bytes_of (bits_of_bytes bytes ++ w) ≡ bytes
 bytes_back one [] w s l = no_bytes w l
 bytes_back one (b ∷ bytes) w s l =
     ap bytes_of (append_assoc (spelled 8 b) (bits_of_bytes bytes) w) ∙ one b (bits_of_bytes bytes ++ w) (All-head (λ b. b < 256) b bytes s)
     ∙ ap (λ z. b ∷ z) (bytes_back one bytes w (All-tail (λ b. b < 256) b bytes s) l)
 
--- what a stream has written are the rescued packets of its bits and margins
+-- the bytes written for a stream are the rescued packets of its bits and margins
 pub rescued : ByteOfBits → AllRescued → (moment : Moment) (x : StreamState) (a : Option (List Bool)) (c : List CostPair) (given : List ℕ) (tally : RescueTally) (steps : List ℕ) → (h : StreamStands moment x a c given tally steps) → Rescues (bytes_of h.bits) (byte_margins h.ms) given tally
 rescued one all moment x a c given tally steps h =
     let same : h.whole ≡ bytes_of h.bits = sym (ap bytes_of h.passed ∙ bytes_back one h.whole x.branch.wait h.small h.few) in
     subst (λ z. Rescues z (byte_margins h.ms) given tally) (sym h.bytes_are ∙ same)
     (subst (λ z. Rescues (h.done ++ x.bytes) z given tally) (sym h.margins_are) (all x.words h.done h.sure x.bytes x.byte_margins given tally h.words_are h.one))
 
--- at first
+-- at the start
 no_margins : byte_margins [] ≡ []
 unfolding byte_margins values
 no_margins = refl

@@ -1,4 +1,4 @@
--- What a stream keeps, from symbol to symbol.
+-- The invariant of a stream, from symbol to symbol.
 use Rattle.std.proofs.Common.{◌≡◌, ℕ, ◌+◌, ◌*◌, ◌^◌, ◌<◌, ◌≤◌, List, length, ap, arith}
 use Rattle.code_paths.specs.declared.costs.CostPair.{CostPair}
 use Rattle.inner_decoder.specs.Running.{BranchState}
@@ -31,6 +31,6 @@ keeps x y ran xs taken h long run rest ready few = record {
   counts = few_more _ (4400 * taken + 4400) (4400 * (taken + 1)) (omega arith) (few (4400 * taken) (record { words = h.counts.words; unmerged = h.counts.unmerged }));
 }
 
--- at first
+-- at the start
 pub first_kept : (x : StreamRx) (taken : ℕ) → IsReady x → x.branch.decoder.steps ≡ 0 → AreFew (seen x) 0 → IsKeptStream x taken
 first_kept x taken ready none counts = record { ready = ready; steps_were = omega (arith, none); counts = few_more _ 0 (4400 * taken) (omega arith) counts }

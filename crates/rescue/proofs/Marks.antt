@@ -1,4 +1,4 @@
--- Margins that are known are one list, and begin those of more pairs.
+-- Known margins are unique, and a prefix of those of more pairs.
 use Rattle.std.proofs.Common.{◌≡◌, ℕ, ◌+◌, ◌*◌, ◌/◌, ◌%◌, ◌<◌, ◌≤◌, Bool, List, ◌++◌, length, take, drop, sym, ap, ap₂, ◌∙◌, subst, arith, slice_index, length-append, length-take-le, take-append-drop}
 use Rattle.std.specs.Prelude.{Option}
 use Rattle.std.specs.Int.{abs_diff}
@@ -24,7 +24,7 @@ known_once once so_far a c ms ns h k =
     ext_get_or 0 ms ns (h.long ∙ sym k.long) (λ t l. margin_once _ _ _ (slice_index ms t) (slice_index ns t) (h.each t l) (k.each t (omega (arith, l, h.long, k.long))))
 known_once once at_end a c ms ns h k = once a c ms ns h k
 
--- ---- margins of settled blocks begin those of more pairs
+-- ---- margins of settled blocks are a prefix of those of more pairs
 
 settled_whole : (t n : ℕ) → t < 1024 * settled_blocks n → 1024 * (t / 1024) + 1280 ≤ n
 settled_whole t n l = omega (arith, l)

@@ -1,4 +1,4 @@
--- Bytes and margins that are moved, in loops.
+-- Bytes and margins moved in loops.
 use Rattle.std.proofs.Common.{◌≡◌, ℕ, ◌+◌, ◌*◌, ◌<◌, ◌≤◌, ◌%◌, ◌⊎◌, inl, inr, Bool, false, List, [], ◌∷◌, ◌++◌, length, take, get_or, refl, sym, ap, ap₂, ◌∙◌, subst, arith, length-append, append_assoc, append-nil}
 use Rattle.std.specs.Prelude.{Option, All}
 use Rattle.std.proofs.lemmas.List.{take_more}
@@ -16,7 +16,7 @@ use Rattle.rescue_words.specs.Running.{WordsState}
 use Rattle.rescue_words.specs.Running as words
 use Rattle.rescue.specs.Moves.{Passes, HasPushed, Pushes, EndsMargins, FinishesWords}
 
--- ---- bytes of the bits that wait
+-- ---- bytes of the pending bits
 
 pub bits_push : (more : List ℕ) (byte : ℕ) → bits_of_bytes (more ++ byte ∷ []) ≡ bits_of_bytes more ++ spelled 8 byte
 bits_push [] byte = append-nil (spelled 8 byte)
@@ -70,7 +70,7 @@ pushed_whole xs new a c ms queue longer h = record { more = h.more; stands = sub
 whole_bytes : (n blocks : ℕ) → n ≡ 1024 * blocks → n % 8 ≡ 0
 whole_bytes n blocks e = omega (arith, e)
 
--- those of a block are
+-- those of a block are appended
 pub took_block : MoreByteMargins → (old new : MarginState) (first block queue longer : List ℕ) → first ≡ [] → length new.waiting ≡ 256 → longer ≡ queue ++ byte_margins block
     → ((a : Option (List Bool)) (c : List CostPair) (ms : List ℕ) → margins.Stands old a c ms → margins.Took new a c ms first block) → Pushes [] old new queue longer
 took_block law old new first block queue longer none left is took a c ms h =

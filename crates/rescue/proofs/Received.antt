@@ -57,7 +57,7 @@ one_at_end given ended reports margins one s bytes r q x y = one_output given en
 
 -- ---- more bits and margins
 
--- what is written for first bits and margins begins what more of both give
+-- the output for first bits and margins is a prefix of that for more of both
 packets_begin : MoreBits → MoreRescued → (bits longer : List Bool) (ms ns out more : List ℕ) (tally count : RescueTally) → IsPrefix bits longer → (rest : List ℕ) × (byte_margins ns ≡ byte_margins ms ++ rest)
     → Rescues (bytes_of bits) (byte_margins ms) out tally → Rescues (bytes_of longer) (byte_margins ns) more count → (rest : List ℕ) × (more ≡ out ++ rest)
 packets_begin bits rescued b longer ms ns out more tally count h k x y =
@@ -75,7 +75,7 @@ at_end_ends_so_far begins reports bits stay marks rescued s bytes r q x y = reco
   reports = λ σ. reports memory (start_of s.start) (costs s bytes σ) (q.reports σ) (r.reports σ) (y.reports σ) (x.reports σ);
 }
 
--- the bits given begin those of longer costs
+-- the bits given are a prefix of those for longer costs
 bits_begin : GivenGrows → GivenBeginsEnded → SomeAreGiven → (moment : Moment) (start : Start) (c d w : List CostPair) (g h : List Bool) → w ≡ c ++ d → Given memory (start_of start) c g → IsDecoded moment (start_of start) w h → IsPrefix g h
 bits_begin grows begins some so_far start c d w g h e x y = grows memory (start_of start) c d g h x (subst (λ z. Given memory (start_of start) z h) e y)
 bits_begin grows begins some at_end start c d w g h e x y =

@@ -1,4 +1,4 @@
--- How much waits, so that there is room for what a symbol brings.
+-- Bounds of the pending items, so that there is space for what a symbol adds.
 use Rattle.std.proofs.Common.{◌≡◌, ℕ, zero, suc, ◌+◌, ◌-◌, ◌*◌, ◌/◌, ◌%◌, ◌<◌, ◌≤◌, Bool, inl, inr, ◌⊎◌, List, [], ◌∷◌, length, refl, ap, ◌∙◌, subst, arith, length-append, length-drop, append-nil}
 use Rattle.std.specs.Prelude.{Option, slice_index}
 use Rattle.bit_pack.specs.Queue.{bits_of_bytes}
@@ -28,7 +28,7 @@ length_byte_margins : (ms : List ℕ) → length (byte_margins ms) ≡ length ms
 unfolding byte_margins
 length_byte_margins ms = length_values _ 0 (length ms / 8)
 
--- what a stream has waiting is little
+-- the pending items of a stream are bounded
 pub record AreLittle (x : StreamState) : Type 0 where
   pub bytes : length x.bytes ≤ 160
   pub byte_margins : length x.byte_margins ≤ 257
@@ -68,7 +68,7 @@ little x a c given tally steps h =
       begun = begun;
     }
 
--- margins that go on are those of the settled blocks
+-- running margins are those of the settled blocks
 pub settled : (s : MarginState) (a : Option (List Bool)) (c : List CostPair) (ms : List ℕ) → margins.Stands s a c ms → length s.waiting < 1280 → IsInStep ms s → AreSettled a c ms
 settled s a c ms h few step = record {
   long = h.long ∙ ap (λ z. 1024 * z) (blocks step);

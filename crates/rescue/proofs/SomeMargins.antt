@@ -93,7 +93,7 @@ module _ (a : Option (List Bool)) (c : List CostPair) (t : ℕ) (b : Bool) where
   is_least : (p : PathWith a c t b) → (Bits (6 + length c) (Better (total c p.path)) → ⊥) → (m : ℕ) × LeastWith a c t b m
   is_least p n = (total c p.path, record { path = p.path; is_path = p.is_path; has = p.has; is = refl; least = λ q i e. none p n q i e (cases_lt (total c q) (total c p.path)) })
 
-  -- from a path that costs at most so much
+  -- from a path that costs at most `most`
   least_from : (most : ℕ) (p : PathWith a c t b) → total c p.path ≤ most → (m : ℕ) × LeastWith a c t b m
   least_from zero p l = is_least p (λ f. absurd (omega (arith, l, f.holds.1.1)))
   least_from (suc most) p l = go (better (total c p.path)) (λ q e. least_from most q e)
@@ -126,7 +126,7 @@ in_window c t l = omega (arith, l, length-take 1280 (drop (1024 * (t / 1024)) c)
 some_margin_at : (a : Option (List Bool)) (c : List CostPair) (t : ℕ) → IsStart a → t < length c → (m : ℕ) × IsMarginAt a c t m
 some_margin_at a c t s l = some_margin (window_start a (t / 1024)) (window c (t / 1024)) (t % 1024) (starts_window a (t / 1024) s) (in_window c t l)
 
--- what there is for each of the first places is a list
+-- what exists for each of the first indices forms a list
 listed : (P : ℕ → ℕ → Type 0) (n : ℕ) → ((t : ℕ) → t < n → (m : ℕ) × P t m) → (ms : List ℕ) × (length ms ≡ n) × ((t : ℕ) → t < n → P t (slice_index ms t))
 listed P zero h = ([], refl, λ t l. absurd (omega (arith, l)))
 listed P (suc n) h =

@@ -1,4 +1,4 @@
--- Each word is recovered, or lost, so bytes and margins give packets and counts.
+-- Each word is recovered or lost, so packets and counts exist.
 use Rattle.std.proofs.Common.{◌≡◌, ℕ, ◌<◌, ◌≤◌, List, take, ◌⊎◌, inl, inr, refl, subst, arith, length-take-le}
 use Rattle.std.specs.Prelude.{Option, Some, None}
 use Rattle.std.proofs.lemmas.Bool.{cases_lt}
@@ -18,7 +18,7 @@ use Rattle.rescue_words.specs.Recovery.Recovery.{Nearest, Rescued, Lost}
 use Rattle.rescue_words.specs.Rescued.{RescueTally, Rescues, codewords, tally_to, known_words}
 
 module _ (has : MessageHasCodeword) (one : CodewordIsOne) (places : SomeAreLeast) where
-  -- a message whose codeword is near outside the erased places
+  -- a message whose codeword is close outside the erasures
   abbrev Found : List ℕ → List ℕ → Type 0
   Found word erased = Bytes 188 (λ m. distance_outside erased word (codeword m) ≤ 4)
 

@@ -2,7 +2,7 @@
 use Rattle.std.proofs.Common.{◌≡◌, refl}
 use Rattle.rescue.specs.Known.{settled_blocks}
 
--- a block is settled with the 256th step behind it
+-- a block is settled by the 256th step after it
 none : settled_blocks 1279 ≡ 0
 none = refl
 
@@ -15,6 +15,6 @@ still_one = refl
 two : settled_blocks 2304 ≡ 2
 two = refl
 
--- fewer steps than stand behind a block
+-- fewer steps than the 256 after a block
 few : settled_blocks 100 ≡ 0
 few = refl

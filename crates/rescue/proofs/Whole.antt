@@ -1,4 +1,4 @@
--- Bytes have a rescue output at each moment.
+-- Bytes have a rescue output at every moment.
 use Rattle.std.proofs.Common.{ℕ, Bool, List}
 use Rattle.std.specs.Prelude.{Option}
 use Rattle.code_paths.specs.declared.costs.CostPair.{CostPair}

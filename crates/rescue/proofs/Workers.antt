@@ -1,4 +1,4 @@
--- The number of workers stands in no definition of what is rescued.
+-- No definition of a rescue depends on the number of workers.
 use Rattle.std.proofs.Common.{ℕ, ◌*◌, ◌/◌, ◌%◌, Bool, List, Option, length, ◌∙◌, ap, ap₂, subst, sym}
 use Rattle.std.specs.Prelude.{Some, None, flat_map, if◌then◌else◌}
 use Rattle.std.specs.List.{concat}
@@ -23,7 +23,7 @@ use Rattle.reception.specs.Alike.{DifferInWorkers, SameCosts, SameEvents, SameSt
 use Rattle.rescue.specs.Laws.{SameSoFar, SameAtEnd, SameLines}
 
 module _ (same : SameCosts) (s t : Settings) (bytes : List ℕ) (d : DifferInWorkers s t) where
-  -- what is so of a stream's register at the start and its costs
+  -- a fact on a stream's start register and its costs
   moved : (Fact : Option (List Bool) → List CostPair → Type 0) (σ : Stream) → Fact (start_of s.start) (costs s bytes σ) → Fact (start_of t.start) (costs t bytes σ)
   moved Fact σ is =
       subst (λ (a : Option (List Bool)). Fact a (costs t bytes σ)) (ap start_of (sym d.start))

@@ -1,4 +1,4 @@
--- What a receiver that rescues words keeps.
+-- The invariant of a rescuing receiver.
 use Rattle.std.specs.Prelude.{◌≡◌, ℕ, ◌*◌, ◌^◌, ◌≤◌, Bool, false, List, Option, vec_capacity}
 use Rattle.code_paths.specs.declared.costs.CostPair.{CostPair}
 use Rattle.reception.specs.Streams.{so_far}
@@ -12,13 +12,13 @@ use Rattle.rescue.specs.declared.stream.StreamRx.{StreamRx}
 abbrev pub seen : StreamRx → StreamState
 seen x = record { branch = x.branch; margins = x.margins; bytes = x.bytes.items; byte_margins = x.byte_margins.items; words = x.words; unmerged = x.unmerged }
 
--- there is room for what a symbol brings
+-- there is space for all that a symbol adds
 pub record HasRoom (x : StreamRx) : Type 0 where
   pub block : 1279 ≤ vec_capacity x.block
   pub bytes : 4608 ≤ vec_capacity x.bytes
   pub byte_margins : 4608 ≤ vec_capacity x.byte_margins
 
--- a stream that stands for something
+-- a stream in a valid state
 pub record StandsForSome (x : StreamState) : Type 0 where
   pub a : Option (List Bool)
   pub c : List CostPair
@@ -27,7 +27,7 @@ pub record StandsForSome (x : StreamState) : Type 0 where
   pub steps : List ℕ
   pub stands : StreamStands so_far x a c given tally steps
 
--- a stream whose decoder has run these pairs, from where the stream stood for something
+-- a stream whose decoder has run these pairs from a valid state
 pub record RanFrom (pairs : List CostPair) (x : StreamRx) : Type 0 where
   pub before : BranchState
   pub taken : HasTaken pairs before x.branch
@@ -45,7 +45,7 @@ pub record IsReady (x : StreamRx) : Type 0 where
   pub room : HasRoom x
   pub some : StandsForSome (seen x)
 
--- a stream after so many symbols, each of at most 31,752 steps, before it has ended
+-- a stream after `taken` symbols, each of at most 31,752 steps, before it has ended
 pub record IsKeptStream (x : StreamRx) (taken : ℕ) : Type 0 where
   pub ready : IsReady x
   pub steps_were : x.branch.decoder.steps ≤ 31752 * taken

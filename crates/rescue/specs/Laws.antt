@@ -1,4 +1,4 @@
--- Bytes have one rescue output at each moment, and what first bytes give begins what more give.
+-- Bytes have one rescue output at each moment, and the output of a prefix is a prefix of the output.
 use Rattle.std.specs.Prelude.{◌≡◌, ℕ, List, [], ◌++◌}
 use Rattle.mode_set.specs.declared.modes.Stream.{Stream}
 use Rattle.mode_set.specs.declared.settings.Settings.{Settings}
@@ -9,7 +9,7 @@ use Rattle.reception.specs.Alike.{DifferInWorkers}
 
 -- ---- one output
 
--- two rescue outputs are the same in all that is rescued
+-- two rescue outputs are equal
 pub record AreSame (r q : Rescue) : Type 0 where
   pub packets : (σ : Stream) → r.packets σ ≡ q.packets σ
   pub reports : (σ : Stream) → r.reports σ ≡ q.reports σ
@@ -22,20 +22,20 @@ OneSoFar = (s : Settings) (bytes : List ℕ) (r q : Rescue) → RescuesSoFar s b
 abbrev pub OneAtEnd : Type 0
 OneAtEnd = (s : Settings) (bytes : List ℕ) (r q : Rescue) → RescuesAtEnd s bytes r → RescuesAtEnd s bytes q → AreSame r q
 
--- no bytes give nothing
+-- no bytes give no output
 abbrev pub NothingSoFar : Type 0
 NothingSoFar = (s : Settings) → RescuesSoFar s [] nothing
 
--- bytes have an output so far, and one at the end
+-- bytes always have an output so far and one at the end
 abbrev pub SomeSoFar : Type 0
 SomeSoFar = (s : Settings) (bytes : List ℕ) → (r : Rescue) × RescuesSoFar s bytes r
 
 abbrev pub SomeAtEnd : Type 0
 SomeAtEnd = (s : Settings) (bytes : List ℕ) → (r : Rescue) × RescuesAtEnd s bytes r
 
--- ---- beginnings
+-- ---- prefixes
 
--- the output at the end begins with the one so far, and has its reports
+-- the output at the end begins with the output so far, and has the same reports
 pub record Ends (r q : Rescue) : Type 0 where
   pub packets : (σ : Stream) → (rest : List ℕ) × (q.packets σ ≡ r.packets σ ++ rest)
   pub reports : (σ : Stream) → q.reports σ ≡ r.reports σ
@@ -43,7 +43,7 @@ pub record Ends (r q : Rescue) : Type 0 where
 abbrev pub AtEndEndsSoFar : Type 0
 AtEndEndsSoFar = (s : Settings) (bytes : List ℕ) (r q : Rescue) → RescuesSoFar s bytes r → RescuesAtEnd s bytes q → Ends r q
 
--- what longer bytes give begins with what these give: the packets and the reports of each stream, and the event lines
+-- the output of longer bytes begins with that of these: the packets and reports of each stream, and the event lines
 pub record Begins (s : Settings) (bytes longer : List ℕ) (r q : Rescue) : Type 0 where
   pub packets : (σ : Stream) → (rest : List ℕ) × (q.packets σ ≡ r.packets σ ++ rest)
   pub reports : (σ : Stream) → (rest : List ℕ) × (q.reports σ ≡ r.reports σ ++ rest)
@@ -55,13 +55,13 @@ SoFarBeginsSoFar = (s : Settings) (bytes more : List ℕ) (r q : Rescue) → Res
 abbrev pub SoFarBeginsAtEnd : Type 0
 SoFarBeginsAtEnd = (s : Settings) (bytes more : List ℕ) (r q : Rescue) → RescuesSoFar s bytes r → RescuesAtEnd s (bytes ++ more) q → Begins s bytes (bytes ++ more) r q
 
--- bytes that do not end a symbol give nothing
+-- bytes that do not complete a symbol add no output
 abbrev pub WholeSymbolsGive : Type 0
 WholeSymbolsGive = (s : Settings) (bytes more : List ℕ) (r : Rescue) → IsWithin s bytes more → RescuesSoFar s (bytes ++ more) r → RescuesSoFar s bytes r
 
 -- ---- workers
 
--- by settings that differ in the number of workers alone bytes have the same output so far and at the end ..
+-- settings that differ only in the number of workers give the same output, so far and at the end ..
 abbrev pub SameSoFar : Type 0
 SameSoFar = (s t : Settings) (bytes : List ℕ) (r : Rescue) → DifferInWorkers s t → RescuesSoFar s bytes r → RescuesSoFar t bytes r
 

@@ -1,4 +1,4 @@
--- The counts of what is rescued, and the lines of its report.
+-- The counts of a rescue, and the lines of its report.
 use Rattle.std.specs.Prelude.{ℕ, if◌then◌else◌, List, None, Some, flat_map, length}
 use Rattle.std.specs.List.{concat}
 use Rattle.mode_set.specs.declared.modes.Stream.{Stream}
@@ -14,11 +14,11 @@ use Rattle.reception.specs.Cells.{symbols, tail}
 use Rattle.reception.specs.Lines.{events}
 use Rattle.rescue.specs.Streams.{Rescue}
 
--- of one stream: the counts of its words, and how many unmerged reports there were
+-- of a stream: the counts of its words, and the number of unmerged reports
 abbrev pub counts_of_stream : Rescue → Stream → StreamCounts
 counts_of_stream r σ = record { words = words.counts_of (r.tally σ); unmerged = length (r.reports σ) }
 
--- the counts of what these bytes gave: of LP where it exists in the transmission
+-- the counts for these bytes; those of LP if it exists in the transmission
 abbrev pub counts_of : Settings → List ℕ → Rescue → Counts
 counts_of s bytes r = record {
   symbols = symbols s bytes;
@@ -31,6 +31,6 @@ counts_of s bytes r = record {
 abbrev pub event_lines : Settings → List ℕ → Rescue → List ℕ
 event_lines s bytes r = flat_map event_line (events s (symbols s bytes) r.reports)
 
--- the lines at the end
+-- the closing lines
 abbrev pub closing_lines : Settings → List ℕ → Rescue → List ℕ
 closing_lines s bytes r = concat (text.closing_lines (counts_of s bytes r))

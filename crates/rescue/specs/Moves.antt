@@ -1,4 +1,4 @@
--- What becomes of the bits and the pairs of a symbol.
+-- The bits and pairs of a symbol in a rescuing receiver.
 use Rattle.std.specs.Prelude.{◌≡◌, ℕ, ◌<◌, ◌≤◌, ◌⊎◌, Bool, List, [], ◌++◌, All, Option, length, min, take, drop}
 use Rattle.bit_pack.specs.Queue.{bits_of_bytes}
 use Rattle.code_paths.specs.declared.costs.CostPair.{CostPair}
@@ -11,7 +11,7 @@ use Rattle.rescue_words.specs.Rescued.{RescueTally}
 use Rattle.rescue_words.specs.Running.{WordsState}
 use Rattle.rescue_words.specs.Running as words
 
--- the first k bytes of the bits that wait were taken
+-- the first k bytes of the pending bits were taken
 pub record Passes (k : ℕ) (old new : BranchState) (queue longer : List ℕ) : Type 0 where
   pub more : List ℕ
   pub long : length more ≡ k
@@ -20,13 +20,14 @@ pub record Passes (k : ℕ) (old new : BranchState) (queue longer : List ℕ) : 
   pub appended : longer ≡ queue ++ more
   pub rest : new ≡ record old { wait = new.wait }
 
--- the margins of more bytes, of the bits with the margins `more` behind those with the margins ms
+-- the margins of more bytes, from bit margins `more` after bit margins ms
 pub record Appends (ms more queue longer : List ℕ) : Type 0 where
   pub bytes : List ℕ
   pub appended : longer ≡ queue ++ bytes
   pub are : byte_margins (ms ++ more) ≡ byte_margins ms ++ bytes
 
--- more pairs were pushed, and the margins of the bytes of whole blocks appended, behind which 256 pairs wait at least
+-- more pairs were pushed, and the margins of the bytes of whole blocks appended; at least 256 pairs are pending after
+-- them
 pub record HasPushed (xs : List CostPair) (new : MarginState) (a : Option (List Bool)) (c : List CostPair) (ms queue longer : List ℕ) : Type 0 where
   pub more : List ℕ
   pub stands : margins.Stands new a (c ++ xs) (ms ++ more)
@@ -36,7 +37,7 @@ pub record HasPushed (xs : List CostPair) (new : MarginState) (a : Option (List 
 abbrev pub Pushes : List CostPair → MarginState → MarginState → List ℕ → List ℕ → Type 0
 Pushes xs old new queue longer = (a : Option (List Bool)) (c : List CostPair) (ms : List ℕ) → margins.Stands old a c ms → HasPushed xs new a c ms queue longer
 
--- the margins of the bytes of all steps that waited were appended
+-- the margins of the bytes of all pending steps were appended
 pub record HasEndedMargins (a : Option (List Bool)) (c : List CostPair) (ms queue longer : List ℕ) : Type 0 where
   pub more : List ℕ
   pub whole : AreMargins a c (ms ++ more)
@@ -45,12 +46,12 @@ pub record HasEndedMargins (a : Option (List Bool)) (c : List CostPair) (ms queu
 abbrev pub EndsMargins : MarginState → List ℕ → List ℕ → Type 0
 EndsMargins old queue longer = (a : Option (List Bool)) (c : List CostPair) (ms : List ℕ) → margins.Stands old a c ms → HasEndedMargins a c ms queue longer
 
--- bytes with their margins were taken, and the packets of their words written behind `old`
+-- bytes with their margins were taken, and the packets of their words written after `old`
 abbrev pub FinishesWords : List ℕ → List ℕ → WordsState → WordsState → List ℕ → List ℕ → Type 0
 FinishesWords bytes taken before after old new =
     (b m given : List ℕ) (tally : RescueTally) → words.Stands before b m given tally → words.Took after (b ++ bytes) (m ++ taken) given old new
 
--- the bytes and the margins that there were of both went on to the words; what is left of one of them waits
+-- bytes and margins went to the words, as many as both had; the rest of one of them is pending
 pub record GivesWords (bytes sure : List ℕ) (before : WordsState) (bytes_left sure_left : List ℕ) (after : WordsState) (to more : List ℕ) : Type 0 where
   pub count : ℕ
   pub is : count ≡ min (length bytes) (length sure)

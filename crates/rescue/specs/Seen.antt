@@ -1,4 +1,4 @@
--- What is seen of a receiver that rescues words.
+-- The visible state of a rescuing receiver.
 use Rattle.std.specs.Prelude.{ℕ, Bool, List}
 use Rattle.mode_set.specs.declared.modes.Stream.{Stream}
 use Rattle.mode_set.specs.declared.modes.Stream.TheVariants.{Hp, Lp}
@@ -7,8 +7,8 @@ use Rattle.inner_decoder.specs.Running.{BranchState}
 use Rattle.bit_margin.specs.Stream.{MarginState}
 use Rattle.rescue_words.specs.Running.{WordsState}
 
--- of one stream: its decoder, the margins of its bits, the bytes and the margins of bytes that wait for one another, its words, and
--- the number of unmerged reports
+-- of a stream: its decoder, the margins of its bits, the bytes and byte margins that wait for each other, its words,
+-- and the number of unmerged reports
 pub record StreamState : Type 0 where
   pub branch : BranchState
   pub margins : MarginState

@@ -1,4 +1,4 @@
--- What a receiver that rescues words stands for.
+-- The meaning of a rescuing receiver's state.
 use Rattle.std.specs.Prelude.{◌≡◌, ℕ, ◌<◌, ◌≤◌, ◌⊎◌, Bool, true, false, List, [], ◌++◌, All, Option, length}
 use Rattle.bit_pack.specs.Queue.{bits_of_bytes}
 use Rattle.code_paths.specs.declared.costs.CostPair.{CostPair}
@@ -21,17 +21,17 @@ abbrev pub is_end : Moment → Bool
 is_end so_far = false
 is_end at_end = true
 
--- no block was settled, or the 256 steps behind the settled ones wait at least
+-- no block is settled, or at least 256 steps after the settled ones are pending
 abbrev pub IsInStep : List ℕ → MarginState → Type 0
 IsInStep ms s = (ms ≡ []) ⊎ (256 ≤ length s.waiting)
 
--- margins that go on are those of settled blocks, and no window is full; margins that have ended are those of all steps
+-- running margins are those of settled blocks, and no window is full; ended ones are those of all steps
 abbrev pub MarginsStand : Moment → MarginState → Option (List Bool) → List CostPair → List ℕ → Type 0
 MarginsStand so_far s a c ms = margins.Stands s a c ms × (length s.waiting < 1280) × IsInStep ms s
 MarginsStand at_end s a c ms = AreMargins a c ms
 
--- A stream stands for a start, the costs that it was given, and what it gave. Whole bytes of the bits that its decoder gave were
--- taken, and so were the margins of bytes that are known; of both as many went on to the words, and one of them none is left.
+-- The state of a stream matches a start, the costs received, and its output. Whole bytes of the decoder's bits were
+-- taken, and the known margins of bytes. As many of both went to the words, so that nothing of one of them remains.
 pub record StreamStands (moment : Moment) (x : StreamState) (a : Option (List Bool)) (c : List CostPair) (given : List ℕ) (tally : RescueTally) (steps : List ℕ) : Type 0 where
   pub bits : List Bool
   pub has_given : HasGiven moment x.branch.decoder a c bits steps
@@ -50,14 +50,15 @@ pub record StreamStands (moment : Moment) (x : StreamState) (a : Option (List Bo
   pub words_are : words.Stands x.words done sure given tally
   pub unmerged : x.unmerged ≡ length steps
 
--- a stream gave more: what it wrote behind `old`
+-- a stream gave more output, after `old`
 pub record StreamGave (moment : Moment) (x : StreamState) (a : Option (List Bool)) (c : List CostPair) (given steps : List ℕ) (old new : List ℕ) : Type 0 where
   pub written : List ℕ
   pub is : new ≡ old ++ written
   pub tally : RescueTally
   pub stands : StreamStands moment x a c (given ++ written) tally steps
 
--- The receiver stands for the bytes that it has had and for what it gave: each stream for the costs of their whole symbols.
+-- The state of the receiver matches the bytes received and the output given, each stream with the costs of their whole
+-- symbols.
 pub record StandsFor (moment : Moment) (x : RescueState) (bytes : List ℕ) (r : Rescue) : Type 0 where
   pub ended : x.ended ≡ is_end moment
   pub taken : x.taken ≡ symbols x.settings bytes

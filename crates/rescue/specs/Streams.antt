@@ -1,5 +1,4 @@
--- What a receiver that rescues words gives for the bytes of cells: as far as it is decided, and at the end (this project's
--- profile).
+-- The output of a rescuing receiver for a cell file: what is decided so far, and at the end (this project's profile).
 use Rattle.std.specs.Prelude.{ℕ, Bool, List, []}
 use Rattle.code_paths.specs.Streams.{Reports}
 use Rattle.outer_chain.specs.Bits.{bytes_of}
@@ -11,14 +10,15 @@ use Rattle.reception.specs.Costs.{costs}
 use Rattle.reception.specs.Streams.{memory, start_of, Moment, so_far, at_end, IsDecoded}
 use Rattle.rescue.specs.Known.{AreKnown}
 
--- what is rescued: of each stream the bytes of its packets, the steps of its unmerged reports and the counts of its words
+-- everything rescued: for each stream the bytes of its packets, the steps of its unmerged reports and the counts of its
+-- words
 pub record Rescue : Type 0 where
   pub packets : Stream → List ℕ
   pub reports : Stream → List ℕ
   pub tally : Stream → RescueTally
 
--- What the bytes give at a moment. The words are those all of whose bits were given and have margins that are known; each is its
--- nearest codeword or, where there is none, the codeword near to it outside its eight bytes of least margin.
+-- The output for the bytes at a moment. The words are those with all bits given and all margins known. Each is its
+-- nearest codeword or, if it has none, the codeword close to it outside its eight bytes of least margin.
 pub record RescuesAt (moment : Moment) (s : Settings) (bytes : List ℕ) (r : Rescue) : Type 0 where
   pub bits : Stream → List Bool
   pub decoded : (σ : Stream) → IsDecoded moment (start_of s.start) (costs s bytes σ) (bits σ)
@@ -38,6 +38,6 @@ RescuesAtEnd = RescuesAt at_end
 abbrev pub no_words : RescueTally
 no_words = record { words = 0; clean = 0; corrected = 0; rescued = 0; bad = 0; unphased = 0 }
 
--- nothing is rescued
+-- nothing rescued
 abbrev pub nothing : Rescue
 nothing = record { packets = λ σ. []; reports = λ σ. []; tally = λ σ. no_words }

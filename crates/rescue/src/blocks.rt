@@ -6,7 +6,7 @@ use bit_margin::Margins;
 use conv_code::CostPair;
 use rescue_words::push_byte_margins;
 
-/// Puts the margins of the bits of a block in the place of what was there, and appends those of its bytes.
+/// Replaces the content of `block` by the margins of the bits of a block, and appends those of its bytes.
 fn take_block(margins: &mut Margins, block: &mut Vec<u32>, to: &mut Vec<u32>)
     requires going { margins.old.ended ≡ false }
     requires full { length margins.old.waiting ≡ 1280 }
@@ -25,7 +25,7 @@ fn take_block(margins: &mut Margins, block: &mut Vec<u32>, to: &mut Vec<u32>)
     push_byte_margins(block, to);
 }
 
-/// Pushes a pair, and where it fills the window of a block appends the margins of the block's bytes.
+/// Pushes a pair and, if it fills the window of a block, appends the margins of the block's bytes.
 fn push_pair(margins: &mut Margins, pair: CostPair, block: &mut Vec<u32>, to: &mut Vec<u32>)
     requires going { margins.old.ended ≡ false }
     requires waits { length margins.old.waiting < 1280 }
@@ -68,7 +68,7 @@ pub(crate) fn push_pairs(
     }
 }
 
-/// Appends the margins of the bytes of all steps that wait, and ends them.
+/// Appends the margins of the bytes of all pending steps, and ends the margins.
 pub(crate) fn end_margins(margins: &mut Margins, block: &mut Vec<u32>, to: &mut Vec<u32>)
     requires going { margins.old.ended ≡ false }
     requires waits { length margins.old.waiting < 1280 }

@@ -1,17 +1,17 @@
-// The counts of a reception that rescues words.
+// The counts of a reception with rescue.
 
 use rescue_words::RescueCounts;
 
 /// The counts of one stream.
 #[derive(Clone, Copy, Debug, Default, Drop, PartialEq, Eq)]
 pub struct StreamCounts {
-    /// Those of its words.
+    /// The counts of its words.
     pub words: RescueCounts,
     /// The unmerged reports of the inner decoder.
     pub unmerged: u64,
 }
 
-/// The counts of a reception that rescues words.
+/// The counts of a reception with rescue.
 #[derive(Clone, Copy, Debug, Drop, PartialEq, Eq)]
 pub struct Counts {
     /// The whole symbols.
@@ -20,6 +20,6 @@ pub struct Counts {
     pub tail: u32,
     /// The stream of high priority, or the only one.
     pub hp: StreamCounts,
-    /// The stream of low priority, where there is one.
+    /// The stream of low priority, if there is one.
     pub lp: Option<StreamCounts>,
 }

@@ -1,4 +1,4 @@
-// The receiver that rescues words.
+// The receiver with rescue.
 ghost use Rattle.std.specs.Prelude.{◌≡◌, ◌+◌, ◌-◌, ◌*◌, ◌<◌, ◌≤◌, ◌^◌, ◌↔◌, [], ℕ, List, true, false, min, length, IfOk, IfSome, IsNone, Some, slice_get};
 ghost use Rattle.reception.specs.Cells.{symbols};
 ghost use Rattle.reception.specs.Streams.{so_far, at_end, Moment};
@@ -19,10 +19,10 @@ use std::thread::Threads;
 use inner_receiver::{SymbolCosts, take_symbol};
 use word_workers::OpenGate;
 
-/// Receives the cells of a transmission, as bytes that are cut anywhere, and gives the packets of its streams as far as they are
-/// decided: of each word that has no nearest codeword the eight least sure bytes are erased.
+/// Receives the cells of a transmission, as bytes in pieces of any length, and gives the packets of its streams as far
+/// as they are decided. In each word without a nearest codeword the eight least reliable bytes are erased.
 ///
-/// It stands for the bytes that it has had and for what it gave. No call but `new` takes memory or is refused.
+/// Its state matches the bytes received and the output given. Only `new` allocates memory; no call can fail after it.
 #[derive(Drop)]
 pub struct Rescue<M: Carriers> {
     cells: SymbolCosts<M>,
@@ -50,8 +50,8 @@ impl<M: Carriers> Model for Rescue<M> {
 }
 
 impl<M: Carriers> Rescue<M> {
-    /// A receiver that has had no byte. It takes all its memory, enough for any parameters of the mode; the only error is want
-    /// of it.
+    /// A receiver that has received no byte. It allocates all its memory, enough for any parameters of the mode; the
+    /// only error is lack of memory.
     pub fn new(alloc: Global, settings: &Settings) -> Result<Self, AllocError>
         requires mode { settings.now.mode ≡ M.MODE }
         ensures settings { IfOk result (λ x. x.settings ≡ settings.now) }
@@ -70,8 +70,8 @@ impl<M: Carriers> Rescue<M> {
         })
     }
 
-    /// Takes bytes from the front of the piece, as many as it has or the current symbol wants, and answers how many. `out` has
-    /// then exactly what became defined by them.
+    /// Takes bytes from the start of the piece, all of them or as many as the current symbol needs, and returns their
+    /// number. `out` then has exactly the output that they make definite.
     ///
     /// Fewer than 2^32 symbols were received so far, and the receiver has not ended.
     pub fn feed<R: Threads + Sync>(&mut self, rt: &R, piece: &[u8], out: &mut RescueOut) -> usize
@@ -109,7 +109,7 @@ impl<M: Carriers> Rescue<M> {
         count
     }
 
-    /// Ends the reception: `out` has then the rest of the packets.
+    /// Ends the reception: `out` then has the rest of the packets.
     ///
     /// The receiver has not ended.
     pub fn finish(&mut self, out: &mut RescueOut)
@@ -127,14 +127,14 @@ impl<M: Carriers> Rescue<M> {
         self.ended = true;
     }
 
-    /// Was `finish` called?
+    /// Whether `finish` was called.
     pub fn ended(&self) -> bool
         ensures { result ≡ self.now.ended }
     {
         self.ended
     }
 
-    /// The whole symbols received so far.
+    /// The number of whole symbols received so far.
     pub fn symbols(&self) -> u64
         ensures number { result ≡ self.now.taken }
         ensures symbols { (moment : Moment) (bytes : List ℕ) (r : Rescued) → StandsFor moment self.now bytes r → result ≡ symbols self.now.settings bytes }
@@ -154,7 +154,7 @@ impl<M: Carriers> Rescue<M> {
         }
     }
 
-    /// The closing lines of the report in order, by their numbers from 0: `None` exactly past the last.
+    /// The closing lines of the report in order, numbered from 0; `None` exactly past the last.
     ///
     /// The receiver has ended.
     pub fn line(&self, number: u8) -> Option<Line>

@@ -1,11 +1,11 @@
-// The laws, as contracts of functions that do nothing.
+// The laws, as contracts of functions with empty bodies.
 ghost use Rattle.rescue.specs.Laws.{OneSoFar, OneAtEnd, AtEndEndsSoFar, NothingSoFar, SomeSoFar, SomeAtEnd, SoFarBeginsSoFar, SoFarBeginsAtEnd, WholeSymbolsGive, SameSoFar, SameAtEnd, SameLines};
 
 use code_paths::{
     ended_once, given_begins_ended, given_grows, given_once, reports_grow, reports_once,
 };
 
-/// Bytes have one rescue output so far and one at the end, which begins with the one so far and has its reports.
+/// Bytes have one rescue output so far and one at the end, which begins with the first and has the same reports.
 pub fn receptions()
     ensures so_far { OneSoFar }
     ensures at_end { OneAtEnd }
@@ -22,7 +22,7 @@ pub fn receptions()
     rescue_words::laws::rescued();
 }
 
-/// No bytes give nothing.
+/// No bytes give no output.
 pub fn nothing()
     ensures so_far { NothingSoFar }
 {
@@ -30,7 +30,7 @@ pub fn nothing()
     reception::laws::costs();
 }
 
-/// Bytes have a rescue output so far, and one at the end.
+/// Bytes always have a rescue output so far, and one at the end.
 pub fn existence()
     ensures so_far { SomeSoFar }
     ensures at_end { SomeAtEnd }
@@ -40,7 +40,7 @@ pub fn existence()
     bit_margin::laws::some_least();
 }
 
-/// The rescue output so far of first bytes begins both outputs of more, and bytes within a symbol leave it.
+/// The rescue output of a prefix is a prefix of both outputs of more bytes, and bytes within a symbol do not change it.
 pub fn beginnings()
     ensures so_far { SoFarBeginsSoFar }
     ensures at_end { SoFarBeginsAtEnd }
@@ -59,8 +59,7 @@ pub fn beginnings()
     reception::laws::events();
 }
 
-/// By settings that differ in the number of workers alone the same is rescued, and the lines of the report are the
-/// same.
+/// Settings that differ only in the number of workers give the same rescue output and the same lines of the report.
 pub fn workers()
     ensures so_far { SameSoFar }
     ensures at_end { SameAtEnd }

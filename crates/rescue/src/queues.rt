@@ -1,4 +1,4 @@
-// Bytes and their margins, which wait for one another.
+// Bytes and their margins, which wait for each other.
 ghost use Rattle.std.specs.Prelude.{◌≡◌, ◌+◌, ◌/◌, ◌<◌, ◌≤◌, ◌^◌, ◌++◌, ◌∷◌, [], drop, length, vec_len, vec_capacity};
 ghost use Rattle.rescue.specs.Moves.{Passes, FinishesWords, GivesWords};
 
@@ -15,7 +15,7 @@ fn push_byte(byte: u8, to: &mut Vec<u8>)
     to.push_reserved(byte);
 }
 
-/// Takes the first byte of the bits that wait, of which there are eight at least.
+/// Takes the first byte of the pending bits, of which there are at least eight.
 fn pass_byte(branch: &mut StreamBranch, to: &mut Vec<u8>)
     requires wait { 8 ≤ length branch.old.wait }
     requires room { vec_len to.old < vec_capacity to.old }
@@ -29,7 +29,7 @@ fn pass_byte(branch: &mut StreamBranch, to: &mut Vec<u8>)
     }
 }
 
-/// Takes the whole bytes of the bits that wait.
+/// Takes the whole bytes of the pending bits.
 pub(crate) fn pass_bytes(branch: &mut StreamBranch, to: &mut Vec<u8>)
     requires room { vec_len to.old + length branch.old.wait / 8 ≤ vec_capacity to.old }
     ensures capacity { vec_capacity to.new ≡ vec_capacity to.old }
@@ -41,7 +41,7 @@ pub(crate) fn pass_bytes(branch: &mut StreamBranch, to: &mut Vec<u8>)
     }
 }
 
-/// Takes the first items of a queue out of it.
+/// Removes the first items of a queue.
 fn drop_first<T: Drop>(queue: &mut Vec<T>, count: usize)
     requires within { count ≤ vec_len queue.old }
     ensures rest { queue.new.items ≡ drop count queue.old.items }
@@ -52,7 +52,7 @@ fn drop_first<T: Drop>(queue: &mut Vec<T>, count: usize)
     queue.truncate(left);
 }
 
-/// Takes bytes with their margins, as many, and appends the packets of the words that end with them.
+/// Takes bytes and as many margins, and appends the packets of the words that end with them.
 ///
 /// There are at most 4,400 of them.
 fn finish_words(words: &mut RescueWords, bytes: &[u8], margins: &[u32], to: &mut Vec<u8>)
@@ -70,7 +70,7 @@ fn finish_words(words: &mut RescueWords, bytes: &[u8], margins: &[u32], to: &mut
     }
 }
 
-/// Hands bytes with their margins to the words as far as there are both, and appends the packets.
+/// Passes bytes with their margins to the words as far as there are both, and appends the packets.
 ///
 /// There are at most 4,400 bytes.
 pub(crate) fn give_words(

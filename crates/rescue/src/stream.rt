@@ -1,4 +1,4 @@
-// The receiving of one stream whose words are rescued, symbol by symbol.
+// The reception of one stream with rescue, symbol by symbol.
 ghost use Rattle.std.specs.Prelude.{◌≡◌, ◌+◌, ◌<◌, ◌≤◌, ◌^◌, ◌++◌, [], ℕ, List, Bool, false, length, vec_len, vec_capacity, IfOk};
 ghost use Rattle.std.specs.declared.option.Option.{Option};
 ghost use Rattle.code_paths.specs.declared.costs.CostPair.{CostPair as Pair};
@@ -21,20 +21,21 @@ use rescue_words::RescueWords;
 use std::alloc::{AllocError, Global};
 use inner_receiver::{StreamBranch, begin, end, start_state};
 
-/// Room for the bytes of a symbol, and for those that waited.
+/// Space for the bytes of a symbol, and for those still pending.
 const BYTES: usize = 4608;
 
-/// The most margins of bits that are found at once.
+/// The most bit margins computed at once.
 const BLOCK: usize = 1279;
 
-/// The decoder of one stream, the margins of its bits, and what becomes of both: bytes with margins, words, packets and counts.
+/// The decoder of one stream, the margins of its bits, and what both become: bytes with margins, words, packets and
+/// counts.
 #[derive(Drop)]
 pub(crate) struct StreamRx {
     pub(crate) branch: StreamBranch,
     pub(crate) margins: Margins,
     // The margins of the bits of a block.
     pub(crate) block: Vec<u32>,
-    // The bytes and the margins of bytes, of which one waits for the other.
+    // The bytes and the margins of bytes; one of the two queues waits for the other.
     pub(crate) bytes: Vec<u8>,
     pub(crate) byte_margins: Vec<u32>,
     pub(crate) words: RescueWords,
@@ -42,7 +43,7 @@ pub(crate) struct StreamRx {
 }
 
 impl StreamRx {
-    /// A stream of which nothing was received. The only error is want of memory.
+    /// A stream that has received nothing. The only error is lack of memory.
     pub(crate) fn new(alloc: Global, start: Start) -> Result<Self, AllocError>
         ensures ready { IfOk result (λ x. IsReady x) }
         ensures steps { IfOk result (λ x. x.branch.decoder.steps ≡ 0) }
@@ -60,8 +61,8 @@ impl StreamRx {
         })
     }
 
-    /// Gives on what the decoder gave in a symbol, by the pairs of the symbol: finds the margins that are then known, finishes
-    /// the words whose bits and margins are there, appends their packets, and counts the reports.
+    /// Processes the decoder's output for a symbol, given the symbol's pairs: computes the margins then known, finishes
+    /// the words with all bits and margins, appends their packets, and counts the reports.
     pub(crate) fn give_on(&mut self, pairs: &[CostPair], to: &mut Vec<u8>)
         requires going { self.old.margins.ended ≡ false }
         requires room_kept { HasRoom self.old }
@@ -88,7 +89,7 @@ impl StreamRx {
         self.unmerged += self.branch.events().len() as u64;
     }
 
-    /// Decodes what is left, finds all margins, and appends the packets of the words that are then complete.
+    /// Decodes the rest, computes all margins, and appends the packets of the words then complete.
     pub(crate) fn finish(&mut self, to: &mut Vec<u8>)
         requires ready { IsReady self.old }
         requires counts { AreFew (seen self.old) (2 ^ 60) }

@@ -34,7 +34,7 @@ fn stream_line_of(stream: Stream, counts: &StreamCounts) -> Line
 }
 
 impl Counts {
-    /// The closing lines of the report in order, by their numbers from 0: `None` exactly past the last.
+    /// The closing lines of the report in order, numbered from 0; `None` exactly past the last.
     pub fn line(&self, number: u8) -> Option<Line>
         ensures line { IfSome result (λ l. slice_get (closing_lines self.now) number ≡ Some l.bytes) }
         ensures past { IsNone result ↔ (length (closing_lines self.now) ≤ number) }

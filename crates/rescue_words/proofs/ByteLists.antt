@@ -1,4 +1,4 @@
--- The margins of bytes, list behind list.
+-- The margins of bytes, list after list.
 use Rattle.std.proofs.Common.{◌≡◌, ℕ, ◌+◌, ◌*◌, ◌/◌, ◌<◌, min, List, [], ◌∷◌, ◌++◌, length, get_or, sym, ap, ap₂, ◌∙◌, arith, length-append, append_assoc, append-nil}
 use Rattle.std.proofs.lemmas.List.{get_or_append_left, get_or-append-add}
 use Rattle.forney.specs.Values.{values}
@@ -35,7 +35,7 @@ more_byte_margins ms more e =
     (values_same (byte_margin (ms ++ more)) (byte_margin more) (0 + a) 0 b (λ k l. same_byte (ms ++ more) more (0 + a + k) (0 + k)
     (λ i m. let p : 8 * (0 + a + k) + i ≡ length ms + (8 * (0 + k) + i) = omega (arith, e) in ap (λ z. get_or (ms ++ more) z 0) p ∙ get_or-append-add ms more (8 * (0 + k) + i) 0)))
 
--- one byte more
+-- one more byte
 pub byte_pushed : (ms to : List ℕ) (k : ℕ) → to ++ values (byte_margin ms) 0 (k + 1) ≡ (to ++ values (byte_margin ms) 0 k) ++ byte_margin ms k ∷ []
 byte_pushed ms to k = let e : 0 + k ≡ k = omega arith in
     ap (λ z. to ++ z) (values_push (byte_margin ms) 0 k) ∙ sym (append_assoc to (values (byte_margin ms) 0 k) (byte_margin ms (0 + k) ∷ [])) ∙ ap (λ z. (to ++ values (byte_margin ms) 0 k) ++ byte_margin ms z ∷ []) e

@@ -1,4 +1,4 @@
--- What a receiver of rescued words has written, byte by byte.
+-- The output of a rescuing receiver, byte by byte.
 use Rattle.std.proofs.Common.{◌≡◌, ℕ, suc, ◌+◌, ◌-◌, ◌*◌, ◌/◌, ◌%◌, ◌<◌, ◌≤◌, Bool, not, cond, eqb, inl, inr, ◌⊎◌, List, [], ◌∷◌, ◌++◌, length, refl, sym, ◌∙◌, ap, ap₂, subst, arith, length-append, append-nil, true≢false}
 use Rattle.std.specs.Prelude.{Option, Some, None, is_some, unwrap_or, true, false, IsSome, IfSome, ◌↔◌}
 use Rattle.std.proofs.lemmas.Bool.{cases_lt, ne_eqb, eq-eqb}
@@ -26,7 +26,7 @@ use Rattle.rescue_words.specs.declared.counts.WordKind.TheVariants as kind
 use Rattle.rescue_words.specs.declared.counts.RescueCounts.{RescueCounts}
 use Rattle.rescue_words.proofs.Once.{same_codewords, same_tally}
 
--- one recovery more
+-- one more recovery
 with_recovery : (ℕ → Recovery) → ℕ → Recovery → ℕ → Recovery
 with_recovery recovery m r k = cond (eqb k m) r (recovery k)
 
@@ -115,7 +115,7 @@ same_count bytes b none = go (cases_lt (word_count bytes) (word_count (bytes ++ 
     go (inl k) = absurd (none (omega (arith, k, length-append bytes (b ∷ [])), omega (arith, k)))
     go (inr k) = omega (arith, k, length-append bytes (b ∷ []))
 
--- a byte that ends no word
+-- a byte that completes no word
 pub stays : (old new : WordsState) (bytes margins given to : List ℕ) (tally : RescueTally) (b m : ℕ) → Stands old bytes margins given tally → Receives new.outer (bytes ++ b ∷ []) → new.outer.phase ≡ old.outer.phase
     → Holds new.margins (margins ++ m ∷ []) → new.counts ≡ old.counts → (EndsWord (bytes ++ b ∷ []) → ⊥) → Took new (bytes ++ b ∷ []) (margins ++ m ∷ []) given to to
 stays old new bytes margins given to tally b m h r p g e none =
@@ -141,7 +141,7 @@ stays old new bytes margins given to tally b m h r p g e none =
       };
     }
 
--- a byte that ends a word, which is then finished
+-- a byte that completes a word, which is then finished
 pub finishes : (old new : WordsState) (bytes margins given : List ℕ) (tally : RescueTally) (b m : ℕ) (word marks from to : List ℕ) → Stands old bytes margins given tally → Receives new.outer (bytes ++ b ∷ [])
     → Holds new.margins (margins ++ m ∷ []) → EndsWord (bytes ++ b ∷ []) → word ≡ word_at (bytes ++ b ∷ []) (word_count (bytes ++ b ∷ []) - 1)
     → marks ≡ values (deinterleaved (stream_of (margins ++ m ∷ []))) (204 * (length margins / 204)) 204
@@ -192,7 +192,7 @@ finishes old new bytes margins given tally b m word marks from to h r g ends w k
       };
     }
 
--- the same, as the calls say it: the margins of the word are there exactly where one ends
+-- the same in the terms of the calls: the margins of the word are present exactly if one ends
 pub finishes_here : (old mid new : WordsState) (bytes margins given from to : List ℕ) (tally : RescueTally) (b m : ℕ) (word : List ℕ) (r : Option (List ℕ)) → Stands old bytes margins given tally
     → Receives mid.outer (bytes ++ b ∷ []) → Holds mid.margins (margins ++ m ∷ []) → mid.outer.phase ≡ old.outer.phase → mid.counts ≡ old.counts
     → EndsWord (bytes ++ b ∷ []) → word ≡ word_at (bytes ++ b ∷ []) (word_count (bytes ++ b ∷ []) - 1)
@@ -206,7 +206,7 @@ finishes_here old mid new bytes margins given from to tally b m word (Some marks
     finishes old new bytes margins given tally b m word marks from to h (receives (bytes ++ b ∷ []) r) (subst (λ z. Holds z (margins ++ m ∷ [])) (sym same) g) ends w k
     (subst (λ z. IsFinished word marks z new.outer.phase from to old.counts new.counts) p (subst (λ z. IsFinished word marks mid.outer.phase new.outer.phase from to z new.counts) c f))
 
--- at first
+-- at the start
 pub nothing_stands : (s : WordsState) → Receives s.outer [] → s.outer.phase ≡ None → Holds s.margins [] → s.counts ≡ record { words = 0; clean = 0; corrected = 0; rescued = 0; bad = 0; unphased = 0 }
     → Stands s [] [] [] (record { words = 0; clean = 0; corrected = 0; rescued = 0; bad = 0; unphased = 0 })
 unfolding phase_before packets_to count
@@ -222,7 +222,7 @@ nothing_stands s r p g e = record {
   counts = e;
 }
 
--- ---- all that is known
+-- ---- everything known
 
 pub all_rescued : AllRescued
 all_rescued s bytes margins more_bytes more_margins out tally h e =

@@ -1,4 +1,4 @@
--- The places of least margin may be erased.
+-- The positions of least margin are valid erasures.
 use Rattle.std.proofs.Common.{ℕ, ◌+◌, ◌<◌, List, arith}
 use Rattle.std.specs.Prelude.{All}
 use Rattle.std.specs.List.Sorted.{IsStrictlyIncreasing}

@@ -7,7 +7,7 @@ use Rattle.forney.proofs.ValueLists.{length-values}
 use Rattle.outer_chain.proofs.Filling.{none_yet, word_grows, word_goes_on}
 use Rattle.rescue_words.specs.Carrying.{MarginDelays, MarginState, Carries, Holds}
 
--- a state by its parts
+-- a state from its parts
 abbrev pub made_of : MarginDelays → List ℕ → ℕ → MarginState
 made_of lines word filled = record { lines = lines; begun = take filled word }
 

@@ -1,4 +1,4 @@
--- A word is recovered in one way, so there is one list of packets and one tally, and what was written stays.
+-- The recovery of a word is unique, so there is one list of packets and one tally, and packets already written stay.
 use Rattle.std.proofs.Common.{◌≡◌, ℕ, zero, suc, ◌+◌, ◌-◌, ◌<◌, ◌≤◌, Bool, not, cond, List, [], ◌++◌, length, take, refl, sym, ap, ap₂, ◌∙◌, subst, arith, length-append, append-nil, append_assoc}
 use Rattle.std.specs.Prelude.{Option, Some, None}
 use Rattle.std.proofs.Math.Seq.{take-append_seam}
@@ -49,7 +49,7 @@ one_recovery once word margins Lost (Nearest d) l p q = absurd (not_near word d 
 one_recovery once word margins Lost (Rescued d) l p q = absurd (saved_or_lost once word margins d q.1 p.1)
 one_recovery once word margins Lost Lost l p q = refl
 
--- ---- the same words give the same
+-- ---- the same words have the same output
 
 abbrev one : Bool → ℕ
 one b = cond b 1 0

@@ -1,4 +1,4 @@
--- A decoded word, and one whose least certain bytes were erased, as what they are recovered.
+-- The recovery of a decoded word, and of one with its least reliable bytes erased.
 use Rattle.std.proofs.Common.{◌≡◌, ℕ, cond, eqb, List, length, refl, sym, ap, ◌∙◌, arith}
 use Rattle.std.specs.Prelude.{None, true, false}
 use Rattle.std.proofs.lemmas.Bool.{ne_eqb, eq-eqb}

@@ -3,7 +3,7 @@ use Rattle.std.proofs.Common.{◌≡◌, ℕ, List, [], ◌∷◌, refl}
 use Rattle.rescue_words.specs.ByteMargins.{byte_margins}
 use Rattle.forney.specs.Values.{values}
 
--- nineteen bits have two whole bytes
+-- nineteen bits hold two whole bytes
 bits : List ℕ
 bits = 9 ∷ 8 ∷ 7 ∷ 9 ∷ 9 ∷ 9 ∷ 12 ∷ 4095 ∷ 5 ∷ 6 ∷ 5 ∷ 9 ∷ 9 ∷ 9 ∷ 9 ∷ 3 ∷ 0 ∷ 0 ∷ 0 ∷ []
 

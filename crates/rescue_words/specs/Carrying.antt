@@ -1,4 +1,4 @@
--- What delay lines of margins hold: four deinterleavers, one for each byte of a margin.
+-- The contents of the delay lines of margins: four deinterleavers, one for each byte of a margin.
 use Rattle.std.specs.Prelude.{◌≡◌, ℕ, ◌*◌, ◌/◌, ◌%◌, ◌<◌, ◌^◌, List, length, map, All}
 use Rattle.forney.specs.Values.{values, stream_of}
 use Rattle.forney.specs.Interleaving.{deinterleaved}
@@ -10,7 +10,7 @@ pub record MarginDelays : Type 0 where
   pub third : Delays
   pub fourth : Delays
 
--- the bytes of a number below 2^32, the lowest first
+-- the bytes of a number below 2^32, lowest first
 abbrev pub first_byte : ℕ → ℕ
 first_byte m = m % 256
 
@@ -31,12 +31,12 @@ pub record Carries (lines : MarginDelays) (margins : List ℕ) : Type 0 where
   pub fourth : Deinterleaves lines.fourth (map fourth_byte margins)
   pub small : All (λ m. m < 2 ^ 32) margins
 
--- delay lines, and the margins of the bytes of the unfinished word
+-- the delay lines, and the margins of the bytes of the unfinished word
 pub record MarginState : Type 0 where
   pub lines : MarginDelays
   pub begun : List ℕ
 
--- after these margins of interleaved bytes
+-- the state after these margins of interleaved bytes
 pub record Holds (state : MarginState) (margins : List ℕ) : Type 0 where
   pub carries : Carries state.lines margins
   pub begun : state.begun ≡ values (deinterleaved (stream_of margins)) (204 * (length margins / 204)) (length margins % 204)

@@ -1,4 +1,4 @@
--- What recovering a word and finishing it tell.
+-- The results of recovering a word and finishing it.
 use Rattle.std.specs.Prelude.{◌≡◌, ℕ, ◌+◌, ◌≤◌, ◌==◌, Bool, true, false, not, cond, Option, unwrap_or, List, ◌++◌}
 use Rattle.rs204.specs.Codes.{distance}
 use Rattle.rs204.specs.declared.outcome.Outcome.{Outcome}
@@ -11,19 +11,19 @@ use Rattle.rescue_words.specs.declared.counts.WordKind.{WordKind}
 use Rattle.rescue_words.specs.declared.counts.WordKind.TheVariants as kind
 use Rattle.rescue_words.specs.declared.counts.RescueCounts.{RescueCounts}
 
--- as what a recovered word counts
+-- how a recovered word is counted
 abbrev pub kind_of : List ℕ → Recovery → WordKind
 kind_of word (Nearest c) = cond (distance word c == 0) kind.Clean kind.Corrected
 kind_of word (Rescued c) = kind.Rescued
 kind_of word Lost = kind.Bad
 
--- the outcome of a recovered word: so many wrong bytes if it has a nearest codeword, that of a codeword if it was rescued
+-- the outcome of a recovered word: the number of wrong bytes if it has a nearest codeword, clean if it was rescued
 abbrev pub outcome_of : List ℕ → Recovery → Outcome
 outcome_of word (Nearest c) = cond (distance word c == 0) Clean (Corrected (distance word c))
 outcome_of word (Rescued c) = Clean
 outcome_of word Lost = Bad
 
--- the slot holds the codeword that the word is recovered as, or the whole word as it was if there is none
+-- the slot holds the recovered codeword, or the word unchanged if there is none
 pub record HasRecovered (word margins : List ℕ) (slot : WordSlot) (counts_as : WordKind) : Type 0 where
   pub recovery : Recovery
   pub is_recovery : IsRecovery word margins recovery
@@ -55,7 +55,7 @@ is_bad_kind kind.Corrected = false
 is_bad_kind kind.Rescued = false
 is_bad_kind kind.Bad = true
 
--- one word more, of a kind, and with a phase or without one
+-- the counts after one more word of this kind, with a phase or without
 abbrev pub counted : RescueCounts → WordKind → Bool → RescueCounts
 counted counts counts_as phased = record {
   words = counts.words + 1;
@@ -66,12 +66,12 @@ counted counts counts_as phased = record {
   unphased = counts.unphased + cond (not phased) 1 0;
 }
 
--- each word is of one kind, so no count is above that of the words
+-- each word has one kind, so no count exceeds that of the words
 pub record AreFit (counts : RescueCounts) : Type 0 where
   pub kinds : counts.clean + counts.corrected + counts.rescued + counts.bad ≡ counts.words
   pub unphased : counts.unphased ≤ counts.words
 
--- a word was recovered, counted and written at its phase, by the phase before
+-- a word was recovered, counted, and written at its phase, given the phase before it
 pub record IsFinished (word margins : List ℕ) (before after : Option ℕ) (old new : List ℕ) (counts now : RescueCounts) : Type 0 where
   pub recovery : Recovery
   pub is_recovery : IsRecovery word margins recovery

@@ -1,4 +1,4 @@
--- The packets and counts of words that are rescued where that is possible (this project's profile).
+-- The packets and counts of words with rescue (this project's profile).
 use Rattle.std.specs.Prelude.{◌≡◌, ℕ, suc, ◌<◌, ◌==◌, Bool, true, false, not, min, Option, List}
 use Rattle.rs204.specs.Codes.{distance}
 use Rattle.outer_chain.specs.Words.{word_at, word_count, phase_before, packets_to, count, has}
@@ -21,7 +21,7 @@ is_clean word (Nearest c) = distance word c == 0
 is_clean word (Rescued c) = false
 is_clean word Lost = false
 
--- the word has a nearest codeword, and is another
+-- the word has a nearest codeword other than itself
 abbrev pub is_corrected : List ℕ → Recovery → Bool
 is_corrected word (Nearest c) = not (distance word c == 0)
 is_corrected word (Rescued c) = false
@@ -52,12 +52,12 @@ tally_to recovery word n = record {
   unphased = count (λ k. not (has (phase_before (codewords recovery) (suc k)))) n;
 }
 
--- the words all of whose bytes and their margins are known
+-- the words whose bytes and margins are all known
 abbrev pub known_words : List ℕ → List ℕ → ℕ
 known_words bytes margins = min (word_count bytes) (word_count margins)
 
--- Interleaved bytes with these margins give these bytes of packets and these counts: each word is recovered, and the phases and
--- packets are those of the codewords that the words are recovered as.
+-- Interleaved bytes with these margins give these packets and counts. Each word is recovered; phases and packets are
+-- those of the recovered codewords.
 pub record Rescues (bytes margins out : List ℕ) (tally : RescueTally) : Type 0 where
   pub recovery : ℕ → Recovery
   pub is_recovery : (n : ℕ) → n < known_words bytes margins → IsRecovery (word_at bytes n) (margins_at margins n) (recovery n)

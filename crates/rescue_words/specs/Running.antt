@@ -1,4 +1,4 @@
--- What a receiver of words that are rescued stands for.
+-- The state of an outer-code receiver with rescue.
 use Rattle.std.specs.Prelude.{◌≡◌, ℕ, ◌<◌, ◌++◌, List, length}
 use Rattle.outer_chain.specs.Receiving.{Receiver, Receives}
 use Rattle.outer_chain.specs.Words.{word_at, word_count, phase_before, packets_to}
@@ -17,8 +17,8 @@ pub record WordsState : Type 0 where
 abbrev pub counts_of : RescueTally → RescueCounts
 counts_of t = record { words = t.words; clean = t.clean; corrected = t.corrected; rescued = t.rescued; bad = t.bad; unphased = t.unphased }
 
--- It has had these interleaved bytes and as many margins, and has finished all their words: what it wrote for them, and how it
--- counted them.
+-- It has received these interleaved bytes and as many margins, and has finished all their words: what it wrote for
+-- them, and their counts.
 pub record Stands (s : WordsState) (bytes margins out : List ℕ) (tally : RescueTally) : Type 0 where
   pub receives : Receives s.outer bytes
   pub holds : Holds s.margins margins
@@ -30,7 +30,7 @@ pub record Stands (s : WordsState) (bytes margins out : List ℕ) (tally : Rescu
   pub tally_is : tally ≡ tally_to recovery (word_at bytes) (word_count bytes)
   pub counts : s.counts ≡ counts_of tally
 
--- it has had more: what it wrote behind `old`
+-- it has received more; what it wrote follows `old`
 pub record Took (s : WordsState) (bytes margins given old new : List ℕ) : Type 0 where
   pub written : List ℕ
   pub is : new ≡ old ++ written

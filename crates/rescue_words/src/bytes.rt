@@ -13,8 +13,8 @@ fn least_of_byte(margins: &[u32], k: usize) -> u32
     ))))
 }
 
-/// Appends the margins of the whole bytes of bits with these margins, for which there is room: the margin of a byte is the
-/// least of those of its eight bits.
+/// Appends the margins of the whole bytes of bits with these margins, for which there is room: the margin of a byte is
+/// the least of its eight bits.
 pub fn push_byte_margins(margins: &[u32], to: &mut Vec<u32>)
     requires spare { vec_len to.old + length margins.now / 8 ≤ vec_capacity to.old }
     ensures margins { to.new.items ≡ to.old.items ++ byte_margins margins.now }

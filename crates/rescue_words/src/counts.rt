@@ -1,32 +1,32 @@
-// What became of words, and how many of each kind there were.
+// The outcomes of words, and how many words have each.
 ghost use Rattle.std.specs.Prelude.{◌≡◌, ◌+◌, ◌<◌, ◌≤◌, ◌^◌, not, cond};
 ghost use Rattle.rescue_words.specs.Recovering.{AreFit, counted, is_clean_kind, is_corrected_kind, is_rescued_kind, is_bad_kind};
 
-/// What became of a received word.
+/// The outcome of a received word.
 #[derive(Clone, Copy, Debug, Drop, PartialEq, Eq)]
 pub enum WordKind {
     /// It was a codeword.
     Clean,
-    /// It had one to eight wrong bytes, which were corrected.
+    /// It had one to eight wrong bytes, all corrected.
     Corrected,
-    /// It had no nearest codeword, and erasing its eight bytes of least margin brought one back.
+    /// It had no nearest codeword, but erasing its eight bytes of least margin found one.
     Rescued,
-    /// It was neither.
+    /// None of these.
     Bad,
 }
 
 /// The counts of the words of one stream.
 #[derive(Clone, Copy, Debug, Default, Drop, PartialEq, Eq)]
 pub struct RescueCounts {
-    /// The received outer words, those of the start-up left out.
+    /// The received outer words, without those of the start-up.
     pub words: u64,
     /// Those that were codewords.
     pub clean: u64,
-    /// Those with one to eight wrong bytes, which were corrected.
+    /// Those with one to eight wrong bytes, all corrected.
     pub corrected: u64,
-    /// Those without a nearest codeword that came back when their eight bytes of least margin were erased.
+    /// Those without a nearest codeword that were recovered by erasing their eight bytes of least margin.
     pub rescued: u64,
-    /// Those that did not.
+    /// Those that were not.
     pub bad: u64,
     /// Those without a phase, which gave no packet.
     pub unphased: u64,
@@ -47,7 +47,7 @@ pub(crate) fn no_counts() -> RescueCounts
     }
 }
 
-/// One at the place of a kind: clean, corrected, rescued, bad.
+/// A one for the kind of a word: clean, corrected, rescued, bad.
 fn kinds(kind: WordKind) -> (u64, u64, u64, u64)
     ensures clean { result.0 ≡ cond (is_clean_kind kind) 1 0 }
     ensures corrected { result.1 ≡ cond (is_corrected_kind kind) 1 0 }
@@ -63,7 +63,7 @@ fn kinds(kind: WordKind) -> (u64, u64, u64, u64)
     }
 }
 
-/// One where there is no phase.
+/// One if there is no phase.
 fn without(phased: bool) -> u64
     ensures is { result ≡ cond (not phased) 1 0 }
     ensures small { result ≤ 1 }

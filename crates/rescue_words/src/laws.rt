@@ -1,12 +1,13 @@
-//! What holds of the definitions, as contracts of functions that do nothing.
+//! Laws of the definitions, as contracts of functions with empty bodies.
 ghost use Rattle.rescue_words.specs.Laws.{MoreByteMargins, OneRecovery, OneRescue, MoreRescued, AllRescued};
 
-/// Margins of bits behind whole bytes make margins of bytes behind these.
+/// Margins of bits after whole bytes give the margins of bytes after these.
 pub fn byte_margins()
     ensures more { MoreByteMargins }
 {}
 
-/// A word is recovered in one way; bytes with their margins give one list of packets and one tally, and what was written stays.
+/// The recovery of a word is unique. Bytes with their margins give one list of packets and one tally, and packets
+/// already written stay.
 pub fn rescued()
     ensures one_recovery { OneRecovery }
     ensures one { OneRescue }
@@ -15,7 +16,7 @@ pub fn rescued()
     bit_margin::laws::least_once();
 }
 
-/// What was written for bytes and as many margins is all that more of one of them gives.
+/// The output for bytes and as many margins does not change if more of one of them follow.
 pub fn receiving()
     ensures all { AllRescued }
 {}

@@ -1,8 +1,8 @@
-//! Outer words that are rescued (EN 300 744, 4.3.2; what is erased is this project's profile).
+//! Rescue of outer words (EN 300 744, 4.3.2; the choice of erasures is this project's profile).
 //!
-//! The margin of a byte tells how sure the inner decoder is of it. Where a received word has no nearest codeword, its eight
-//! bytes of least margin are erased, and the codeword that is then found stands in its place. [`RescueWords`] takes the
-//! interleaved bytes of a stream with their margins, and gives the packets of its words.
+//! The margin of a byte says how reliable the inner decoder's decision is. If a received word has no nearest codeword,
+//! its eight bytes of least margin are erased, and the codeword found then, if any, takes its place. [`RescueWords`]
+//! takes the interleaved bytes of a stream with their margins, and returns the packets of its words.
 #![tactic(auto)]
 
 mod bytes;

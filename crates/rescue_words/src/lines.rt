@@ -1,4 +1,4 @@
-// The way of margins through the deinterleaver.
+// The deinterleaver of margins.
 ghost use Rattle.std.specs.Prelude.{◌≡◌, ◌+◌, ◌*◌, ◌/◌, ◌%◌, ◌<◌, ◌^◌, ◌↔◌, ℕ, List, [], ◌∷◌, ◌++◌, length, IfOk, IfSome, IsSome, IsNone};
 ghost use Rattle.forney.specs.Values.{values, stream_of};
 ghost use Rattle.forney.specs.Interleaving.{deinterleaved};
@@ -8,8 +8,8 @@ use forney::Deinterleaver;
 use std::alloc::{AllocError, Global};
 use std::marker::Model;
 
-/// Puts the margins of interleaved bytes in the order of the deinterleaved ones (EN 300 744, 4.3.2). Each of the four bytes
-/// of a margin passes through a deinterleaver of its own. It stands for the margins that it has had.
+/// Puts the margins of interleaved bytes in the order of the deinterleaved ones (EN 300 744, 4.3.2). Each of the four
+/// bytes of a margin has a deinterleaver of its own. The state matches the margins received.
 #[derive(Drop)]
 pub struct MarginLines {
     first: Deinterleaver,
@@ -26,7 +26,7 @@ impl Model for MarginLines {
     ghost view = { λ x. record { first = x.first; second = x.second; third = x.third; fourth = x.fourth } };
 }
 
-/// The four bytes of a margin, the lowest first.
+/// The four bytes of a margin, lowest first.
 fn bytes_of_margin(margin: u32) -> (u8, u8, u8, u8)
     ensures first { result.0 ≡ first_byte margin }
     ensures second { result.1 ≡ second_byte margin }
@@ -43,7 +43,7 @@ fn bytes_of_margin(margin: u32) -> (u8, u8, u8, u8)
 }
 
 impl MarginLines {
-    /// Lines that have had no margin. The only error is want of memory.
+    /// Lines that have received no margin. The only error is lack of memory.
     pub fn new(alloc: Global) -> Result<MarginLines, AllocError>
         ensures empty { IfOk result (λ x. Carries x []) }
     {
@@ -55,7 +55,7 @@ impl MarginLines {
         })
     }
 
-    /// Takes the margin of the next interleaved byte, and gives that of the next deinterleaved one.
+    /// Takes the margin of the next interleaved byte, and returns that of the next deinterleaved one.
     pub fn step(&mut self, margin: u32) -> u32
         ensures given { (margins : List ℕ) → Carries self.old margins → result ≡ deinterleaved (stream_of (margins ++ margin ∷ [])) (length margins) }
         ensures stands { (margins : List ℕ) → Carries self.old margins → Carries self.new (margins ++ margin ∷ []) }
@@ -72,8 +72,8 @@ impl MarginLines {
 /// The last place of a word.
 const LAST: usize = 203;
 
-/// Takes the margins of interleaved bytes, and gives those of each word of 204 deinterleaved bytes, the words of the start-up
-/// included. It stands for the margins that it has had.
+/// Takes the margins of interleaved bytes, and returns those of each word of 204 deinterleaved bytes, including the
+/// words of the start-up. The state matches the margins received.
 #[derive(Drop)]
 pub struct MarginRx {
     lines: MarginLines,
@@ -93,7 +93,7 @@ impl Model for MarginRx {
 }
 
 impl MarginRx {
-    /// It has had no margin. The only error is want of memory.
+    /// It has received no margin. The only error is lack of memory.
     pub fn new(alloc: Global) -> Result<MarginRx, AllocError>
         ensures empty { IfOk result (λ x. Holds x []) }
         ensures begun { IfOk result (λ x. x.begun ≡ []) }
@@ -105,7 +105,8 @@ impl MarginRx {
         })
     }
 
-    /// Takes the margin of the next interleaved byte. Gives the margins of the word that ends with it, exactly where one does.
+    /// Takes the margin of the next interleaved byte. Returns the margins of the word that ends with it, exactly if one
+    /// does.
     pub fn take(&mut self, margin: u32) -> Option<[u32; 204]>
         ensures holds { (margins : List ℕ) → Holds self.old margins → Holds self.new (margins ++ margin ∷ []) }
         ensures ends { (margins : List ℕ) → Holds self.old margins → IsSome result ↔ (length (margins ++ margin ∷ []) % 204 ≡ 0) }

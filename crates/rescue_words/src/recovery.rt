@@ -1,4 +1,4 @@
-// Recovering a word: its nearest codeword, or the one that erasing brings back.
+// Recovering a word: its nearest codeword, or one found by erasures.
 ghost use Rattle.std.specs.Prelude.{◌≡◌, ◌≤◌, ◌+◌, ◌<◌, ◌^◌, ◌++◌, ℕ, List, None, vec_len, vec_capacity, length};
 ghost use Rattle.std.specs.List.{All};
 ghost use Rattle.std.specs.List.Sorted.{IsStrictlyIncreasing};
@@ -15,7 +15,7 @@ use rs_erasure::{Erased, decode_erased};
 use rs204::Outcome;
 use ts_packet::Packet;
 
-/// The places of the eight bytes of least margin, as places that may be erased.
+/// The positions of the eight bytes of least margin, as erasures.
 fn least_places(margins: &[u32; 204]) -> [u8; 8]
     ensures least { AreLeast margins.now 204 result }
     ensures rising { IsStrictlyIncreasing result }
@@ -24,8 +24,8 @@ fn least_places(margins: &[u32; 204]) -> [u8; 8]
     least_eight(margins)
 }
 
-/// Erases the eight bytes of least margin of a word that has no nearest codeword, and puts the codeword that is then
-/// found in its place. The slot is then that of a codeword, as decoding leaves it.
+/// Erases the eight bytes of least margin of a word without a nearest codeword, and replaces it by the codeword found.
+/// The slot is then that of a codeword, as decoding leaves it.
 fn rescue(slot: &mut WordSlot, margins: &[u32; 204]) -> WordKind
     requires bad { slot.old.outcome ≡ Outcome.Bad }
     ensures { IsNear slot.old.word None → HasRecovered slot.old.word margins.now slot.new result }
@@ -40,10 +40,10 @@ fn rescue(slot: &mut WordSlot, margins: &[u32; 204]) -> WordKind
     }
 }
 
-/// Puts the nearest codeword in the place of the word, or if there is none the codeword near to it outside its eight bytes
-/// of least margin, of several with the same margin the lower ones. If there is none either, all 204 bytes stay as they are.
-/// The outcome is `Clean` for a codeword, `Corrected` with the number of wrong bytes, 1 to 8, for a word near to one,
-/// `Clean` for a rescued word and `Bad` for a lost one (EN 300 744, 4.3.2).
+/// Replaces the word by its nearest codeword or, if there is none, by the codeword close to it outside its eight bytes
+/// of least margin; of equal margins the lower positions are erased. If there is none either, all 204 bytes stay as
+/// they are. The outcome is `Clean` for a codeword, `Corrected` with the number of wrong bytes, 1 to 8, for a word
+/// close to one, `Clean` for a rescued word and `Bad` for a lost one (EN 300 744, 4.3.2).
 pub fn recover(slot: &mut WordSlot, margins: &[u32; 204]) -> WordKind
     ensures recovered { HasRecovered slot.old.word margins.now slot.new result }
 {
@@ -66,7 +66,7 @@ fn append(bytes: &[u8], to: &mut Vec<u8>)
     }
 }
 
-/// Appends the packet of a word, where it has one.
+/// Appends the packet of a word, if it has one.
 fn append_packet(packet: &Option<Packet>, to: &mut Vec<u8>)
     requires room { vec_len to.old + 188 ≤ vec_capacity to.old }
     ensures items { to.new.items ≡ to.old.items ++ bytes_given packet.now }
@@ -78,7 +78,7 @@ fn append_packet(packet: &Option<Packet>, to: &mut Vec<u8>)
     }
 }
 
-/// Recovers a word, counts it, and appends its packet, where it has one.
+/// Recovers a word, counts it, and appends its packet, if it has one.
 pub(crate) fn finish_word(
     outer: &mut OuterRx,
     slot: &mut WordSlot,

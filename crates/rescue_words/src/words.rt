@@ -1,4 +1,4 @@
-// The outer code of a stream whose words are rescued.
+// The outer code of a stream with rescue.
 ghost use Rattle.std.specs.Prelude.{◌≡◌, ◌+◌, ◌*◌, ◌<◌, ◌≤◌, ◌^◌, ◌++◌, ◌∷◌, [], ℕ, List, length, vec_len, vec_capacity, IfOk, IfSome, IsNone};
 ghost use Rattle.outer_chain.specs.Receiving.{Receives};
 ghost use Rattle.rescue_words.specs.Recovering.{IsFinished};
@@ -12,10 +12,10 @@ use outer_chain::{OuterRx, WordSlot};
 use std::alloc::{AllocError, Global};
 use std::marker::Model;
 
-/// Takes the interleaved bytes of a stream with their margins, and gives the packets of its words, which are rescued where that
-/// is possible. It stands for the bytes and the margins that it has had, and for what it gave.
+/// Takes the interleaved bytes of a stream with their margins, and returns the packets of its words, which are rescued
+/// if possible. Its state matches the bytes and margins received, and the output.
 ///
-/// No call but `new` takes memory.
+/// Only `new` allocates memory.
 #[derive(Drop)]
 pub struct RescueWords {
     outer: OuterRx,
@@ -35,7 +35,7 @@ impl Model for RescueWords {
 }
 
 impl RescueWords {
-    /// It has had no byte. The only error is want of memory.
+    /// It has received no byte. The only error is lack of memory.
     pub fn new(alloc: Global) -> Result<RescueWords, AllocError>
         ensures stands { IfOk result (λ x. Stands x [] [] [] (record { words = 0; clean = 0; corrected = 0; rescued = 0; bad = 0; unphased = 0 })) }
         ensures words { IfOk result (λ x. x.counts.words ≡ 0) }
@@ -48,7 +48,7 @@ impl RescueWords {
         })
     }
 
-    /// Finishes the word that a byte ended, by the margins of its bytes, which are there then.
+    /// Finishes the word that a byte completed, with the margins of its bytes, which are then known.
     fn finish_word(&mut self, slot: WordSlot, margins: &Option<[u32; 204]>, to: &mut Vec<u8>)
         requires room { vec_len to.old + 188 ≤ vec_capacity to.old }
         requires few { self.old.counts.words < 2 ^ 62 }
@@ -66,11 +66,11 @@ impl RescueWords {
         }
     }
 
-    /// Takes the next interleaved byte and its margin, and appends the packet of the word that ends with it, if one does and
-    /// has a phase.
+    /// Takes the next interleaved byte and its margin, and appends the packet of the word that ends with it, if one
+    /// does and has a phase.
     ///
-    /// There is room for a packet, and fewer than 2^62 words were counted. Over the calls no more than 188 bytes are
-    /// appended for 204 that are taken.
+    /// There is room for a packet, and fewer than 2^62 words were counted. In total at most 188 bytes are appended for
+    /// every 204 taken.
     pub fn take(&mut self, byte: u8, margin: u32, to: &mut Vec<u8>)
         requires room { vec_len to.old + 188 ≤ vec_capacity to.old }
         requires few { self.old.counts.words < 2 ^ 62 }

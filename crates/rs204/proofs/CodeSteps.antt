@@ -1,4 +1,4 @@
--- What the code's loops do.
+-- The loops of the code.
 use Rattle.std.proofs.Common.{◌≡◌, ℕ, zero, suc, ◌+◌, ◌-◌, ◌<◌, ◌≤◌, Bool, true, false, cond, set, add-one, add-zero, add-suc, append-nil, length-append, length-take, List, [], ◌∷◌, ◌++◌, map, reverse, length, get_or, take, refl, sym, ap, ap₂, ◌∙◌, arith, ext_get_or}
 use Rattle.std.specs.Prelude.{bit_xor}
 use Rattle.std.proofs.lemmas.List.{take_more, take_more_set, reverse-append, length-map}
@@ -62,7 +62,7 @@ room_left test count k at few m c l t h =
     k_204 : (k : ℕ) → k < 204 → k + 1 + (203 - k) ≡ 204
     k_204 k l = omega arith
 
--- there is room for one more place
+-- there is room for one more position
 pub found_room : (p at : List ℕ) (count k x value : ℕ) → x ≡ power k → value ≡ value_at x p → value ≡ 0 → length (chosen (is_root p) 204) ≤ 16 → length at ≡ 16 → count ≤ 16 → k < 204 → take count at ≡ chosen (is_root p) k → count < 16
 found_room p at count k x value e f z few m c l h = room_left (is_root p) count k at few m c l (eq-eqb _ 0 (ap (λ z. value_at z p) (sym e) ∙ sym f ∙ z)) h
 
@@ -70,7 +70,7 @@ pub found_zero : (test : ℕ → Bool) (xs : List ℕ) → take 0 xs ≡ chosen 
 unfolding chosen
 found_zero test xs = refl
 
--- one more place is looked at
+-- one more position is checked
 pub found_next : (p at at2 : List ℕ) (count count2 k : ℕ) (value x : ℕ) → x ≡ power k → value ≡ value_at x p → length at ≡ 16 → count ≤ 16
     → ((value ≡ 0) × (count < 16) × (at2 ≡ set at count k) × (count2 ≡ count + 1)) ⊎ ((value ≡ 0 → ⊥) × (at2 ≡ at) × (count2 ≡ count))
     → take count at ≡ chosen (is_root p) k → (length at2 ≡ 16) × (count2 ≤ 16) × (take count2 at2 ≡ chosen (is_root p) (k + 1))

@@ -1,4 +1,4 @@
--- What is left of a division tells codewords, and the codeword of a message.
+-- The remainder of a division characterises codewords, and gives the codeword of a message.
 use Rattle.std.proofs.Common.{◌≡◌, ◌≢◌, ℕ, zero, suc, ◌+◌, ◌<◌, ◌≤◌, ◌⊎◌, inl, inr, Bool, true, false, cond, eqb, List, [], ◌∷◌, ◌++◌, map, reverse, length, take, drop, replicate, refl, sym, ap, ap₂, ◌∙◌, subst, arith, lit<, lit≤, length-append, length-take-le, length-drop, take-append-drop}
 use Rattle.std.specs.Prelude.{bit_xor}
 use Rattle.std.proofs.lemmas.Bool.{cases_lt, eq-eqb, eqb-true}
@@ -18,7 +18,7 @@ use Rattle.rs204.proofs.Locate.{codeword_from_roots, first_all_differ, first_roo
 use Rattle.rs204.proofs.Horner.{horner, horner_value, horner_append, horner_small, horner_plus, horner_map, generator, generator_bytes, generator_zero, append_bytes, take_bytes}
 use Rattle.rs204.proofs.Dividing.{plus_ahead, zeros_plus, zero_bytes, multiple_bytes}
 
--- 1 where two places differ
+-- 1 if two bytes differ
 abbrev differs : Bool → ℕ
 differs b = cond b 0 1
 
@@ -30,7 +30,7 @@ length-zeros : (n : ℕ) → length {A = ℕ} (replicate n 0) ≡ n
 length-zeros zero = refl
 length-zeros (suc n) = ap suc (length-zeros n)
 
--- a polynomial with s before it is the sum of itself and of s before zeros
+-- a polynomial with s before it is the sum of itself and of s followed by zeros
 horner_from : (x s : ℕ) (p : List ℕ) → x < 256 → s < 256 → AreBytes p → horner x s p ≡ bit_xor (horner x s (replicate (length p) 0)) (horner x 0 p)
 horner_from x s p l m h =
     ap₂ (λ t q. horner x t q) (sym (xor_zero_r s)) (sym (zeros_plus (length p) p (omega arith)))
@@ -106,7 +106,7 @@ length-rest (suc n) (a ∷ p) m =
     let size : length (plus g p) ≡ length p = length-longer g p (omega (arith, length-map generator_tail (mul a))) in
     omega (arith, length-rest n (plus g p) (omega (arith, size)), size)
 
--- the value of a word by what is left of it
+-- the value of a word from its remainder
 pub value_by_rest : (word : List ℕ) (i : ℕ) → length word ≡ 204 → AreBytes word → i < 16 → value_at (power i) (reverse word) ≡ value_at (power i) (reverse (rest_of 188 word))
 value_by_rest word i l h m = horner_value (power i) [] word ∙ sym (rest_value i 188 word m h (omega arith)) ∙ sym (horner_value (power i) [] (rest_of 188 word))
 
@@ -114,7 +114,7 @@ zero_value : (x : ℕ) (p : List ℕ) → AreZero p → horner x 0 p ≡ 0
 zero_value x [] z = refl
 zero_value x (b ∷ p) z = ap (λ y. horner x y p) (ap₂ bit_xor z.0 (mul_zero_right x)) ∙ zero_value x p z.1
 
--- nothing is left of a codeword, and only of a codeword
+-- the remainder is 0 exactly for codewords
 pub code_from_rest : (word : List ℕ) → length word ≡ 204 → AreBytes word → AreZero (rest_of 188 word) → IsCodeword word
 code_from_rest word l h z =
     codeword_from_roots word l h (λ i m. value_by_rest word i l h m ∙ horner_value (power i) [] (rest_of 188 word) ∙ zero_value (power i) (rest_of 188 word) z)

@@ -1,4 +1,4 @@
--- Two codewords differ in at least seventeen places.
+-- Two different codewords differ in at least seventeen positions.
 use Rattle.std.proofs.Common.{◌≡◌, ℕ, zero, suc, ◌+◌, ◌*◌, ◌<◌, ◌≤◌, ◌≢◌, Bool, true, false, cond, List, [], ◌∷◌, ◌++◌, reverse, length, refl, sym, ap, ap₂, ◌∙◌, arith, eqb, add_assoc}
 use Rattle.std.specs.Prelude.{bit_xor}
 use Rattle.std.proofs.lemmas.Bool.{eqb-true, eqb-false, cond_both, cond-false, ne_eqb}
@@ -26,7 +26,7 @@ power_times (suc i) k =
 pub powers_differ : (i j : ℕ) → i < j → j < 255 → power j ≢ power i
 powers_differ i j l m e = let d : j ≡ i = powers_apart j i m (omega arith) e in absurd (omega arith)
 
--- ---- the terms of a polynomial that are not 0
+-- ---- the nonzero terms of a polynomial
 
 abbrev pub terms : ℕ → List ℕ → List Term
 terms k [] = []
@@ -98,7 +98,7 @@ weight-append : (p q : List ℕ) → weight (p ++ q) ≡ weight p + weight q
 weight-append [] q = sym (zero-add (weight q))
 weight-append (a ∷ p) q = ap (λ z. cond (eqb a 0) 0 1 + z) (weight-append p q) ∙ sym (add_assoc (cond (eqb a 0) 0 1) (weight p) (weight q))
 
--- 1 where two places differ
+-- 1 if two bytes differ
 abbrev differs : Bool → ℕ
 differs b = cond b 0 1
 
@@ -140,7 +140,7 @@ length-plus [] (b ∷ q) l = absurd (omega arith)
 length-plus (a ∷ p) [] l = absurd (omega arith)
 length-plus (a ∷ p) (b ∷ q) l = ap suc (length-plus p q (omega arith))
 
--- two codewords at most sixteen places apart are one
+-- two codewords at distance at most 16 are equal
 pub codewords_apart : (v w : List ℕ) → IsCodeword v → IsCodeword w → distance v w ≤ 16 → v ≡ w
 codewords_apart v w h k d =
     let l : length v ≡ length w = h.long ∙ sym k.long in

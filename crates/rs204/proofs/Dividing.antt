@@ -1,4 +1,4 @@
--- The register that divides by the generator holds what the long division has.
+-- The register for division by the generator holds the remainder of the long division.
 use Rattle.std.proofs.Common.{◌≡◌, ℕ, zero, suc, ◌+◌, ◌-◌, ◌*◌, ◌/◌, ◌%◌, ◌^◌, ◌<◌, ◌≤◌, List, [], ◌∷◌, ◌++◌, map, length, get_or, drop, replicate, refl, sym, ap, ap₂, ◌∙◌, subst, arith, lit<, eqb, ltb, append-nil, append_assoc, length-append}
 use Rattle.std.specs.Prelude.{bit_xor}
 use Rattle.std.proofs.lemmas.Bool.{eqb-true, ltb-true}
@@ -43,7 +43,7 @@ number_plus (a ∷ p) [] l s t = absurd (omega arith)
 number_plus (a ∷ p) (b ∷ q) l s t =
     ap (λ z. bit_xor a b + 256 * z) (number_plus p q (omega arith) s.1 t.1) ∙ sym (number_head a b (number p) (number q) s.0 t.0)
 
--- what byte n is worth
+-- the value of byte n
 abbrev worth : ℕ → ℕ
 worth zero = 1
 worth (suc n) = 256 * worth n
@@ -199,7 +199,7 @@ step_xor x y b l m =
 wide_xor : (x y : ℕ) → x < 0x100000000000000000000000000000000 → y < 0x100000000000000000000000000000000 → bit_xor x y < 0x100000000000000000000000000000000
 wide_xor x y l m = xor_lt 128 x y l m
 
--- the register moved on by one byte
+-- the register after one more byte
 abbrev moved : ℕ → ℕ → ℕ
 moved r b = r / 256 + b * 0x1000000000000000000000000000000
 

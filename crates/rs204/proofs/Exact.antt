@@ -1,4 +1,4 @@
--- The outcome is settled by the word.
+-- The outcome is determined by the word.
 use Rattle.std.proofs.Common.{◌≡◌, ℕ, Bool, cond, List, [], ◌∷◌, length, refl, sym, ap, ◌∙◌, arith}
 use Rattle.std.proofs.lemmas.Bool.{eq-eqb}
 use Rattle.rs204.specs.Codes.{IsCodeword, distance}

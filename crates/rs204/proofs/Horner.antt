@@ -1,4 +1,4 @@
--- Values of polynomials by their highest coefficients first.
+-- Values of polynomials, highest coefficients first.
 use Rattle.std.proofs.Common.{◌≡◌, ℕ, zero, suc, ◌<◌, true, List, [], ◌∷◌, ◌++◌, map, reverse, length, take, drop, refl, sym, ap, ap₂, ◌∙◌, arith, lit<, eqb, append-nil, append_assoc, length-append, length-drop}
 use Rattle.std.specs.Prelude.{bit_xor}
 use Rattle.std.proofs.lemmas.Bool.{agree_below_at, eqb-true}

@@ -5,7 +5,7 @@ use lib.Bits.{xor_self, xor_zero_r}
 use Rattle.gf256.specs.Field.{mul}
 use Rattle.gf256.proofs.FieldLaws.{mul_comm, mul_assoc, mul_xor_left, mul_xor_right, mul_small, mul_no_zero, mul_zero_left, mul_zero_right, one_right, one_small, xor_four, xor_small, xor_equal}
 
--- an element to a power
+-- a power of an element
 abbrev pub raise : ℕ → ℕ → ℕ
 raise x zero = 1
 raise x (suc i) = mul x (raise x i)
@@ -14,11 +14,11 @@ pub raise_small : (x i : ℕ) → x < 256 → raise x i < 256
 raise_small x zero l = one_small
 raise_small x (suc i) l = mul_small x (raise x i) l (raise_small x i l)
 
--- a place and a value
+-- a position and a value
 abbrev pub Term : Type 0
 Term = ℕ × ℕ
 
--- the sum of the values, each times the i-th power of its place
+-- the sum of the values, each times the i-th power of its position
 abbrev pub sum_at : ℕ → List Term → ℕ
 sum_at i [] = 0
 sum_at i (t ∷ ts) = bit_xor (mul t.1 (raise t.0 i)) (sum_at i ts)
@@ -39,7 +39,7 @@ abbrev pub AllZero : List Term → Type 0
 AllZero [] = Unit {0}
 AllZero (t ∷ ts) = (t.1 ≡ 0) × AllZero ts
 
--- each value times the place less x
+-- each value times (its position less x)
 abbrev pub scaled : ℕ → List Term → List Term
 scaled x [] = []
 scaled x (t ∷ ts) = (t.0, mul t.1 (bit_xor t.0 x)) ∷ scaled x ts
@@ -77,7 +77,7 @@ scaled_sum i x (t ∷ ts) l s =
     ∙ xor_four (mul t.1 (raise t.0 (suc i))) (mul x (mul t.1 (raise t.0 i))) (sum_at (suc i) ts) (mul x (sum_at i ts))
     ∙ ap (bit_xor (sum_at (suc i) (t ∷ ts))) (sym (mul_xor_right x (mul t.1 (raise t.0 i)) (sum_at i ts) l (mul_small t.1 (raise t.0 i) s.1 p) (sum_small i ts s.2)))
 
--- the term at x itself goes
+-- the term at x itself vanishes
 pub head_goes : (x v i : ℕ) → x < 256 → v < 256 → bit_xor (mul v (raise x (suc i))) (mul x (mul v (raise x i))) ≡ 0
 head_goes x v i l m = sym (one_term x x v (raise x i) l l m (raise_small x i l)) ∙ ap (λ z. mul (mul v z) (raise x i)) (xor_self x) ∙ ap (λ z. mul z (raise x i)) (mul_zero_right v) ∙ mul_zero_left (raise x i)
 
@@ -100,7 +100,7 @@ pub zero_sum : (i : ℕ) (ts : List Term) → AllZero ts → sum_at i ts ≡ 0
 zero_sum i [] z = refl
 zero_sum i (t ∷ ts) z = ap₂ bit_xor (ap (λ v. mul v (raise t.0 i)) z.0 ∙ mul_zero_left (raise t.0 i)) (zero_sum i ts z.1)
 
--- n values at different places are 0 where the first n sums are
+-- n values at different positions are 0 if the first n sums are
 pub independent : (n : ℕ) (ts : List Term) → length ts ≡ n → Small ts → Distinct ts → ((i : ℕ) → i < n → sum_at i ts ≡ 0) → AllZero ts
 independent zero [] e s d h = tt
 independent zero (t ∷ ts) e s d h = absurd (omega arith)

@@ -1,4 +1,4 @@
--- Vectors that meet equations.
+-- Vectors that satisfy equations.
 use Rattle.std.proofs.Common.{◌≡◌, ◌≢◌, ℕ, suc, ◌+◌, ◌<◌, ◌≤◌, ◌⊎◌, inl, inr, List, [], ◌∷◌, map, length, refl, sym, ap, ap₂, ◌∙◌, subst, arith}
 use Rattle.std.specs.Prelude.{bit_xor, slice_index}
 use Rattle.std.specs.List.{SwappedAt}
@@ -30,7 +30,7 @@ along_sum f (a ∷ v) (d ∷ u) s i l e b c h =
     ∙ xor_four (mul a (s i)) (mul f (mul d (s i))) (along v s (suc i)) (mul f (along u s (suc i)))
     ∙ ap (bit_xor (along (a ∷ v) s i)) (sym (mul_xor_right f (mul d (s i)) (along u s (suc i)) l (mul_small d (s i) c.0 (h i)) (along_small u s (suc i) c.1 h)))
 
--- the places of two vectors exchanged
+-- two vectors exchanged
 pub kernel_moved : (wide n m : ℕ) (values : List ℕ) (v w : ℕ → List ℕ) (to : ℕ → ℕ) → ((k : ℕ) → k < n → to k < n) → ((j k : ℕ) → j < n → k < n → to j ≡ to k → j ≡ k) → ((k : ℕ) → k < n → w k ≡ v (to k)) → IsKernel wide n m values v → IsKernel wide n m values w
 kernel_moved wide n m values v w to in_n one_to e h = record {
   sized = λ k l. ap length (e k l) ∙ h.sized (to k) (in_n k l);
@@ -43,7 +43,7 @@ kernel_moved wide n m values v w to in_n one_to e h = record {
   none = λ j k l p q. ap (λ z. slice_index z (h.place (to k))) (e j l) ∙ h.none (to j) (to k) (in_n j l) (in_n k p) (λ r. q (one_to j k l p r));
 }
 
--- where all meet one more equation, the last one is left out
+-- if all satisfy one more equation, the last one is left out
 pub kernel_drop : (wide n m : ℕ) (values : List ℕ) (v : ℕ → List ℕ) → IsKernel wide (n + 1) m values v → ((k : ℕ) → k < n → along (v k) (λ j. slice_index values j) m ≡ 0) → IsKernel wide n (m + 1) values v
 kernel_drop wide n m values v h z = record {
   sized = λ k l. h.sized k (omega arith);
@@ -98,7 +98,7 @@ kernel_clear wide n m inverse values v w h small li unit e = record {
         let e : i ≡ m = omega arith in
         ap (λ y. bit_xor (along (v k) s y) (mul (factor k) (along (v n) s y))) e ∙ ap (bit_xor (along (v k) s m)) (last k l) ∙ xor_self (along (v k) s m)
 
--- two places exchanged
+-- two indices exchanged
 exchanged : ℕ → ℕ → ℕ → ℕ
 exchanged a b k = cond (eqb k a) b (cond (eqb k b) a k)
 
@@ -143,7 +143,7 @@ kernel_swap : (wide n m : ℕ) (values : List ℕ) (old new : List (List ℕ)) (
 kernel_swap wide n m values old new a b s i j h =
     kernel_moved wide n m values (vector old) (vector new) (exchanged a b) (λ k l. exchanged_below n a b k i j l) (λ j k l p e. exchanged_one a b j k e) (λ k l. exchanged_read old new a b k s) h
 
--- after the exchange the last one is cleared only where all are
+-- after the exchange the last one is cleared only if all are
 swapped_zero : (n at : ℕ) (old new : List (List ℕ)) (f : List ℕ → ℕ) → SwappedAt old new at n → at ≤ n → f (vector new n) ≡ 0 → (f (vector old at) ≡ 0 → (k : ℕ) → k ≤ n → f (vector old k) ≡ 0) → (k : ℕ) → k < n → f (vector new k) ≡ 0
 swapped_zero n at old new f s l z h k m =
     ap f (exchanged_read old new at n k s) ∙ h (ap f (sym (s.1 [])) ∙ z) (exchanged at n k) (omega (arith, exchanged_below (n + 1) at n k (omega arith) (omega arith) (omega arith)))

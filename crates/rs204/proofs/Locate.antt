@@ -1,4 +1,4 @@
--- Where the errors of a word are.
+-- The positions of a word's errors.
 use Rattle.std.proofs.Common.{◌≡◌, ℕ, zero, suc, ◌+◌, ◌<◌, ◌≤◌, ◌≢◌, ◌⊎◌, inl, inr, List, [], ◌∷◌, reverse, length, refl, sym, ap, ap₂, ◌∙◌, arith, lit≤}
 use Rattle.std.specs.Prelude.{bit_xor}
 use Rattle.std.proofs.lemmas.List.{length-reverse}
@@ -35,7 +35,7 @@ codeword_from_roots w l s h =
 
 -- ---- the locator
 
--- each value times the polynomial's value at its place
+-- each value times the polynomial's value at its position
 abbrev pub weighted : List ℕ → List Term → List Term
 weighted cs [] = []
 weighted cs (t ∷ ts) = (t.0, mul t.1 (value_at t.0 cs)) ∷ weighted cs ts
@@ -84,7 +84,7 @@ pub along_same : (cs : List ℕ) (s t : ℕ → ℕ) (i n : ℕ) → i + length 
 along_same [] s t i n l h = refl
 along_same (c ∷ cs) s t i n l h = ap₂ (λ y z. bit_xor (mul c y) z) (h i (omega arith)) (along_same cs s t (suc i) n (omega arith) h)
 
--- the polynomial is 0 at the place of each term that is not 0
+-- the polynomial is 0 at the position of each nonzero term
 abbrev pub Locates : List ℕ → List Term → Type 0
 Locates cs [] = Unit {0}
 Locates cs (t ∷ ts) = (t.1 ≢ 0 → value_at t.0 cs ≡ 0) × Locates cs ts
@@ -97,7 +97,7 @@ located cs (t ∷ ts) s u z = (λ n. go n (mul_no_zero t.1 (value_at t.0 cs) u.1
     go n (inl e) = absurd (n e)
     go n (inr e) = e
 
--- a polynomial of degree n whose n sums along 2n values of at most n terms are 0 is 0 at these terms' places
+-- a polynomial of degree n whose n sums along 2n values of at most n terms are 0 is 0 at the positions of these terms
 pub locator : (n : ℕ) (cs : List ℕ) (ts : List Term) (s : ℕ → ℕ) → AreBytes cs → length cs ≡ n + 1 → Small ts → Distinct ts → length ts ≤ n → ((k : ℕ) → k < n + n → s k ≡ sum_at k ts) → ((i : ℕ) → i < n → along cs s i ≡ 0) → Locates cs ts
 locator n cs ts s b l u d m h z =
     located cs ts b u

@@ -1,4 +1,4 @@
--- A near codeword is found.
+-- A close codeword is found.
 use Rattle.std.proofs.Common.{◌≡◌, ◌≢◌, ℕ, zero, suc, ◌+◌, ◌-◌, ◌*◌, ◌<◌, ◌≤◌, ◌⊎◌, inl, inr, Bool, true, false, cond, List, [], ◌∷◌, ◌++◌, map, reverse, length, get_or, take, set, refl, sym, ap, ap₂, ◌∙◌, subst, arith, get_or-set_same, get_or-set_other, ext_get_or, lit<, lit≤, add-one, add-zero, append-nil, length-set, eqb, length-take-le, true≢false, length-take, get_or-take}
 use Rattle.std.specs.Prelude.{bit_xor, slice_index}
 use Rattle.std.specs.List.{AllByRecursion}
@@ -19,7 +19,7 @@ use Rattle.rs204.proofs.Locate.{locator, Locates, codeword_from_roots}
 use Rattle.rs204.proofs.Solving.{raise_same}
 use Rattle.rs204.proofs.CodeSteps.{get_or-plus}
 
--- ---- the chosen places
+-- ---- the chosen positions
 
 all_below : (n : ℕ) (t : ℕ → Bool) → AllByRecursion (λ k. k < n) (chosen t n)
 unfolding chosen
@@ -35,7 +35,7 @@ differ_push : (x n : ℕ) (ys : List ℕ) → Differ x ys → n ≢ x → Differ
 differ_push x n [] d e = (e, tt)
 differ_push x n (y ∷ ys) d e = (d.0, differ_push x n ys d.1 e)
 
--- powers of places below n differ from the power of n
+-- powers for positions below n differ from the power for n
 powers_push : (n : ℕ) (xs : List ℕ) → n < 255 → AllByRecursion (λ k. k < n) xs → AllDiffer (map power xs) → AllDiffer (map power xs ++ power n ∷ [])
 powers_push n [] l a d = (tt, tt)
 powers_push n (x ∷ xs) l a d = (differ_push (power x) (power n) (map power xs) d.0 (powers_differ x n a.0 l), powers_push n xs l a.1 d.1)
@@ -91,7 +91,7 @@ zero_at [] k z = refl
 zero_at (a ∷ p) zero z = z.0
 zero_at (a ∷ p) (suc k) z = zero_at p k z.1
 
--- a polynomial that is not 0 has fewer roots than coefficients
+-- a nonzero polynomial has fewer roots than coefficients
 pub fewer_roots : (p : List ℕ) → AreBytes p → (AreZero p → ⊥) → length (chosen (is_root p) 204) < length p
 fewer_roots p b some = go (cases_lt (length (chosen (is_root p) 204)) (length p))
   where
@@ -123,7 +123,7 @@ moment_push i (y ∷ xs) (w ∷ vs) x v l = ap (bit_xor (mul w (raise y i))) (mo
 raise_turned : (i n : ℕ) → raise (power n) i ≡ raise (power i) n
 raise_turned i n = raise_same (power n) i ∙ power_times i n ∙ ap power (times_comm n i) ∙ sym (raise_same (power i) n ∙ power_times n i)
 
--- the values of a polynomial at places
+-- the values of a polynomial at positions
 pub at : List ℕ → ℕ → ℕ
 at e k = get_or e k 0
 
@@ -154,7 +154,7 @@ moments_chosen i (suc n) t e l b h = go (t n) refl (moments_chosen i n t e (omeg
         zero_from (inl y) = y
         zero_from (inr y) = absurd (true≢false (sym (h n (omega arith) y) ∙ q))
 
--- ---- where an error is, the locator is 0
+-- ---- the locator is 0 at an error
 
 locates_at : (cs : List ℕ) (k j : ℕ) (e : List ℕ) → Locates cs (terms k e) → get_or e j 0 ≢ 0 → value_at (power (k + j)) cs ≡ 0
 locates_at cs k j [] l n = absurd (n refl)
@@ -173,7 +173,7 @@ power_none = power_zero
 zero_times : (k : ℕ) → 0 * k ≡ 0
 zero_times k = omega arith
 
--- ---- coefficients that are 0 may be left out
+-- ---- zero coefficients may be left out
 
 value_take : (n x : ℕ) (p : List ℕ) → ((j : ℕ) → n ≤ j → get_or p j 0 ≡ 0) → value_at x (take n p) ≡ value_at x p
 value_take n x [] h = ap (value_at x) (take-nil n)
@@ -185,7 +185,7 @@ along_take n [] s i h = ap (λ z. along z s i) (take-nil n)
 along_take zero (a ∷ p) s i h = sym (ap₂ (λ y z. bit_xor (mul y (s i)) z) (h 0 (omega arith)) (sym (along_take 0 p s (suc i) (λ j l. h (suc j) (omega arith)))) ∙ ap (λ z. bit_xor z 0) (mul_zero_left (s i)))
 along_take (suc n) (a ∷ p) s i h = ap (bit_xor (mul a (s i))) (along_take n p s (suc i) (λ j l. h (suc j) (omega arith)))
 
--- a locator is 0 at the places of few errors
+-- a locator is 0 at the positions of few errors
 located_roots : (errors : ℕ) (e values p : List ℕ) → AreBytes e → length e ≤ 255 → weight e ≤ errors → errors ≤ 8 → ((i : ℕ) → i < errors + errors → slice_index values i ≡ value_at (power i) e) → IsSolution errors values p → (k : ℕ) → get_or e k 0 ≢ 0 → value_at (power k) p ≡ 0
 located_roots errors e values p b l w m f h k some =
     let one : 0 < 1 = lit< tt in
@@ -252,11 +252,11 @@ module _ (word c : List ℕ) (long : length word ≡ 204) (bytes : AreBytes word
       turned : (w : List ℕ) → length w ≡ 204 → length w - 1 - (203 - j) ≡ j
       turned w e = omega (arith, e)
 
-  -- the same from the end
+  -- the same counted from the end
   pub error_from_end : (k : ℕ) → k < 204 → get_or error k 0 ≡ bit_xor (get_or word (203 - k) 0) (get_or c (203 - k) 0)
   error_from_end k l = let q : 203 - (203 - k) ≡ k = omega arith in ap (λ z. get_or error z 0) (sym q) ∙ error_at (203 - k) (omega arith)
 
-  -- a locator is 0 where a near codeword differs
+  -- a locator is 0 where a close codeword differs
   pub near_differs : (values p : List ℕ) → AreSyndromes word values → IsLocator 8 values p → distance word c ≤ 8 → DifferAtRoots p word c
   near_differs values p found loc near k l n =
       loc.roots error error_bytes (omega (arith, error_long)) (omega (arith, error_weight)) (error_value values found) k
@@ -269,7 +269,7 @@ module _ (word c values p : List ℕ) (long : length word ≡ 204) (bytes : AreB
   abbrev fault : List ℕ
   fault = error word c long bytes code
 
-  -- each place of an error is a root
+  -- each error position is a root
   error_root : (k : ℕ) → get_or fault k 0 ≢ 0 → is_root p k ≡ true
   error_root k n = go (cases_lt k 204)
     where
@@ -277,7 +277,7 @@ module _ (word c values p : List ℕ) (long : length word ≡ 204) (bytes : AreB
       go (inl l) = eq-eqb _ 0 (differ k l (λ e. n (error_from_end word c long bytes code k l ∙ ap (λ z. bit_xor z (get_or c (203 - k) 0)) e ∙ xor_self (get_or c (203 - k) 0))))
       go (inr l) = absurd (n (get_or_past (error word c long bytes code) k 0 (omega (arith, error_long word c long bytes code))))
 
-  -- the values of the error at the places
+  -- the values of the error at the positions
   pub error_values : List ℕ
   error_values = map (at fault) (chosen (is_root p) 204)
 
@@ -286,7 +286,7 @@ module _ (word c values p : List ℕ) (long : length word ≡ 204) (bytes : AreB
   at_bytes [] = tt
   at_bytes (x ∷ xs) = (e_small fault x (error_bytes word c long bytes code), at_bytes xs)
 
-  -- what solves the moments is the error
+  -- the solution of the moments is the error
   pub solved_error : (moments values2 : List ℕ) → ((i : ℕ) → i < length (chosen (is_root p) 204) → slice_index moments i ≡ slice_index values i) → Solves (map power (chosen (is_root p) 204)) moments values2 → values2 ≡ error_values
   unfolding error_values
   solved_error moments values2 m s =
@@ -299,7 +299,7 @@ module _ (word c values p : List ℕ) (long : length word ≡ 204) (bytes : AreB
       places : List ℕ
       places = chosen (is_root p) 204
 
-  -- the places below n are put right
+  -- the positions below n are corrected
   record Right (n : ℕ) (fixed : List ℕ) : Type 0 where
     size : length fixed ≡ 204
     done : (j : ℕ) → j < 204 → 203 - j < n → get_or fixed j 0 ≡ get_or c j 0
@@ -376,7 +376,7 @@ pub bytes_of : (xs : List ℕ) → ((i : ℕ) → get_or xs i 0 < 256) → AreBy
 bytes_of [] h = tt
 bytes_of (x ∷ xs) h = (h 0, bytes_of xs (λ i. h (suc i)))
 
--- what was solved and put right is the codeword
+-- the word after solving and correcting is the codeword
 pub codeword_again : (word c values p xs moments solved places fixed : List ℕ) → length word ≡ 204 → ((i : ℕ) → get_or word i 0 < 256) → AreSyndromes word values
     → places ≡ chosen (is_root p) 204 → xs ≡ map power places → length (chosen (is_root p) 204) ≤ 16 → ((i : ℕ) → i < length places → slice_index moments i ≡ slice_index values i)
     → Solves xs moments solved → fixed ≡ corrected word places solved → IsCodeword c → DifferAtRoots p word c → fixed ≡ c
@@ -386,7 +386,7 @@ codeword_again word c values p xs moments solved places fixed l by found e f few
     solved_error word c values p l b code found few differ moments solved (λ i k. m i (omega (arith, k, ap length e))) (subst (λ z. Solves z moments solved) (f ∙ ap (map power) e) s) in
     r ∙ ap₂ (corrected word) e v ∙ corrected_is word c values p l b code found few differ
 
--- in the words of the code
+-- in the terms of the code
 pub repaired : (word c values p found_powers solved at fixed zeros : List ℕ) (count : ℕ) → length word ≡ 204 → ((i : ℕ) → get_or word i 0 < 256) → AreSyndromes word values → length (chosen (is_root p) 204) ≤ 16
     → take count at ≡ chosen (is_root p) 204 → take count found_powers ≡ map power (take count at)
     → length solved ≡ count → Solves (take count found_powers) (take count values) solved → fixed ≡ corrected word (take count at) (take count (solved ++ zeros))
@@ -404,7 +404,7 @@ clean_code word slice values l by e f z = codeword_from_roots word l (bytes_of w
 pub code_clean : (word slice values : List ℕ) → IsCodeword word → slice ≡ word → ((i : ℕ) → i < 16 → slice_index values i ≡ value_at (power i) (reverse slice)) → (i : ℕ) → i < 16 → slice_index values i ≡ 0
 code_clean word slice values h e f i m = f i m ∙ ap (λ w. value_at (power i) (reverse w)) e ∙ codeword_root word i h m
 
--- no codeword is near where the word that would be is refused
+-- no codeword is close if the candidate is rejected
 pub none_near : (word fixed : List ℕ) → length word ≡ 204 → length fixed ≡ 204 → ((c : List ℕ) → IsCodeword c → distance word c ≤ 8 → fixed ≡ c) → (IsCodeword word → ⊥)
     → (distance word fixed ≡ 0) ⊎ ((8 < distance word fixed) ⊎ (IsCodeword fixed → ⊥)) → (c : List ℕ) → IsCodeword c → 8 < distance word c
 none_near word fixed l k near bad why c h = go (cases_lt 8 (distance word c))

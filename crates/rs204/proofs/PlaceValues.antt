@@ -1,4 +1,4 @@
--- Values of polynomials at many places, as sums of their terms' values.
+-- Values of polynomials at many positions, as sums of their terms' values.
 use Rattle.std.proofs.Common.{◌≡◌, ℕ, zero, suc, ◌+◌, ◌-◌, ◌*◌, ◌/◌, ◌%◌, ◌^◌, ◌<◌, ◌≤◌, ◌⊎◌, inl, inr, List, [], ◌∷◌, ◌++◌, length, get_or, take, refl, sym, ap, ap₂, ◌∙◌, subst, arith, eqb, length-take}
 use Rattle.std.specs.Prelude.{bit_xor}
 use Rattle.std.proofs.lemmas.Bool.{eqb-true, cases_lt}
@@ -165,7 +165,7 @@ summed_more sum term result j terms l s h t r =
 pub summed_all : (sum : ℕ) (p bytes : List ℕ) → Holds sum (values_from p 0 16) → bytes ≡ bytes_low_first 0 16 sum → (i : ℕ) → i < 16 → get_or bytes i 0 ≡ value_at (power i) p
 summed_all sum p bytes h e i l = let z : 0 + i ≡ i = omega arith in ap (λ (b : List ℕ). get_or b i 0) (e ∙ held_bytes sum (values_from p 0 16) h) ∙ values_at p 0 16 i l ∙ ap (λ n. value_at (power n) p) z
 
--- ---- from one twelve places to the next
+-- ---- from twelve positions to the next twelve
 
 scaled_value : (m i s : ℕ) (p t : List ℕ) → length t ≡ length p → ((k : ℕ) → get_or p k 0 < 256)
     → ((k : ℕ) → k < length p → get_or t k 0 ≡ mul (mul (get_or p k 0) (power s)) (power (m * k))) → value_at (power i) t ≡ mul (power s) (value_at (power (m + i)) p)
@@ -198,7 +198,7 @@ scaled_value m i s (a ∷ p) (c ∷ t) l b h =
         ∙ sym (mul_assoc (mul d (power s)) (power m) (power (m * k)) (mul_small d (power s) sd (power_small s)) (power_small m) (power_small (m * k)))
         ∙ ap (λ z. mul z (power (m * k))) (mul_assoc d (power s) (power m) sd (power_small s) (power_small m) ∙ ap (mul d) (sym (power_add s m)))
 
--- the terms as they are before the first places
+-- the terms before the first positions
 pub terms_first : (p terms : List ℕ) (count : ℕ) → ((k : ℕ) → get_or p k 0 < 256) → ((k : ℕ) → k < count → get_or terms k 0 ≡ get_or p k 0) → (k : ℕ) → k < count → get_or terms k 0 ≡ mul (get_or p k 0) (power (12 * 0 * k))
 terms_first p terms count b h k l =
     let e : 12 * 0 * k ≡ 0 = omega arith in

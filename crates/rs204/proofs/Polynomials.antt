@@ -83,7 +83,7 @@ codeword_root w i h l = ap (value_at (power i)) h.is ∙ value_roots (power i) (
 
 -- ---- the other way
 
--- a polynomial divided by x + a, without the rest
+-- a polynomial divided by x + a, without the remainder
 abbrev pub divide : ℕ → List ℕ → List ℕ
 divide a [] = []
 divide a (b ∷ []) = []
@@ -102,7 +102,7 @@ plus_head : (v : ℕ) (m q : List ℕ) → plus m (v ∷ q) ≡ plus (v ∷ []) 
 plus_head v [] q = ap (λ z. z ∷ q) (sym (xor_zero_r v))
 plus_head v (e ∷ m) q = ap (λ z. z ∷ plus m q) (xor_comm e v ∙ ap (bit_xor v) (sym (xor_zero_r e)))
 
--- a polynomial is its value at a and x + a times the quotient
+-- a polynomial is its value at a plus x + a times the quotient
 divide_is : (a b : ℕ) (p : List ℕ) → plus (value_at a (b ∷ p) ∷ []) (with_root a (divide a (b ∷ p))) ≡ b ∷ p
 divide_is a b [] = ap (λ z. z ∷ []) (xor_zero_r _ ∙ ap (bit_xor b) (mul_zero_right a) ∙ xor_zero_r b)
 divide_is a b (c ∷ p) =
@@ -122,7 +122,7 @@ abbrev pub AreRoots : List ℕ → List ℕ → Type 0
 AreRoots [] p = Unit {0}
 AreRoots (a ∷ rs) p = (value_at a p ≡ 0) × AreRoots rs p
 
--- roots of x + a times q that are not a are roots of q
+-- roots of x + a times q other than a are roots of q
 roots_left : (a : ℕ) (rs p q : List ℕ) → a < 256 → AreBytes rs → AreBytes q → Differ a rs → with_root a q ≡ p → AreRoots rs p → AreRoots rs q
 roots_left a [] p q l s t d e r = tt
 roots_left a (b ∷ rs) p q l s t d e r =

@@ -1,4 +1,4 @@
--- The values at different places.
+-- The values at different positions.
 use Rattle.std.proofs.Common.{◌≡◌, ◌≢◌, ℕ, zero, suc, ◌+◌, ◌-◌, ◌<◌, ◌⊎◌, inl, inr, List, [], ◌∷◌, ◌++◌, length, get_or, take, drop, set, refl, sym, ap, ap₂, ◌∙◌, subst, arith, get_or-set_same, get_or-set_other, ext_get_or, lit<, subst₂, add-one, append-nil, get_or-take}
 use Rattle.std.specs.Prelude.{bit_xor}
 use Rattle.std.proofs.lemmas.Bool.{cases_eq}
@@ -31,7 +31,7 @@ xor_push : (vs : List ℕ) (v : ℕ) → xor_all (vs ++ v ∷ []) ≡ bit_xor (x
 xor_push [] v = xor_zero_r v
 xor_push (w ∷ vs) v = ap (bit_xor w) (xor_push vs v) ∙ sym (xor_assoc w (xor_all vs) v)
 
--- one more value brought back
+-- one more value restored
 pub unscale_next : (ps : List ℕ) (x : ℕ) (old new : List ℕ) (sum j inverse value : ℕ) → j < length ps → length new ≡ length ps → x < 256 → ((k : ℕ) → get_or ps k 0 < 256) → inverse < 256
     → mul (bit_xor (get_or ps j 0) x) inverse ≡ 1 → value ≡ mul (get_or new j 0) inverse → Unscales ps x old new sum j → Unscales ps x old (set new j value) (bit_xor sum (get_or (set new j value) j 0)) (j + 1)
 unscale_next ps x old new sum j inverse value l m lx lps li unit is h vs a b e =
@@ -82,7 +82,7 @@ pairs_scaled x [] vs = refl
 pairs_scaled x (p ∷ ps) [] = refl
 pairs_scaled x (p ∷ ps) (v ∷ vs) = ap (λ z. (p, mul v (bit_xor p x)) ∷ z) (pairs_scaled x ps vs)
 
--- the moments without the first place
+-- the moments without the first position
 pub lowered : (i p v : ℕ) (ps vs : List ℕ) → p < 256 → v < 256 → AreBytes ps → AreBytes vs → bit_xor (moment (suc i) (p ∷ ps) (v ∷ vs)) (mul p (moment i (p ∷ ps) (v ∷ vs))) ≡ moment i ps (scaled p ps vs)
 unfolding pairs
 lowered i p v ps vs lp lv b c =
@@ -117,7 +117,7 @@ length-scaled x [] vs l = refl
 length-scaled x (p ∷ ps) [] l = absurd (omega arith)
 length-scaled x (p ∷ ps) (v ∷ vs) l = ap suc (length-scaled x ps vs (omega arith))
 
--- the tail's values, scaled, meet the lowered moments
+-- the tail's values, scaled, satisfy the lowered moments
 tail_solved : (p v : ℕ) (ps vs ms low sv : List ℕ) → length vs ≡ length ps → p < 256 → v < 256 → AreBytes ps → AreBytes vs
     → ((i : ℕ) → i < suc (length ps) → get_or ms i 0 ≡ moment i (p ∷ ps) (v ∷ vs))
     → ((i : ℕ) → i < length ps → get_or low i 0 ≡ bit_xor (get_or ms (suc i) 0) (mul p (get_or ms i 0)))
@@ -149,7 +149,7 @@ solve_cons p ps ms low sv uv old sum m lp b k s o u (v ∷ vs) l c h =
 put_all : (w : ℕ) (ws ys : List ℕ) (k : ℕ) → k ≡ length ws → put k (w ∷ ws) ys ≡ w ∷ ys
 put_all w ws ys k e = ap (λ z. w ∷ (ys ++ z)) (drop_all k ws (omega (arith, e))) ∙ ap (λ z. w ∷ z) (append-nil ys)
 
--- the same in the words of the code, which takes the parts of slices
+-- the same in the terms of the code, which uses parts of slices
 pub solve_whole : (ps ms low sv uv vals : List ℕ) (sum k1 k2 k3 k4 k5 : ℕ) → 0 < length ps → length ms ≡ length ps → length vals ≡ length ps → length low ≡ length ms
     → ((i : ℕ) → get_or ps i 0 < 256) → k1 ≡ length ps - 1 → k2 ≡ length ps - 1 → k3 ≡ length vals - 1
     → ((i : ℕ) → i + 1 < length ms → get_or low i 0 ≡ bit_xor (get_or ms (i + 1) 0) (mul (get_or ps 0 0) (get_or ms i 0)))

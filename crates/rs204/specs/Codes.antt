@@ -26,7 +26,8 @@ first_powers (suc n) = power n ∷ first_powers n
 abbrev pub AreBytes : List ℕ → Type 0
 AreBytes = AllByRecursion (λ b. b < 256)
 
--- 204 bytes, the coefficient of x^203 first, whose polynomial is a multiple of the generator, the product of x + λ^i for i below 16
+-- 204 bytes, the coefficient of x^203 first. Their polynomial is a multiple of the generator, the product of x + λ^i
+-- for i below 16.
 pub record IsCodeword (word : List ℕ) : Type 0 where
   pub long : length word ≡ 204
   pub bytes : AreBytes word
@@ -34,22 +35,23 @@ pub record IsCodeword (word : List ℕ) : Type 0 where
   pub factor_bytes : AreBytes factor
   pub is : reverse word ≡ with_roots (first_powers 16) factor
 
--- the number of places at which two words differ
+-- the number of positions where two words differ
 abbrev pub distance : List ℕ → List ℕ → ℕ
 distance [] w = 0
 distance (a ∷ v) [] = 0
 distance (a ∷ v) (b ∷ w) = cond (a == b) 0 1 + distance v w
 
--- the coefficients of the generator behind that of x^16, which is 1: those of x^15 down to x^0
+-- the generator's coefficients of x^15 down to x^0; that of x^16 is 1
 abbrev pub generator_tail : List ℕ
 generator_tail = 59 ∷ 13 ∷ 104 ∷ 189 ∷ 68 ∷ 209 ∷ 30 ∷ 8 ∷ 163 ∷ 65 ∷ 41 ∷ 229 ∷ 98 ∷ 50 ∷ 36 ∷ 59 ∷ []
 
--- the rest after n steps of a long division by the generator, coefficients from the highest down: each step takes the leading coefficient's multiple of the generator away
+-- The remainder after n steps of long division by the generator, highest coefficients first. Each step subtracts the
+-- multiple of the generator that clears the leading coefficient.
 unfoldable pub rest_of : ℕ → List ℕ → List ℕ
 rest_of zero p = p
 rest_of (suc n) [] = []
 rest_of (suc n) (a ∷ p) = rest_of n (plus (map (mul a) generator_tail) p)
 
--- the message and the sixteen bytes that make it a codeword: the rest of the message times x^16
+-- the systematic codeword of a message: the message, then the remainder of the message times x^16
 unfoldable pub codeword : List ℕ → List ℕ
 codeword message = message ++ rest_of 188 (message ++ replicate 16 0)

@@ -21,7 +21,7 @@ pub(crate) fn power(exponent: u8) -> u8
     Elem::power(exponent).0
 }
 
-/// The inverse of an element other than 0.
+/// The inverse of a nonzero element.
 #[inline]
 pub(crate) fn inv(a: u8) -> u8
     requires { a ≢ 0 }

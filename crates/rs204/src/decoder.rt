@@ -1,4 +1,4 @@
-// Decoding by what is left of a division, and by syndromes only where something is left.
+// Decoding from the remainder of a division; syndromes are only computed if it is not 0.
 
 ghost use Rattle.std.specs.Prelude.{◌≡◌, ◌≢◌, ◌<◌, ℕ, List, length, slice_index};
 ghost use Rattle.rs204.specs.Codes.{IsCodeword};
@@ -10,12 +10,12 @@ use crate::outcome::Outcome;
 use crate::steps::{is_codeword, nearest, places_apart, syndromes_by_rest};
 use gf256::Elem;
 
-/// The most places that are corrected.
+/// The most errors that are corrected.
 const MOST: u8 = 8;
 
-/// The word less the one error that its first syndromes speak of, where they speak of one: its value is the first syndrome,
-/// and the power of λ that stands for its place is what each next syndrome is times the one before. Else the word as it is.
-// Nothing is promised of it: a codeword one place away is the nearest one, and that is seen from the answer.
+/// The word after correcting a single error, if its first syndromes show one: its value is the first syndrome, and the
+/// power of λ for its position is the ratio of each syndrome to the one before. Otherwise the word itself.
+// No contract: a codeword at distance 1 is the nearest one, which the caller checks.
 fn less_one_error(word: &[u8; 204], values: &[u8; 16]) -> [u8; 204]
     ensures size { length result ≡ 204 }
     ensures bytes { (i : ℕ) → slice_index result i < 256 }
@@ -31,11 +31,11 @@ fn less_one_error(word: &[u8; 204], values: &[u8; 16]) -> [u8; 204]
     fixed
 }
 
-/// Bit i of a sum stands for this entry in `halved`, which is linear.
+/// The entry of `halved`, which is linear, for bit i of a sum.
 const HALVES: [u8; 8] = [214, 232, 234, 44, 238, 0, 36, 80];
 
-/// The element that, added to its own square, gives this one, where there is one.
-// Nothing is promised of it, as of what is made from it.
+/// The element which, added to its own square, gives this one, if there is one.
+// No contract, as for its callers.
 fn halved(sum: u8) -> u8 {
     let mut root = 0u8;
     for i in 0..8usize {
@@ -46,7 +46,7 @@ fn halved(sum: u8) -> u8 {
     root
 }
 
-/// Adds to the byte of a word that a power of λ stands for, where it stands for one.
+/// Adds a value to the byte of a word at the position of a power of λ, if there is one.
 fn add_at(word: &mut [u8; 204], power: u8, value: u8)
     ensures size { length word.new ≡ 204 }
     ensures bytes { (i : ℕ) → slice_index word.new i < 256 }
@@ -59,8 +59,8 @@ fn add_at(word: &mut [u8; 204], power: u8, value: u8)
     }
 }
 
-/// Takes two errors from a word, by its first two syndromes and the sum and the product of the powers of λ that stand for their
-/// places. The sum is not 0.
+/// Corrects two errors of a word, from its first two syndromes and the sum and the product of the powers of λ for their
+/// positions. The sum is not 0.
 fn take_two(word: &mut [u8; 204], values: &[u8; 16], sum: u8, product: u8)
     requires { sum ≢ 0 }
     ensures size { length word.new ≡ 204 }
@@ -76,10 +76,10 @@ fn take_two(word: &mut [u8; 204], values: &[u8; 16], sum: u8, product: u8)
     add_at(word, other, values[0] ^ value);
 }
 
-/// The word less the two errors that its first syndromes speak of, where they speak of two: each next syndrome is then the sum of
-/// the two powers of λ that stand for their places times the one before, plus their product times the one before that. Else the
-/// word as it is.
-// Nothing is promised of it either.
+/// The word after correcting two errors, if its first syndromes show two: each next syndrome is then the sum of the two
+/// powers of λ for their positions times the one before, plus their product times the one before that. Otherwise the
+/// word itself.
+// No contract either.
 fn less_two_errors(word: &[u8; 204], values: &[u8; 16]) -> [u8; 204]
     ensures size { length result ≡ 204 }
     ensures bytes { (i : ℕ) → slice_index result i < 256 }
@@ -91,7 +91,7 @@ fn less_two_errors(word: &[u8; 204], values: &[u8; 16]) -> [u8; 204]
         let inverse = inv(determinant);
         let sum = mul(mul(first, fourth) ^ mul(second, third), inverse);
         let product = mul(mul(second, fourth) ^ mul(third, third), inverse);
-        // with more errors the fifth syndrome seldom fits
+        // with more errors the fifth syndrome rarely fits
         if sum != 0 && mul(sum, fourth) ^ mul(product, third) == values[4] {
             take_two(&mut fixed, values, sum, product);
         }
@@ -99,7 +99,7 @@ fn less_two_errors(word: &[u8; 204], values: &[u8; 16]) -> [u8; 204]
     fixed
 }
 
-/// Puts the codeword that is within eight places in the place of the word, where there is one.
+/// Replaces the word by the codeword within distance 8, if there is one.
 fn put_right(word: &mut [u8; 204]) -> Outcome
     ensures { Decoded word.old word.new result }
 {
@@ -108,7 +108,7 @@ fn put_right(word: &mut [u8; 204]) -> Outcome
         return Outcome::Clean;
     }
     let values = syndromes_by_rest(left);
-    // most words that are not clean have one error or two
+    // most words that are not clean have one or two errors
     let early = less_one_error(word, &values);
     if places_apart(word, &early) == 1 && is_codeword(&early) {
         *word = early;
@@ -128,11 +128,10 @@ fn put_right(word: &mut [u8; 204]) -> Outcome
     Outcome::Corrected(count)
 }
 
-/// Corrects a word where a codeword is within eight places of it.
+/// Corrects a word if a codeword is within distance 8.
 ///
-/// `Clean` exactly where the word is a codeword. `Corrected(n)` exactly where a codeword stands at a
-/// distance of n places, 1 to 8, which the word then is. `Bad` exactly where no codeword is within
-/// eight places, and then the word is unchanged (EN 300 744, 4.3.2).
+/// `Clean` exactly if the word is a codeword. `Corrected(n)` exactly if a codeword is at distance n, 1 to 8; the word
+/// then becomes it. `Bad` exactly if no codeword is within distance 8; the word is then unchanged (EN 300 744, 4.3.2).
 pub fn decode(word: &mut [u8; 204]) -> Outcome
     ensures decoded { Decoded word.old word.new result }
     ensures clean { IsCodeword word.old → result ≡ Outcome.Clean }

@@ -7,11 +7,11 @@ ghost use Rattle.rs204.specs.Division.{Holds, divided};
 use crate::multiples::{first, second};
 use crate::multiples_ahead::{fourth, third};
 
-/// What the fourth highest byte of a register is worth.
+/// The value of the fourth highest byte of a register.
 const FOURTH_HIGHEST: u128 = 0x1_00000000_00000000_00000000;
 
-/// The register after four steps of the division, in which these bytes of the word come in behind:
-/// what is left of its four leading coefficients is added to the others.
+/// The register after four steps of the division, with these bytes of the word shifted in: the remainders of its four
+/// leading coefficients are added to the others.
 #[inline]
 fn four_steps(register: u128, a: u8, b: u8, c: u8, d: u8) -> u128
     ensures { (bytes : List ℕ) → Holds register bytes → Holds result (divided (divided (divided (divided bytes a) b) c) d) }
@@ -26,7 +26,7 @@ fn four_steps(register: u128, a: u8, b: u8, c: u8, d: u8) -> u128
         ^ fourth((low % 256) as u8)
 }
 
-/// What is left of a word, sixteen coefficients, that of x^15 in the lowest byte.
+/// The remainder of a word: sixteen coefficients, that of x^15 in the lowest byte.
 pub(crate) fn rest(word: &[u8; 204]) -> u128
     ensures { Holds result (rest_of 188 word.now) }
 {

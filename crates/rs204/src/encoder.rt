@@ -6,8 +6,7 @@ ghost use Rattle.rs204.specs.Codes as code;
 
 use crate::division::rest;
 
-/// The codeword of 204 bytes that begins with the message: its 188 bytes and sixteen parity bytes
-/// (EN 300 744, 4.3.2).
+/// The systematic codeword of a message: its 188 bytes, then sixteen parity bytes (EN 300 744, 4.3.2).
 pub fn encode(message: &[u8; 188]) -> [u8; 204]
     ensures is { result ≡ codeword message.now }
     ensures code { IsCodeword result }

@@ -1,9 +1,9 @@
-// What is left of a coefficient of x^16 and of x^17, as sums of bytes.
+// The remainders of coefficients of x^16 and x^17, one byte a coefficient.
 
 ghost use Rattle.std.specs.Prelude.{◌≡◌, ◌<◌, slice_index};
 
-/// Entry a is what is left of a * x^16, the generator's multiple less its leading term: sixteen
-/// bytes, the coefficient of x^15 as the lowest.
+/// Entry a is the remainder of a * x^16: the generator's multiple without its leading term, sixteen bytes, the
+/// coefficient of x^15 lowest.
 static FIRST: [u128; 256] = [
     0x00000000000000000000000000000000,
     0x3b243262e52941a3081ed144bd680d3b,
@@ -263,7 +263,7 @@ static FIRST: [u128; 256] = [
     0x6a4d3e44e1c2cee8abd8e7ea300c8f6a,
 ];
 
-/// Entry a is what is left of a * x^17.
+/// Entry a is the remainder of a * x^17.
 static SECOND: [u128; 256] = [
     0x00000000000000000000000000000000,
     0x2ce4f6112c2874f366c0185b3e2d7a21,
@@ -523,7 +523,7 @@ static SECOND: [u128; 256] = [
     0xe61eb6b4e63d37929f53e0cd4e19a469,
 ];
 
-/// What is left of a coefficient of x^16.
+/// The remainder of a coefficient of x^16.
 #[inline]
 pub(crate) fn first(factor: u8) -> u128
     ensures entry { result ≡ slice_index FIRST factor }
@@ -532,7 +532,7 @@ pub(crate) fn first(factor: u8) -> u128
     FIRST[factor as usize]
 }
 
-/// What is left of a coefficient of x^17.
+/// The remainder of a coefficient of x^17.
 #[inline]
 pub(crate) fn second(factor: u8) -> u128
     ensures entry { result ≡ slice_index SECOND factor }

@@ -1,8 +1,8 @@
-// What is left of a coefficient of x^18 and of x^19, as sums of bytes.
+// The remainders of coefficients of x^18 and x^19, one byte a coefficient.
 
 ghost use Rattle.std.specs.Prelude.{◌≡◌, ◌<◌, slice_index};
 
-/// Entry a is what is left of a * x^18.
+/// Entry a is the remainder of a * x^18.
 static THIRD: [u128; 256] = [
     0x00000000000000000000000000000000,
     0x08fcd848054ca10ee69f2e34d8d79d72,
@@ -262,7 +262,7 @@ static THIRD: [u128; 256] = [
     0xabfeb39a24410b93fd450506b3dfa60f,
 ];
 
-/// Entry a is what is left of a * x^19.
+/// Entry a is the remainder of a * x^19.
 static FOURTH: [u128; 256] = [
     0x00000000000000000000000000000000,
     0xb43b8d0b6726ef6eb913f02a0e58c729,
@@ -522,7 +522,7 @@ static FOURTH: [u128; 256] = [
     0x646aedb760aea934eb578ede93d194c2,
 ];
 
-/// What is left of a coefficient of x^18.
+/// The remainder of a coefficient of x^18.
 #[inline]
 pub(crate) fn third(factor: u8) -> u128
     ensures entry { result ≡ slice_index THIRD factor }
@@ -531,7 +531,7 @@ pub(crate) fn third(factor: u8) -> u128
     THIRD[factor as usize]
 }
 
-/// What is left of a coefficient of x^19.
+/// The remainder of a coefficient of x^19.
 #[inline]
 pub(crate) fn fourth(factor: u8) -> u128
     ensures entry { result ≡ slice_index FOURTH factor }

@@ -1,4 +1,4 @@
-// The decoder by the definitions: slow, and the measure of the fast one.
+// The decoder by the definitions: slow, and the reference for the fast one.
 
 ghost use Rattle.std.specs.Prelude.{◌≡◌, ◌<◌, ◌↔◌, ℕ, IsTrue, reverse, slice_index};
 ghost use Rattle.rs204.specs.Polynomials.{value_at};
@@ -41,7 +41,7 @@ fn all_zero(values: &[u8; 16]) -> bool
     true
 }
 
-/// Corrects a word where a codeword is within eight places of it.
+/// Corrects a word if a codeword is within distance 8.
 pub fn decode(word: &mut [u8; 204]) -> Outcome
     ensures { Decoded word.old word.new result }
 {

@@ -1,5 +1,5 @@
-// The steps of decoding, for each decoder of this code: the syndromes, a locator of the errors, and
-// the word put right where the locator is 0.
+// The steps shared by the decoders of this code: syndromes, a locator of the errors, and the correction of a word at
+// the locator's roots.
 
 ghost use Rattle.std.specs.Prelude.{◌≡◌, ◌+◌, ◌-◌, ◌<◌, ◌≤◌, ℕ, List, length, map, slice_index, bit_xor, take, IsTrue, ◌↔◌};
 ghost use Rattle.gf256.specs.Field as field;
@@ -25,7 +25,7 @@ fn next_values(values: &mut [u8; 16], byte: u8)
     }
 }
 
-/// The values of the sixteen coefficients that are left of a word.
+/// The values of the sixteen coefficients of a remainder.
 fn values_of_rest(rest: &[u8; 16]) -> [u8; 16]
     ensures { AreSyndromes rest.now result }
 {
@@ -36,14 +36,14 @@ fn values_of_rest(rest: &[u8; 16]) -> [u8; 16]
     values
 }
 
-/// The syndromes of a word, by what is left of it when it is divided by the generator.
+/// The syndromes of a word, from its remainder after division by the generator.
 pub(crate) fn syndromes_by_rest(left: u128) -> [u8; 16]
     ensures { (word : List ℕ) → length word ≡ 204 → AreBytes word → Holds left (rest_of 188 word) → AreSyndromes word result }
 {
     values_of_rest(&left.to_le_bytes())
 }
 
-/// The syndromes of a word: the values of its polynomial at the first sixteen powers of λ.
+/// The syndromes of a word: its polynomial evaluated at the first sixteen powers of λ.
 pub fn syndromes(word: &[u8; 204]) -> [u8; 16]
     ensures { AreSyndromes word.now result }
 {
@@ -57,7 +57,7 @@ pub fn is_codeword(word: &[u8; 204]) -> bool
     rest(word) == 0
 }
 
-/// The sum of the products of a vector and of the values from a place on.
+/// The sum of the products of a vector and the values from an index on.
 fn product(vector: &[u8; 9], values: &[u8; 16], from: usize) -> u8
     requires { from < 8 }
     ensures { result ≡ along vector.now (λ k. slice_index values.now k) from }
@@ -78,7 +78,7 @@ fn add_multiple(to: &mut [u8; 9], factor: u8, other: &[u8; 9])
     }
 }
 
-/// Which of the vectors is not cleared, if one is not.
+/// A vector that is not cleared, if there is one.
 fn pivot(vectors: &[[u8; 9]; 9], last: usize, values: &[u8; 16], from: usize) -> usize
     requires from { from < 8 }
     requires last { last < 9 }
@@ -93,7 +93,7 @@ fn pivot(vectors: &[[u8; 9]; 9], last: usize, values: &[u8; 16], from: usize) ->
     last
 }
 
-/// Clears a vector by another one.
+/// Clears a vector with another one.
 fn clear(to: &mut [u8; 9], other: &[u8; 9], inverse: u8, values: &[u8; 16], from: usize)
     requires { from < 8 }
     ensures { to.new ≡ plus to.old (map (field.mul (field.mul (along to.old (λ j. slice_index values.now j) from) inverse)) other.now) }
@@ -102,7 +102,7 @@ fn clear(to: &mut [u8; 9], other: &[u8; 9], inverse: u8, values: &[u8; 16], from
     add_multiple(to, factor, other);
 }
 
-/// Makes the vectors before the last one meet one more equation.
+/// Makes the vectors before the last one satisfy one more equation.
 fn reduce(vectors: &mut [[u8; 9]; 9], last: usize, values: &[u8; 16], from: usize)
     requires from { from < 8 }
     requires last { last < 9 }
@@ -132,7 +132,7 @@ const UNITS: [[u8; 9]; 9] = [
     [0, 0, 0, 0, 0, 0, 0, 0, 1],
 ];
 
-/// A polynomial that meets as many equations as there may be errors.
+/// A polynomial that satisfies as many equations as there may be errors.
 fn solution(values: &[u8; 16], errors: usize) -> [u8; 9]
     requires { errors ≤ 8 }
     ensures { IsSolution errors values.now result }
@@ -144,12 +144,10 @@ fn solution(values: &[u8; 16], errors: usize) -> [u8; 9]
     vectors[0]
 }
 
-/// A locator of at most so many errors, 8 at the most, by their values at the first powers of λ, two
-/// for each error.
+/// A locator of at most `errors` errors, at most 8, from their values at the first powers of λ, two for each error.
 ///
-/// Where there are no more errors, the locator is 0 at the power of λ that stands for the place of
-/// each. Its coefficients stand from that of x^0 up. The values behind the first `2 * errors` play no
-/// part.
+/// If there are no more errors, the locator is 0 at the power of λ for the position of each. Its coefficients are in
+/// rising order, from x^0 on. Values after the first `2 * errors` are ignored.
 pub fn locator(values: &[u8; 16], errors: usize) -> [u8; 9]
     requires { errors ≤ 8 }
     ensures { IsLocator errors values.now result }
@@ -157,14 +155,14 @@ pub fn locator(values: &[u8; 16], errors: usize) -> [u8; 9]
     solution(values, errors)
 }
 
-/// At most sixteen places of a word, as powers of x.
+/// At most sixteen positions of a word, as powers of x.
 #[derive(Drop)]
 struct Places {
     at: [u8; 16],
     count: usize,
 }
 
-/// The places where a polynomial is 0.
+/// The positions where a polynomial is 0.
 fn find_places(polynomial: &[u8]) -> Places
     requires size { length polynomial.now ≤ 17 }
     requires few { HasFewRoots polynomial.now }
@@ -186,7 +184,7 @@ fn find_places(polynomial: &[u8]) -> Places
     found
 }
 
-/// At how many places two words differ.
+/// The number of positions where two words differ.
 pub fn places_apart(a: &[u8; 204], b: &[u8; 204]) -> u8
     ensures { result ≡ distance a.now b.now }
 {
@@ -199,10 +197,10 @@ pub fn places_apart(a: &[u8; 204], b: &[u8; 204]) -> u8
     count
 }
 
-/// Takes a place out of the values of errors. `place` is the power of λ that stands for it.
+/// Removes a position from the values of errors. `place` is the power of λ for it.
 ///
-/// Each value but the last becomes the next one plus `place` times itself. What an error at this
-/// place adds to them is gone. The last value means nothing afterwards. There is at least one value.
+/// Each value but the last becomes the next one plus `place` times itself, which cancels what an error at this position
+/// adds. The last value means nothing afterwards. There is at least one value.
 pub fn take_out(moments: &mut [u8], place: u8)
     requires { 0 < length moments.old }
     ensures size { length moments.new ≡ length moments.old }
@@ -213,7 +211,7 @@ pub fn take_out(moments: &mut [u8], place: u8)
     }
 }
 
-/// Brings values back that were scaled by their place less another one, and gives their sum.
+/// Restores values that were scaled by (their position less another one), and returns their sum.
 fn unscale(places: &[u8], place: u8, values: &mut [u8]) -> u8
     requires size { length values.old ≡ length places.now }
     requires differ { Differ place places.now }
@@ -228,7 +226,7 @@ fn unscale(places: &[u8], place: u8, values: &mut [u8]) -> u8
     sum
 }
 
-/// The values at different places whose sums are the moments.
+/// The values at different positions with these moments.
 fn solve(places: &[u8], moments: &mut [u8], values: &mut [u8])
     requires moments { length moments.old ≡ length places.now }
     requires values { length values.old ≡ length places.now }
@@ -273,11 +271,11 @@ fn powers(places: &Places) -> [u8; 16]
     found
 }
 
-/// The codeword that differs from a word only at places that stand for roots of a polynomial, where
-/// there is one, and else any word.
+/// The codeword that differs from a word only at positions that are roots of a polynomial, if there is one; otherwise
+/// any word.
 ///
-/// `values` are the word's syndromes. The polynomial is not 0, and has 17 coefficients at the most,
-/// that of x^0 first. Byte i stands for λ^(203 - i).
+/// `values` are the word's syndromes. The polynomial is not 0 and has at most 17 coefficients, that of x^0 first. The
+/// position of byte i is λ^(203 - i).
 pub fn repair(word: &[u8; 204], values: &[u8; 16], polynomial: &[u8]) -> [u8; 204]
     requires values { AreSyndromes word.now values.now }
     requires size { length polynomial.now ≤ 17 }
@@ -297,7 +295,7 @@ pub fn repair(word: &[u8; 204], values: &[u8; 16], polynomial: &[u8]) -> [u8; 20
     fixed
 }
 
-/// The codeword within eight places of a word, where there is one, and else any word.
+/// The codeword within distance 8 of a word, if there is one; otherwise any word.
 pub(crate) fn nearest(word: &[u8; 204], values: &[u8; 16]) -> [u8; 204]
     requires { AreSyndromes word.now values.now }
     ensures near { (c : List ℕ) → IsCodeword c → distance word.now c ≤ 8 → result ≡ c }

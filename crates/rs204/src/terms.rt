@@ -1,9 +1,8 @@
-// Terms of polynomials at the first sixteen powers of λ, as sums of bytes.
+// Terms of polynomials at the first sixteen powers of λ, one byte a value.
 
 ghost use Rattle.std.specs.Prelude.{◌≡◌, ◌<◌, slice_index};
 
-/// Entry 16 * j + n has the values of n * x^j at the powers 0 to 15 of λ: sixteen bytes, that at the
-/// power 0 as the lowest.
+/// Entry 16 * j + n has the values of n * x^j at the powers 0 to 15 of λ: sixteen bytes, power 0 lowest.
 static LOW: [u128; 272] = [
     0x00000000000000000000000000000000,
     0x01010101010101010101010101010101,

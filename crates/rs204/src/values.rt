@@ -1,4 +1,4 @@
-// The values of a polynomial at the places of a word, twelve at a time.
+// The values of a polynomial at the positions of a word, twelve at a time.
 
 ghost use Rattle.std.specs.Prelude.{◌≡◌, ◌+◌, ◌*◌, ◌<◌, ◌≤◌, ℕ, length, slice_index, take};
 ghost use Rattle.gf256.specs.Field as field;
@@ -31,7 +31,7 @@ fn first_values(terms: &[u8; 17], count: usize) -> [u8; 16]
     sum.to_le_bytes()
 }
 
-/// Makes a polynomial of x one of λ^12 * x.
+/// Replaces a polynomial of x by that of λ^12 * x.
 fn advance(terms: &mut [u8; 17], count: usize)
     requires { count ≤ 17 }
     ensures size { length terms.new ≡ 17 }
@@ -54,7 +54,7 @@ fn terms_of(polynomial: &[u8]) -> [u8; 17]
     terms
 }
 
-/// Puts the first twelve of these values behind those that are there.
+/// Writes the first twelve of these values after the earlier ones.
 fn put_twelve(values: &mut [u8; 204], from: usize, next: &[u8; 16])
     requires { from ≤ 192 }
     ensures size { length values.new ≡ 204 }
@@ -66,7 +66,7 @@ fn put_twelve(values: &mut [u8; 204], from: usize, next: &[u8; 16])
     }
 }
 
-/// The values of a polynomial at the powers of λ that stand for a word's places.
+/// The values of a polynomial at the powers of λ for a word's positions.
 pub(crate) fn values_at_places(polynomial: &[u8]) -> [u8; 204]
     requires { length polynomial.now ≤ 17 }
     ensures size { length result ≡ 204 }

@@ -1,4 +1,4 @@
--- Words with 0 in erased places.
+-- Words with 0 in erased positions.
 use Rattle.std.proofs.Common.{◌≡◌, ℕ, not, ◌||◌, add-zero, get_or-set_same, zero, suc, ◌+◌, ◌-◌, ◌<◌, ◌≤◌, ◌⊎◌, inl, inr, Bool, true, false, cond, eqb, List, [], ◌∷◌, reverse, length, get_or, set, map, refl, sym, ap, ap₂, ◌∙◌, arith, length-set, get_or-set_other}
 use Rattle.std.specs.Prelude.{bit_xor, count_by}
 use Rattle.std.specs.List.{list_any, range_with_len}
@@ -16,7 +16,7 @@ pub length-blanked : (es w : List ℕ) → length (blanked es w) ≡ length w
 length-blanked [] w = refl
 length-blanked (e ∷ es) w = length-blanked es (set w e 0) ∙ length-set w e 0
 
--- a place is erased, or stands as it was
+-- a position is erased, or unchanged
 abbrev pub Kept : List ℕ → List ℕ → List ℕ → ℕ → Type 0
 Kept es v w i = (get_or (blanked es v) i 0 ≡ get_or v i 0) × (get_or (blanked es w) i 0 ≡ get_or w i 0)
 
@@ -38,7 +38,7 @@ pub place_bytes : (es : List ℕ) → AreBytes (map place_power es)
 place_bytes [] = tt
 place_bytes (e ∷ es) = (power_small (203 - e), place_bytes es)
 
--- the difference of two words, from its end
+-- the difference of two words, from the end
 pub difference_at : (v w : List ℕ) (k : ℕ) → length v ≡ 204 → length w ≡ 204 → k < 204 → get_or (plus (reverse v) (reverse w)) k 0 ≡ bit_xor (get_or v (203 - k) 0) (get_or w (203 - k) 0)
 difference_at v w k l m n =
     get_or-plus (reverse v) (reverse w) k

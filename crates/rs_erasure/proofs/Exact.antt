@@ -1,4 +1,4 @@
--- The outcome is settled by the word and its erased places.
+-- The outcome is determined by the word and its erasures.
 use Rattle.std.proofs.Common.{◌≡◌, ℕ, List, length, refl, sym, ap, ◌∙◌, arith}
 use Rattle.rs_erasure.specs.Outside.{distance_outside, IsOutside, IsFarOutside}
 use Rattle.rs_erasure.specs.Decoded.{DecodedOutside}

@@ -1,4 +1,4 @@
--- A codeword near outside the erased places is found.
+-- A codeword close to the word outside the erasures is found.
 use Rattle.std.proofs.Common.{◌≡◌, ℕ, zero, suc, ◌+◌, ◌-◌, ◌<◌, ◌≤◌, ◌⊎◌, inl, inr, List, [], ◌∷◌, reverse, length, get_or, map, sym, ap, ap₂, ◌∙◌, subst, arith, lit<}
 use Rattle.std.specs.Prelude.{bit_xor, slice_index}
 use Rattle.std.proofs.lemmas.Bool.{cases_eq, cases_lt}
@@ -24,7 +24,7 @@ module _ (word c erased : List ℕ) (long : length word ≡ 204) (bytes : AreByt
   abbrev fault : List ℕ
   fault = error word c long bytes code
 
-  -- the error without its erased places
+  -- the error without its erased positions
   abbrev pub outer : List ℕ
   outer = cleared roots 0 fault
 
@@ -34,7 +34,7 @@ module _ (word c erased : List ℕ) (long : length word ≡ 204) (bytes : AreByt
   outer_at : (k : ℕ) → get_or outer k 0 ≡ times_all roots (power k) (get_or fault k 0)
   outer_at k = let z : 0 + k ≡ k = omega arith in cleared_at roots 0 k fault ∙ ap (λ i. times_all roots (power i) (get_or fault k 0)) z
 
-  -- it is 0 where the blanked words do not differ
+  -- it is 0 where the blanked words agree
   outer_none : (j : ℕ) → get_or (plus (reverse (blanked erased word)) (reverse (blanked erased c))) j 0 ≡ 0 → get_or outer j 0 ≡ 0
   outer_none j e = go (cases_lt j 204)
     where
@@ -93,7 +93,7 @@ module _ (word c erased : List ℕ) (long : length word ≡ 204) (bytes : AreByt
           k z)
           ∙ times_zero roots (power k)
 
--- ---- one codeword at most is near outside the erased places
+-- ---- at most one codeword is close outside the erasures
 
 pub one_outside : (word erased v w : List ℕ) → length word ≡ 204 → length erased ≡ 8 → IsCodeword v → IsCodeword w → distance_outside erased word v ≤ 4 → distance_outside erased word w ≤ 4 → v ≡ w
 one_outside word erased v w l m h k d e =
@@ -109,7 +109,7 @@ one_outside word erased v w l m h k d e =
       between (blanked erased word) (blanked erased v) (blanked erased w) (length-blanked erased word ∙ l ∙ sym (length-blanked erased v ∙ h.long)) (length-blanked erased word ∙ l ∙ sym (length-blanked erased w ∙ k.long)),
     ))
 
--- no codeword is near where the word that would be is refused
+-- no codeword is close if the candidate is rejected
 pub none_outside : (word fixed erased : List ℕ) → ((c : List ℕ) → IsCodeword c → distance_outside erased word c ≤ 4 → fixed ≡ c) → (4 < distance_outside erased word fixed) ⊎ (IsCodeword fixed → ⊥) → IsFarOutside word erased
 none_outside word fixed erased near why c h = go (cases_lt 4 (distance_outside erased word c))
   where

@@ -26,7 +26,7 @@ length-longer (a ∷ p) (b ∷ q) e = ap suc (length-longer p q (omega arith))
 length-root : (a : ℕ) (p : List ℕ) → length (with_root a p) ≡ length p + 1
 length-root a p = length-longer (map (mul a) p) (0 ∷ p) (omega (arith, length-map p (mul a))) ∙ (omega arith)
 
--- one more place is written
+-- one more coefficient is written
 pub set_done : (f : ℕ → ℕ) (now : List ℕ) (k value : ℕ) → k < length now → value ≡ f k → ((j : ℕ) → j < k → get_or now j 0 ≡ f j) → (j : ℕ) → j < k + 1 → get_or (set now k value) j 0 ≡ f j
 set_done f now k value l e h j m = go (cases_eq j k)
   where
@@ -69,7 +69,7 @@ multiplied a old new l m z h =
     go k (inl n) q = sym (h k n) ∙ sym (front new k (omega (arith, m)))
     go k (inr n) q = end k (omega arith)
 
--- ---- zeros behind a polynomial
+-- ---- zeros after a polynomial
 
 value_zero : (x : ℕ) (p : List ℕ) → value_at x (p ++ 0 ∷ []) ≡ value_at x p
 value_zero x [] = ap (bit_xor 0) (mul_zero_right x)
@@ -83,14 +83,14 @@ zero_more : (p : List ℕ) → AreZero p → AreZero (p ++ 0 ∷ [])
 zero_more [] z = (refl, tt)
 zero_more (a ∷ p) z = (z.0, zero_more p z.1)
 
--- x + a times a polynomial is 0 only where the polynomial is
+-- x + a times a polynomial is 0 only if the polynomial is
 root_zero : (a v : ℕ) (q : List ℕ) → AreZero (plus (map (mul a) q) (v ∷ q)) → (v ≡ 0) × AreZero q
 root_zero a v [] z = (z.0, tt)
 root_zero a v (b ∷ q) z =
     let r = root_zero a b q z.1 in
     (sym (xor_equal (mul a b) v z.0) ∙ ap (mul a) r.0 ∙ mul_zero_right a, (r.0, r.1))
 
--- ---- so many of the roots
+-- ---- the first k roots
 
 pub record IsPartly (roots locator : List ℕ) (k : ℕ) (product : List ℕ) : Type 0 where
   pub size : length product ≡ 13

@@ -1,4 +1,4 @@
-// Decoding a word whose erased places count for nothing.
+// Decoding a word with erasures.
 
 ghost use Rattle.std.specs.Prelude.{◌≡◌, ◌<◌, ◌≤◌, ℕ, List, length, slice_index};
 ghost use Rattle.std.specs.List.{All};
@@ -12,10 +12,10 @@ use crate::locate::{errata_locator, modified_syndromes, place_powers};
 use crate::outcome::Erased;
 use rs204::steps::{is_codeword, locator, places_apart, repair, syndromes};
 
-/// The most places that are corrected outside the erased ones.
+/// The most errors that are corrected outside the erasures.
 const MOST: u8 = 4;
 
-/// A word with 0 in its erased places.
+/// A word with 0 in its erased positions.
 fn blank(word: &[u8; 204], erased: &[u8; 8]) -> [u8; 204]
     requires { All (λ e. e < 204) erased.now }
     ensures { result ≡ blanked erased.now word.now }
@@ -27,7 +27,7 @@ fn blank(word: &[u8; 204], erased: &[u8; 8]) -> [u8; 204]
     left
 }
 
-/// At how many places outside the erased ones two words differ.
+/// The number of positions outside the erasures where two words differ.
 fn places_outside(a: &[u8; 204], b: &[u8; 204], erased: &[u8; 8]) -> u8
     requires { All (λ e. e < 204) erased.now }
     ensures { result ≡ distance_outside erased.now a.now b.now }
@@ -35,8 +35,7 @@ fn places_outside(a: &[u8; 204], b: &[u8; 204], erased: &[u8; 8]) -> u8
     places_apart(&blank(a, erased), &blank(b, erased))
 }
 
-/// The codeword that differs in at most so many places outside the erased ones, where there is one,
-/// and else any word.
+/// The codeword that differs in at most `most` positions outside the erasures, if there is one; otherwise any word.
 fn nearest_outside(word: &[u8; 204], erased: &[u8; 8], most: u8) -> [u8; 204]
     requires within { All (λ e. e < 204) erased.now }
     requires few { most ≤ 4 }
@@ -52,8 +51,7 @@ fn nearest_outside(word: &[u8; 204], erased: &[u8; 8], most: u8) -> [u8; 204]
     repair(word, &values, errata.as_slice())
 }
 
-/// Puts the codeword that is nearest outside the erased places in the place of the word, where
-/// there is one.
+/// Replaces the word by the codeword nearest to it outside the erasures, if there is one.
 fn put_right(word: &mut [u8; 204], erased: &[u8; 8]) -> Erased
     requires { All (λ e. e < 204) erased.now }
     ensures { DecodedOutside erased.now word.old word.new result }
@@ -67,11 +65,10 @@ fn put_right(word: &mut [u8; 204], erased: &[u8; 8]) -> Erased
     Erased::Found(count)
 }
 
-/// Corrects a word of which eight places, rising, count for nothing. Place 0 is the first byte.
+/// Corrects a word with eight erasures at rising positions. Position 0 is the first byte.
 ///
-/// `Found(n)` exactly where a codeword differs from the word in n places outside the erased ones, 0
-/// to 4, which the word then is. `NoWord` exactly where each codeword differs in more, and then the
-/// word is unchanged (EN 300 744, 4.3.2).
+/// `Found(n)` exactly if a codeword differs from the word in n positions outside the erasures, 0 to 4; the word then
+/// becomes it. `NoWord` exactly if every codeword differs in more; the word is then unchanged (EN 300 744, 4.3.2).
 pub fn decode_erased(word: &mut [u8; 204], erased: &[u8; 8]) -> Erased
     requires rising { IsStrictlyIncreasing erased.now }
     requires within { All (λ e. e < 204) erased.now }

@@ -1,4 +1,4 @@
-// A polynomial whose roots stand for the erased places and for those of the errors outside them.
+// A polynomial whose roots are the erased positions and the errors outside them.
 
 ghost use Rattle.std.specs.Prelude.{◌≡◌, ◌<◌, ◌≤◌, ◌++◌, [], ◌∷◌, ℕ, length, map, slice_index};
 ghost use Rattle.std.specs.List.{All};
@@ -8,7 +8,7 @@ ghost use Rattle.rs_erasure.specs.Locating.{IsProduct, lowered, place_power};
 use gf256::Elem;
 use rs204::steps::take_out;
 
-/// The powers of λ that stand for places of a word.
+/// The powers of λ for positions of a word.
 pub(crate) fn place_powers(places: &[u8; 8]) -> [u8; 8]
     requires { All (λ e. e < 204) places.now }
     ensures { result ≡ map place_power places.now }
@@ -20,8 +20,8 @@ pub(crate) fn place_powers(places: &[u8; 8]) -> [u8; 8]
     found
 }
 
-/// The modified syndromes: what is left of syndromes when the erased places are taken out of them.
-/// The first eight are values of the errors outside alone.
+/// The modified syndromes: the syndromes with the erased positions removed. The first eight are values of the errors
+/// outside the erasures only.
 pub(crate) fn modified_syndromes(values: &[u8; 16], powers: &[u8; 8]) -> [u8; 16]
     ensures { (i : ℕ) → i < 8 → slice_index result i ≡ lowered powers.now (λ k. slice_index values.now k) i }
 {

@@ -1,8 +1,8 @@
-/// What became of a word with erased places.
+/// The outcome of decoding a word with erasures.
 #[derive(Clone, Copy, Debug, Drop, PartialEq, Eq)]
 pub enum Erased {
-    /// The word is a codeword now. It differed in so many places outside the erased ones, 0 to 4.
+    /// The word is now a codeword. It differed in this number of positions outside the erasures, 0 to 4.
     Found(u8),
-    /// Each codeword differs in more than four places outside the erased ones.
+    /// Every codeword differs in more than four positions outside the erasures.
     NoWord,
 }

@@ -1,4 +1,4 @@
--- The text of a reception's report. Each line ends with a line feed.
+-- The text of the report on a reception. Each line ends with a line feed.
 use Rattle.std.specs.Prelude.{ℕ, List, [], ◌∷◌, ◌++◌, Option, None, Some, codes, decimal}
 use Rattle.mode_set.specs.declared.modes.Stream.{Stream}
 use Rattle.mode_set.specs.declared.modes.Stream.TheVariants.{Hp, Lp}
@@ -7,12 +7,15 @@ use Rattle.rx_report.specs.declared.counts.Counts.{Counts}
 use Rattle.rx_report.specs.declared.counts.Event.{Event}
 use Rattle.rx_report.specs.declared.counts.StreamCounts.{StreamCounts}
 
+-- the line of the symbols
 abbrev pub symbols_line : Counts → List ℕ
 symbols_line c = codes "symbols " ++ decimal c.symbols ++ codes " tail " ++ decimal c.tail ++ codes "\n"
 
+-- the line of the TPS words
 abbrev pub tps_line : Counts → List ℕ
 tps_line c = codes "tps read " ++ decimal c.tps_read ++ codes " bad " ++ decimal c.tps_bad ++ codes "\n"
 
+-- the line of a stream
 abbrev pub stream_line : Stream → StreamCounts → List ℕ
 stream_line σ c =
     stream_text σ
@@ -24,6 +27,7 @@ stream_line σ c =
     ++ codes " unmerged " ++ decimal c.unmerged
     ++ codes "\n"
 
+-- the line of LP, if it exists
 abbrev pub lp_lines : Option StreamCounts → List (List ℕ)
 lp_lines None = []
 lp_lines (Some c) = stream_line Lp c ∷ []

@@ -5,11 +5,11 @@ use mode_set::Stream;
 /// The counts of one stream.
 #[derive(Clone, Copy, Debug, Default, Drop, PartialEq, Eq)]
 pub struct StreamCounts {
-    /// The received outer words, those of the start-up left out.
+    /// The received outer words, without those of the start-up.
     pub words: u64,
     /// Those that were codewords.
     pub clean: u64,
-    /// Those with one to eight wrong bytes, which were corrected.
+    /// Those with one to eight wrong bytes, all corrected.
     pub corrected: u64,
     /// Those without a nearest codeword.
     pub bad: u64,
@@ -32,7 +32,7 @@ pub struct Counts {
     pub tps_bad: u64,
     /// The stream of high priority, or the only one.
     pub hp: StreamCounts,
-    /// The stream of low priority, where there is one.
+    /// The stream of low priority, if there is one.
     pub lp: Option<StreamCounts>,
 }
 
@@ -41,6 +41,6 @@ pub struct Counts {
 pub struct Event {
     /// The stream.
     pub stream: Stream,
-    /// The number of steps since the stream's start, that of the report included.
+    /// The number of steps since the stream's start, including the step of the report.
     pub at: u64,
 }

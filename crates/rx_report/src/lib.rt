@@ -1,6 +1,7 @@
-//! What a reception counts, and the text of its report.
+//! The counts of a reception, and the text of its report.
 //!
-//! A [`Line`] of a report has room for 256 bytes; [`push_count`] adds a text and a number, [`name_of`] names a stream.
+//! A [`Line`] of a report holds up to 256 bytes; [`push_count`] appends a text and a number, [`name_of`] names a
+//! stream.
 #![tactic(auto)]
 
 mod counts;

@@ -7,10 +7,10 @@ use arrayvec::ArrayString;
 use itoa::Buffer;
 use mode_set::Stream;
 
-/// A line of the report, its line feed included. It has room for 256 bytes.
+/// A line of the report with its line feed, at most 256 bytes.
 pub type Line = ArrayString<256>;
 
-/// Adds a text and the decimal digits of a number. There must be room for the text and 20 digits.
+/// Appends a text and the decimal digits of a number. There must be room for the text and 20 digits.
 pub fn push_count(line: &mut Line, text: &str, number: u64)
     requires { array_string_len line.old + length text.now ≤ 236 }
     ensures bytes { line.new.bytes ≡ line.old.bytes ++ text.now ++ decimal number }

@@ -1,4 +1,4 @@
--- The costs of an axis from the sign and the magnitude of its value.
+-- The costs of an axis, from the sign and the magnitude of its value.
 use Rattle.std.specs.Prelude.{◌≡◌, ℕ, zero, suc, ◌+◌, ◌-◌, ◌/◌, ◌%◌, ◌^◌, ◌≤◌, min, nat_lt, Bool, if◌then◌else◌, List, slice_index, slice_index_or, ℤ, pos, neg_ℤ}
 use Rattle.std.specs.Int.{abs_diff}
 
@@ -30,7 +30,7 @@ pub record AreAxisCosts (levels : List ℕ) (positive : Bool) (m : ℕ) (cs : Li
   pub inner_zero : (pair_at cs 2).0 ≡ scaled (min (near levels m 0) (near levels m 3))
   pub inner_one : (pair_at cs 2).1 ≡ scaled (min (near levels m 1) (near levels m 2))
 
--- a value of an axis, given modulo 2^16, in the lanes: its magnitude, and whether it is 0 or more
+-- a value of an axis modulo 2^16, as in the lanes: its magnitude, and whether it is at least 0
 abbrev pub lane_magnitude : ℕ → ℕ
 lane_magnitude u = min u ((65536 - u) % 65536)
 
@@ -41,7 +41,7 @@ lane_positive u = nat_lt u 32768
 abbrev pub lane_value : ℕ → ℤ
 lane_value u = if lane_positive u then pos (lane_magnitude u) else neg_ℤ (pos (lane_magnitude u))
 
--- the least distance to one of two levels on the value's side of 0
+-- the lower distance to two levels on the value's side of 0
 abbrev pub near_two : List ℕ → ℕ → ℕ → ℕ → ℕ
 near_two levels u j k = min (abs_diff (lane_magnitude u) (slice_index levels j)) (abs_diff (lane_magnitude u) (slice_index levels k))
 
@@ -51,7 +51,7 @@ near_four levels u = min (near_two levels u 0 1) (near_two levels u 2 3)
 abbrev pub far_one : List ℕ → ℕ → ℕ
 far_one levels u = lane_magnitude u + slice_index levels 3
 
--- the costs of the values 0 and 1 of the bit of axis number 0, 1 or 2, by distances
+-- the costs of values 0 and 1 of bit 0, 1 or 2 of an axis, from distances
 abbrev pub lane_zero : List ℕ → ℕ → ℕ → ℕ
 lane_zero levels zero u = if lane_positive u then scaled (near_four levels u ^ 2) else scaled (far_one levels u ^ 2)
 lane_zero levels (suc zero) u = scaled (near_two levels u 0 1 ^ 2)

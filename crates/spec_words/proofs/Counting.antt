@@ -10,7 +10,7 @@ range_end : (a n : ℕ) → range_with_len a (suc n) ≡ range_with_len a n ++ (
 range_end a zero = ap (λ (z : ℕ). z ∷ []) (omega arith)
 range_end a (suc n) = ap (λ (zs : List ℕ). a ∷ zs) (range_end (a + 1) n) ∙ ap (λ (z : ℕ). a ∷ (range_with_len (a + 1) n ++ z ∷ [])) (omega arith)
 
--- a list that counts on has one number more
+-- one more number at the end of a list that counts on
 pub numbers_end : (n : ℕ) → numbers (n + 1) ≡ numbers n ++ n ∷ []
 unfolding numbers
 numbers_end n = let next : n + 1 ≡ suc n = omega arith in ap (range_with_len 0) next ∙ range_end 0 n ∙ ap (λ (z : ℕ). range_with_len 0 n ++ z ∷ []) (omega arith)

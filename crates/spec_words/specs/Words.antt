@@ -1,4 +1,4 @@
--- Lists of numbers, and the numbers found in them.
+-- Lists of numbers and searches in them.
 use Rattle.std.specs.Prelude.{ℕ, ◌+◌, ◌-◌, ◌/◌, ◌==◌, min, Bool, List, [], ◌∷◌}
 use Rattle.std.specs.List.{position_or_len, list_any, range_with_len}
 
@@ -6,11 +6,11 @@ use Rattle.std.specs.List.{position_or_len, list_any, range_with_len}
 unfoldable pub numbers : ℕ → List ℕ
 numbers n = range_with_len 0 n
 
--- the first number below n that passes the test, and n where none does
+-- the first number below n that passes the test, or n if none does
 abbrev pub first_below : ℕ → (ℕ → Bool) → ℕ
 first_below n test = position_or_len test (numbers n)
 
--- whether a number is in the list
+-- whether a list contains a number
 abbrev pub is_among : List ℕ → ℕ → Bool
 is_among xs k = list_any (λ x. x == k) xs
 

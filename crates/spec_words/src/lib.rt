@@ -1,5 +1,5 @@
-//! Small words that the definitions of several crates share: bits, lists of numbers, least elements.
+//! Small definitions that the specs of several crates share: bits, lists of numbers, least elements.
 //!
-//! The crate has no code. Its `specs/` are read beside the definitions of the standard, and its
-//! `proofs/` have the laws of these words.
+//! The crate has no code. Its `specs/` are read with the definitions of the standard, and its `proofs/` have the laws
+//! of these definitions.
 #![tactic(auto)]

@@ -1,8 +1,8 @@
--- Counts of the calls tried at each port.
+-- Counts of the calls made at each port.
 use Rattle.std.specs.Prelude.{ℕ, ◌+◌, min, List, slice_index, slice_set}
 use Rattle.station_core.specs.Causes.{greatest_count}
 
--- the number, from 1, of the next call at a port
+-- the number of the next call at a port, counted from 1
 abbrev pub next_call : List ℕ → ℕ → ℕ
 next_call calls port = min (slice_index calls port + 1) greatest_count
 

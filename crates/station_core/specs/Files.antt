@@ -7,12 +7,12 @@ use Rattle.std.specs.declared.alloc.Global.{Global}
 abbrev pub Files : Type 0
 Files = List (String Global × Vec ℕ Global)
 
--- the content of the first file of the name, or nothing
+-- the content of the first file of that name, or the empty list
 abbrev pub found : Files → List ℕ → List ℕ
 found [] name = []
 found (f ∷ fs) name = if bytes_eq (string_bytes f.0) name then f.1.items else found fs name
 
--- whether there is a file of the name
+-- whether a file has that name
 abbrev pub has_file : Files → List ℕ → Bool
 has_file [] name = false
 has_file (f ∷ fs) name = if bytes_eq (string_bytes f.0) name then true else has_file fs name

@@ -1,19 +1,19 @@
--- What a station stands for: its ports, what is still to be read, what was written, and its counts of faults.
+-- The state of a station: its ports, what is left to read, what was written, and its counts of faults.
 use Rattle.std.specs.Prelude.{◌≡◌, ℕ, Bool, true, false, List, [], ◌++◌, drop, Option, None, Some, if◌then◌else◌}
 use Rattle.station_core.specs.declared.ports.InPort.{InPort}
 use Rattle.station_core.specs.declared.ports.InPort.TheVariants as ins
 use Rattle.station_core.specs.declared.ports.OutPort.{OutPort}
 use Rattle.station_core.specs.declared.ports.OutPort.TheVariants as outs
 
--- a port that is read
+-- an input port
 pub record Source : Type 0 where
-  -- the name given to the one `attach` that was tried
+  -- the name given to the only `attach` call
   pub asked : Option (List ℕ)
   pub attached : Bool
   -- the bytes still to be read
   pub left : List ℕ
 
--- a port that is written
+-- an output port
 pub record Sink : Type 0 where
   pub asked : Option (List ℕ)
   pub created : Bool
@@ -21,10 +21,11 @@ pub record Sink : Type 0 where
   -- the bytes written since its creation
   pub written : List ℕ
 
+-- the state of a station
 pub record Meaning : Type 0 where
-  -- whether the contents (`file`, `left`, `written`) are told; where not, they say nothing
+  -- whether the contents (`file`, `left`, `written`) are known; if not, they mean nothing
   pub tells : Bool
-  -- the bytes under a name
+  -- the bytes of the file of a name
   pub file : List ℕ → List ℕ
   pub settings : Source
   pub hp : Source
@@ -36,21 +37,23 @@ pub record Meaning : Type 0 where
   pub bytes_out : Sink
   pub report : Sink
   pub read_faults : ℕ
-  -- the writes that have failed, and the outputs that could not be made
+  -- failed writes, and outputs that could not be created
   pub write_faults : ℕ
-  -- the outputs that could not be closed well
+  -- outputs that could not be closed cleanly
   pub close_faults : ℕ
-  -- those of the write faults at which a write to Report has failed
+  -- the write faults that were failed writes to Report
   pub report_faults : ℕ
-  -- Bytes may wait that were given to an output, or a fault of its file that no call has reported. Report is no output.
+  -- An output may have bytes not yet written, or a file fault not yet reported by a call. Report is not an output here.
   pub pending : Bool
 
+-- the state of an input port
 abbrev pub source_at : InPort → Meaning → Source
 source_at ins.Settings m = m.settings
 source_at ins.Hp m = m.hp
 source_at ins.Lp m = m.lp
 source_at ins.Cells m = m.cells
 
+-- the state of an output port
 abbrev pub sink_at : OutPort → Meaning → Sink
 sink_at outs.Cells m = m.cells_out
 sink_at outs.Hp m = m.hp_out
@@ -58,7 +61,7 @@ sink_at outs.Lp m = m.lp_out
 sink_at outs.Bytes m = m.bytes_out
 sink_at outs.Report m = m.report
 
--- the same with another source at the port
+-- the same station with another source at the port
 abbrev pub with_source : InPort → Source → Meaning → Meaning
 with_source ins.Settings s m = record m { settings = s }
 with_source ins.Hp s m = record m { hp = s }
@@ -72,7 +75,7 @@ with_sink outs.Lp s m = record m { lp_out = s }
 with_sink outs.Bytes s m = record m { bytes_out = s }
 with_sink outs.Report s m = record m { report = s }
 
--- the same behind a write at the port: bytes may wait at an output then
+-- the same station after a write to the port: an output may then have pending bytes
 abbrev pub with_written : OutPort → Sink → Meaning → Meaning
 with_written outs.Cells s m = record m { cells_out = s; pending = true }
 with_written outs.Hp s m = record m { hp_out = s; pending = true }
@@ -80,10 +83,11 @@ with_written outs.Lp s m = record m { lp_out = s; pending = true }
 with_written outs.Bytes s m = record m { bytes_out = s; pending = true }
 with_written outs.Report s m = record m { report = s }
 
--- all that was given to the outputs was handed to their files
+-- all bytes given to the outputs were passed to their files
 abbrev pub flushed : Meaning → Meaning
 flushed m = record m { pending = false }
 
+-- the same station with another count of faults
 abbrev pub with_read_faults : ℕ → Meaning → Meaning
 with_read_faults n m = record m { read_faults = n }
 
@@ -93,7 +97,7 @@ with_write_faults n m = record m { write_faults = n }
 abbrev pub with_close_faults : ℕ → Meaning → Meaning
 with_close_faults n m = record m { close_faults = n }
 
--- a write to the port has failed: the counts of all write faults, and of those at Report
+-- A write to the port has failed. It counts as a write fault, and at Report also as a report fault.
 abbrev pub with_failed_write : OutPort → ℕ → ℕ → Meaning → Meaning
 with_failed_write outs.Cells writes reports m = record m { write_faults = writes }
 with_failed_write outs.Hp writes reports m = record m { write_faults = writes }
@@ -101,11 +105,11 @@ with_failed_write outs.Lp writes reports m = record m { write_faults = writes }
 with_failed_write outs.Bytes writes reports m = record m { write_faults = writes }
 with_failed_write outs.Report writes reports m = record m { write_faults = writes; report_faults = reports }
 
--- a name was asked for at a port
+-- a name was requested at a port
 abbrev pub asked_source : List ℕ → Source → Source
 asked_source name s = record s { asked = Some name }
 
--- and its file is there to be read
+-- and its file is open for reading
 abbrev pub attached_source : List ℕ → List ℕ → Source → Source
 attached_source name bytes s = record { asked = Some name; attached = true; left = bytes }
 
@@ -119,21 +123,21 @@ asked_sink name s = record s { asked = Some name }
 abbrev pub created_sink : List ℕ → Sink → Sink
 created_sink name s = record { asked = Some name; created = true; closed = false; written = [] }
 
--- bytes were written, where that is told
+-- bytes were written, if contents are known
 abbrev pub written_sink : Bool → List ℕ → Sink → Sink
 written_sink tells bytes s = record s { written = if tells then s.written ++ bytes else s.written }
 
 abbrev pub closed_sink : Sink → Sink
 closed_sink s = record s { closed = true }
 
--- a port at which nothing was asked
+-- a port where no name was requested
 abbrev pub no_source : Source
 no_source = record { asked = None; attached = false; left = [] }
 
 abbrev pub no_sink : Sink
 no_sink = record { asked = None; created = false; closed = false; written = [] }
 
--- a station at the beginning: nothing is asked, and none but Report is created
+-- a station at the start: no name is requested, and only Report is created
 abbrev pub fresh : Bool → (List ℕ → List ℕ) → Meaning
 fresh tells file = record {
   tells = tells;
@@ -154,17 +158,18 @@ fresh tells file = record {
   pending = false;
 }
 
--- a port at which nothing was asked, and which is not open
+-- a port where no name was requested and nothing is open
 pub record IsUnasked (s : Source) : Type 0 where
   pub asked : s.asked ≡ None
   pub attached : s.attached ≡ false
 
+-- an output port where no name was requested, and no file was created or closed
 pub record IsUntouched (s : Sink) : Type 0 where
   pub asked : s.asked ≡ None
   pub created : s.created ≡ false
   pub closed : s.closed ≡ false
 
--- a station at the beginning of a run: no port is asked or open but Report, to which nothing was written, and nothing waits
+-- A station at the start of a run. Only Report is open, nothing was written to it, and nothing is pending.
 pub record IsFresh (m : Meaning) : Type 0 where
   pub settings : IsUnasked m.settings
   pub hp : IsUnasked m.hp

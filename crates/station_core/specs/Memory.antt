@@ -1,4 +1,4 @@
--- What a station in memory stands for, and what it is told to do.
+-- The state of a station in memory, and the faults that it is set up to produce.
 use Rattle.std.specs.Prelude.{◌≡◌, ℕ, true, List}
 use Rattle.station_core.specs.declared.memory.MemoryStation.{MemoryStation}
 use Rattle.station_core.specs.declared.memory.Failing.{Failing}
@@ -11,6 +11,7 @@ use Rattle.station_core.specs.Files.{Files, found}
 use Rattle.station_core.specs.Sources.{source_of}
 use Rattle.station_core.specs.Sinks.{sink_of}
 
+-- the state of a station in memory; its contents are known
 unfoldable pub memory_meaning : MemoryStation → Meaning
 memory_meaning m = record {
   tells = true;
@@ -35,15 +36,15 @@ memory_meaning m = record {
 abbrev pub files_of : MemoryStation → Files
 files_of m = m.files.items
 
--- the calls that are to fail
+-- the calls set to fail
 abbrev pub failing_of : MemoryStation → List Failing
 failing_of m = m.failing.items
 
--- the most bytes that a read gives
+-- the most bytes that one read returns
 abbrev pub most_of : MemoryStation → ℕ
 most_of m = m.most_per_read
 
--- the most bytes that a port holds
+-- the most bytes that a port can hold
 abbrev pub room_of : OutPort → MemoryStation → ℕ
 room_of outs.Cells m = m.cells_out.room
 room_of outs.Hp m = m.hp_out.room
@@ -51,12 +52,14 @@ room_of outs.Lp m = m.lp_out.room
 room_of outs.Bytes m = m.bytes_out.room
 room_of outs.Report m = m.report.room
 
+-- the number of an input port
 abbrev pub in_number : InPort → ℕ
 in_number ins.Settings = 0
 in_number ins.Hp = 1
 in_number ins.Lp = 2
 in_number ins.Cells = 3
 
+-- the number of an output port
 abbrev pub out_number : OutPort → ℕ
 out_number outs.Cells = 0
 out_number outs.Hp = 1
@@ -64,15 +67,15 @@ out_number outs.Lp = 2
 out_number outs.Bytes = 3
 out_number outs.Report = 4
 
--- the reads that were tried at each port
+-- the reads tried at each port
 abbrev pub reads_of : MemoryStation → List ℕ
 reads_of m = m.reads
 
--- the writes that were tried at each port
+-- the writes tried at each port
 abbrev pub writes_of : MemoryStation → List ℕ
 writes_of m = m.writes
 
--- what a station in memory is told to do stays
+-- the set-up of a station in memory does not change
 pub record IsSamePlan (old new : MemoryStation) : Type 0 where
   pub files : files_of new ≡ files_of old
   pub failing : failing_of new ≡ failing_of old

@@ -1,9 +1,8 @@
 //! The outside of the program: what a command reads and writes.
 //!
-//! [`Station`] is the trait of the outside. Its contracts speak of one record, `Meaning` of
-//! `specs/Meaning.antt`: each port with the name asked there, what is still to be read or was
-//! written, and counts of faults. [`MemoryStation`] is an outside that lies in memory and fails where
-//! it is told to.
+//! [`Station`] is the trait of the outside. Its contracts use one record, `Meaning` of `specs/Meaning.antt`: each port
+//! with the name requested there, what is left to read or was written, and counts of faults. [`MemoryStation`] is an
+//! outside in memory that fails on demand.
 #![tactic(auto)]
 
 mod memory;

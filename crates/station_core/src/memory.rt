@@ -7,31 +7,29 @@ use crate::source::Reading;
 use crate::{Failed, InPort, OutPort, Station};
 use std::alloc::{AllocError, Global};
 
-/// A call that is to fail: the n-th, from 1, of its kind at its port, or every flush.
+/// A call set to fail: call n of its kind at its port, counted from 1, or every flush.
 #[derive(Clone, Copy, Debug, PartialEq, Eq)]
 pub enum Failing {
-    /// The opening of a file to be read.
+    /// Opening a file for reading.
     Attach(InPort, u64),
     /// A read.
     Read(InPort, u64),
-    /// The making of an output.
+    /// Creating an output.
     Create(OutPort, u64),
     /// A write.
     Write(OutPort, u64),
-    /// The close of an output.
+    /// Closing an output.
     Close(OutPort, u64),
-    /// Each flush of the outputs, as after a fault that no write has reported.
+    /// Every flush of the outputs, as after a fault that no write has reported.
     Flush,
 }
 
-/// A station whose files and outputs lie in memory, and which tells its contents.
+/// A station with its files and outputs in memory, whose contents are known.
 ///
-/// Of its calls exactly these fail, and each is counted: the calls that its list `failing` names,
-/// `attach` of a name that no file has, and a `write` after which the port would hold more than
-/// its room. A read gives the least of the buffer's length, `most_per_read` and what is left. A
-/// write that is named writes the first half of its bytes, rounded down, and one past the room
-/// nothing. What is written stands at once; a flush that is named fails all the same. No call but
-/// `new` takes memory.
+/// Exactly these calls fail, and each failure is counted: the calls in its list `failing`, `attach` of a name that no
+/// file has, and a `write` past the capacity of the port. A read returns at most the buffer's length, `most_per_read`
+/// and what is left. A write set to fail writes the first half of its bytes, rounded down; one past the capacity writes
+/// nothing. Written bytes are stored at once, but a flush set to fail still fails. Only `new` allocates memory.
 #[derive(Drop)]
 pub struct MemoryStation<'a> {
     files: Vec<(String, Vec<u8>)>,
@@ -46,13 +44,13 @@ pub struct MemoryStation<'a> {
     lp_out: Writing<'a>,
     bytes_out: Writing<'a>,
     report: Writing<'a>,
-    // the reads and the writes tried at each port
+    // the reads and writes tried at each port
     reads: [u64; 4],
     writes: [u64; 5],
     read_faults: u64,
     write_faults: u64,
     close_faults: u64,
-    // an output was written to since the last flush that did not fail
+    // an output was written to since the last successful flush
     pending: bool,
     ghost reads_some: { 1 ≤ most_per_read },
 }
@@ -65,10 +63,10 @@ impl<'a> MemoryStation<'a> {
     ghost use Rattle.station_core.specs.Files.{found};
     ghost use Rattle.station_core.specs.declared.ports.OutPort.{OutPort};
 
-    /// A station over these files, of which the first of a name counts.
+    /// A station with these files; of several with the same name the first counts.
     ///
-    /// A read gives at most `most_per_read` bytes, which is at least 1; each output has room for
-    /// `room` bytes, which are taken now; the calls in `failing` fail.
+    /// A read returns at most `most_per_read` bytes, which is at least 1. Each output holds up to `room` bytes, which
+    /// are allocated now. The calls in `failing` fail.
     pub fn new(
         alloc: Global,
         files: Vec<(String, Vec<u8>)>,
@@ -109,7 +107,7 @@ impl<'a> MemoryStation<'a> {
         })
     }
 
-    /// The bytes written to a port, none where it was not created.
+    /// The bytes written to a port; none if it was not created.
     pub fn written(&self, port: OutPort) -> &[u8]
         ensures { result.now ≡ (sink_at port (memory_meaning self.now)).written }
     {
@@ -122,7 +120,7 @@ impl<'a> MemoryStation<'a> {
         }
     }
 
-    /// Whether the output at a port was made. One that was made may be empty.
+    /// Whether the output at a port was created; it may be empty.
     pub fn is_created(&self, port: OutPort) -> bool
         ensures { result ≡ (sink_at port (memory_meaning self.now)).created }
     {
@@ -136,7 +134,7 @@ impl<'a> MemoryStation<'a> {
     }
 }
 
-// Whether a call is named.
+// Whether a call is in the list.
 fn is_named(failing: &[Failing], call: Failing) -> bool
     ensures { IsTrue result ↔ Contains failing.now call }
 {
@@ -176,7 +174,7 @@ impl OutPort {
     }
 }
 
-// Counts one more call at a port, and gives its number, from 1.
+// Counts one more call at a port, and returns its number, from 1.
 fn count_call(calls: &mut [u64], port: usize) -> u64
     requires { port < length calls.old }
     ensures number { result ≡ next_call calls.old port }

@@ -1,6 +1,6 @@
 // The ports of a station.
 
-/// Where a command reads.
+/// The input ports of a command.
 #[derive(Clone, Copy, Debug, PartialEq, Eq)]
 pub enum InPort {
     /// The settings file.
@@ -13,7 +13,7 @@ pub enum InPort {
     Cells,
 }
 
-/// Where a command writes.
+/// The output ports of a command.
 #[derive(Clone, Copy, Debug, PartialEq, Eq)]
 pub enum OutPort {
     /// A file of cells.
@@ -22,8 +22,8 @@ pub enum OutPort {
     Hp,
     /// The transport stream of low priority.
     Lp,
-    /// Bytes of one of the coding's layers.
+    /// The output of the coding commands.
     Bytes,
-    /// The lines that tell the user how the run went.
+    /// The lines that report on the run to the user.
     Report,
 }

@@ -1,11 +1,11 @@
-// A port of a station in memory that is written. Its memory is taken at the beginning.
+// An output port of a station in memory. Its memory is allocated at the start.
 ghost use Rattle.std.specs.Prelude.{◌≡◌, ◌≤◌, ◌<◌, ◌↔◌, ◌⊎◌, ◌+◌, ◌/◌, ◌++◌, ℕ, length, take, vec_capacity, true, OnOk, OnErr, IfOk, IsTrue, IsErr};
 ghost use Rattle.station_core.specs.Causes.{Rose, greatest_count};
 
 use crate::Failed;
 use std::alloc::{AllocError, Global};
 
-// A port that is written.
+// An output port.
 #[derive(Drop)]
 pub struct Writing<'a> {
     pub asked: Option<&'a str>,
@@ -13,7 +13,7 @@ pub struct Writing<'a> {
     pub closed: bool,
     pub bytes: Vec<u8>,
     pub room: u32,
-    // the writes that have failed here
+    // the failed writes at this port
     pub faults: u64,
     ghost fits: { room ≤ vec_capacity bytes },
 }
@@ -24,7 +24,7 @@ impl<'a> Writing<'a> {
     ghost use Rattle.std.specs.Prelude.{◌≡◌, ◌≤◌, ◌<◌, ◌↔◌, ◌⊎◌, ◌+◌, ◌/◌, ◌++◌, ℕ, length, take, true, OnOk, OnErr, IfOk, IsTrue, IsErr};
     ghost use Rattle.station_core.specs.Causes.{Rose, greatest_count};
 
-    // A port at which nothing was asked, with room for so many bytes.
+    // A port where no name was requested, with a capacity of `room` bytes.
     pub fn new(alloc: Global, room: u32) -> Result<Writing<'a>, AllocError>
         ensures new { IfOk result (λ w. sink_of w ≡ no_sink) }
         ensures room { IfOk result (λ w. w.room ≡ room) }
@@ -40,7 +40,7 @@ impl<'a> Writing<'a> {
         })
     }
 
-    // Makes the output, or fails as it is told to.
+    // Creates the output, or fails if set to.
     pub fn create(&mut self, fails: bool, name: &'a str, faults: &mut u64) -> Result<(), Failed>
         ensures ok { OnOk result (sink_of self.new ≡ created_sink name.now (sink_of self.old)) }
         ensures err { OnErr result (sink_of self.new ≡ asked_sink name.now (sink_of self.old)) }
@@ -62,7 +62,7 @@ impl<'a> Writing<'a> {
         Ok(())
     }
 
-    // Writes all the bytes, half of them where it is told to fail, none where there is no room.
+    // Writes all the bytes; half of them if set to fail, none if they do not fit.
     pub fn write(&mut self, fails: bool, bytes: &[u8], faults: &mut u64) -> Result<(), Failed>
         ensures ok { OnOk result (sink_of self.new ≡ written_sink true bytes.now (sink_of self.old)) }
         ensures err { OnErr result ((n : ℕ) × (sink_of self.new ≡ written_sink true (take n bytes.now) (sink_of self.old))) }
@@ -94,7 +94,7 @@ impl<'a> Writing<'a> {
         }
     }
 
-    // Counts a write that has failed, also among those of this port.
+    // Counts a failed write, also at this port.
     fn fail_write(&mut self, faults: &mut u64) -> Failed
         ensures same { sink_of self.new ≡ sink_of self.old }
         ensures bytes { self.new.bytes ≡ self.old.bytes }
@@ -109,7 +109,7 @@ impl<'a> Writing<'a> {
         count_fault(faults)
     }
 
-    // Closes the output, and fails as it is told to.
+    // Closes the output, and fails if set to.
     pub fn close(&mut self, fails: bool, faults: &mut u64) -> Result<(), Failed>
         ensures closed { sink_of self.new ≡ closed_sink (sink_of self.old) }
         ensures exact { IsErr result ↔ IsTrue fails }

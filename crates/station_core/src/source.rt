@@ -1,4 +1,4 @@
-// A port of a station in memory that is read, and the files that it reads.
+// An input port of a station in memory, and the files that it reads.
 ghost use Rattle.std.specs.Prelude.{◌≡◌, ◌≤◌, ◌<◌, ◌↔◌, ◌⊎◌, min, length, take, is_some, true, false, IfSome, IsNone, OnOk, OnErr, IsTrue, IsErr};
 ghost use Rattle.station_core.specs.Causes.{Rose, greatest_count};
 ghost use Rattle.station_core.specs.Files.{Files, content_at, found, has_file};
@@ -6,11 +6,11 @@ ghost use Rattle.station_core.specs.Files.{Files, content_at, found, has_file};
 use crate::Failed;
 use crate::sink::count_fault;
 
-// A port that is read.
+// An input port.
 #[derive(Drop)]
 pub struct Reading<'a> {
     pub asked: Option<&'a str>,
-    // the file's place in the list of files
+    // the index of the file in the list
     pub file: Option<usize>,
     // the bytes read so far
     pub at: usize,
@@ -26,7 +26,7 @@ pub fn content(files: &[(String, Vec<u8>)], file: usize) -> &[u8]
     }
 }
 
-// The place of the first file of a name.
+// The index of the first file of that name.
 pub fn find_file(files: &[(String, Vec<u8>)], name: &str) -> Option<usize>
     ensures found { IfSome result (λ i. content_at files.now i ≡ found files.now name.now) }
     ensures none { IsNone result ↔ (has_file files.now name.now ≡ false) }
@@ -39,7 +39,7 @@ pub fn find_file(files: &[(String, Vec<u8>)], name: &str) -> Option<usize>
     None
 }
 
-// Copies from the front of what is left, and gives how many bytes.
+// Copies from the start of what is left, and returns the number of bytes.
 pub fn copy_front(left: &[u8], most: usize, buf: &mut [u8]) -> usize
     ensures count { result ≡ min (min most (length buf.old)) (length left.now) }
     ensures bytes { take result buf.new ≡ take result left.now }
@@ -56,7 +56,7 @@ impl<'a> Reading<'a> {
     ghost use Rattle.std.specs.Prelude.{◌≡◌, ◌≤◌, ◌<◌, ◌↔◌, ◌⊎◌, length, is_some, true, false, OnOk, OnErr, IsTrue, IsErr};
     ghost use Rattle.station_core.specs.Causes.{Rose, greatest_count};
 
-    // A port at which nothing was asked.
+    // A port where no name was requested.
     pub fn new() -> Reading<'a>
         ensures { (fs : Files) → source_of fs result ≡ no_source }
     {
@@ -67,7 +67,7 @@ impl<'a> Reading<'a> {
         }
     }
 
-    // Opens the first file of the name, or fails where there is none or it is told to.
+    // Opens the first file of the name, or fails if there is none or if set to.
     pub fn attach(
         &mut self,
         files: &[(String, Vec<u8>)],
@@ -97,7 +97,7 @@ impl<'a> Reading<'a> {
         }
     }
 
-    // Reads from an open file: as much as fits the buffer, at most so many bytes.
+    // Reads from an open file: as much as fits the buffer, at most `most` bytes.
     fn read_open(&mut self, files: &[(String, Vec<u8>)], most: usize, buf: &mut [u8]) -> usize
         requires some { 1 ≤ most }
         requires room { 0 < length buf.old }
@@ -116,7 +116,7 @@ impl<'a> Reading<'a> {
         count
     }
 
-    // Reads from the open file, or fails as it is told to.
+    // Reads from the open file, or fails if set to.
     pub fn read(
         &mut self,
         files: &[(String, Vec<u8>)],

@@ -6,25 +6,23 @@ ghost use Rattle.station_core.specs.declared.ports.OutPort.TheVariants.{Report};
 
 use crate::{InPort, OutPort};
 
-/// A call on the outside has failed, and the station has counted it.
+/// A call on the outside failed, and the station has counted it.
 #[derive(Clone, Copy, Debug, PartialEq, Eq)]
 pub struct Failed;
 
 /// The outside of a command: the files that it reads and writes, and its report.
 ///
-/// Contracts see a station as its `meaning`: whether it tells its contents, what it has under a
-/// name, each port, whether bytes may wait at an output, and three counts of faults, which never fall
-/// and stand still at 2^64 - 1: one of `attach` and `read`, one of `create`, `write` and `flush`, one of
-/// `close`. Of the write faults those at which a write to Report has failed are counted once more, by
-/// themselves. A call changes only what its clauses `ok` and `err` name: everything else of the meaning
-/// stays. It answers `Failed` only if the count of its kind rose, and no call that answers `Ok` changes
-/// a count.
+/// Contracts see a station as its `meaning`: whether its contents are known, the file of each name, each port, whether
+/// an output may have pending bytes, and three counts of faults, which never fall and stop at 2^64 - 1: one of `attach`
+/// and `read`, one of `create`, `write` and `flush`, one of `close`. Failed writes to Report are also counted
+/// separately. A call changes only what its clauses `ok` and `err` name; the rest of the meaning stays. It returns
+/// `Failed` only if the count of its kind rose, and no call that returns `Ok` changes a count.
 pub trait Station<'a> {
     ghost meaning: { Self → Meaning };
 
-    /// Opens the file of this name, to be read at `port`. Nothing was asked there before.
+    /// Opens the file of this name for reading at `port`, where no name was requested before.
     ///
-    /// Where it answers `Failed` the port is not attached.
+    /// If it returns `Failed`, the port is not attached.
     fn attach(&mut self, port: InPort, name: &'a str) -> Result<(), Failed>
         requires { (source_at port (meaning self.old)).asked ≡ None }
         ensures ok { OnOk result (meaning self.new ≡ with_source port (attached_source name.now ((meaning self.old).file name.now) (source_at port (meaning self.old))) (meaning self.old)) }
@@ -34,9 +32,9 @@ pub trait Station<'a> {
         ensures later { (meaning self.old).read_faults ≤ (meaning self.new).read_faults }
         ensures bounded { OnErr result ((meaning self.new).read_faults ≤ greatest_count) };
 
-    /// Reads some bytes into the front of the buffer, which is not empty: none exactly at the end.
+    /// Reads some bytes into the start of the buffer, which is not empty; 0 bytes exactly at the end.
     ///
-    /// The port is attached. Where it answers `Failed` nothing is taken from what is left.
+    /// The port is attached. If it returns `Failed`, nothing was read.
     fn read(&mut self, port: InPort, buf: &mut [u8]) -> Result<usize, Failed>
         requires attached { (source_at port (meaning self.old)).attached ≡ true }
         requires room { 0 < length buf.old }
@@ -50,10 +48,9 @@ pub trait Station<'a> {
         ensures later { (meaning self.old).read_faults ≤ (meaning self.new).read_faults }
         ensures bounded { OnErr result ((meaning self.new).read_faults ≤ greatest_count) };
 
-    /// Makes a file of this name, to be written at `port`: any port but Report, where nothing was
-    /// asked before.
+    /// Creates a file of this name for writing at `port`: any port but Report, where no name was requested before.
     ///
-    /// Where it answers `Failed` the port is not created.
+    /// If it returns `Failed`, the port is not created.
     fn create(&mut self, port: OutPort, name: &'a str) -> Result<(), Failed>
         requires asked { (sink_at port (meaning self.old)).asked ≡ None }
         requires port { port ≢ Report }
@@ -64,10 +61,10 @@ pub trait Station<'a> {
         ensures later { (meaning self.old).write_faults ≤ (meaning self.new).write_faults }
         ensures bounded { OnErr result ((meaning self.new).write_faults ≤ greatest_count) };
 
-    /// Writes the bytes after those written before: all of them or, if it answers `Failed`, a prefix.
+    /// Appends the bytes: all of them or, if it returns `Failed`, a prefix.
     ///
-    /// The port is created and not closed, and there are bytes to write. At an output they may wait,
-    /// and so may the report of a fault of its file, until `flush` or `close`.
+    /// The port is created and not closed, and there are bytes to write. At an output they may stay pending, and a
+    /// fault of its file unreported, until `flush` or `close`.
     fn write(&mut self, port: OutPort, bytes: &[u8]) -> Result<(), Failed>
         requires created { (sink_at port (meaning self.old)).created ≡ true }
         requires open { (sink_at port (meaning self.old)).closed ≡ false }
@@ -81,8 +78,8 @@ pub trait Station<'a> {
         ensures later_report { (meaning self.old).report_faults ≤ (meaning self.new).report_faults }
         ensures bounded { OnErr result ((meaning self.new).write_faults ≤ greatest_count) };
 
-    /// Hands what waits at the outputs to their files. It answers `Failed` if a write to one of the
-    /// files has failed, also if a call before it has met that and has not reported it.
+    /// Passes the pending bytes of all outputs to their files. It returns `Failed` if a write to one of the files
+    /// failed, including earlier failures not yet reported.
     fn flush(&mut self) -> Result<(), Failed>
         ensures ok { OnOk result (meaning self.new ≡ flushed (meaning self.old)) }
         ensures err { OnErr result (meaning self.new ≡ with_write_faults (meaning self.new).write_faults (meaning self.old)) }
@@ -90,8 +87,7 @@ pub trait Station<'a> {
         ensures later { (meaning self.old).write_faults ≤ (meaning self.new).write_faults }
         ensures bounded { OnErr result ((meaning self.new).write_faults ≤ greatest_count) };
 
-    /// Ends the writing. The port is created and not closed; it is closed afterwards also where
-    /// the answer is `Failed`.
+    /// Ends the writing. The port is created and not closed; it is closed afterwards even if `Failed` is returned.
     fn close(&mut self, port: OutPort) -> Result<(), Failed>
         requires created { (sink_at port (meaning self.old)).created ≡ true }
         requires open { (sink_at port (meaning self.old)).closed ≡ false }

@@ -1,4 +1,4 @@
--- What waits at a port of a station over files.
+-- Bytes that wait at a port of a station over files.
 use Rattle.std.specs.Prelude.{◌≡◌}
 use Rattle.station_files.specs.declared.buffer.Buffer.{Buffer}
 use Rattle.station_files.specs.declared.writing.FileWriting.{FileWriting}
@@ -8,11 +8,11 @@ use Rattle.station_files.specs.declared.writing.Fault.TheVariants.{Absent}
 abbrev pub IsEmpty : Buffer → Type 0
 IsEmpty b = b.start ≡ b.end
 
--- nothing that was given to the port waits to be written
+-- the port has no bytes waiting to be written
 abbrev pub IsOut : {F : Type 0} → FileWriting F → Type 0
 IsOut w = IsEmpty w.buffer
 
--- and no write of its file has failed
+-- and no write to its file has failed
 pub record IsSettled {F : Type 0} (w : FileWriting F) : Type 0 where
   pub out : IsOut w
   pub faultless : w.fault ≡ Absent

@@ -1,4 +1,4 @@
-// Bytes in memory between the calls of a command and those of the system.
+// Buffers between the calls of a command and system calls.
 ghost use Rattle.std.specs.Prelude.{◌≤◌};
 ghost use Rattle.station_files.specs.Room.{room_of};
 
@@ -6,11 +6,11 @@ use crate::patience::read_patiently;
 use station_core::Failed;
 use std::io::Read;
 
-/// Bytes that wait, in memory that the caller gave. Without memory none can wait.
+/// Pending bytes, in memory from the caller. Without memory there are none.
 #[derive(Drop)]
 pub struct Buffer {
     memory: Option<Vec<u8>>,
-    // those that wait: from `start` to `end`
+    // the pending bytes: from `start` to `end`
     start: usize,
     end: usize,
     ghost in_order: { start ≤ end },
@@ -32,14 +32,14 @@ impl Buffer {
         }
     }
 
-    /// Whether no byte waits.
+    /// Whether no byte is pending.
     pub fn is_empty(&self) -> bool
         ensures { (result ≡ true) ↔ IsEmpty self.now }
     {
         self.start == self.end
     }
 
-    /// The most bytes that can wait.
+    /// The most bytes that can be pending.
     pub fn room(&self) -> usize
         ensures { result ≡ room_of self.now.memory }
     {
@@ -49,7 +49,7 @@ impl Buffer {
         }
     }
 
-    /// The bytes that wait.
+    /// The pending bytes.
     pub fn waiting(&self) -> &[u8]
         ensures { length result.now ≡ self.now.end - self.now.start }
     {
@@ -59,7 +59,7 @@ impl Buffer {
         }
     }
 
-    /// Lets go of the bytes that wait.
+    /// Drops the pending bytes.
     pub fn clear(&mut self)
         ensures empty { IsEmpty self.new }
         ensures front { self.new.start ≡ 0 }
@@ -68,7 +68,7 @@ impl Buffer {
         self.end = 0;
     }
 
-    /// Hands out from the front of what waits, and tells how many.
+    /// Moves bytes from the start of the pending ones into `buf`, and returns their number.
     pub fn hand_out(&mut self, buf: &mut [u8]) -> usize
         ensures { result ≤ length buf.new }
     {
@@ -79,7 +79,7 @@ impl Buffer {
         count
     }
 
-    /// Takes the bytes behind those that wait, where there is room for all of them.
+    /// Appends the bytes to the pending ones, if all of them fit.
     pub fn gather(&mut self, bytes: &[u8]) -> bool {
         let Some(memory) = &mut self.memory else {
             return false;
@@ -93,7 +93,7 @@ impl Buffer {
         true
     }
 
-    /// Reads some bytes of the file, in place of those that wait: none at its end.
+    /// Reads some bytes of the file, replacing the pending ones; none at its end.
     pub fn fill<F: Read>(&mut self, file: &mut F) -> Result<(), Failed> {
         self.clear();
         let Some(memory) = &mut self.memory else {

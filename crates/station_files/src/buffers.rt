@@ -1,32 +1,32 @@
 // The memory of a station.
 use std::alloc::{AllocError, Global};
 
-/// The bytes that one read of a file asks for, and that are gathered before one is written.
+/// The size of one read from a file, and of the bytes gathered for one write.
 pub const BUFFER: usize = 32768;
 
 /// Memory for the eight ports of a station.
 #[derive(Drop)]
 pub struct Buffers {
-    /// What was read of the settings.
+    /// Bytes read from the settings.
     pub settings: Vec<u8>,
-    /// What was read of HP.
+    /// Bytes read from HP.
     pub hp: Vec<u8>,
-    /// What was read of LP.
+    /// Bytes read from LP.
     pub lp: Vec<u8>,
-    /// What was read of the cells.
+    /// Bytes read from the cells.
     pub cells: Vec<u8>,
-    /// What is to be written to the cells.
+    /// Bytes to write to the cells.
     pub cells_out: Vec<u8>,
-    /// What is to be written to HP.
+    /// Bytes to write to HP.
     pub hp_out: Vec<u8>,
-    /// What is to be written to LP.
+    /// Bytes to write to LP.
     pub lp_out: Vec<u8>,
-    /// What is to be written to the bytes of `disperse`, `outer` and `inner`.
+    /// Bytes to write for `disperse`, `outer` and `inner`.
     pub bytes_out: Vec<u8>,
 }
 
 impl Buffers {
-    /// Memory of 32,768 bytes a port. The only error is that there is too little.
+    /// Memory of 32,768 bytes a port. The only error is lack of memory.
     pub fn new(alloc: Global) -> Result<Buffers, AllocError> {
         Ok(Buffers {
             settings: vec![in alloc; 0; BUFFER]?,

@@ -1,4 +1,4 @@
-// Opening and making the files of the ports.
+// Opening and creating the files of the ports.
 ghost use Rattle.std.specs.Prelude.{◌≡◌, [], OnOk, OnErr};
 ghost use Rattle.station_core.specs.Meaning.{attached_source, asked_source, created_sink, asked_sink};
 ghost use Rattle.station_files.specs.Ports.{source_of, sink_of};
@@ -30,7 +30,7 @@ pub fn attach_at<'a, R: Files>(
     }
 }
 
-/// Opens a file to be written, and makes it if there is none. It keeps what it holds.
+/// Opens a file for writing, and creates it if it does not exist. Its contents are kept.
 pub fn open_to_write<R: Files>(rt: &R, name: &str) -> Result<R::File, Failed> {
     match OpenOptions::new().write(true).create(true).open(rt, name) {
         Ok(file) => Ok(file),
@@ -38,7 +38,7 @@ pub fn open_to_write<R: Files>(rt: &R, name: &str) -> Result<R::File, Failed> {
     }
 }
 
-/// What the system says of an open file.
+/// The metadata of an open file.
 pub fn metadata_of<F: OpenFile>(file: &F) -> Result<Metadata, Failed> {
     match file.metadata() {
         Ok(metadata) => Ok(metadata),
@@ -46,8 +46,8 @@ pub fn metadata_of<F: OpenFile>(file: &F) -> Result<Metadata, Failed> {
     }
 }
 
-/// Whether the file of a port is this one. A character device, as a terminal, may be read and
-/// written at once, so it never is.
+/// Whether this is the file of a port. A character device such as a terminal may be read and written at once, so it
+/// never is.
 pub fn is_same<F: OpenFile>(open: &Option<F>, other: &Metadata) -> bool {
     let Some(file) = open else {
         return false;
@@ -62,7 +62,7 @@ pub fn is_same<F: OpenFile>(open: &Option<F>, other: &Metadata) -> bool {
     }
 }
 
-/// Empties a file that is to be written. A pipe or a device has nothing to be emptied.
+/// Truncates a file to be written. A pipe or a device has nothing to truncate.
 pub fn empty<F: OpenFile>(file: &F, metadata: &Metadata) -> Result<(), Failed> {
     if !metadata.is_file() {
         return Ok(());
@@ -73,7 +73,7 @@ pub fn empty<F: OpenFile>(file: &F, metadata: &Metadata) -> Result<(), Failed> {
     }
 }
 
-/// Gives one port the file that was made for it, if it was.
+/// Attaches the created file to its port, if creation succeeded.
 pub fn create_at<'a, F: Drop>(
     writing: &mut FileWriting<'a, F>,
     name: &'a str,

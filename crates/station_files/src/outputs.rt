@@ -1,4 +1,4 @@
-// The files that are written, together.
+// All output files together.
 ghost use Rattle.std.specs.Prelude.{◌≡◌, false};
 ghost use Rattle.station_files.specs.Waiting.{IsSettled};
 
@@ -9,14 +9,14 @@ use std::fs::OpenFile;
 use std::io;
 use std::io::Write;
 
-/// The ports that are written, but for Report.
+/// The output ports except Report.
 #[derive(Drop)]
 pub struct Outputs<'a, F> {
     pub cells: FileWriting<'a, F>,
     pub hp: FileWriting<'a, F>,
     pub lp: FileWriting<'a, F>,
     pub bytes: FileWriting<'a, F>,
-    // one was written to since all was last handed over
+    // a port was written to since everything was last passed to the files
     pub pending: bool,
     ghost settled_cells: { pending ≡ false → IsSettled cells },
     ghost settled_hp: { pending ≡ false → IsSettled hp },
@@ -30,7 +30,7 @@ impl<'a, F: Write + OpenFile + Drop> Outputs<'a, F> {
     ghost use Rattle.station_files.specs.Ports.{sink_of};
     ghost use Rattle.station_files.specs.Outputs.{AllOut, AllTold, SameSinks};
 
-    /// Ports at which nothing was asked, with this memory.
+    /// Ports where no name was requested, with this memory.
     pub fn new(
         cells: Option<Vec<u8>>,
         hp: Option<Vec<u8>>,
@@ -52,7 +52,7 @@ impl<'a, F: Write + OpenFile + Drop> Outputs<'a, F> {
         }
     }
 
-    /// Writes what waits at any port. A file that fails is reported by `tell`.
+    /// Writes the pending bytes of all ports. A failed file is reported by `tell`.
     pub fn flush(&mut self)
         ensures same { SameSinks self.old self.new }
         ensures out { AllOut self.new }
@@ -64,7 +64,7 @@ impl<'a, F: Write + OpenFile + Drop> Outputs<'a, F> {
         self.bytes.flush();
     }
 
-    // Fails where a file has failed since it was last told of.
+    // Fails if a file has failed since the last report.
     fn tell(&mut self) -> Result<(), Failed>
         requires out { AllOut self.old }
         ensures same { SameSinks self.old self.new }
@@ -79,8 +79,8 @@ impl<'a, F: Write + OpenFile + Drop> Outputs<'a, F> {
         cells.and(hp).and(lp).and(bytes)
     }
 
-    /// Hands to the files what was given to the ports, and fails if one of them has failed, also if
-    /// that was reported before.
+    /// Passes all bytes given to the ports to their files. It fails if any file has failed, even if that was reported
+    /// before.
     pub fn hand_over(&mut self) -> Result<(), Failed>
         ensures same { SameSinks self.old self.new }
         ensures ok { OnOk result (self.new.pending ≡ false) }
@@ -97,8 +97,8 @@ impl<'a, F: Write + OpenFile + Drop> Outputs<'a, F> {
         Ok(())
     }
 
-    /// Writes a line to standard output, after all that the ports were given. If one of them fails,
-    /// so does this call, and nothing of the line is written.
+    /// Writes a line to standard output, after everything given to the ports. If a port fails, so does this call, and
+    /// nothing of the line is written.
     pub fn report<R: Print>(&mut self, rt: &R, line: &[u8]) -> Result<(), Failed>
         ensures same { SameSinks self.old self.new }
         ensures out { AllOut self.new }
@@ -110,7 +110,7 @@ impl<'a, F: Write + OpenFile + Drop> Outputs<'a, F> {
         self.print_line(rt, line)
     }
 
-    // Writes a line to standard output, where whoever reads it may take the outputs for written.
+    // Writes a line to standard output, whose reader may assume that the outputs are written.
     fn print_line<R: Print>(&self, rt: &R, line: &[u8]) -> Result<(), Failed>
         requires { AllOut self.now }
     {

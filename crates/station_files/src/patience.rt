@@ -1,13 +1,13 @@
-// Calls of the system that are tried again where a signal interrupts them.
+// System calls that are retried if a signal interrupts them.
 ghost use Rattle.std.specs.Prelude.{◌≤◌, length, IfOk};
 
 use station_core::Failed;
 use std::io::{ErrorKind, Read, Write};
 
-/// How often a call is tried that signals interrupt each time.
+/// How often a call is retried if a signal interrupts it every time.
 pub const TRIES: u32 = 1000;
 
-/// Reads some bytes into the front of the buffer: none at the end.
+/// Reads some bytes into the start of the buffer; none at the end.
 pub fn read_patiently<F: Read>(file: &mut F, buf: &mut [u8]) -> Result<usize, Failed>
     ensures { IfOk result (λ n. n ≤ length buf.new) }
 {
@@ -21,7 +21,7 @@ pub fn read_patiently<F: Read>(file: &mut F, buf: &mut [u8]) -> Result<usize, Fa
     Err(Failed)
 }
 
-// Writes some bytes from the front.
+// Writes some bytes from the start.
 fn write_patiently<W: Write>(writer: &mut W, bytes: &[u8]) -> Result<usize, Failed>
     ensures { IfOk result (λ n. n ≤ length bytes.now) }
 {

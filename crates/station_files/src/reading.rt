@@ -1,4 +1,4 @@
-// A file that is read, in large pieces.
+// An input file, read in large pieces.
 use crate::buffer::Buffer;
 use crate::outputs::Outputs;
 use crate::patience::read_patiently;
@@ -6,12 +6,12 @@ use station_core::Failed;
 use std::fs::OpenFile;
 use std::io::{Read, Write};
 
-/// A port that is read.
+/// An input port.
 #[derive(Drop)]
 pub struct FileReading<'a, F> {
     pub asked: Option<&'a str>,
     pub file: Option<F>,
-    // read and not yet handed out
+    // read from the file, but not yet returned
     buffer: Buffer,
 }
 
@@ -21,7 +21,7 @@ impl<'a, F: Read + Write + OpenFile + Drop> FileReading<'a, F> {
     ghost use Rattle.station_files.specs.Ports.{source_of};
     ghost use Rattle.station_files.specs.Outputs.{AllOut, SameSinks};
 
-    /// A port at which nothing was asked.
+    /// A port where no name was requested.
     pub fn new(memory: Option<Vec<u8>>) -> FileReading<'a, F>
         ensures { source_of result ≡ no_source }
     {
@@ -32,8 +32,7 @@ impl<'a, F: Read + Write + OpenFile + Drop> FileReading<'a, F> {
         }
     }
 
-    // Reads of the file itself, which may wait for others to write it: behind all that was given to
-    // be written.
+    // Reads from the file itself, which may wait for another process to write it; so all outputs are written first.
     fn read_file(&mut self, _written: &Outputs<'a, F>, buf: &mut [u8]) -> Result<usize, Failed>
         requires written { AllOut _written.now }
         ensures same { source_of self.new ≡ source_of self.old }
@@ -49,8 +48,8 @@ impl<'a, F: Read + Write + OpenFile + Drop> FileReading<'a, F> {
         Ok(self.buffer.hand_out(buf))
     }
 
-    /// Reads some bytes, none at the end of the file. Before it asks the file, all that the outputs
-    /// were given is written there.
+    /// Reads some bytes, none at the end of the file. Before it reads the file, everything given to the outputs is
+    /// written.
     pub fn read(&mut self, outputs: &mut Outputs<'a, F>, buf: &mut [u8]) -> Result<usize, Failed>
         ensures same { source_of self.new ≡ source_of self.old }
         ensures outputs { SameSinks outputs.old outputs.new }

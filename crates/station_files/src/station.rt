@@ -12,19 +12,17 @@ use std::rt::Files;
 
 /// The files of a runtime, and its standard output as Report.
 ///
-/// What is written to a port waits in its buffer, if it has one: until that is full, until a read
-/// asks a file, until a line is written to Report, or until `flush` or `close`. Once one of these two
-/// has answered `Ok`, and no call before it failed, all of it stands in the file.
+/// Bytes written to a port are buffered, if it has a buffer, until the buffer is full, a read reaches a file, a line is
+/// written to Report, or `flush` or `close` is called. Once one of these two returns `Ok` and no earlier call failed,
+/// all bytes are in the file.
 ///
-/// Each call that fails is counted; a count stands still at its greatest number. A write that takes
-/// nothing of a piece that is not empty is a fault, and so is a call that signals interrupt a
-/// thousand times. Once the file of a port has failed, nothing more is written to it. A fault that
-/// is met as a read begins is reported by the next write to its port or to Report, by `flush`, or by
-/// `close`. If Report reports one, nothing of the line is written, and the next line is free of it.
+/// Each failed call is counted, and a count stops at its greatest number. A write that takes nothing of a nonempty
+/// piece is a fault, and so is a call interrupted by a signal a thousand times. Once the file of a port has failed,
+/// nothing more is written to it. A fault met before a read is reported by the next write to its port or to Report, by
+/// `flush`, or by `close`. If Report reports one, nothing of the line is written, and the next line is unaffected.
 ///
-/// An output is emptied only after it was seen to be none of the files that are open already, by
-/// whatever name: `create` fails at such a file and leaves it as it is. A character device, as a
-/// terminal, may be read and written at once.
+/// An output is truncated only after checking that it is not a file already open under any name: `create` fails at such
+/// a file and leaves it unchanged. A character device such as a terminal may be read and written at once.
 #[derive(Drop)]
 pub struct FileStation<'a, R: Files + Print> {
     rt: &'a R,
@@ -37,7 +35,7 @@ pub struct FileStation<'a, R: Files + Print> {
     read_faults: u64,
     write_faults: u64,
     close_faults: u64,
-    // the writes to Report that have failed
+    // the failed writes to Report
     report_faults: u64,
 }
 
@@ -45,8 +43,7 @@ impl<'a, R: Files + Print> FileStation<'a, R> {
     ghost use Rattle.station_files.specs.Station.{file_meaning};
     ghost use Rattle.station_core.specs.Meaning.{IsFresh};
 
-    /// A station without buffers, at which nothing was asked, and no fault was counted. Each read
-    /// and write goes to the system.
+    /// A station without buffers, with no name requested and no fault counted. Every read and write is a system call.
     pub fn new(rt: &'a R) -> FileStation<'a, R>
         ensures fresh { IsFresh (file_meaning result) }
         ensures no_read_fault { (file_meaning result).read_faults ≡ 0 }
@@ -68,7 +65,7 @@ impl<'a, R: Files + Print> FileStation<'a, R> {
         }
     }
 
-    /// A station with these buffers, at which nothing was asked, and no fault was counted.
+    /// A station with these buffers, with no name requested and no fault counted.
     pub fn with_buffers(rt: &'a R, buffers: Buffers) -> FileStation<'a, R>
         ensures fresh { IsFresh (file_meaning result) }
         ensures no_read_fault { (file_meaning result).read_faults ≡ 0 }
@@ -109,7 +106,7 @@ impl<'a, R: Files + Print> FileStation<'a, R> {
             || is_same(&self.outputs.bytes.file, file)
     }
 
-    // Opens the file of this name to be written, and empties it, unless a port has it open already.
+    // Opens the file of this name for writing, and truncates it, unless a port has it open already.
     fn make(&self, name: &str) -> Result<R::File, Failed> {
         let file = open_to_write(self.rt, name)?;
         let metadata = metadata_of(&file)?;
@@ -121,7 +118,7 @@ impl<'a, R: Files + Print> FileStation<'a, R> {
     }
 }
 
-// The answer of a call, whose failure is counted.
+// The result of a call, with its failure counted.
 fn counted<T>(outcome: Result<T, Failed>, faults: &mut u64) -> Result<T, Failed>
     ensures same { result ≡ outcome }
     ensures ok { OnOk result (faults.new ≡ faults.old) }

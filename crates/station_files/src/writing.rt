@@ -1,22 +1,22 @@
-// A file that is written, in large pieces.
+// An output file, written in large pieces.
 use crate::buffer::Buffer;
 use crate::patience::write_whole;
 use station_core::Failed;
 use std::fs::OpenFile;
 use std::io::{ErrorKind, Write};
 
-/// Whether a write of the file has failed. Nothing more is written to it then.
+/// Whether a write to the file has failed. After that nothing more is written to it.
 #[derive(Clone, Copy, Debug, PartialEq, Eq)]
 pub enum Fault {
-    /// None has.
+    /// No write has failed.
     Absent,
-    /// One has, and no call of the station has answered so.
+    /// A write has failed, and no call of the station has reported it.
     Untold,
-    /// One has, and a call has answered so.
+    /// A write has failed, and a call has reported it.
     Told,
 }
 
-/// A port that is written.
+/// An output port.
 #[derive(Drop)]
 pub struct FileWriting<'a, F> {
     pub asked: Option<&'a str>,
@@ -28,8 +28,7 @@ pub struct FileWriting<'a, F> {
     buffer: Buffer,
 }
 
-// Sees that what was written has come to the file. A pipe or a terminal keeps nothing that could be
-// lost, and says so.
+// Makes sure that the written bytes reach the file. A pipe or a terminal stores nothing, and says so.
 fn sync<F: OpenFile>(file: &F) -> Result<(), Failed> {
     match file.sync_data() {
         Ok(()) => Ok(()),
@@ -47,7 +46,7 @@ impl<'a, F: Write + OpenFile + Drop> FileWriting<'a, F> {
     ghost use Rattle.station_files.specs.Ports.{sink_of};
     ghost use Rattle.station_files.specs.Waiting.{IsOut, IsSettled};
 
-    /// A port at which nothing was asked.
+    /// A port where no name was requested.
     pub fn new(memory: Option<Vec<u8>>) -> FileWriting<'a, F>
         ensures new { sink_of result ≡ no_sink }
         ensures settled { IsSettled result }
@@ -62,7 +61,7 @@ impl<'a, F: Write + OpenFile + Drop> FileWriting<'a, F> {
         }
     }
 
-    /// Writes to the file what waits. If that fails the rest is dropped, and `tell` answers so.
+    /// Writes the pending bytes to the file. If that fails, the rest is dropped, and `tell` reports it.
     pub fn flush(&mut self)
         ensures same { sink_of self.new ≡ sink_of self.old }
         ensures out { IsOut self.new }
@@ -83,8 +82,7 @@ impl<'a, F: Write + OpenFile + Drop> FileWriting<'a, F> {
         }
     }
 
-    /// Fails where the file has failed since `tell` was last called. What is told once isn't told
-    /// again.
+    /// Fails if the file has failed since the last call of `tell`. A failure is reported only once.
     pub fn tell(&mut self) -> Result<(), Failed>
         ensures same { sink_of self.new ≡ sink_of self.old }
         ensures buffer { self.new.buffer ≡ self.old.buffer }
@@ -99,8 +97,8 @@ impl<'a, F: Write + OpenFile + Drop> FileWriting<'a, F> {
         Ok(())
     }
 
-    /// Writes to the file what waits. It fails if a write of the file has failed, also if that was
-    /// reported before.
+    /// Writes the pending bytes to the file. It fails if a write of the file has failed, even if that was reported
+    /// before.
     pub fn settle(&mut self) -> Result<(), Failed>
         ensures same { sink_of self.new ≡ sink_of self.old }
         ensures out { IsOut self.new }
@@ -115,7 +113,7 @@ impl<'a, F: Write + OpenFile + Drop> FileWriting<'a, F> {
         Ok(())
     }
 
-    /// Does what `settle` does, and sees that all of it has come to the file.
+    /// Does what `settle` does, and makes sure that all bytes have reached the file.
     pub fn hand_over(&mut self) -> Result<(), Failed>
         ensures same { sink_of self.new ≡ sink_of self.old }
         ensures settled { OnOk result (IsSettled self.new) }
@@ -131,7 +129,7 @@ impl<'a, F: Write + OpenFile + Drop> FileWriting<'a, F> {
         synced
     }
 
-    /// Takes the bytes to be written after those before. Once the file has failed each call does.
+    /// Takes bytes to be written after the earlier ones. Once the file has failed, every call fails.
     pub fn write(&mut self, bytes: &[u8]) -> Result<(), Failed>
         ensures same { sink_of self.new ≡ sink_of self.old }
         ensures failed { self.old.fault ≢ Absent → IsErr result }
@@ -154,7 +152,7 @@ impl<'a, F: Write + OpenFile + Drop> FileWriting<'a, F> {
         written
     }
 
-    /// Writes what waits and closes the file, also where that fails.
+    /// Writes the pending bytes and closes the file, even if writing fails.
     pub fn close(&mut self) -> Result<(), Failed>
         ensures closed { sink_of self.new ≡ closed_sink (sink_of self.old) }
         ensures told { self.old.fault ≡ Untold → IsErr result }

@@ -1,4 +1,4 @@
--- Steps on many words, where all states are alive.
+-- Steps on many words, with all states alive.
 use Rattle.std.proofs.Common.{◌≡◌, ℕ, ◌<◌, ◌||◌, Bool, true, List, [], ◌∷◌, ◌++◌, refl, sym, ap, ap₂, ◌∙◌, append_assoc, append-nil, arith}
 use Rattle.std.proofs.lemmas.Bool.{agree_below_at}
 use Rattle.spec_words.specs.Bits.{is_set}
@@ -11,7 +11,7 @@ use Rattle.survivor_ring.proofs.Walks.{trace_push, root_push, trace_append}
 pub all_alive : (n : ℕ) → n < 64 → is_set 18446744073709551615 n ≡ true
 all_alive n l = agree_below_at (λ n. is_set 18446744073709551615 n) (λ n. true) 64 n refl l
 
--- all states follow all, whatever the word
+-- all states follow all, for any word
 pub all_followed : (old word : ℕ) → old ≡ 18446744073709551615 → IsFollowed old word 18446744073709551615
 all_followed old word e = record {
   lives = λ n l. all_alive n l ∙ sym (ap₂ (λ a b. a || b) (ap (λ z. is_set z (even_of n)) e ∙ all_alive (even_of n) (omega arith)) refl);
@@ -21,7 +21,7 @@ all_followed old word e = record {
 pub none_pushed : (old : ℕ → List Bool) → AreAllPushed old [] old
 none_pushed old = record { each = λ n l. sym (append-nil (old n)) }
 
--- one word more
+-- one more word
 pub all_pushed_more : (old : ℕ → List Bool) (words : List ℕ) (mid : ℕ → List Bool) (word : ℕ) (new : ℕ → List Bool) → AreAllPushed old words mid → IsPushed mid word 18446744073709551615 new → AreAllPushed old (words ++ word ∷ []) new
 all_pushed_more old words mid word new h p = record {
   each = λ n l.
@@ -31,6 +31,6 @@ all_pushed_more old words mid word new h p = record {
       ∙ sym (ap₂ (λ k z. old k ++ z) (root_push words word n) (trace_push words word n));
 }
 
--- words behind words
+-- words after words
 pub traces_extended : (ws ds new : List ℕ) → new ≡ ws ++ ds → AreAllPushed (trace ws) ds (trace new)
 traces_extended ws ds new e = record { each = λ n l. ap (λ z. trace z n) e ∙ trace_append ws ds n }

@@ -18,7 +18,7 @@ bool_set : (b : Bool) → is_set (bool_byte b) 0 ≡ b
 bool_set true = refl
 bool_set false = refl
 
--- a byte moved up by one place, with a bit in the place that becomes free
+-- a byte shifted up by one, with a bit in the free place
 moved_up : (x : ℕ) (b : Bool) (k : ℕ) → k < 7 → is_set (bit_or (x * 2 % 256) (bool_byte b)) (k + 1) ≡ is_set x k
 moved_up x b k l =
     let e : k + 1 - 1 ≡ k = omega arith in
@@ -41,7 +41,7 @@ spelled_more n x b l =
     let f : n + 1 ≡ suc n = omega arith in
     ap (λ z. spelled z (bit_or (x * 2 % 256) (bool_byte b))) f ∙ spelled_push n x (bit_or (x * 2 % 256) (bool_byte b)) b (free_place x b) (λ k m. moved_up x b k (omega arith))
 
--- what was appended of a row, and the part of it that follows
+-- the part of a row that was appended, and the next part
 pub parts_join : (row to mid new part : List Bool) (m t : ℕ) → m ≤ t → mid ≡ to ++ take m row → new ≡ mid ++ part → part ≡ take (t - m) (drop m row) → new ≡ to ++ take t row
 parts_join row to mid new part m t l e f g =
     let s : m + (t - m) ≡ t = omega arith in

@@ -1,4 +1,4 @@
--- Walks back through decision words eight at a time.
+-- Tracebacks through decision words, eight at a time.
 use Rattle.std.proofs.Common.{◌≡◌, ℕ, zero, suc, ◌+◌, ◌-◌, ◌*◌, ◌/◌, ◌%◌, ◌^◌, ◌<◌, ◌≤◌, Bool, false, cond, List, [], ◌∷◌, ◌++◌, length, take, drop, get_or, set, refl, sym, ap, ap₂, ◌∙◌, arith, eqb, bit_and, bit_or, lit<, ext_get_or, get_or-take, length-take-le, take-append-drop, drop-drop, append_assoc, true, true≢false, ◌⊎◌, inl, inr}
 use Rattle.std.proofs.Math.Nat.{pow-suc}
 use Rattle.std.proofs.Math.Seq.{take-append_seam}
@@ -16,7 +16,7 @@ use Rattle.survivor_ring.specs.Ring.{IsTraced, root, trace}
 use Rattle.survivor_ring.proofs.Walks.{drop_one, root_below, trace_length, trace_append, trace_bit, trace_drop, root_append}
 use Rattle.survivor_ring.proofs.Traces.{spelled_at, bits_at, chunk_is}
 
--- ---- a byte in the other order
+-- ---- a byte in reverse order
 
 abbrev pub halves : ℕ → ℕ
 halves x = bit_or (x / 16) (x * 16 % 256)
@@ -50,7 +50,7 @@ high_bit n j =
     ap (is_set n) f ∙ half_bit n (suc (suc (suc (suc (suc j))))) ∙ half_bit (n / 2) (suc (suc (suc (suc j)))) ∙ half_bit (n / 2 / 2) (suc (suc (suc j))) ∙ half_bit (n / 2 / 2 / 2) (suc (suc j))
     ∙ half_bit (n / 2 / 2 / 2 / 2) (suc j) ∙ half_bit (n / 2 / 2 / 2 / 2 / 2) j ∙ ap (λ z. is_set z j) e
 
--- after k steps: the state in the lowest six bits, and the newest bits of the states on the way above them
+-- after k steps: the state in the lowest six bits, and above them the newest bits of the states passed
 pub record Walked (words : List ℕ) (state k walk : ℕ) : Type 0 where
   pub root_is : walk % 64 ≡ root (drop (8 - k) words) state
   pub small : walk < 64 * 2 ^ k
@@ -102,9 +102,9 @@ byte_is words state walk x byte n w e h =
     ext_get_or false (spelled 8 byte) (trace words state) (sym (trace_length words state ∙ n))
     (λ j l. spelled_at byte j l ∙ h j l ∙ ap (λ z. is_set z j) e ∙ set_low (walk / 64) 8 j l ∙ sym (high_bit walk j) ∙ w.bits j l)
 
--- ---- a byte more, from the newest one on
+-- ---- one more byte, from the newest on
 
--- the bytes from place i on are written
+-- the bytes from index i on are written
 pub record Tailed (words : List ℕ) (state : ℕ) (bytes : List ℕ) (i now : ℕ) : Type 0 where
   pub now_is : now ≡ root (drop (8 * i) words) state
   pub small : now < 64
@@ -168,7 +168,7 @@ pub both_bits : (older newer words first last : List ℕ) (state now : ℕ) → 
 both_bits older newer words first last state now e f g h =
     bits_append first last ∙ ap₂ (λ x y. x ++ y) (g ∙ ap (trace older) f) h ∙ sym (trace_append older newer state) ∙ ap (λ z. trace z state) e
 
--- ---- where a walk comes to the state of another one
+-- ---- where a traceback reaches the state of another one
 
 halved : (b : Bool) (n : ℕ) → cond b (2 * (n % 32) + 1) (2 * (n % 32)) / 2 ≡ n % 32
 halved true n = omega arith
@@ -203,7 +203,7 @@ same_state ws m n l f g e =
     same_from_bits_below 6 m n f g
     (λ i k. same_digit (bit_at m i) (bit_at n i) (bit_at-lt m i) (bit_at-lt n i) (sym (seen ws m i l k) ∙ ap (λ z. get_or z (length ws - 6 + i) false) e ∙ seen ws n i l k))
 
--- a byte that stays tells that the walk has come to the state of the one from state 0
+-- an unchanged byte shows that the traceback has reached the state of the one from state 0
 pub met : (words old bytes part : List ℕ) (i now byte : ℕ) → length words ≡ 8 * length old → i < length old → bits_of_bytes old ≡ trace words 0 → take (suc i) bytes ≡ take (suc i) old → part ≡ take 8 (drop (8 * i) words) → now < 64 → spelled 8 byte ≡ trace part now → slice_index bytes i ≡ byte → now ≡ root (drop (8 * suc i) words) 0
 met words old bytes part i now byte n l b f p s t e =
     same_state part now zero_way (omega (arith, long)) s (root_below (drop (8 * suc i) words) 0 (lit< tt)) (sym t ∙ ap (spelled 8) (sym e ∙ same_byte) ∙ sym (chunk_is old i l) ∙ from_zero)
@@ -239,7 +239,7 @@ met_bits words old bytes state i now n l b f e t =
         ∙ trace_front (take (8 * suc i) words) (drop (8 * suc i) words) (8 * suc i) 0 (length-take-le (8 * suc i) words (omega (arith, n, l)))
         ∙ ap (trace (take (8 * suc i) words)) (sym e ∙ t.now_is)
 
--- ---- a part of the words, and the bytes that were written of it
+-- ---- a part of the words, and the bytes written for it
 
 part_take : (bits : List Bool) (a len count : ℕ) → a + len ≤ count → take len (drop a bits) ≡ take len (drop a (take count bits))
 part_take bits zero len count l = sym (take-take len count bits (omega (arith, l)))

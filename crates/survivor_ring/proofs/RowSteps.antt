@@ -23,11 +23,11 @@ shift_end old row number count k h i l m f =
     get_or-take (count - number) row j false u ∙ f j (omega arith) ∙ ap (λ z. get_or old z false) (add_comm j number)
     ∙ sym (get_or-drop number (take count old) j false ∙ get_or-take count old (number + j) false (omega arith)))
 
--- the bits of a state, of which so many wait
+-- the pending bits of a state
 abbrev pub bits_at : Rows → Vec Bool → ℕ → ℕ → List Bool
 bits_at rows d count n = take count (get_or rows n d).items
 
--- rows that agree at each place below k begin alike
+-- rows that agree below index k begin alike
 module _ (len : ℕ) (rows : Rows) (live first count : ℕ) (d : Vec Bool) (sized : AreSized len rows) (w : count ≤ len) (f : first < 64) where
   alike_first : (k : ℕ) → k ≤ count → ((j : ℕ) → j < k → Agree rows live first j 64) → (n : ℕ) → n < 64 → IsTrue (is_set live n) → take k (bits_at rows d count n) ≡ take k (bits_at rows d count first)
   alike_first k l h n i t =
@@ -59,7 +59,7 @@ module _ (len : ℕ) (rows : Rows) (live first count : ℕ) (d : Vec Bool) (size
           ∙ sym (read j n m i p) ∙ ap (λ z. get_or z k false) (a n first p f u t) ∙ read j first m i f
           ∙ ap (λ (z : Vec Bool). get_or z.items k false) (same_row first d y f)))
 
--- ---- rows by their bits alone
+-- ---- rows by their bits only
 
 row_is : (rows : Rows) (n : ℕ) (d : Vec Bool) → n < length rows → bits_of_row rows n ≡ (get_or rows n d).items
 row_is [] n d l = absurd (omega arith)
@@ -101,7 +101,7 @@ rows_shifted len old new number count s t e n l =
     let d = some_row len old s in
     ap (take (count - number)) (row_is new n d (omega (arith, t.number))) ∙ e.each n d d l ∙ ap (λ z. drop number (take count z)) (sym (row_is old n d (omega (arith, s.number))))
 
--- what was read of a row
+-- the content read from a row
 pub row_read : (len : ℕ) (rows : Rows) (n : ℕ) (r : Vec Bool) → AreSized len rows → n < 64 → r ≡ get_or rows n r → r.items ≡ bits_of_row rows n
 row_read len rows n r s l e = ap (λ (z : Vec Bool). z.items) e ∙ sym (row_is rows n r (omega (arith, s.number)))
 

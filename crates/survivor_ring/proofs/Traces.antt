@@ -40,7 +40,7 @@ chunk_is [] b l = absurd (omega arith)
 chunk_is (x ∷ xs) zero l = refl
 chunk_is (x ∷ xs) (suc b) l = let e : 8 * suc b ≡ suc (suc (suc (suc (suc (suc (suc (suc (8 * b)))))))) = omega arith in ap (λ k. take 8 (drop k (spelled 8 x ++ bits_of_bytes xs))) e ∙ chunk_is xs b (omega arith)
 
--- the bits of a byte that is only begun
+-- the bits of a byte just begun
 pub rest_is : (bytes : List ℕ) (count : ℕ) → count / 8 < length bytes → take (count % 8) (spelled 8 (get_or bytes (count / 8) 0)) ≡ take (count - 8 * (count / 8)) (drop (8 * (count / 8)) (bits_of_bytes bytes))
 rest_is bytes count l =
     let e : count - 8 * (count / 8) ≡ count % 8 = omega arith in
@@ -56,7 +56,7 @@ traced_all bits last bytes t f =
     get_or-take (length bits) (bits_of_bytes bytes) k false m ∙ ap (λ z. get_or (bits_of_bytes bytes) z false) (sym e) ∙ bits_at bytes (k / 8) (k % 8) (omega arith) (omega arith)
     ∙ t.bytes_are (k / 8) (k % 8) (omega arith) (omega arith) (omega arith) ∙ ap (bit bits) e)
 
--- ---- a bit more
+-- ---- one more bit
 
 newest_bit : (last now : ℕ) → last < 256 → now < 64 → is_set (last / 2 + 128 * (now / 32)) 7 ≡ is_set now 5
 newest_bit last now f g = let e : (last / 2 + 128 * (now / 32)) / 128 % 2 ≡ now / 32 % 2 = omega arith in ap (λ z. eqb z 1) e
@@ -87,7 +87,7 @@ traced_more bits from next last now bytes e f g b t w = record { last_is = last_
         let q : next ≤ 8 * c = omega (arith, e, h, p) in
         ap (λ z. is_set z (7 - j)) (get_or-set_other bytes (from / 8) c (last / 2 + 128 * (now / 32)) 0 p) ∙ t.bytes_are c j l q m
 
--- bit i of those that words stand for, which begin at a place
+-- bit i of those of the words, from a position on
 pub bit_there : (bits : List Bool) (words : List ℕ) (place state i now : ℕ) → take (length words) (drop place bits) ≡ trace words state → i < length words → now ≡ root (drop (suc i) words) state → is_set now 5 ≡ bit bits (place + i)
 bit_there bits words place state i now e l n =
     ap (λ z. is_set z 5) n ∙ sym (trace_bit words state i l) ∙ ap (λ z. get_or z i false) (sym e) ∙ get_or-take (length words) (drop place bits) i false l ∙ get_or-drop place bits i false
@@ -127,7 +127,7 @@ both_traced older newer items state between byte last old mid new e b f s p q =
     let t = q bits first (subst (λ k. IsTraced bits k byte mid) z (p bits (ap (take (length newer)) rest ∙ whole) (none_traced bits (length older + length newer) 0 old (omega (arith, n, m))))) in
     ap (λ k. take k (bits_of_bytes new)) (sym n) ∙ traced_all bits last new t (omega (arith, n, f, s))
 
--- ---- bits that were appended
+-- ---- appended bits
 
 pub whole_more : (bytes : List ℕ) (k : ℕ) (to now new : List Bool) → k < length bytes → now ≡ to ++ take (8 * k) (bits_of_bytes bytes) → new ≡ now ++ spelled 8 (slice_index bytes k) → new ≡ to ++ take (8 * (k + 1)) (bits_of_bytes bytes)
 whole_more bytes k to now new l e f =

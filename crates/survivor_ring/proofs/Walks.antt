@@ -1,4 +1,4 @@
--- Walking back through decision words.
+-- Tracebacks through decision words.
 use Rattle.std.proofs.Common.{◌≡◌, ◌≢◌, ℕ, zero, suc, ◌+◌, ◌-◌, ◌*◌, ◌/◌, ◌%◌, ◌^◌, ◌<◌, ◌≤◌, Bool, true, false, cond, not, ◌&&◌, ◌||◌, List, [], ◌∷◌, ◌++◌, ◌⊎◌, inl, inr, refl, sym, ap, ap₂, ◌∙◌, subst, arith, eqb, length, take, drop, get_or, set, ext_get_or, get_or-take, length-take-le, true≢false, lit<, bit_and, take-append-drop, drop-drop}
 use Rattle.std.specs.Prelude.{IsTrue, slice_index}
 use Rattle.std.proofs.lemmas.Bool.{cases_lt, cases_eq, cases_Bool, and_parts, agree_below_at, or_left, or_right, cond_both}
@@ -27,7 +27,7 @@ pub root_push : (ws : List ℕ) (d n : ℕ) → root (ws ++ d ∷ []) n ≡ root
 root_push [] d n = refl
 root_push (w ∷ ws) d n = ap (before w) (root_push ws d n)
 
--- the words w and then d: the bits of w for the state before, and the newest bit
+-- the words w and then d: the bits of w for the predecessor, and the newest bit
 pub trace_push : (ws : List ℕ) (d n : ℕ) → trace (ws ++ d ∷ []) n ≡ trace ws (before d n) ++ is_set n 5 ∷ []
 trace_push [] d n = refl
 trace_push (w ∷ ws) d n = ap₂ (λ x xs. is_set x 5 ∷ xs) (root_push ws d n) (trace_push ws d n)
@@ -72,7 +72,7 @@ drop_set (c ∷ bs) (suc i) b l = drop_set bs i b (omega arith)
 
 -- ---- writing the bits
 
--- what was written, from place j on
+-- the bits written from index j on
 pub record Written (ws : List ℕ) (state : ℕ) (k j now : ℕ) (bits : List Bool) : Type 0 where
   pub now_is : now ≡ root (drop j ws) state
   pub now_small : now < 64
@@ -180,7 +180,7 @@ still_some old answer live n l f e =
 pub traces_pushed : (ws : List ℕ) (d live : ℕ) → IsPushed (trace ws) d live (trace (ws ++ d ∷ []))
 traces_pushed ws d live = record { each = λ n l t. trace_push ws d n }
 
--- ---- walking back
+-- ---- traceback
 
 pub record Comes (ws : List ℕ) (states j m : ℕ) : Type 0 where
   pub state : ℕ
@@ -324,7 +324,7 @@ walk_more ws states j i now answer word new answer2 h e l f c b = record {
           high_bit = ap (λ z. is_set z 5) (at_here hi.state answer2 q.1 ∙ hi.is) ∙ q.0.high_bit;
         }
 
--- what a walk finds in the end
+-- the final result of a traceback
 pub record Found (ws : List ℕ) (states answer : ℕ) : Type 0 where
   pub within : answer ≤ length ws
   pub alike : (p : ℕ) → p < answer → (m n : ℕ) → m < 64 → n < 64 → IsTrue (is_set states m) → IsTrue (is_set states n) → is_set (root (drop (suc p) ws) m) 5 ≡ is_set (root (drop (suc p) ws) n) 5
@@ -356,7 +356,7 @@ found_alike ws states answer h = record {
 pub walk_alike : (ws : List ℕ) (states j now answer : ℕ) → Walk ws states j now answer → j ≡ 0 → IsAlike states (trace ws) (length ws) answer
 walk_alike ws states j now answer h z = found_alike ws states answer (record { within = h.within; alike = λ p k. h.alike p (omega (arith, z)) k; differ = h.differ })
 
--- the way from a place back to an earlier one
+-- the way from an index back to an earlier one
 pub root_from : (ws : List ℕ) (i j n : ℕ) → i ≤ j → root (drop i ws) n ≡ root (take (j - i) (drop i ws)) (root (drop j ws) n)
 root_from ws i j n l =
     let e : j - i + i ≡ j = omega arith in
@@ -367,7 +367,7 @@ root_from ws i j n l =
     plus_turn : (a b : ℕ) → a + b ≡ b + a
     plus_turn a b = omega arith
 
--- where all states come from one, all older bits are shared
+-- if all states come from one, all older bits are shared
 pub walk_single : (ws : List ℕ) (states j now answer : ℕ) → Walk ws states j now answer → IsSingle now → IsAlike states (trace ws) (length ws) answer
 walk_single ws states j now answer h s = found_alike ws states answer (record { within = h.within; alike = λ p k m n x y t u. go p k m n x y t u (cases_lt p j); differ = h.differ })
   where
@@ -396,7 +396,7 @@ positive_of (suc n) h = omega arith
 pub traces_dropped : (ws new : List ℕ) (k n : ℕ) → new ≡ drop k ws → trace new n ≡ drop k (trace ws n)
 traces_dropped ws new k n e = ap (λ z. trace z n) e ∙ trace_drop ws k n
 
--- what was written of one alive state begins the bits of each
+-- the bits written for one alive state are a prefix of those of each
 pub given_any : (ws : List ℕ) (states first number : ℕ) (bits old new : List Bool) → first < 64 → IsTrue (is_set states first) → number ≤ length ws → take (length ws) bits ≡ trace ws first → new ≡ old ++ take number bits → AreAlike states (trace ws) number → GivesAway states (trace ws) number old new
 given_any ws states first number bits old new l t w e f a n k u =
     f ∙ ap (λ z. old ++ z) (sym (take-take number (length ws) bits w) ∙ ap (take number) e ∙ a first n l k t u)

@@ -1,4 +1,4 @@
--- What the words of the ring tell.
+-- The meaning of the words in the ring.
 use Rattle.std.proofs.Common.{◌≡◌, ℕ, zero, suc, ◌+◌, ◌-◌, ◌*◌, ◌/◌, ◌%◌, ◌^◌, ◌<◌, ◌≤◌, Bool, true, false, cond, not, ◌&&◌, ◌||◌, ◌⊎◌, inl, inr, refl, sym, ap, ap₂, ◌∙◌, arith, eqb, bit_and, bit_or}
 use Rattle.std.specs.Bool.{nat_lt}
 use Rattle.std.specs.Int.{bit_not, w64}
@@ -29,7 +29,7 @@ Same n f h = (k : ℕ) → k < n → f k ≡ h k
 moved_same : (mask : ℕ → Bool) (s : ℕ) (f h : ℕ → Bool) → Same 64 f h → Same 64 (moved mask s f) (moved mask s h)
 moved_same mask s f h e k l = ap₂ (λ a b. mask k && (a || (not (nat_lt k s) && b))) (e k l) (e (k - s) (omega arith))
 
--- equal at each of the first places, one by one
+-- equal at each of the first indices
 abbrev AllSame : (ℕ → Bool) → (ℕ → Bool) → ℕ → Type 0
 AllSame f h zero = ⊤
 AllSame f h (suc n) = (f n ≡ h n) × AllSame f h n

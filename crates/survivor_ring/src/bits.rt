@@ -1,4 +1,4 @@
-// Words of states, and bits that are handed out.
+// Words of states, and bits given to a queue.
 ghost use Rattle.std.specs.Prelude.{◌≡◌, ◌≢◌, ◌+◌, ◌*◌, ◌/◌, ◌%◌, ◌<◌, ◌≤◌, ◌++◌, length, take, IsTrue};
 ghost use Rattle.spec_words.specs.Bits.{is_set, spelled};
 ghost use Rattle.bit_pack.specs.Queue.{bits_of_bytes};
@@ -14,7 +14,7 @@ pub(crate) fn lowest(states: u64) -> usize
     states.trailing_zeros() as usize
 }
 
-/// Is a state alive?
+/// Whether a state is alive.
 pub(crate) fn is_alive(states: u64, n: usize) -> bool
     requires { n < 64 }
     ensures { result ≡ is_set states n }
@@ -22,7 +22,7 @@ pub(crate) fn is_alive(states: u64, n: usize) -> bool
     (states >> n) & 1 == 1
 }
 
-/// Eight bits as a byte, the first one the most significant.
+/// Eight bits as a byte, first bit most significant.
 fn byte_of(bits: &[bool]) -> u8
     requires { length bits.now ≡ 8 }
     ensures { spelled 8 result ≡ bits.now }

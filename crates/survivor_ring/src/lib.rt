@@ -1,7 +1,7 @@
-//! The survivors of the Viterbi decoder: the bits of the 64 paths that were not given out yet, and what they share.
+//! The survivors of the Viterbi decoder: the pending bits of the 64 paths, and their shared prefix.
 //!
-//! What survivors are is the contract of the trait `Survivors`: for each alive state a list of waiting bits.
-//! `ListSurvivors` keeps these lists, `RingSurvivors` one decision word a step.
+//! Survivors are defined by the contract of the trait `Survivors`: a list of pending bits for each alive state.
+//! `ListSurvivors` stores these lists, `RingSurvivors` one decision word for each step.
 #![tactic(auto)]
 
 mod bits;

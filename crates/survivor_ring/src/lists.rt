@@ -62,7 +62,7 @@ fn push_rows(
     }
 }
 
-/// Do all alive rows have at a place the bit that the row `first` has there?
+/// Whether all alive rows have the same bit as row `first` at an index.
 fn agree(rows: &Vec<Vec<bool>>, len: usize, states: u64, first: usize, place: usize) -> bool
     requires rows { AreSized len rows.now.items }
     requires first { first < 64 }
@@ -94,7 +94,7 @@ fn shared_bits(rows: &Vec<Vec<bool>>, len: usize, states: u64, first: usize, cou
     count
 }
 
-/// Takes bits away from a row's front.
+/// Removes bits from the start of a row.
 fn shift(row: &mut [bool], number: usize, count: usize)
     requires number { number ≤ count }
     requires count { count ≤ length row.old }

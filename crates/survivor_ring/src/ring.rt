@@ -27,7 +27,7 @@ fn stage(word: u64, shift: u8, mask: u64) -> u64
     (word | word << shift) & mask
 }
 
-/// Each bit goes to twice its place.
+/// Moves each bit to twice its index.
 fn spread(word: u32) -> u64
     ensures { (k : ℕ) → k < 64 → is_set result k ≡ ((k % 2 == 0) && is_set word (k / 2)) }
 {
@@ -38,7 +38,7 @@ fn spread(word: u32) -> u64
     stage(d, 1, 0x5555_5555_5555_5555)
 }
 
-/// The states from which a word leads to the states of a set.
+/// The predecessors, by a decision word, of the states of a set.
 fn ancestors(set: u64, word: u64) -> u64
     ensures { AreBefore set word result }
 {
@@ -77,8 +77,8 @@ fn step_back(word: u64, state: u64) -> u64
     2 * (state % 32) + if odd { 1 } else { 0 }
 }
 
-/// Writes the bits that words stand for, from a place on, one by one: behind the oldest word the state before it, and the
-/// eight bits from this place on. `byte` are the eight bits behind those of the newest word.
+/// Writes the bits of words, from an index on, one by one: for the oldest word the state before it, and the eight bits
+/// from this index on. `byte` is the eight bits after those of the newest word.
 fn trace_steps(
     words: &[u64],
     place: usize,
@@ -106,8 +106,8 @@ fn trace_steps(
     (now, last)
 }
 
-/// A step back that keeps what it leaves: the state before is the lowest six bits, and above them are the newest bits of
-/// the states on the way, the latest one the lowest.
+/// A step back that keeps the bits passed: the predecessor is the lowest six bits, and above them are the newest bits
+/// of the states passed, the last one lowest.
 fn walk_back(word: u64, walk: u64) -> u64
     requires { walk < 8192 }
     ensures state { result % 64 ≡ before word (walk % 64) }
@@ -117,7 +117,7 @@ fn walk_back(word: u64, walk: u64) -> u64
     2 * walk + if odd { 1 } else { 0 }
 }
 
-/// The bits of a byte in the other order.
+/// The bits of a byte in reverse order.
 fn reversed(byte: u8) -> u8
     ensures { (k : ℕ) → k < 8 → is_set result (7 - k) ≡ is_set byte k }
 {
@@ -126,7 +126,7 @@ fn reversed(byte: u8) -> u8
     (pairs >> 1) & 0x55 | (pairs & 0x55) << 1
 }
 
-/// The state before eight words, and the bits that they stand for as a byte.
+/// The state before eight words, and their bits as a byte.
 fn trace_byte(words: &[u64], state: u64) -> (u64, u8)
     requires number { length words.now ≡ 8 }
     requires state { state < 64 }
@@ -141,8 +141,8 @@ fn trace_byte(words: &[u64], state: u64) -> (u64, u8)
     (walk % 64, reversed((walk / 64 % 256) as u8))
 }
 
-/// Writes the bits that newer words stand for, and beside them those that older words stand for if state 0 follows these:
-/// two walks side by side take no longer than one. The states before the older and the newer words.
+/// Writes the bits of the newer words, and at the same time those of the older words for state 0 after them: two
+/// tracebacks in parallel take no longer than one. Returns the states before the older and the newer words.
 fn trace_both(
     older: &[u64],
     newer: &[u64],
@@ -177,8 +177,8 @@ fn trace_both(
     (guess, now)
 }
 
-/// Makes the bits that were written for state 0 those for another state. Where a byte stays, so do all before it, since the
-/// walk has come to the same state.
+/// Changes the bits written for state 0 to those for another state. Once a byte stays the same, so do all before it, as
+/// the traceback has reached the same state.
 fn rejoin(words: &[u64], state: u64, guess: u64, bytes: &mut [u8]) -> u64
     requires number { length words.now ≡ 8 * length bytes.old }
     requires state { state < 64 }
@@ -202,7 +202,7 @@ fn rejoin(words: &[u64], state: u64, guess: u64, bytes: &mut [u8]) -> u64
     now
 }
 
-/// Writes the bits that words stand for, eight in a byte, and answers the state before them.
+/// Writes the bits of words, eight in a byte, and returns the state before them.
 fn trace_bytes(words: &[u64], half: usize, state: u64, bytes: &mut [u8]) -> u64
     requires number { length words.now ≡ 16 * half }
     requires size { length bytes.old ≡ 2 * half }
@@ -218,8 +218,8 @@ fn trace_bytes(words: &[u64], half: usize, state: u64, bytes: &mut [u8]) -> u64
     rejoin(older, now, guess, first)
 }
 
-/// Writes the bits that words stand for, from a place on, eight in a byte: behind the oldest word the state before it, and
-/// the eight bits from this place on. `byte` are the eight bits behind those of the newest word.
+/// Writes the bits of words, from an index on, eight in a byte: for the oldest word the state before it, and the eight
+/// bits from this index on. `byte` is the eight bits after those of the newest word.
 fn trace_part(
     words: &[u64],
     place: usize,
@@ -253,7 +253,7 @@ fn trace_part(
     trace_steps(&words[..low], place, now, bytes[start] as u64, bytes)
 }
 
-/// Writes the bits that the words of a ring stand for, eight in a byte.
+/// Writes the bits of the words of a ring, eight in a byte.
 fn trace_back(words: &HeapCircularBuffer<u64>, state: u64, bytes: &mut [u8; 257])
     requires state { state < 64 }
     requires room { length words.now.items ≤ 2056 }
@@ -264,15 +264,15 @@ fn trace_back(words: &HeapCircularBuffer<u64>, state: u64, bytes: &mut [u8; 257]
     trace_part(older, 0, between, byte, bytes);
 }
 
-/// Is one state alone in a set?
+/// Whether a set has exactly one state.
 fn is_single(set: u64) -> bool
     ensures { IsTrue result → IsSingle set }
 {
     set != 0 && set == 1 << set.trailing_zeros()
 }
 
-/// How many bits the states of a set share. The walk goes back from the newest word to the place where all states come
-/// from one: all older bits are shared.
+/// The number of bits shared by the states of a set. The traceback starts at the newest word and ends where all states
+/// come from the same one: all older bits are shared.
 fn shared_words(words: &HeapCircularBuffer<u64>, states: u64) -> usize
     requires { states ≢ 0 }
     ensures { IsAlike states (trace words.now.items) (length words.now.items) result }
@@ -315,13 +315,13 @@ fn drop_words(words: &mut HeapCircularBuffer<u64>, number: usize)
     words.truncate_front(words.len() - number);
 }
 
-/// Where decision words are followed by one more, the bits for a state are those for the state before, and the newest bit
-/// of the state.
+/// With one more decision word, the bits of a state are those of its predecessor, then the newest bit of the state.
 pub fn trace_follows()
     ensures law { TraceFollows }
 {}
 
-/// Survivors as the decision words of the waiting steps, in a ring, and the set of alive states. No list of bits is kept.
+/// Survivors as the decision words of the pending steps, in a ring, and the set of alive states. No list of bits is
+/// stored.
 #[derive(Drop)]
 pub struct RingSurvivors<const L: usize> {
     words: HeapCircularBuffer<u64>,
@@ -334,7 +334,7 @@ pub struct RingSurvivors<const L: usize> {
 }
 
 impl<const L: usize> RingSurvivors<L> {
-    /// The decision words, the oldest first: one for each waiting step. They stand for the waiting bits of every alive
+    /// The decision words, oldest first, one for each pending step. They determine the pending bits of every alive
     /// state.
     pub fn words(&self) -> &HeapCircularBuffer<u64>
         ensures number { length result.now.items ≡ ⟦<RingSurvivors<L> as Survivors<L>>⟧.count self.now }

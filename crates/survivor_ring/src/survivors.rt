@@ -1,4 +1,4 @@
-// What survivors are.
+// The definition of survivors.
 ghost use Rattle.std.specs.Prelude.{◌≡◌, ◌≢◌, ◌+◌, ◌-◌, ◌<◌, ◌≤◌, ◌^◌, ℕ, Bool, List, [], ◌++◌, length, drop, IfOk, IsTrue};
 ghost use Rattle.spec_words.specs.Bits.{is_set};
 ghost use Rattle.survivor_ring.specs.Survivors.{IsPushed, IsFollowed, AreAllPushed, AreAlike, IsAlike, GivesAway};
@@ -6,20 +6,20 @@ ghost use Rattle.survivor_ring.specs.Survivors.{IsPushed, IsFollowed, AreAllPush
 use bit_pack::WaitBuf;
 use std::alloc::{AllocError, Global};
 
-/// The waiting bits of the paths to the alive states: a list for each state, all of one length, at most `L + 1`.
+/// The pending bits of the paths to the alive states: a list for each state, all of the same length, at most `L + 1`.
 ///
-/// `L`, the path memory in steps, is 1 to 2048. No call but `new` takes memory.
+/// `L`, the path memory in steps, is 1 to 2048. Only `new` allocates memory.
 pub trait Survivors<const L: usize>: Drop {
     /// The alive states, as a word whose bit n is that of state n.
     ghost states: { Self → ℕ };
 
-    /// How many bits wait.
+    /// The number of pending bits.
     ghost count: { Self → ℕ };
 
-    /// The bits that wait for a state, the oldest first.
+    /// The pending bits of a state, oldest first.
     ghost list: { Self → ℕ → List Bool };
 
-    /// Survivors of these alive states, of which there is one at least; no bit waits. The only error is want of memory.
+    /// Survivors with these alive states, at least one; no bit is pending. The only error is lack of memory.
     fn new(alloc: Global, alive: u64) -> Result<Self, AllocError>
         requires some { 0 < L }
         requires few { L ≤ 2048 }
@@ -28,12 +28,12 @@ pub trait Survivors<const L: usize>: Drop {
         ensures count { IfOk result (λ v. count v ≡ 0) }
         ensures list { IfOk result (λ v. (n : ℕ) → n < 64 → IsTrue (is_set alive n) → list v n ≡ []) };
 
-    /// How many bits wait, the same number for all states.
+    /// The number of pending bits, the same for all states.
     fn waiting(&self) -> u32
         ensures number { result ≡ count self.now };
 
-    /// Takes a step. At most `L` bits may wait, `alive` are the states that follow, and the state before that the decision
-    /// word chose for each of them was alive. Each new list is that of the state before, and the newest bit of the state.
+    /// Takes a step. At most `L` bits may be pending, `alive` is the next set of states, and the predecessor chosen for
+    /// each by the decision word was alive. Each new list is that of the predecessor, then the newest bit of the state.
     fn push(&mut self, decisions: u64, alive: u64)
         requires room { count self.old ≤ L }
         requires follows { IsFollowed (states self.old) decisions alive }
@@ -41,8 +41,8 @@ pub trait Survivors<const L: usize>: Drop {
         ensures count { count self.new ≡ count self.old + 1 }
         ensures list { IsPushed (list self.old) decisions alive (list self.new) };
 
-    /// Takes a step on each of the decision words in order, where all states are alive; they are so after each. At most
-    /// `L + 1` bits may wait then.
+    /// Takes a step on each of the decision words in order, with all states alive before and after each. At most `L +
+    /// 1` bits may be pending afterwards.
     fn push_all(&mut self, decisions: &[u64])
         requires all { states self.old ≡ 2 ^ 64 - 1 }
         requires room { count self.old + length decisions.now ≤ L + 1 }
@@ -59,7 +59,7 @@ pub trait Survivors<const L: usize>: Drop {
     fn shared(&self) -> u32
         ensures shared { IsAlike (states self.now) (list self.now) (count self.now) result };
 
-    /// Moves the first `number` bits, which all alive states share, behind the bits of `to`. There must be room for them.
+    /// Moves the first `number` bits, which all alive states share, to the end of `to`. There must be room for them.
     fn give(&mut self, number: u32, to: &mut WaitBuf)
         requires within { number ≤ count self.old }
         requires alike { AreAlike (states self.old) (list self.old) number }
@@ -70,8 +70,8 @@ pub trait Survivors<const L: usize>: Drop {
         ensures amount { length to.new ≡ length to.old + number }
         ensures given { GivesAway (states self.old) (list self.old) number to.old to.new };
 
-    /// Moves all bits of the alive state `end` behind the bits of `to`, where there must be room for them. This state alone
-    /// is alive then, and no bit waits.
+    /// Moves all bits of the alive state `end` to the end of `to`, where there must be room for them. Only this state
+    /// is then alive, and no bit is pending.
     fn force(&mut self, end: u8, to: &mut WaitBuf)
         requires below { end < 64 }
         requires lives { IsTrue (is_set (states self.old) end) }

@@ -32,7 +32,7 @@ pub words_of_one_more : WordsOfOneMore
 unfolding words_before
 words_of_one_more s σ n = sum_more (words_in s σ) n
 
--- ---- what is counted up grows
+-- ---- running sums grow
 at_most : (a b c : ℕ) → a ≤ b → b ≤ c → a ≤ c
 at_most a b c x y = omega (arith, x, y)
 

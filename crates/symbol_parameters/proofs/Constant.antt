@@ -1,4 +1,4 @@
--- What stays in a transmission, and spans where nothing changes.
+-- What stays in a transmission, and spans without changes.
 use Rattle.std.proofs.Common.{◌≡◌, ℕ, zero, suc, ◌+◌, ◌*◌, ◌/◌, ◌<◌, refl, sym, ap, ◌∙◌, arith, subst, IsTrue, Bool, true, false, ◌||◌, List, [], ◌∷◌, Some}
 use Rattle.std.specs.Prelude.{nat_le, find, reverse, is_some, unwrap_or, if◌then◌else◌}
 use Rattle.std.specs.List.{list_any}
@@ -63,7 +63,7 @@ pub settings_stay : SettingsStay
 unfolding settings_in
 settings_stay s j none = ap (λ (l : List Entry). with_entry s (unwrap_or (find (λ e. nat_le e.after j) (reverse l)) (top s))) none
 
--- ---- a stream that has steps exists
+-- ---- a stream with steps exists
 no_bits : (m : Mode) (r : Rate) → payload m * 0 * steps_in_period r / sent_in_period r ≡ 0
 no_bits M2k R1of2 = refl
 no_bits M2k R2of3 = refl
@@ -101,7 +101,7 @@ more : (a b c : Bool) → (a || c) ≡ true → (a || (b || c)) ≡ true
 more true b c e = refl
 more false b c e = or_right b c e
 
--- what is found in a list is one of its elements
+-- an element found in a list is one of its elements
 found : {X : Type 0} (p q : X → Bool) (l : List X) (d : X) → q (unwrap_or (find p l) d) ≡ true → (q d || list_any q l) ≡ true
 found p q [] d e = or_true (q d) false e
 found p q (x ∷ l) d e = go (p x) (q x) refl refl (found p q l d)
@@ -123,7 +123,7 @@ steps_are_of_a_stream s Lp j l =
     let there = exists (with_entry s (entry s j)) Lp l in
     record { here = there; whole = lp_of_an_entry s j ((entry s j).kept.lp ∙ there) }
 
--- ---- where nothing changes
+-- ---- without changes
 pub constant_streams : ConstantStreams
 unfolding exists_in
 constant_streams s Hp none = refl

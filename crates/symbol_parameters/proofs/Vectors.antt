@@ -37,7 +37,7 @@ words : map (words_before base Hp) (0 ∷ 1 ∷ 2 ∷ []) ≡ 0 ∷ 252 ∷ 504 
 unfolding settings_in words_before numbers
 words = refl
 
--- LP at 3/4 has 2268 steps a symbol, and none where there is no hierarchy
+-- LP at 3/4 has 2268 steps a symbol, and none without a hierarchy
 lp_steps : map (steps_before layered Lp) (1 ∷ 2 ∷ 3 ∷ []) ≡ 2268 ∷ 4536 ∷ 6804 ∷ []
 unfolding settings_in steps_before numbers
 lp_steps = refl

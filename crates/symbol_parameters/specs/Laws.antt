@@ -1,4 +1,4 @@
--- The laws of settings, steps and words along a transmission, each the clause of a public function of the module laws.
+-- Laws of settings, steps and words along a transmission. Each is the clause of a public function of module laws.
 use Rattle.std.specs.Prelude.{◌≡◌, ℕ, ◌+◌, ◌*◌, ◌<◌, ◌≤◌, IsTrue, true, []}
 use Rattle.mode_set.specs.Entries.{entry, has_lp, with_entry}
 use Rattle.mode_set.specs.Plans.{entries_of}
@@ -10,7 +10,7 @@ use Rattle.symbol_parameters.specs.Spans.{settings_in, exists_in, steps_of, step
 
 -- ---- settings
 
--- what no super-frame changes
+-- the same in all super-frames
 abbrev pub ModeStays : Type 0
 ModeStays = (s : Settings) (j : ℕ) → (settings_in s j).mode ≡ s.mode
 
@@ -23,18 +23,19 @@ CellIdStays = (s : Settings) (j : ℕ) → (settings_in s j).cell_id ≡ s.cell_
 abbrev pub StartStays : Type 0
 StartStays = (s : Settings) (j : ℕ) → (settings_in s j).start ≡ s.start
 
--- all that changes are the parameters of the super-frame
+-- only the parameters of the super-frame change
 abbrev pub ParametersChange : Type 0
 ParametersChange = (s : Settings) (j : ℕ) → settings_in s j ≡ with_entry s (entry s j)
 
--- HP is in each transmission, LP in those of which some super-frame may have it
+-- HP is in every transmission, LP in those with a super-frame that may have it
 abbrev pub HpExists : Type 0
 HpExists = (s : Settings) → exists_in s Hp ≡ true
 
+-- LP exists in a transmission exactly if the settings have it
 abbrev pub LpExists : Type 0
 LpExists = (s : Settings) → exists_in s Lp ≡ has_lp s
 
--- a stream of the settings themselves exists
+-- every stream of the settings themselves exists
 abbrev pub StreamsExist : Type 0
 StreamsExist = (s : Settings) (σ : Stream) → IsTrue (has_stream s.hierarchy σ) → IsTrue (exists_in s σ)
 
@@ -54,17 +55,19 @@ NoSteps = (s : Settings) (σ : Stream) → steps_before s σ 0 ≡ 0
 abbrev pub StepsOfOneMore : Type 0
 StepsOfOneMore = (s : Settings) (σ : Stream) (m : ℕ) → steps_before s σ (m + 1) ≡ steps_before s σ m + steps_of s σ m
 
+-- the steps before a symbol never decrease
 abbrev pub StepsGrow : Type 0
 StepsGrow = (s : Settings) (σ : Stream) (m n : ℕ) → m ≤ n → steps_before s σ m ≤ steps_before s σ n
 
--- each step is one of one symbol
+-- each step belongs to exactly one symbol
 abbrev pub StepsHaveSymbols : Type 0
 StepsHaveSymbols = (s : Settings) (σ : Stream) (n t : ℕ) → t < steps_before s σ n → (m : ℕ) × (m < n) × IsStepOf s σ m t
 
+-- a step belongs to one symbol only
 abbrev pub OneSymbol : Type 0
 OneSymbol = (s : Settings) (σ : Stream) (m n t : ℕ) → IsStepOf s σ m t → IsStepOf s σ n t → m ≡ n
 
--- a stream that has steps exists, in its super-frame and in the transmission
+-- a stream with steps exists, in its super-frame and in the transmission
 pub record IsThere (s : Settings) (σ : Stream) (j : ℕ) : Type 0 where
   pub here : IsTrue (has_stream (settings_in s j).hierarchy σ)
   pub whole : IsTrue (exists_in s σ)
@@ -72,7 +75,7 @@ pub record IsThere (s : Settings) (σ : Stream) (j : ℕ) : Type 0 where
 abbrev pub StepsAreOfAStream : Type 0
 StepsAreOfAStream = (s : Settings) (σ : Stream) (j : ℕ) → 0 < need (settings_in s j) σ → IsThere s σ j
 
--- where no settings change all symbols are alike
+-- if no settings change, all symbols have the same number of steps
 abbrev pub ConstantSteps : Type 0
 ConstantSteps = (s : Settings) (σ : Stream) (m : ℕ) → ((j : ℕ) → settings_in s j ≡ s) → steps_before s σ m ≡ m * need s σ
 
@@ -85,13 +88,14 @@ NoWords = (s : Settings) (σ : Stream) → words_before s σ 0 ≡ 0
 abbrev pub WordsOfOneMore : Type 0
 WordsOfOneMore = (s : Settings) (σ : Stream) (n : ℕ) → words_before s σ (n + 1) ≡ words_before s σ n + words_in s σ n
 
+-- the words before a super-frame never decrease
 abbrev pub WordsGrow : Type 0
 WordsGrow = (s : Settings) (σ : Stream) (m n : ℕ) → m ≤ n → words_before s σ m ≤ words_before s σ n
 
--- the words of super-frames, of 1632 bits each, have the steps of their symbols
+-- the words of super-frames, of 1632 bits each, have as many bits as their symbols have steps
 abbrev pub SpansHaveWholeWords : Type 0
 SpansHaveWholeWords = (s : Settings) (σ : Stream) (n : ℕ) → 1632 * words_before s σ n ≡ steps_before s σ (272 * n)
 
--- where no settings change all super-frames are alike
+-- if no settings change, all super-frames have the same number of words
 abbrev pub ConstantWords : Type 0
 ConstantWords = (s : Settings) (σ : Stream) (n : ℕ) → ((j : ℕ) → settings_in s j ≡ s) → words_before s σ n ≡ n * words_per_super_frame s σ

@@ -1,10 +1,10 @@
-// The laws of the spans of a transmission, as contracts of functions that do nothing.
+// The laws of the spans of a transmission, as contracts of functions with empty bodies.
 ghost use Rattle.symbol_parameters.specs.Laws.{ModeStays, GuardStays, CellIdStays, StartStays, ParametersChange, HpExists, LpExists, StreamsExist, SettingsStay, NoSteps, StepsOfOneMore, StepsGrow, StepsHaveSymbols, OneSymbol, ConstantStreams, ConstantSteps, NoWords, WordsOfOneMore, WordsGrow, SpansHaveWholeWords, ConstantWords, StepsAreOfAStream};
 
 use mode_set::super_frames_have_whole_words;
 
-/// The settings of a super-frame are those of the transmission with its own parameters; mode, guard
-/// interval, cell identifier and start stay. Without a plan all settings stay.
+/// The settings of a super-frame are those of the transmission with its own parameters. Mode, guard interval, cell
+/// identifier and start stay. Without a plan all settings stay.
 pub fn settings()
     ensures mode { ModeStays }
     ensures guard { GuardStays }
@@ -18,8 +18,8 @@ pub fn settings()
     ensures streams { ConstantStreams }
 {}
 
-/// The steps of a stream before a symbol: none before the first one, and those of a symbol more for
-/// each. Each step is of one symbol alone. Where all symbols are alike they are a multiple.
+/// The steps of a stream before a symbol: none before the first one, and each symbol adds its own. Each step belongs to
+/// exactly one symbol. If all symbols are alike, the steps are a multiple.
 pub fn steps()
     ensures none { NoSteps }
     ensures next { StepsOfOneMore }
@@ -30,9 +30,9 @@ pub fn steps()
     ensures streams { StepsAreOfAStream }
 {}
 
-/// The outer words of a stream in the first super-frames: none in none of them, and those of a
-/// super-frame more for each. They have the steps of its symbols, 1632 bits each. Where all
-/// super-frames are alike they are a multiple.
+/// The outer words of a stream in the first n super-frames: none for n = 0, and each super-frame adds its own. Their
+/// bits, 1632 a word, are as many as the steps of their symbols. If all super-frames are alike, the words are a
+/// multiple.
 pub fn words()
     ensures none { NoWords }
     ensures next { WordsOfOneMore }

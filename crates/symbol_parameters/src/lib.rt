@@ -1,6 +1,6 @@
-//! Which settings each symbol and each super-frame of a transmission has, and how many steps and outer
-//! words of a stream come before them: definitions, and laws as contracts of functions that do nothing
-//! (EN 300 744, 4.4 and 4.7). Beside them stands the call that gives a symbol's parameters.
+//! The settings of each symbol and super-frame of a transmission, and the steps and outer words of a stream before
+//! them: definitions, and laws as contracts of functions with empty bodies (EN 300 744, 4.4 and 4.7). A function
+//! returns the parameters of a symbol.
 #![tactic(auto)]
 
 pub mod laws;

@@ -1,4 +1,4 @@
-// Places against a plain demultiplexer followed by plain bit interleavers.
+// Positions against a plain demultiplexer followed by plain bit interleavers.
 ghost use Rattle.std.specs.Prelude.{◌≡◌, IsTrue, length};
 ghost use Rattle.mode_set.specs.Kept.{is_flat, is_qpsk};
 ghost use Rattle.mode_set.specs.StreamTable.{has_stream, width};
@@ -10,8 +10,8 @@ use std::rt::HostRuntime;
 
 const OFFSETS: [u32; 6] = [0, 63, 105, 42, 21, 84];
 
-// The substreams take the bits of a stream by turns, in this order, and each block of 126 bits of a
-// substream is rotated.
+// The substreams take the bits of a stream in turn, in this order, and each block of 126 bits of a substream is
+// rotated.
 fn agrees(rt: &impl Abort, shape: Shape, hierarchy: Hierarchy, stream: Stream, order: &[u32])
     requires qpsk_is_flat { IsTrue (is_qpsk shape) → IsTrue (is_flat hierarchy) }
     requires exists { IsTrue (has_stream hierarchy stream) }

@@ -18,7 +18,7 @@ fn sum_of(labels: &[u8]) -> u32 {
     )
 }
 
-// How many labels the next two symbols of drawn bits have, and their sums.
+// The number of labels of the next two symbols of random bits, and their sums.
 fn sums_of<M: Carriers>(
     rt: &impl Abort,
     alloc: Global,
@@ -37,7 +37,7 @@ fn sums_of<M: Carriers>(
     sums
 }
 
-// Those by a coder that is made for these settings, whose registers are all zeros.
+// The same with a coder made for these settings, whose registers are all zeros.
 fn own_sums<M: Carriers>(rt: &impl Abort, alloc: Global, settings: &Settings) -> [(usize, u32); 2]
     requires { settings.now.mode ≡ M.MODE }
 {
@@ -45,7 +45,7 @@ fn own_sums<M: Carriers>(rt: &impl Abort, alloc: Global, settings: &Settings) ->
     sums_of(rt, alloc, settings, &mut tx)
 }
 
-// Those behind a symbol of zeros, which leaves the registers all zeros.
+// The same after a symbol of zeros, which leaves the registers all zeros.
 fn sums_behind_zeros<M: Carriers>(
     rt: &impl Abort,
     alloc: Global,

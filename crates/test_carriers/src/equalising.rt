@@ -1,4 +1,4 @@
-// Symbols against cases from outside: a quarter turn, nothing received, and drawn cells beside another program's answers.
+// Symbols against outside cases: a quarter turn, nothing received, and random cells against another program's results.
 ghost use Rattle.std.specs.Prelude.{◌≡◌, ◌+◌, ◌*◌, ◌<◌, length};
 ghost use Rattle.mode_set.specs.StreamTable.{carriers};
 
@@ -20,7 +20,7 @@ fn carriers_of(mode: Mode) -> u32
     }
 }
 
-// The symbol's corrected bytes, which the definition's program gives as well.
+// The symbol's corrected bytes, which are also those of the definition's program.
 fn equalised(
     rt: &impl Abort,
     alloc: Global,
@@ -92,7 +92,7 @@ fn turned_by_a_quarter(rt: &impl Abort, alloc: Global, cells: &[Cell]) -> Vec<Ce
     turned
 }
 
-// The bytes of cells of the whole weight.
+// The bytes of cells at full weight.
 fn bytes_of(rt: &impl Abort, alloc: Global, cells: &[Cell]) -> Vec<u8> {
     let mut bytes = Vec::new(alloc);
     for cell in cells {
@@ -105,7 +105,7 @@ fn bytes_of(rt: &impl Abort, alloc: Global, cells: &[Cell]) -> Vec<u8> {
     bytes
 }
 
-// A quarter turn is taken back exactly, and every weight is 15.
+// A quarter turn is removed exactly, and every weight is 15.
 #[test]
 fn a_quarter_turn(rt: HostRuntime) {
     let alloc = rt.alloc();
@@ -118,7 +118,7 @@ fn a_quarter_turn(rt: HostRuntime) {
     }
 }
 
-// Where nothing was received nothing is known.
+// Zero cells get weight 0.
 #[test]
 fn zero_cells(rt: HostRuntime) {
     let cells = [Cell { re: 0, im: 0 }; 1705];
@@ -134,10 +134,10 @@ fn sum_of(bytes: &[u8]) -> u32 {
     )
 }
 
-// What a channel makes of a symbol.
+// The effect of a channel on a symbol.
 #[derive(Clone, Copy)]
 enum Channel {
-    // Any values, or values near 0, in place of the cells.
+    // Any values, or values near 0, instead of the cells.
     Any,
     Weak,
     // A gain of (a + b i) / 16384, within 1 on each axis.
@@ -190,7 +190,7 @@ fn came(channel: Channel, cell: Cell, k: u32, draw: &mut u32) -> Cell {
     }
 }
 
-// Whether each cell of weight 1 or more is within 64 of what was sent, and has a weight.
+// Whether each cell of weight 1 or more is within 64 of the one sent, and has a weight.
 fn comes_back(sent_cells: &[Cell], weights: &[u8], bytes: &[u8]) -> bool
     requires weights { length weights.now ≡ length sent_cells.now }
     requires bytes { length bytes.now ≡ 5 * length sent_cells.now }
@@ -206,8 +206,8 @@ fn comes_back(sent_cells: &[Cell], weights: &[u8], bytes: &[u8]) -> bool
     true
 }
 
-// The corrected bytes of a drawn symbol behind a channel as one number, and whether it comes back where the channel is a
-// single gain.
+// The corrected bytes of a random symbol after a channel as one number, and whether it is restored if the channel is
+// flat.
 fn drawn(rt: &impl Abort, alloc: Global, mode: Mode, l: u8, channel: Channel) -> (u32, bool)
     requires { l < 68 }
 {
@@ -228,9 +228,9 @@ fn drawn(rt: &impl Abort, alloc: Global, mode: Mode, l: u8, channel: Channel) ->
     (sum_of(&bytes), back || !is_one_gain(channel))
 }
 
-// Symbols and their channels, and the sums of an independent program: any values, of which a fifth are cut off at the ends
-// of the range; pilots that are often zero; single gains of half and of the whole nominal amplitude; and one that differs
-// by carrier. There is every phase of the scattered pilots.
+// Symbols and their channels, and the sums of an independent program: any values, a fifth of them clipped at the ends
+// of the range; pilots that are often zero; flat channels of half and of full nominal amplitude; and one that differs
+// by carrier. Every phase of the scattered pilots occurs.
 const DRAWN: [(Mode, u8, Channel, u32); 13] = [
     (Mode::M2k, 0, Channel::Any, 1666746854),
     (Mode::M2k, 67, Channel::Weak, 2945897832),
@@ -247,7 +247,7 @@ const DRAWN: [(Mode, u8, Channel, u32); 13] = [
     (Mode::M8k, 4, Channel::Slope, 352988856),
 ];
 
-// The corrected bytes are those of the independent program, and the cells behind a single gain come back.
+// The corrected bytes are those of the independent program, and the cells after a flat channel are restored.
 #[test]
 fn drawn_symbols(rt: HostRuntime) {
     for (mode, l, channel, sum) in DRAWN {

@@ -1,4 +1,4 @@
-// What each carrier is for, and the reference sequence.
+// The kind of each carrier, and the reference sequence.
 use mode_set::Mode;
 use pilots::CarrierKind::{Continual, Payload, Scattered, Tps};
 use pilots::{CarrierKind, carrier, kind, reference, tps_carriers};
@@ -30,7 +30,7 @@ fn carriers_of_the_standard(rt: HostRuntime) {
     assert!(rt; carriers == (13, 6815) && tps_carriers(Mode::M8k).len() == 68);
 }
 
-// Along all symbols of a frame the payload carriers are numbered on without a gap.
+// In all symbols of a frame the payload carriers are numbered without a gap.
 #[test]
 fn payload_carriers_of_a_frame(rt: HostRuntime) {
     for l in 0..68u8 {
@@ -45,7 +45,7 @@ fn payload_carriers_of_a_frame(rt: HostRuntime) {
     }
 }
 
-// The sequence from one place until before another: eleven ones, nine zeros, two ones, and bits further on.
+// The sequence from one index to before another: eleven ones, nine zeros, two ones, and later bits.
 const RUNS: [(u32, u32, bool); 7] = [
     (0, 11, true),
     (11, 20, false),

@@ -5,8 +5,7 @@ use pilots::{carrier, kind};
 use std::process::Abort;
 use std::rt::HostRuntime;
 
-// Along each of the 68 symbols the payload carriers are numbered on without a gap, and as many as the
-// standard says.
+// In each of the 68 symbols the payload carriers are numbered without a gap, and as many as the standard says.
 fn are_numbered(rt: &impl Abort, mode: Mode, carriers: u32, payload: u32) {
     for l in 0..68u8 {
         let mut next = 0;

@@ -1,5 +1,5 @@
-//! The carriers of a symbol, layer by layer: places of bits and words, points and costs, what carriers are for, the bytes of
-//! symbols, labels and costs of whole symbols, TPS, corrected cells, and the search for a frame.
+//! The carriers of a symbol, layer by layer: positions of bits and words, points and costs, kinds of carriers, the
+//! bytes of symbols, labels and costs of whole symbols, TPS, corrected cells, and the search for a frame.
 //!
 //! The crate has tests alone.
 #![tactic(auto)]

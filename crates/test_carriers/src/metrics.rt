@@ -1,4 +1,4 @@
-// Costs at single values, and against a plain least over the points of all labels.
+// Costs at single values, and against a plain minimum over the points of all labels.
 ghost use Rattle.std.specs.Prelude.{◌<◌};
 ghost use Rattle.mode_set.specs.StreamTable.{label_bits};
 
@@ -8,7 +8,7 @@ use soft_metric::{costs, costs_lanes, weighted};
 use std::process::Abort;
 use std::rt::HostRuntime;
 
-// The constellation without a hierarchy, both parts of the cell, the place and the costs of 0 and of 1.
+// The constellation without a hierarchy, both parts of the cell, the label bit and the costs of 0 and of 1.
 const SINGLE_VALUES: [(Shape, i16, i16, u8, (u16, u16)); 6] = [
     (Shape::Qpsk, 0, 7, 0, (511, 511)),
     (Shape::Qpsk, 7, 11585, 1, (0, 2047)),
@@ -26,7 +26,7 @@ fn costs_at_single_values(rt: HostRuntime) {
     }
 }
 
-// The least cost of the values 0 and 1 over the points of all labels.
+// The least cost of values 0 and 1 over the points of all labels.
 fn plain(rt: &impl Abort, shape: Shape, hierarchy: Hierarchy, cell: Cell, place: u8) -> (u16, u16) {
     let mut least = [u64::MAX; 2];
     for label in 0..64u8 {
@@ -49,7 +49,7 @@ fn plain(rt: &impl Abort, shape: Shape, hierarchy: Hierarchy, cell: Cell, place:
     )
 }
 
-// The costs of a value on both axes are the plain least at each place.
+// The costs of a value on both axes are the plain minimum for each label bit.
 fn are_plain(rt: &impl Abort, shape: Shape, hierarchy: Hierarchy, value: i16) {
     let cell = Cell {
         re: value,
@@ -63,7 +63,7 @@ fn are_plain(rt: &impl Abort, shape: Shape, hierarchy: Hierarchy, value: i16) {
     }
 }
 
-// The point on the real axis of a label that is 0 on the imaginary one, if this is such a label.
+// The point on the real axis of a label whose imaginary bits are 0, if this is such a label.
 fn real_point(shape: Shape, hierarchy: Hierarchy, label: u8) -> Option<i16> {
     if label < 1 << shape.label_bits() && label & 0b101010 == 0 {
         Some(map(shape, hierarchy, label).re)
@@ -72,7 +72,7 @@ fn real_point(shape: Shape, hierarchy: Hierarchy, label: u8) -> Option<i16> {
     }
 }
 
-// The edges of the decision intervals lie half way between two points.
+// The edges of the decision intervals are half way between two points.
 fn edges_are_plain(rt: &impl Abort, shape: Shape, hierarchy: Hierarchy) {
     for label in 0..64u8 {
         for other in 0..64u8 {
@@ -101,7 +101,7 @@ const CASES: [(Shape, Hierarchy); 9] = [
     (Shape::Qam64, Hierarchy::Alpha4),
 ];
 
-// Value number `step` of 2000 that are spread over all.
+// Value number `step` of 2000 spread over the range.
 fn spread(step: u32) -> i16
     requires { step < 2000 }
 {
@@ -118,8 +118,8 @@ fn costs_are_the_plain_least(rt: HostRuntime) {
     }
 }
 
-// Sixteen cells from number `first` of the spread ones on, forwards on the real axis and backwards
-// on the imaginary one.
+// Sixteen cells from number `first` of the spread values on, forwards on the real axis and backwards on the imaginary
+// one.
 fn sixteen(first: u32) -> [Cell; 16]
     requires { first < 1985 }
 {
@@ -151,7 +151,7 @@ fn lanes_are_single_costs(rt: HostRuntime) {
     }
 }
 
-// A pair of costs, a weight and the pair by this weight.
+// A pair of costs, a weight and the weighted pair.
 const WEIGHTED: [((u16, u16), u8, (u16, u16)); 7] = [
     ((511, 2047), 0, (0, 0)),
     ((511, 2047), 1, (34, 136)),

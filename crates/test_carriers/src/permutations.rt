@@ -1,4 +1,4 @@
-// Known places and words.
+// Known carriers and words.
 use mode_set::{Carriers, Mode2k, Mode8k};
 use std::alloc::{AllocError, Global};
 use std::process::Abort;
@@ -6,7 +6,7 @@ use std::rt::HostRuntime;
 use std::test::Fail;
 use symbol_interleave::Permutation;
 
-// The words and their places, by all calls.
+// The words and their carriers, by all calls.
 fn are_placed<M: Carriers>(
     rt: &impl Abort,
     alloc: Global,

@@ -32,7 +32,7 @@ fn points_of_the_figures(rt: HostRuntime) {
         assert!(rt; label < 64);
         stands(&rt, Shape::Qam64, Hierarchy::Flat, label, re, 17697);
     }
-    // the corners 11.. of the other constellations, below on the left, and their innermost points
+    // the corners 11.. of the other constellations, lower left, and their innermost points
     stands(&rt, Shape::Qpsk, Hierarchy::Flat, 0b01, -11585, 11585);
     stands(&rt, Shape::Qam16, Hierarchy::Flat, 0b0011, -15543, -15543);
     stands(&rt, Shape::Qam16, Hierarchy::Alpha1, 0b1111, -5181, -5181);
@@ -61,8 +61,8 @@ fn points_of_the_figures(rt: HostRuntime) {
     assert_eq!(rt; tolerance(Shape::Qam64, Hierarchy::Alpha4), 788);
 }
 
-/// The constellations with their hierarchies, and the least distance of two values of an axis. Those are the levels of the
-/// standard (EN 300 744, 4.3.5), whole numbers over a square root, times 16384 and rounded.
+/// The constellations with their hierarchies, and the least distance between two values of an axis. These are the
+/// levels of the standard (EN 300 744, 4.3.5), integers over a square root, times 16384 and rounded.
 const SPACINGS: [(Shape, Hierarchy, u16); 9] = [
     (Shape::Qpsk, Hierarchy::Flat, 23_170),
     (Shape::Qam16, Hierarchy::Flat, 10_362),
@@ -75,7 +75,7 @@ const SPACINGS: [(Shape, Hierarchy, u16); 9] = [
     (Shape::Qam64, Hierarchy::Alpha4, 3_153),
 ];
 
-// Each spacing, and the quarter of it that noise may move a cell.
+// Each spacing, and the quarter of it by which noise may move a cell.
 #[test]
 fn spacings_of_the_levels(rt: HostRuntime) {
     for (shape, hierarchy, least) in SPACINGS {

@@ -1,4 +1,4 @@
-// Puncturing beside values from outside: the standard's table, and coded bytes of an independent program.
+// Puncturing against outside values: the standard's table, and coded bytes of an independent program.
 ghost use Rattle.std.specs.Prelude.{◌≤◌};
 
 use bit_pack::BitBuf;
@@ -25,7 +25,7 @@ fn letter(sent: Sent) -> char {
     }
 }
 
-/// What is sent of the first eight steps at each rate.
+/// The bits sent in the first eight steps at each rate.
 const STEPS: [&str; 5] = ["BBBBBBBB", "BYBYBYBY", "BYXBYXBY", "BYXYXBYX", "BYYYXYXB"];
 
 #[test]
@@ -58,7 +58,7 @@ const BYTES: [u8; 24] = [
     0x63, 0x6E, 0x21, 0, 0, 0, 0, 0, 0, 0, 0, 0, 0x33, 0x6E, 0x31, 0, 0, 0, 0, 0, 0, 0, 0, 0,
 ];
 
-// What becomes of these bytes at each rate, the last part byte left out, and how many bits.
+// These bytes after coding at each rate, without the last partial byte, and the number of bits.
 const CODED: [(&[u8], usize); 5] = [
     (
         &[
@@ -98,7 +98,7 @@ const CODED: [(&[u8], usize); 5] = [
     ),
 ];
 
-// How many bits become of the bytes, and their whole bytes.
+// The number of bits for these bytes, and their whole bytes.
 fn coded_at(rt: &impl Abort, alloc: Global, rate: Rate) -> (usize, Vec<u8>) {
     let mut coder = PuncturedEncoder::start(rate);
     let mut bits: BitBuf<48> = BitBuf::new();
@@ -125,8 +125,8 @@ fn bytes_at_each_rate(rt: HostRuntime) {
     }
 }
 
-// A byte through a coder, and its eight steps through an encoder and a puncturer: what each sends, as a number, and how many
-// bits that are.
+// A byte through a coder, and its eight steps through an encoder and a puncturer: the bits sent by each, as a number,
+// and how many there are.
 fn sent_of_byte(
     coder: &mut PuncturedEncoder,
     encoder: &mut Encoder,
@@ -145,7 +145,7 @@ fn sent_of_byte(
     [all_of(&mut bits), all_of(&mut steps)]
 }
 
-// The bits as a number, and how many these are.
+// The bits as a number, and how many there are.
 fn all_of(bits: &mut BitBuf<2>) -> (u32, usize) {
     let mut number = 0u32;
     let count = bits.waiting();
@@ -156,8 +156,8 @@ fn all_of(bits: &mut BitBuf<2>) -> (u32, usize) {
     (number, count)
 }
 
-// Bytes, which are coded by a table over the places of a period, and single steps send the same bits: each byte in turn,
-// seven times, so that each stands at each place at which a byte begins.
+// Bytes, coded with a table over the places of a period, send the same bits as single steps: each byte seven times, so
+// that each is coded at every place where a byte can begin.
 #[test]
 fn bytes_are_their_steps(rt: HostRuntime) {
     for rate in RATES {
@@ -186,14 +186,14 @@ fn costs_at_three_quarters(rt: HostRuntime) {
     }
 }
 
-// The costs of a sent bit, by its number: those of no two numbers are the same.
+// The costs of a sent bit, by its number; no two numbers have the same.
 fn costs_of(number: u16) -> (u16, u16)
     ensures { (result.0 ≤ 4095) × (result.1 ≤ 4095) }
 {
     (1 + number % 2000, 4095 - number % 2000)
 }
 
-// The costs of the coded bits of a step of which this is sent, where so many bits were sent before it; and how many of them are.
+// The costs of the coded bits of a step with these sent bits, after `before` sent bits; and the number of sent bits.
 fn costs_sent(sent: Sent, before: u16) -> ((u16, u16), (u16, u16), u16) {
     let first = costs_of(before);
     match sent {
@@ -203,7 +203,8 @@ fn costs_sent(sent: Sent, before: u16) -> ((u16, u16), (u16, u16), u16) {
     }
 }
 
-// Twelve hundred steps at each rate, beside the costs that the table gives each step: its own bits', by their numbers.
+// Twelve hundred steps at each rate, against the costs in the table for each step: those of its own bits, by their
+// numbers.
 #[test]
 fn costs_at_each_rate(rt: HostRuntime) {
     for rate in RATES {

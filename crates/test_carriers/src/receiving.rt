@@ -1,4 +1,4 @@
-// What is sent, read back: a symbol cut into pieces, and the costs of the modulator's own symbols.
+// Sent symbols read back: a symbol in pieces, and the costs of the modulator's own symbols.
 ghost use Rattle.std.specs.Prelude.{◌≡◌, ◌*◌, length};
 
 use crate::sending::{drawn_bytes, first_symbols};
@@ -30,7 +30,7 @@ fn take_in_pieces<M: Carriers>(rt: &impl Abort, symbol: &mut SymbolIn<M>, bytes:
     assert!(rt; whole);
 }
 
-// The cost pairs of a stream in the whole symbol that was taken, none of a stream that does not exist.
+// The cost pairs of a stream in the whole symbol taken; none for a stream that does not exist.
 fn pairs_of<M: Carriers>(
     rt: &impl Abort,
     alloc: Global,
@@ -67,7 +67,7 @@ fn pairs_of<M: Carriers>(
 // The costs of both streams in a symbol.
 type Costs = (Vec<CostPair>, Vec<CostPair>);
 
-// The costs of symbols from symbol 0 of a frame on, which are taken in pieces of this size.
+// The costs of symbols from symbol 0 of a frame on, taken in pieces of this size.
 fn costs_by<M: Carriers>(
     rt: &impl Abort,
     alloc: Global,
@@ -106,7 +106,7 @@ fn own_costs<M: Carriers>(
     costs_by(rt, alloc, settings, &mut rx, symbols, size)
 }
 
-// The costs by a receiving side that is made for these settings.
+// The costs from a receiving side made for these settings.
 fn costs_of(
     rt: &impl Abort,
     alloc: Global,
@@ -120,7 +120,7 @@ fn costs_of(
     }
 }
 
-// The bits of a stream once more, as they are coded.
+// The bits of a stream coded again.
 #[derive(Drop)]
 struct Coded {
     state: u32,
@@ -149,13 +149,13 @@ fn next_coded(coded: &mut Coded) -> (bool, bool) {
     coded.encoder.step(bit)
 }
 
-// The value that was sent costs nothing and the other one something, and a bit that was not sent nothing either way.
+// The value sent costs 0 and the other one more; a punctured bit costs 0 for both.
 fn fits(bit: bool, is_sent: bool, zero: u16, one: u16) -> bool {
     let (own, other) = if bit { (one, zero) } else { (zero, one) };
     own == 0 && (other >= 1) == is_sent
 }
 
-// The cost pairs of a stream in a symbol fit what was sent.
+// The cost pairs of a stream in a symbol match the bits sent.
 fn pairs_fit(rt: &impl Abort, pairs: &[CostPair], rate: Rate, coded: &mut Coded) {
     for (step, pair) in pairs.iter().enumerate() {
         let (x, y) = next_coded(coded);
@@ -232,7 +232,7 @@ fn cost_nothing(pairs: &[CostPair]) -> bool {
     pairs.iter().all(|pair| (pair.x0, pair.x1, pair.y0, pair.y1) == (0, 0, 0, 0))
 }
 
-// The bytes of a symbol with the weight 0 for each cell.
+// The bytes of a symbol with weight 0 for each cell.
 fn without_weights(rt: &impl Abort, alloc: Global, bytes: &[u8]) -> Vec<u8> {
     let mut without = Vec::new(alloc);
     for (i, byte) in bytes.iter().enumerate() {
@@ -242,7 +242,7 @@ fn without_weights(rt: &impl Abort, alloc: Global, bytes: &[u8]) -> Vec<u8> {
     without
 }
 
-// The costs of the first symbol where each cell has the weight 0.
+// The costs of the first symbol with weight 0 for each cell.
 fn weightless(rt: &impl Abort, alloc: Global, settings: &Settings) -> Vec<Costs> {
     let streams = (drawn_bytes(rt, alloc, 1), drawn_bytes(rt, alloc, 2));
     let mut symbols = Vec::new(alloc);
@@ -254,7 +254,7 @@ fn weightless(rt: &impl Abort, alloc: Global, settings: &Settings) -> Vec<Costs>
     costs_of(rt, alloc, settings, &symbols, 34085)
 }
 
-// Cells of the weight 0 cost nothing.
+// Cells of weight 0 have costs of 0.
 #[test]
 fn cells_without_weight(rt: HostRuntime) {
     for settings in [
@@ -274,7 +274,7 @@ fn cells_without_weight(rt: HostRuntime) {
     }
 }
 
-// The bytes of the first symbol that carries null packets.
+// The bytes of the first symbol of null packets.
 fn null_symbol(rt: &impl Abort, alloc: Global) -> Vec<u8> {
     let settings = flat(Mode::M2k, Shape::Qpsk, Rate::R1of2);
     let word = OuterTx::new(alloc)
@@ -284,7 +284,7 @@ fn null_symbol(rt: &impl Abort, alloc: Global) -> Vec<u8> {
     symbols.pop().expect(rt, "a symbol")
 }
 
-// The cells that bytes say.
+// The cells in these bytes.
 fn cells_of(rt: &impl Abort, alloc: Global, bytes: &[u8]) -> Vec<Cell> {
     let mut cells = Vec::new(alloc);
     for five in bytes.chunks(5) {
@@ -296,7 +296,7 @@ fn cells_of(rt: &impl Abort, alloc: Global, bytes: &[u8]) -> Vec<Cell> {
     cells
 }
 
-// Whether a symbol taken in pieces of this size has the cells that its bytes say, and the whole weight for each.
+// Whether a symbol taken in pieces of this size has the cells in its bytes, and full weight for each.
 fn is_taken(rt: &impl Abort, alloc: Global, bytes: &[u8], size: usize) -> bool {
     let mut symbol = SymbolIn::<Mode2k>::new(alloc).expect(rt, "memory");
     take_in_pieces(rt, &mut symbol, bytes, size);
@@ -304,7 +304,7 @@ fn is_taken(rt: &impl Abort, alloc: Global, bytes: &[u8], size: usize) -> bool {
         && symbol.weights() == [15u8; 1705].as_slice()
 }
 
-// Its cells and the weights behind them; pieces of four bytes cut between a cell and its weight.
+// Its cells and their weights; pieces of four bytes split a cell from its weight.
 #[test]
 fn a_symbol_of_null_packets_in_pieces(rt: HostRuntime) {
     let alloc = rt.alloc();
@@ -316,7 +316,7 @@ fn a_symbol_of_null_packets_in_pieces(rt: HostRuntime) {
     }
 }
 
-// A symbol of drawn cells, of which two in five have a weight byte above 15.
+// A symbol of random cells, two in five of which have a weight byte above 15.
 fn drawn_symbol(state: &mut u32, bytes: &mut [u8]) {
     for (i, byte) in bytes.iter_mut().enumerate() {
         let drawn = next_byte(state);
@@ -328,7 +328,7 @@ fn drawn_symbol(state: &mut u32, bytes: &mut [u8]) {
     }
 }
 
-// The costs as the digits of a number to the base 31, modulo 2^32.
+// The costs as the digits of a number in base 31, modulo 2^32.
 fn with_pairs(sum: u32, pairs: &[CostPair]) -> u32 {
     pairs.iter().fold(sum, |sum, pair| {
         let mut sum = sum;
@@ -345,7 +345,7 @@ fn sum_of(costs: &[Costs]) -> u32 {
         .fold(0, |sum, (hp, lp)| with_pairs(with_pairs(sum, hp), lp))
 }
 
-// Four symbols of drawn bytes.
+// Four symbols of random bytes.
 fn drawn_symbols(rt: &impl Abort, alloc: Global, mode: Mode) -> Vec<Vec<u8>> {
     let mut state = 7;
     let mut symbols = Vec::new(alloc);
@@ -357,7 +357,7 @@ fn drawn_symbols(rt: &impl Abort, alloc: Global, mode: Mode) -> Vec<Vec<u8>> {
     symbols
 }
 
-// The same costs by one receiving side whose parameters change from symbol to symbol.
+// The same costs from one receiving side whose parameters change from symbol to symbol.
 #[test]
 fn costs_of_changing_parameters(rt: HostRuntime) -> Result<(), Fail> {
     let alloc = rt.alloc();
@@ -379,7 +379,7 @@ fn costs_of_changing_parameters(rt: HostRuntime) -> Result<(), Fail> {
     Ok(())
 }
 
-// What stands behind the pairs of a symbol.
+// The content after the pairs of a symbol.
 const BEHIND: CostPair = CostPair {
     x0: 1,
     x1: 2,
@@ -387,7 +387,7 @@ const BEHIND: CostPair = CostPair {
     y1: 4,
 };
 
-// The cost pairs of both streams in the whole symbol that was taken, found at once.
+// The cost pairs of both streams in the whole symbol taken, in one call.
 fn pairs_at_once<M: Carriers>(
     rt: &impl Abort,
     alloc: Global,
@@ -441,7 +441,7 @@ fn agree_on<M: Carriers>(
     assert!(rt; lp.as_slice() == lp_at_once.as_slice());
 }
 
-// The pairs of both streams at once are those of each by itself, of one stream and of two.
+// The pairs of both streams in one call are those of each by itself, for one stream and for two.
 #[test]
 fn both_streams_at_once(rt: HostRuntime) -> Result<(), Fail> {
     let alloc = rt.alloc();
@@ -482,7 +482,7 @@ const COSTS: [(&str, u32); 4] = [
     ),
 ];
 
-// Drawn cells with drawn weights, taken in pieces of seven bytes, cost what they cost another receiver.
+// Random cells with random weights, taken in pieces of seven bytes, have the costs of another receiver.
 #[test]
 fn costs_by_weights_of_another_receiver(rt: HostRuntime) {
     let alloc = rt.alloc();

@@ -1,4 +1,4 @@
-// What is sent of bytes that are given: the labels of symbols, and the bytes of their cells.
+// The symbols for given bytes: their labels, and the bytes of their cells.
 ghost use Rattle.std.specs.Prelude.{◌≡◌, ◌<◌, ◌≤◌, ℕ, IsTrue, get_or, length, ◌^◌};
 ghost use Rattle.mode_set.specs.StreamTable.{label_bits};
 
@@ -21,7 +21,7 @@ pub(crate) fn drawn_bytes(rt: &impl Abort, alloc: Global, state: u32) -> Vec<u8>
     bytes
 }
 
-// The bits of a stream that wait, and the bytes behind them.
+// The pending bits of a stream, and the bytes after them.
 #[derive(Drop)]
 struct Waiting<'a> {
     bits: WaitBuf,
@@ -35,7 +35,7 @@ fn stream_of(bytes: &[u8]) -> Waiting<'_> {
     }
 }
 
-// Takes bytes until so many bits wait.
+// Takes bytes until `count` bits are pending.
 fn fill(rt: &impl Abort, waiting: &mut Waiting<'_>, count: u32)
     ensures { count ≤ length waiting.new.bits }
 {
@@ -72,8 +72,8 @@ fn next_labels<M: Carriers>(
     labels
 }
 
-/// The labels of as many symbols as are said to be odd or even. They have the parameters of these settings, whatever the
-/// coder began with, and the streams these bytes.
+/// The labels of symbols, one for each entry of a list that says whether it is odd. They have the parameters of these
+/// settings, whatever the coder began with, and the streams these bytes.
 pub(crate) fn labels_of<M: Carriers>(
     rt: &impl Abort,
     alloc: Global,
@@ -144,7 +144,7 @@ fn first_bytes<M: Carriers>(
     symbols
 }
 
-// The bytes by a coder that is made for these settings.
+// The bytes from a coder made for these settings.
 fn sent_by<M: Carriers>(
     rt: &impl Abort,
     alloc: Global,

@@ -1,5 +1,4 @@
-// The first three symbols of a transmission, from its packets to its cells, beside the cells of another
-// modulator.
+// The first three symbols of a transmission, from its packets to its cells, against the cells of another modulator.
 use crate::sending::first_symbols;
 use mode_set::Settings;
 use outer_chain::OuterTx;
@@ -8,7 +7,7 @@ use std::process::Abort;
 use std::rt::HostRuntime;
 use ts_packet::Packet;
 
-// Byte j of packet i is 37 i + 11 j + (j² mod 7) (i + 1) + salt modulo 256, behind the sync byte.
+// Byte j of packet i is 37 i + 11 j + (j² mod 7) (i + 1) + salt modulo 256, after the sync byte.
 fn packet_byte(i: u8, j: u8, salt: u8) -> u8 {
     let square = (j % 7).wrapping_mul(j % 7) % 7;
     i.wrapping_mul(37)
@@ -25,7 +24,7 @@ fn packet_bytes(i: u8, salt: u8) -> [u8; 188] {
     bytes
 }
 
-// The coded bytes of packets that the other modulator was given too, enough for three symbols of any settings.
+// The coded bytes of the packets also given to the other modulator, enough for three symbols of any settings.
 fn coded_bytes(rt: &impl Abort, alloc: Global, salt: u8) -> Vec<u8> {
     let mut outer = OuterTx::new(alloc).expect(rt, "memory");
     let mut bytes = Vec::new(alloc);
@@ -38,7 +37,7 @@ fn coded_bytes(rt: &impl Abort, alloc: Global, salt: u8) -> Vec<u8> {
     bytes
 }
 
-// The bytes of the symbols as the digits of a number to the base 31, modulo 2^32.
+// The bytes of the symbols as the digits of a number in base 31, modulo 2^32.
 fn sum_of(symbols: &[Vec<u8>]) -> u32 {
     let mut sum = 0u32;
     for bytes in symbols {

@@ -19,7 +19,7 @@ fn labels() -> [u8; 1512]
     [1; 1512]
 }
 
-// The bytes of four symbols of a builder: the parameters of each, and those that it announces.
+// The bytes of four symbols of a builder, given the parameters of each and those that it announces.
 fn four_symbols(alloc: Global, symbols: &[(Entry, Entry); 4]) -> Result<Vec<u8>, AllocError> {
     let labels = labels();
     let mut bytes = Vec::with_capacity(alloc, 34100)?;
@@ -31,7 +31,7 @@ fn four_symbols(alloc: Global, symbols: &[(Entry, Entry); 4]) -> Result<Vec<u8>,
     Ok(bytes)
 }
 
-// Each of these cells, of which the symbol and the carrier are given, stands among the bytes of symbols.
+// Each of these cells, given by symbol and carrier, is in the bytes of the symbols.
 fn stand(rt: &impl Abort, bytes: &[u8], cells: &[(u8, u16, [u8; 5])]) {
     for (symbol, carrier, cell) in cells {
         let from = 5 * (1705 * *symbol as usize + *carrier as usize);
@@ -43,8 +43,8 @@ fn stand(rt: &impl Abort, bytes: &[u8], cells: &[(u8, u16, [u8; 5])]) {
     }
 }
 
-// Carriers 0 and 1, 12 and 34 of symbol 0, and carrier 34 of symbol 3, as another modulator sends them:
-// each cell with the weight 15.
+// Carriers 0 and 1, 12 and 34 of symbol 0, and carrier 34 of symbol 3, as another modulator sends them, each cell with
+// weight 15.
 #[test]
 fn first_cells(rt: HostRuntime) -> Result<(), Fail> {
     let one = flat(Mode::M2k, Shape::Qpsk, Rate::R1of2).top();
@@ -60,8 +60,8 @@ fn first_cells(rt: HostRuntime) -> Result<(), Fail> {
     Ok(())
 }
 
-// The label 1 on carrier 1 by one builder, where the constellation changes and changes back: the level is
-// that of the symbol's own parameters, whatever the next super-frame has.
+// Label 1 on carrier 1 from one builder, while the constellation changes and changes back: the level is that of the
+// symbol's own parameters, whatever the next super-frame has.
 #[test]
 fn cells_of_changing_parameters(rt: HostRuntime) -> Result<(), Fail> {
     let one = flat(Mode::M2k, Shape::Qpsk, Rate::R1of2).top();
@@ -100,8 +100,7 @@ fn symbols_over_a_slice(rt: HostRuntime) -> Result<(), Fail> {
     Ok(())
 }
 
-// The bytes of a symbol of another modulator, of which carrier k has the weight byte k mod 256, and five of
-// the next one.
+// The bytes of a symbol of another modulator, with weight byte k mod 256 for carrier k, and five of the next one.
 fn weighted_bytes() -> [u8; 8530] {
     let mut bytes = [0x12u8; 8530];
     for k in 0..1706usize {
@@ -110,8 +109,8 @@ fn weighted_bytes() -> [u8; 8530] {
     bytes
 }
 
-// A symbol in pieces of 1, 3, 1 and 8525 bytes, of which five are those of the next one: the second cut lies
-// between a cell and its weight. A byte above 15 is the weight 15.
+// A symbol in pieces of 1, 3, 1 and 8525 bytes, five of them from the next one: the second cut is between a cell and
+// its weight. A byte above 15 is weight 15.
 #[test]
 fn a_symbol_in_pieces(rt: HostRuntime) {
     let bytes = weighted_bytes();

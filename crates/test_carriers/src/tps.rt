@@ -1,5 +1,5 @@
-// The TPS words of transmissions beside those of another modulator, with errors and with fields that
-// the standard leaves out.
+// The TPS words of transmissions against those of another modulator, with errors and with fields that the standard does
+// not use.
 ghost use Rattle.std.specs.Prelude.{◌≤◌};
 
 use mode_set::{Guard, Hierarchy, Mode, Rate, Settings, Shape};
@@ -18,7 +18,7 @@ fn bits_of(text: &[u8; 67]) -> [bool; 67] {
     bits
 }
 
-// Every error in one place or two is taken back.
+// Every single or double error is corrected.
 fn errors_are_corrected(rt: &impl Abort, sent: &[bool; 67]) {
     for i in 0..67usize {
         let mut once = *sent;
@@ -38,7 +38,7 @@ fn corrected(word: [bool; 67]) -> (TpsOutcome, [bool; 67]) {
     (outcome, word)
 }
 
-// The word with another value in the `width` bits from place `at` on, s1 being at 0, and its parity.
+// The word with another value in the `width` bits from bit `at` on, s1 being bit 0, and its parity.
 fn with_field(
     rt: &impl Abort,
     sent: &[bool; 67],
@@ -62,7 +62,7 @@ fn with_field(
     word
 }
 
-// Values that no word has: the place and the width of the field, and the value.
+// Values that no word has: the position and the width of the field, and the value.
 const OTHER_FIELDS: [(usize, usize, u8); 18] = [
     // the length
     (16, 6, 0b000000),
@@ -371,8 +371,8 @@ fn parity_of_a_single_one(rt: HostRuntime) {
     assert!(&rt; parity(&info) == expected);
 }
 
-// The zero word is a word of the code, and x^7 + x^3 + 1, flips of s60, s64 and s67, divides the generator: with these it
-// is within two bits of no word.
+// The zero word is a word of the code, and x^7 + x^3 + 1, flips of s60, s64 and s67, divides the generator: with these
+// it is within two bits of no word.
 #[test]
 fn words_of_the_code(rt: HostRuntime) {
     errors_are_corrected(&rt, &[false; 67]);

@@ -1,16 +1,16 @@
-// Bits in a queue, and in a word beside a queue.
+// Bits in a queue, and in a word compared with a queue.
 use bit_pack::{BitBuf, BitWord};
 use mode_set::Rate;
 use puncture::PuncturedEncoder;
 
-// Puts bits behind the others, where there is room for sixteen.
+// Appends bits, if there is room for sixteen.
 fn push(word: &mut BitWord, bits: u16, count: u8) {
     if count <= 16 && word.waiting() <= 16 {
         word.push_bits(bits, count);
     }
 }
 
-// How many bits wait behind these, and what is taken then.
+// The number of bits after these were appended, and the bytes taken then.
 fn taken_behind(word: &mut BitWord, bits: u16, count: u8) -> (usize, [Option<u8>; 3]) {
     push(word, bits, count);
     let waiting = word.waiting();
@@ -18,7 +18,7 @@ fn taken_behind(word: &mut BitWord, bits: u16, count: u8) -> (usize, [Option<u8>
     (waiting as usize, taken)
 }
 
-// Of each number the lowest bits alone.
+// Only the lowest bits of each number.
 #[test]
 fn words_to_bytes(rt: HostRuntime) {
     let mut word = BitWord::new();
@@ -33,7 +33,7 @@ fn words_to_bytes(rt: HostRuntime) {
     }
 }
 
-// Each byte in turn at each rate, sixteen times: the word gives what the queue gives.
+// Each byte at each rate, sixteen times: the word gives the same as the queue.
 #[test]
 fn words_are_queues(rt: HostRuntime) {
     for rate in [
@@ -67,7 +67,7 @@ fn words_are_queues(rt: HostRuntime) {
     }
 }
 
-// The first byte, where one is put behind the bits that wait, and how many bits and which byte are left then.
+// The first byte after one was appended to the queue, and then the number of bits and the byte left.
 fn through(queue: &mut BitBuf<3>, byte: u8) -> (Option<u8>, usize, Option<u8>) {
     if queue.waiting() <= 16 {
         queue.push_byte(byte);
@@ -85,7 +85,7 @@ fn four_bits(queue: &mut BitBuf<3>) -> [Option<bool>; 4] {
     bits
 }
 
-// Three bits, and bytes behind them: they go round the end of the ring.
+// Three bits, and bytes after them: they wrap around the end of the ring.
 #[test]
 fn bits_to_bytes(rt: HostRuntime) {
     let mut queue: BitBuf<3> = BitBuf::new();

@@ -1,5 +1,5 @@
-// Symbols of a transmission from anywhere in it, and symbols that show bits of our choice. The expected
-// places are those of an independent program.
+// Symbols of a transmission from any point on, and symbols with chosen TPS bits. The expected places are those of an
+// independent program.
 ghost use Rattle.std.specs.Prelude.{◌≡◌, length};
 ghost use Rattle.mode_set.specs.declared.modes.Mode.TheVariants.{M2k};
 
@@ -52,8 +52,8 @@ fn turned_if(turned: bool, cell: Cell) -> Cell {
     }
 }
 
-// The bytes of the next symbol, with the label 1 on each payload carrier. The next super-frame has the
-// parameters of `next`.
+// The bytes of the next symbol, with label 1 on each payload carrier. The next super-frame has the parameters of
+// `next`.
 fn next_bytes<M: Carriers>(
     rt: &impl Abort,
     alloc: Global,
@@ -67,7 +67,7 @@ fn next_bytes<M: Carriers>(
     bytes
 }
 
-// The cells of a symbol, turned or as they are.
+// The cells of a symbol, inverted or unchanged.
 fn cells_of<M: Carriers>(rt: &impl Abort, alloc: Global, bytes: &[u8], turned: bool) -> Vec<Cell>
     ensures { length result.items ≡ M.K }
 {
@@ -83,7 +83,7 @@ fn cells_of<M: Carriers>(rt: &impl Abort, alloc: Global, bytes: &[u8], turned: b
     cells
 }
 
-// What is found with one symbol more.
+// The result with one more symbol.
 fn found_with<M: Carriers>(rt: &impl Abort, tuner: &mut Tuner<M>, cells: &[Cell]) -> Option<Found>
     requires { length cells.now ≡ M.K }
 {
@@ -92,7 +92,7 @@ fn found_with<M: Carriers>(rt: &impl Abort, tuner: &mut Tuner<M>, cells: &[Cell]
     tuner.symbol(cells)
 }
 
-// What is found in the symbols `from` to `to` of a transmission, and after how many of these; at each symbol of `turns` the
+// The result in symbols `from` to `to` of a transmission, and after how many of these; at each symbol of `turns` the
 // sign of all cells changes.
 fn tuned<M: Carriers>(
     rt: &impl Abort,
@@ -132,7 +132,7 @@ fn frame_at(rt: &impl Abort, settings: &Settings, (place, frame): (u64, u8)) -> 
     }
 }
 
-// The number of the frame that is found in 68 symbols which show these bits, or 0.
+// The number of the frame found in 68 symbols with these bits, or 0.
 fn frame_shown(rt: &impl Abort, alloc: Global, bits: &[u8; 67]) -> u8 {
     let mut tuner = Tuner::<Mode2k>::new(alloc).expect(rt, "memory");
     let mut turned = true;
@@ -149,15 +149,15 @@ fn frame_shown(rt: &impl Abort, alloc: Global, bits: &[u8; 67]) -> u8 {
     0
 }
 
-// Parts of a transmission: their first symbol and the one behind their last, and where the sign of all cells changes. Then
-// after how many symbols a frame is found, its place and its number.
+// Parts of a transmission: their first symbol and the one after their last, and where the sign of all cells changes.
+// Then after how many symbols a frame is found, its place and its number.
 const PARTS: [(u16, u16, &[u16], u64, Option<(u64, u8)>); 6] = [
     // Two super-frames without their first ten symbols: the frame of symbol 58 is the second one.
     (10, 544, &[], 126, Some((58, 2))),
     // 67 symbols are no frame, 68 are one.
     (0, 67, &[], 67, None),
     (0, 68, &[], 68, Some((0, 1))),
-    // One and two wrong votes are corrected; with three the next frame is the first that is found.
+    // One or two wrong votes are corrected; with three the next frame is the first one found.
     (0, 136, &[16], 68, Some((0, 1))),
     (0, 136, &[1, 67], 68, Some((0, 1))),
     (0, 136, &[3, 40, 60], 136, Some((68, 2))),
@@ -182,7 +182,7 @@ fn eight_thousand_carriers(rt: HostRuntime) {
     assert!(&rt; found == (68, Some(frame_at(&rt, &settings, (0, 4)))));
 }
 
-// The super-frame behind the one that begins a transmission.
+// The super-frame after the first one of a transmission.
 #[test]
 fn next_super_frame(rt: HostRuntime) {
     let first = Found {
@@ -192,8 +192,8 @@ fn next_super_frame(rt: HostRuntime) {
     assert!(&rt; begin(&first) == 272);
 }
 
-// The super-frame before one of hierarchical 16-QAM announces it: the word has the constellation, the
-// hierarchy and the rates of the next super-frame, while the symbols still have their own.
+// The super-frame before one of hierarchical 16-QAM announces it: the word has the constellation, the hierarchy and the
+// rates of the next super-frame, while the symbols still have their own.
 #[test]
 fn next_parameters_are_announced(rt: HostRuntime) {
     let settings = base();
@@ -213,8 +213,8 @@ fn next_parameters_are_announced(rt: HostRuntime) {
     assert!(&rt; announced == Some(wanted));
 }
 
-// The words of the frames 1 and 2 of QPSK at 1/2 in the 2K mode, whole and with two errors, as another
-// program makes and finds them, and the number of the frame.
+// The words of frames 1 and 2 of QPSK at 1/2 in the 2K mode, without errors and with two, as another program makes and
+// finds them, and the number of the frame.
 const WORDS_THAT_COUNT: [(&[u8; 67], u8); 4] = [
     (
         b"0011010111101110010111000000000000000000000000000000001100110000100",
@@ -236,8 +236,8 @@ const WORDS_THAT_COUNT: [(&[u8; 67], u8); 4] = [
     ),
 ];
 
-// Three errors, a word of the other mode, and words of the code whose fields cannot be sent, in all of
-// which that program finds nothing.
+// Three errors, a word of the other mode, and words of the code with invalid fields; that program finds nothing in any
+// of them.
 const WORDS_THAT_DO_NOT_COUNT: [&[u8; 67]; 7] = [
     // Three errors in the sync word, and three errors elsewhere.
     b"0010010110100110010111000000000000000000000000000000001100110000100",
@@ -268,7 +268,7 @@ fn words_that_do_not_count(rt: HostRuntime) {
     }
 }
 
-// The settings that words announce.
+// The settings announced by words.
 #[test]
 fn announced_settings(rt: HostRuntime) {
     let word = TpsWord::signalled(&layered(Mode::M2k), 3);

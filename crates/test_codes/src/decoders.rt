@@ -14,7 +14,7 @@ use std::rt::HostRuntime;
 use std::test::Fail;
 use survivor_ring::{ListSurvivors, RingSurvivors, Survivors};
 
-/// Does a decoder make this of a list of costs?
+/// Whether a decoder gives this for a list of costs.
 fn makes<A: Acs, V: Survivors<L>, const L: usize>(
     alloc: Global,
     start: StartState,
@@ -29,7 +29,7 @@ fn makes<A: Acs, V: Survivors<L>, const L: usize>(
     Ok(text.as_str() == want)
 }
 
-/// Do all four decoders make this of a list of costs?
+/// Whether all four decoders give this for a list of costs.
 fn all_make<const L: usize>(
     alloc: Global,
     start: StartState,
@@ -47,7 +47,7 @@ fn all_make<const L: usize>(
     Ok(plain && ring && lanes && both)
 }
 
-/// Do all four decoders of a path memory of so many steps make this of a list of costs?
+/// Whether all four decoders with a path memory of `most` steps give this for a list of costs.
 fn make(
     alloc: Global,
     most: usize,
@@ -70,8 +70,8 @@ fn make(
     }
 }
 
-/// Starts, the most steps, digits of costs and what decoders make of them. The texts on the right come from an
-/// independent program.
+/// Starts, the most steps, digits of costs and the decoders' output. The texts on the right come from an independent
+/// program.
 static CASES: [(StartState, usize, &str, &str); 29] = [
     (
         StartState::Zero,
@@ -249,7 +249,7 @@ static CASES: [(StartState, usize, &str, &str); 29] = [
     ),
 ];
 
-// Do decoders make this of the digits, and of the first seven steps what the definition does?
+// Whether the decoders give this for the digits, and for the first seven steps the output of the definition.
 fn is_decoded(
     rt: &impl Abort,
     alloc: Global,
@@ -277,8 +277,8 @@ fn small_cost_lists(rt: HostRuntime) -> Result<(), Fail> {
     Ok(())
 }
 
-// Of 3,024 steps 2,961 are given by the second symbol, all zeros: the whole first part, and of the second one, which begins
-// from one register, all but 63.
+// Of 3,024 steps 2,961 are given by the second symbol, all zeros: the whole first part and, of the second one, which
+// begins from one register, all but 63.
 const UNMERGED: ([usize; 2], u64, [u32; 3], u32) = ([0, 1], 2049, [0, 2961, 64], 0);
 
 #[test]
@@ -301,7 +301,7 @@ fn unmerged_over_words(rt: HostRuntime) -> Result<(), Fail> {
     Ok(())
 }
 
-// Step by step and in slices, by the plain step and in lanes. The outcomes come from an independent program.
+// Step by step and in slices, with the plain step and in lanes. The outcomes come from an independent program.
 #[test]
 fn slices_of_a_long_stream(rt: HostRuntime) -> Result<(), Fail> {
     let costs = long_stream(rt.alloc())?;
@@ -321,7 +321,8 @@ fn slices_of_a_long_stream(rt: HostRuntime) -> Result<(), Fail> {
     Ok(())
 }
 
-// What a decoder makes of the costs step by step, and branches in slices: in lanes, by the plain step, and over lists.
+// The decoder's output for the costs step by step, and that of branches in slices: in lanes, with the plain step, and
+// over lists.
 fn four_outcomes(
     rt: &impl Abort,
     alloc: Global,

@@ -1,4 +1,4 @@
-// Runs of a decoder, and of the definition by trying all paths.
+// Runs of a decoder, and of the definition by exhaustive search.
 ghost use Rattle.std.specs.Prelude.{◌≡◌, ◌+◌, ◌*◌, ◌<◌, ◌≤◌, ◌^◌, length, false, IfOk};
 
 use acs_plain::Acs;
@@ -9,7 +9,7 @@ use std::alloc::{AllocError, Global};
 use std::process::Abort;
 use survivor_ring::Survivors;
 
-/// The cost pairs that a text of digits spells, four digits a pair.
+/// The cost pairs in a string of digits, four digits a pair.
 pub fn pairs_of(alloc: Global, digits: &str) -> Result<Vec<CostPair>, AllocError> {
     let bytes = digits.as_bytes();
     let mut pairs = Vec::new(alloc);
@@ -37,7 +37,7 @@ fn bit_letter(bit: bool) -> char {
     if bit { '1' } else { '0' }
 }
 
-/// What a decoder makes of a list of costs.
+/// The output of a decoder for a list of costs.
 pub fn decoded<A: Acs, V: Survivors<L>, const L: usize>(
     alloc: Global,
     start: StartState,
@@ -67,7 +67,7 @@ pub fn decoded<A: Acs, V: Survivors<L>, const L: usize>(
     Ok(text)
 }
 
-/// A register as the six bits of a state, the oldest first.
+/// A register as the six bits of a state, oldest first.
 fn register_of(state: u8) -> [bool; 6] {
     let mut bits = [false; 6];
     for k in 0..6u8 {
@@ -76,7 +76,7 @@ fn register_of(state: u8) -> [bool; 6] {
     bits
 }
 
-/// How many bits behind the register the least paths to all ends share.
+/// The number of bits after the register that the least paths to all ends share.
 fn shared(start: Option<[bool; 6]>, costs: &[CostPair]) -> usize
     requires few { length costs.now ≤ 10 }
 {
@@ -109,7 +109,7 @@ fn push_bits(text: &mut String, bits: &[bool]) -> Result<(), AllocError> {
     Ok(())
 }
 
-/// The last six bits of a path of so many steps.
+/// The last six bits of a path of `steps` steps.
 fn end_of(path: &[bool; 16], steps: usize) -> [bool; 6]
     requires { steps ≤ 10 }
 {
@@ -120,7 +120,7 @@ fn end_of(path: &[bool; 16], steps: usize) -> [bool; 6]
     end
 }
 
-/// What the definition makes of a list of at most ten costs.
+/// The output of the definition for a list of at most ten costs.
 pub fn defined(
     alloc: Global,
     start: StartState,
@@ -164,7 +164,7 @@ pub fn defined(
     Ok(text)
 }
 
-/// The costs of a QPSK cell of which the real part is 0: nothing is known of X, and Y is 0.
+/// The costs of a QPSK cell with real part 0: nothing is known of X, and Y is 0.
 const UNKNOWN: CostPair = CostPair {
     x0: 511,
     x1: 511,
@@ -172,7 +172,7 @@ const UNKNOWN: CostPair = CostPair {
     y1: 2047,
 };
 
-/// Loads a pair again and again.
+/// Loads a pair `count` times.
 fn load<A: Acs, V: Survivors<2048>>(branch: &mut Branch<A, V>, pair: CostPair, count: u32)
     requires going { branch.old.decoder.ended ≡ false }
     requires room { length branch.old.loaded + count ≤ branch.old.most }
@@ -186,7 +186,7 @@ fn load<A: Acs, V: Survivors<2048>>(branch: &mut Branch<A, V>, pair: CostPair, c
     }
 }
 
-/// Takes the whole bytes that wait, at most 400, and adds the bits that are set in them.
+/// Takes the whole pending bytes, at most 400, and counts the ones in them.
 fn ones_taken<A: Acs, V: Survivors<2048>>(branch: &mut Branch<A, V>, before: u32) -> u32
     ensures decoder { branch.new.decoder ≡ branch.old.decoder }
     ensures loaded { branch.new.loaded ≡ branch.old.loaded }
@@ -201,9 +201,9 @@ fn ones_taken<A: Acs, V: Survivors<2048>>(branch: &mut Branch<A, V>, before: u32
     ones
 }
 
-/// What a branch makes of two symbols of 1,512 steps whose 64 paths never agree: how many reports each has and the step of
-/// the last, the bits that wait after each symbol and, where all whole bytes were taken in between, at the end, and how
-/// many bits are set.
+/// The output of a branch for two symbols of 1,512 steps whose 64 paths never agree: the number of reports of each and
+/// the step of the last, the bits pending after each symbol and, with all whole bytes taken in between, at the end, and
+/// the number of ones.
 pub fn unmerged<A: Acs, V: Survivors<2048>>(
     rt: &impl Abort,
     alloc: Global,
@@ -231,14 +231,14 @@ pub fn unmerged<A: Acs, V: Survivors<2048>>(
     Ok((reports, last, waiting, ones))
 }
 
-/// What a stream of 6,000 costs comes to.
+/// The outcome of a stream of 6,000 costs.
 #[derive(Clone, Copy, Debug, Drop, PartialEq, Eq)]
 pub struct Outcome {
     /// The number of reports.
     pub reports: u32,
     /// The step of the last report.
     pub last: u64,
-    /// The sum of all bytes, each times 31 for every byte behind it, modulo 2^64.
+    /// The sum of all bytes, each times 31 for every byte after it, modulo 2^64.
     pub sum: u64,
 }
 
@@ -249,7 +249,7 @@ fn next(x: u64) -> u64 {
     z ^ z << 17
 }
 
-/// The costs of a step: random ones, or those of a step of which X is not known and Y is 0.
+/// The costs of a step: random ones, or those of a step with unknown X and Y being 0.
 fn costs_at(step: u32, x: u64) -> CostPair {
     if step >= 1400 && step < 4300 {
         UNKNOWN
@@ -263,7 +263,7 @@ fn costs_at(step: u32, x: u64) -> CostPair {
     }
 }
 
-/// The costs of 6,000 steps: random ones up to the greatest, then a long time of which the 64 paths never agree, and then
+/// The costs of 6,000 steps: random ones up to the greatest, then many for which the 64 paths never agree, and then
 /// random ones again.
 pub fn long_stream(alloc: Global) -> Result<Vec<CostPair>, AllocError>
     ensures { IfOk result (λ v. length v.items ≡ 6000) }
@@ -277,7 +277,7 @@ pub fn long_stream(alloc: Global) -> Result<Vec<CostPair>, AllocError>
     Ok(pairs)
 }
 
-/// The bytes of a decoder behind a sum of bytes.
+/// The bytes of a decoder, added to a sum of bytes.
 fn sum_of(to: &mut WaitBuf) -> u64 {
     let mut sum = 0u64;
     for _k in 0..750u32 {
@@ -288,7 +288,7 @@ fn sum_of(to: &mut WaitBuf) -> u64 {
     sum
 }
 
-/// What a decoder makes of the costs, step by step.
+/// The decoder's output for the costs, step by step.
 pub fn by_steps<A: Acs, V: Survivors<2048>>(
     alloc: Global,
     start: StartState,
@@ -314,7 +314,7 @@ pub fn by_steps<A: Acs, V: Survivors<2048>>(
     })
 }
 
-/// Takes the whole bytes that wait, of which there are at most 1,000, behind a sum of bytes.
+/// Takes the whole pending bytes, at most 1,000, and adds them to a sum of bytes.
 fn bytes_taken<A: Acs, V: Survivors<2048>>(branch: &mut Branch<A, V>, before: u64) -> u64
     ensures decoder { branch.new.decoder ≡ branch.old.decoder }
     ensures loaded { branch.new.loaded ≡ branch.old.loaded }
@@ -329,7 +329,7 @@ fn bytes_taken<A: Acs, V: Survivors<2048>>(branch: &mut Branch<A, V>, before: u6
     sum
 }
 
-/// What a branch makes of the costs, in four symbols of 1,500 steps.
+/// The output of a branch for the costs, in four symbols of 1,500 steps.
 pub fn by_symbols<A: Acs, V: Survivors<2048>>(
     rt: &impl Abort,
     alloc: Global,

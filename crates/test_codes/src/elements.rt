@@ -1,7 +1,7 @@
 // Elements of the field of the Reed-Solomon code.
 use gf256::Elem;
 
-// Powers, logarithms and inverses as published tables of this field have them.
+// Powers, logarithms and inverses as in published tables of this field.
 #[test]
 fn published_values(rt: HostRuntime) {
     for (exponent, element) in [

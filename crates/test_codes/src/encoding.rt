@@ -23,7 +23,7 @@ fn coded_bits(rt: HostRuntime) {
     }
 }
 
-// The head of the coded null packet: E2 BE AC 00 in bits X Y X Y ..
+// The first bytes of the coded null packet: E2 BE AC 00 in bits X Y X Y ..
 #[test]
 fn coded_bytes(rt: HostRuntime) {
     let mut encoder = Encoder::start();

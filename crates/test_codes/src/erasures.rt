@@ -1,5 +1,4 @@
-// Words against values from outside: worked values, what an independent program answers, and a
-// plain search.
+// Words against outside values: worked values, the results of an independent program, and a plain search.
 
 ghost use Rattle.std.specs.Prelude.{◌<◌, ◌≤◌, IsTrue};
 ghost use Rattle.std.specs.List.{All};
@@ -10,7 +9,7 @@ use rs_erasure::{Erased, decode_erased, laws};
 use rs204::encode;
 use test_tools::next_number;
 
-// Whether places may be erased.
+// Whether positions are valid erasures.
 fn may_be_erased(places: &[u8; 8]) -> bool
     ensures rising { IsTrue result → IsStrictlyIncreasing places.now }
     ensures within { IsTrue result → All (λ e. e < 204) places.now }
@@ -23,7 +22,7 @@ fn may_be_erased(places: &[u8; 8]) -> bool
     true
 }
 
-// What becomes of a word, if the places may be erased.
+// The outcome of a word, if the positions are valid erasures.
 fn decoded(word: &mut [u8; 204], places: &[u8; 8]) -> Option<Erased> {
     if may_be_erased(places) {
         Some(decode_erased(word, places))
@@ -32,7 +31,7 @@ fn decoded(word: &mut [u8; 204], places: &[u8; 8]) -> Option<Erased> {
     }
 }
 
-// Is this the answer for the word, and is this what stands behind it?
+// Whether this is the outcome for the word, and this the word afterwards.
 fn finds(received: &[u8; 204], places: &[u8; 8], answer: Erased, left: &[u8; 204]) -> bool {
     let mut word = *received;
     decoded(&mut word, places) == Some(answer) && word == *left
@@ -49,7 +48,7 @@ fn erased_and_wrong_bytes(rt: HostRuntime) {
     assert!(rt; finds(&word, &places, Erased::Found(4), &[0; 204]));
 }
 
-// Those of the last thirteen places, eight at the most, that the bits of a number choose.
+// Those of the last thirteen positions, at most eight, that the bits of a number select.
 fn of_the_last(choice: u32) -> [u8; 8] {
     let mut places = [0u8; 8];
     let mut count = 0usize;
@@ -62,7 +61,7 @@ fn of_the_last(choice: u32) -> [u8; 8] {
     places
 }
 
-// Each choice of eight of the thirteen places that are not 0, and others.
+// Every choice of eight of the thirteen positions that are not 0, and others.
 #[test]
 fn no_word_for_any_places(rt: HostRuntime) {
     let received = product_of(12);
@@ -81,7 +80,7 @@ fn no_word_for_any_places(rt: HostRuntime) {
     }
 }
 
-// The next number below n, of a plain congruential sequence.
+// The next number below n, of a linear congruential sequence.
 fn draw(seed: &mut u32, n: u32) -> u32
     requires { 0 < n }
     ensures { result < n }
@@ -97,7 +96,7 @@ fn drawn_change(seed: &mut u32) -> u8 {
     1 + draw(seed, 255) as u8
 }
 
-// Eight places, each at most so far behind the one before.
+// Eight random positions, each at most `apart` after the one before.
 fn drawn_places(seed: &mut u32, apart: u32) -> [u8; 8]
     requires some { 0 < apart }
     requires few { apart ≤ 24 }
@@ -119,7 +118,7 @@ fn drawn_codeword(seed: &mut u32) -> [u8; 204] {
     encode(&message)
 }
 
-// Changes the first so many erased places, and so many others.
+// Changes the first `wrong` erased positions, and `errors` others.
 fn disturb(word: &mut [u8; 204], erased: &[u8; 8], wrong: u32, errors: u32, seed: &mut u32) {
     for k in 0..8u32 {
         let place = erased[k as usize] as usize;
@@ -138,10 +137,9 @@ fn disturb(word: &mut [u8; 204], erased: &[u8; 8], wrong: u32, errors: u32, seed
     }
 }
 
-// Words near which there is a codeword that they were not made of: the number of the word, that of
-// the places outside the erased ones at which the codeword differs, and the sum of the codeword's
-// bytes, each sum times 31. An independent program found them by elimination, and its search over
-// all sets of four places found no others.
+// Words close to a codeword other than the one they were made from: the number of the word, the number of positions
+// outside the erasures where the codeword differs, and the sum of the codeword's bytes, each sum times 31. An
+// independent program found them by elimination, and its search over all sets of four positions found no others.
 type Other = (u32, u8, u32);
 
 const OF_FIVE_ERRORS: [Other; 4] = [
@@ -153,7 +151,7 @@ const OF_FIVE_ERRORS: [Other; 4] = [
 
 const OF_RANDOM_BYTES: [Other; 2] = [(35, 4, 0xC9E3C2E6), (61, 4, 0x85FA6AE4)];
 
-// What others say of a word.
+// The other program's result for a word.
 fn other(others: &[Other], case: u32) -> Option<(u8, u32)> {
     for (number, count, sum) in others {
         if *number == case {
@@ -171,7 +169,7 @@ fn sum_of(word: &[u8; 204]) -> u32 {
     sum
 }
 
-// Is no codeword found for this word but the one that others say?
+// Whether no codeword is found for this word except that of the other program.
 fn finds_as_others(received: &[u8; 204], places: &[u8; 8], others: &[Other], case: u32) -> bool {
     if let Some((count, sum)) = other(others, case) {
         let mut word = *received;
@@ -180,7 +178,7 @@ fn finds_as_others(received: &[u8; 204], places: &[u8; 8], others: &[Other], cas
     finds(received, places, Erased::NoWord, received)
 }
 
-// A codeword of a drawn message with 0 to 5 errors outside drawn places and 0 to 8 in them.
+// A codeword of a random message with 0 to 5 errors outside random positions and 0 to 8 in them.
 fn drawn_is_found(seed: &mut u32, case: u32) -> bool {
     let sent = drawn_codeword(seed);
     let places = drawn_places(seed, 1 + case % 24);
@@ -200,7 +198,7 @@ fn drawn_codewords(rt: HostRuntime) {
     }
 }
 
-// A word of drawn bytes.
+// A word of random bytes.
 fn random_is_found(seed: &mut u32, case: u32) -> bool {
     let places = drawn_places(seed, 1 + case % 24);
     let mut word = [0u8; 204];
@@ -218,10 +216,10 @@ fn random_bytes(rt: HostRuntime) {
     }
 }
 
-// Every second one of the sixteen bytes behind a message.
+// Every second one of the sixteen bytes after a message.
 const EVERY_SECOND: [u8; 8] = [188, 190, 192, 194, 196, 198, 200, 202];
 
-// At how many places two words differ, but for EVERY_SECOND.
+// The number of positions where two words differ, except for EVERY_SECOND.
 fn differences(a: &[u8; 204], b: &[u8; 204]) -> u8 {
     let mut count = 0u8;
     for k in 0..204u8 {
@@ -232,8 +230,7 @@ fn differences(a: &[u8; 204], b: &[u8; 204]) -> u8 {
     count
 }
 
-// The codeword that differs in four places at most, if one does whose message has another byte or
-// the same at one place.
+// The codeword that differs in at most four positions, if one does whose message differs at most at this position.
 fn searched_at(word: &[u8; 204], place: usize) -> Option<[u8; 204]>
     requires { place < 188 }
 {
@@ -249,8 +246,7 @@ fn searched_at(word: &[u8; 204], place: usize) -> Option<[u8; 204]>
     None
 }
 
-// The codeword that differs in four places at most, if one does whose message differs in one at
-// most.
+// The codeword that differs in at most four positions, if one does whose message differs in at most one.
 fn searched(word: &[u8; 204]) -> Option<[u8; 204]> {
     for place in 0..188usize {
         if let Some(found) = searched_at(word, place) {
@@ -260,7 +256,8 @@ fn searched(word: &[u8; 204]) -> Option<[u8; 204]> {
     None
 }
 
-// A codeword with so many wrong bytes in the message, so many of the others behind it, and all of EVERY_SECOND.
+// A codeword with `in_message` wrong bytes in the message, `behind` wrong ones of the others after it, and all of
+// EVERY_SECOND wrong.
 fn word_with(seed: &mut u32, in_message: u32, behind: usize) -> [u8; 204]
     requires { behind ≤ 8 }
 {
@@ -277,7 +274,7 @@ fn word_with(seed: &mut u32, in_message: u32, behind: usize) -> [u8; 204]
     word
 }
 
-// Is found what a plain search finds?
+// Whether decoding finds the result of a plain search.
 fn finds_as_searched(word: &[u8; 204]) -> bool {
     match searched(word) {
         Some(near) => {
@@ -288,7 +285,7 @@ fn finds_as_searched(word: &[u8; 204]) -> bool {
     }
 }
 
-// The search finds each codeword that is near these words.
+// The search finds each codeword close to these words.
 #[test]
 fn words_by_a_plain_search(rt: HostRuntime) {
     let mut seed = 3u32;

@@ -1,4 +1,4 @@
-// All bits of one state, out of both kinds of survivors, beside a walk back through the decision words.
+// All bits of one state, from both kinds of survivors, and from a traceback through the decision words.
 use bit_pack::WaitBuf;
 use std::alloc::{AllocError, Global};
 use std::rt::HostRuntime;
@@ -6,7 +6,7 @@ use std::test::Fail;
 use survivor_ring::{ListSurvivors, RingSurvivors, Survivors};
 use test_tools::next_number;
 
-/// The decision words of twenty steps, which are drawn from 1.
+/// Twenty random decision words, from seed 1.
 fn decisions() -> [u64; 20] {
     let mut words = [0u64; 20];
     let mut state = 1;
@@ -17,8 +17,8 @@ fn decisions() -> [u64; 20] {
     words
 }
 
-// The bits of the path to a state, the oldest first as the highest: each is the newest bit of the state after its step. The
-// states before n are 2n and 2n + 1 modulo 64, and the decision word has a one at n for the odd one.
+// The bits of the path to a state, oldest first as the highest: each is the newest bit of the state after its step. The
+// states before n are 2n and 2n + 1 modulo 64, and bit n of the decision word is one for the odd one.
 fn walked(words: &[u64; 20], end: u8) -> u32 {
     let mut state = end % 64;
     let mut bits = 0u32;
@@ -30,7 +30,7 @@ fn walked(words: &[u64; 20], end: u8) -> u32 {
     bits
 }
 
-// The bits that wait, as a number, and how many they are.
+// The bits in the queue, as a number, and how many there are.
 fn all_of(bits: &mut WaitBuf) -> (u32, u32) {
     let mut number = 0u32;
     let mut count = 0u32;
@@ -43,7 +43,7 @@ fn all_of(bits: &mut WaitBuf) -> (u32, u32) {
     (number, count)
 }
 
-// What state 37 gives of twenty steps, and how many bits wait then.
+// The bits of state 37 after twenty steps, and how many bits are pending then.
 fn forced<V: Survivors<20>>(
     alloc: Global,
     words: &[u64; 20],

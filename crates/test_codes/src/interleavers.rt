@@ -11,7 +11,7 @@ fn coded(place: usize, delay: usize) -> u8 {
     }
 }
 
-// A byte behind the interleaver, and what comes behind both.
+// A byte after the interleaver, and the byte after both.
 fn steps(interleaver: &mut Interleaver, deinterleaver: &mut Deinterleaver, byte: u8) -> (u8, u8) {
     let sent = interleaver.step(byte);
     (sent, deinterleaver.step(sent))

@@ -1,5 +1,5 @@
-//! The outer code: transport packets, elements of the field, words of the Reed-Solomon code, words with erased bytes, the
-//! interleavers, and the words of a stream. The inner decoder: steps in lanes beside plain ones, survivors, margins. Rescued words.
+//! The outer code: transport packets, field elements, Reed-Solomon words with and without erasures, interleavers, and
+//! words of a stream. The inner decoder: steps in lanes against plain ones, survivors, margins. Rescued words.
 //!
 //! The crate has tests alone.
 #![tactic(auto)]

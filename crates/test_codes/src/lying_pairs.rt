@@ -1,4 +1,4 @@
-// A branch that loads the pairs of its symbols, and one that steps through them where they lie.
+// A branch that loads the pairs of its symbols, and one that steps through them in place.
 ghost use Rattle.std.specs.Prelude.{◌≡◌, length};
 
 use crate::decoding::long_stream;
@@ -15,7 +15,7 @@ use survivor_ring::{RingSurvivors, Survivors};
 /// The steps that end a symbol of the stream: the first one has one step, and the third one none.
 const ENDS: [usize; 5] = [1, 1500, 1500, 4400, 6000];
 
-/// Have both the same reports of the last symbol, and do the same bits wait in both? The whole bytes are taken.
+/// Whether both have the same reports of the last symbol, and the same pending bits. The whole bytes are taken.
 fn are_alike<A: Acs, V: Survivors<2048>>(one: &mut Branch<A, V>, other: &mut Branch<A, V>) -> bool
     ensures one { one.new ≡ record one.old { wait = one.new.wait } }
     ensures other { other.new ≡ record other.old { wait = other.new.wait } }
@@ -29,7 +29,7 @@ fn are_alike<A: Acs, V: Survivors<2048>>(one: &mut Branch<A, V>, other: &mut Bra
     alike
 }
 
-/// How many reports the symbols of the costs have, and whether both branches are alike after each and at the end.
+/// The number of reports of the symbols, and whether both branches are alike after each and at the end.
 fn run_both<A: Acs, V: Survivors<2048>>(
     rt: &impl Abort,
     alloc: Global,

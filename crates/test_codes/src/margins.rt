@@ -1,4 +1,4 @@
-// Margins beside independent programs.
+// Margins against independent programs.
 ghost use Rattle.std.specs.Prelude.{◌<◌};
 
 use bit_margin::{Margins, least_eight, margin_of};
@@ -17,7 +17,7 @@ fn register_of(start: StartState) -> Option<[bool; 6]> {
     }
 }
 
-/// A drawn cost, 0 to 2 where it is small.
+/// A random cost, 0 to 2 if it is small.
 fn drawn_cost(seed: &mut u32, small: bool) -> u16
     ensures { result < 4096 }
 {
@@ -26,7 +26,7 @@ fn drawn_cost(seed: &mut u32, small: bool) -> u16
     (number % range) as u16
 }
 
-/// A drawn pair of costs, 0 to 2 each where they are small.
+/// A random pair of costs, 0 to 2 each if they are small.
 fn drawn(seed: &mut u32, small: bool) -> CostPair {
     CostPair {
         x0: drawn_cost(seed, small),
@@ -51,7 +51,7 @@ fn margins_of(
     Ok(to)
 }
 
-/// The margins of ten pairs, by trying all paths.
+/// The margins of ten pairs, by exhaustive search.
 fn tried(start: StartState, pairs: &[CostPair; 10]) -> [u32; 10] {
     let mut margins = [0u32; 10];
     for step in 0..10usize {
@@ -60,7 +60,7 @@ fn tried(start: StartState, pairs: &[CostPair; 10]) -> [u32; 10] {
     margins
 }
 
-/// Ten drawn pairs.
+/// Ten random pairs.
 fn ten_drawn(small: bool) -> [CostPair; 10] {
     let mut seed = 99;
     let mut pairs = [drawn(&mut seed, small); 10];
@@ -72,7 +72,7 @@ fn ten_drawn(small: bool) -> [CostPair; 10] {
 
 #[test]
 fn one_pair(rt: HostRuntime) -> Result<(), Fail> {
-    // from 000000 the step on 1 costs 5 and 7; from 000001 it costs nothing
+    // from 000000 the step on 1 costs 5 and 7; from 000001 it costs 0
     for (start, margin) in [(StartState::Zero, 12u32), (StartState::Any, 0)] {
         let mut margins = Margins::new(rt.alloc(), start)?;
         let mut to = Vec::with_capacity(rt.alloc(), 1279)?;
@@ -103,7 +103,7 @@ fn all_paths_tried(rt: HostRuntime) -> Result<(), Fail> {
     Ok(())
 }
 
-/// Adds numbers to a sum that tells them and their order.
+/// A hash of numbers in order.
 fn hashed(sum: u64, numbers: &[u32]) -> u64 {
     let mut sum = sum;
     for number in numbers {
@@ -112,7 +112,7 @@ fn hashed(sum: u64, numbers: &[u32]) -> u64 {
     sum
 }
 
-/// The hash of the margins of drawn pairs.
+/// The hash of the margins of random pairs.
 fn hash_of_drawn(alloc: Global, start: StartState, pairs: u32) -> Result<u64, AllocError> {
     let mut margins = Margins::new(alloc, start)?;
     let mut to = Vec::with_capacity(alloc, 1279)?;
@@ -131,8 +131,8 @@ fn hash_of_drawn(alloc: Global, start: StartState, pairs: u32) -> Result<u64, Al
 
 #[test]
 fn long_streams(rt: HostRuntime) -> Result<(), Fail> {
-    // What an independent program answers: three whole windows and a last block; one whole window, a whole block with a
-    // shorter window, and a last block; a block with a window of one step more, and a last block of one step.
+    // The results of an independent program: three whole windows and a last block; one whole window, a whole block with
+    // a shorter window, and a last block; a block with a window of one step more, and a last block of one step.
     let table = [
         (StartState::Zero, 3500, 5675469197956425177),
         (StartState::Any, 3500, 17428855824337702708),
@@ -148,7 +148,7 @@ fn long_streams(rt: HostRuntime) -> Result<(), Fail> {
 
 #[test]
 fn least_margins(rt: HostRuntime) {
-    // what sorting by margin and place answers: the last place is one of several with its margin
+    // the result of sorting by margin and position: the last position is one of several with its margin
     let mut margins = [0u32; 204];
     for place in 0..204u32 {
         margins[place as usize] = (place * 37 + 11) % 30 + 3;

@@ -15,7 +15,7 @@ fn null_packet_is_marked(rt: HostRuntime) {
     assert!(rt; head(&packet) == [0x47, 0x9F, 0xFF, 0x10, 0xFF]);
 }
 
-// Are 188 bytes with this one first a packet?
+// Whether 188 bytes with this first one are a packet.
 fn is_read(first: u8) -> bool {
     let mut bytes = [0x47u8; 188];
     bytes[0] = first;

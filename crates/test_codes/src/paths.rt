@@ -1,4 +1,4 @@
-// The plain program that tries all paths.
+// The plain program for exhaustive search.
 use code_paths::{CostPair, least_path, least_path_to, path_cost};
 use std::rt::HostRuntime;
 
@@ -20,7 +20,7 @@ const NONE: CostPair = CostPair {
 
 #[test]
 fn least_of_all_paths(rt: HostRuntime) {
-    // X of the path 000000 1 0 1 is 1 1 0, its Y is 1 0 0: the only path that costs nothing
+    // X of the path 000000 1 0 1 is 1 1 0, its Y is 1 0 0: the only path of cost 0
     let costs = [sent(true, true), sent(true, false), sent(false, false)];
     let mut path = [true; 9];
     let found = least_path(Some([false; 6]), &costs, &mut path);
@@ -30,7 +30,7 @@ fn least_of_all_paths(rt: HostRuntime) {
 
 #[test]
 fn least_path_of_ties(rt: HostRuntime) {
-    // where all costs tie the earliest path to an end has zeros before it
+    // if all costs tie, the earliest path to an end has zeros before it
     let end = [false, true, false, false, true, true];
     let mut path = [true; 9];
     let found = least_path_to(None, end, &[NONE; 3], &mut path);

@@ -1,4 +1,4 @@
-// The outer code of disturbed bytes with their margins.
+// The outer code for disturbed bytes with their margins.
 use load_gen::Load;
 use outer_chain::OuterTx;
 use rescue_words::{RescueCounts, RescueWords};
@@ -8,7 +8,7 @@ use std::test::Fail;
 /// More words than any test has.
 const MANY: u64 = 1_000_000;
 
-// Packets that are drawn from this number, and their interleaved bytes.
+// Random packets from this number, and their interleaved bytes.
 fn sent(alloc: Global, number: u32, count: usize) -> Result<(Vec<u8>, Vec<u8>), AllocError> {
     let mut load = Load::start(number);
     let mut tx = OuterTx::new(alloc)?;
@@ -52,13 +52,13 @@ fn rescued(
     Ok((packets, rx.counts()))
 }
 
-// Whether a byte of the interleaved stream is inverted: 144 bytes in a row are.
+// Whether a byte of the interleaved stream is inverted: 144 consecutive bytes are.
 fn is_inverted(place: usize) -> bool {
     4000 <= place && place < 4144
 }
 
-// How many bytes of a word are inverted. The interleaver sends byte q of the words as byte q + 204 b of the stream, where b is its
-// branch, q mod 12 (EN 300 744, 4.3.2).
+// The number of inverted bytes in a word. The interleaver sends byte q of the words as byte q + 204 b of the stream,
+// where b is its branch, q mod 12 (EN 300 744, 4.3.2).
 fn inverted_in(word: usize) -> usize {
     let mut count = 0usize;
     for byte in 0..204usize {
@@ -70,8 +70,8 @@ fn inverted_in(word: usize) -> usize {
     count
 }
 
-// What a word with so many inverted bytes counts as: up to eight are corrected; up to twelve are if the least margins are theirs,
-// for eight are erased and four more may differ.
+// How a word with this number of inverted bytes is counted: up to eight are corrected; up to twelve are rescued if the
+// least margins are theirs, as eight are erased and four more may differ.
 fn kind_of(inverted: usize) -> [u64; 4] {
     match inverted {
         0 => [1, 0, 0, 0],
@@ -81,7 +81,7 @@ fn kind_of(inverted: usize) -> [u64; 4] {
     }
 }
 
-// By how much the counts of the clean, the corrected, the rescued and the bad words grew.
+// The increase of the counts of clean, corrected, rescued and bad words.
 fn grown(old: RescueCounts, new: RescueCounts) -> [u64; 4] {
     [
         new.clean.wrapping_sub(old.clean),
@@ -91,7 +91,7 @@ fn grown(old: RescueCounts, new: RescueCounts) -> [u64; 4] {
     ]
 }
 
-// Each word of the same stream in turn: what it counts as, and that its packet is the one that was sent.
+// Each word of the same stream in turn: how it is counted, and that its packet is the one sent.
 #[test]
 fn inverted_run_word_by_word(rt: HostRuntime) -> Result<(), Fail> {
     let alloc = rt.alloc();
@@ -122,8 +122,9 @@ fn inverted_run_word_by_word(rt: HostRuntime) -> Result<(), Fail> {
     Ok(())
 }
 
-// Of forty packets 144 interleaved bytes in a row are inverted, and have margin 0 where all others have 1: twelve bytes in each
-// branch, so eleven words are wrong in twelve places and one in six or seven at either end. All packets come back.
+// Of forty packets 144 consecutive interleaved bytes are inverted and have margin 0, all others 1: twelve bytes in each
+// branch, so eleven words are wrong in twelve positions and one in six or seven at either end. All packets are
+// received.
 #[test]
 fn inverted_run_of_144(rt: HostRuntime) -> Result<(), Fail> {
     let alloc = rt.alloc();
@@ -150,7 +151,7 @@ fn inverted_run_of_144(rt: HostRuntime) -> Result<(), Fail> {
     Ok(())
 }
 
-// Bytes that are wrong where a draw says so, and their margins: mostly small where a byte is wrong.
+// Bytes with random errors, and their margins, mostly small for wrong bytes.
 fn disturbed(
     alloc: Global,
     number: u32,
@@ -177,7 +178,7 @@ fn disturbed(
     Ok(margins)
 }
 
-// A number that any other list of bytes hardly has.
+// A hash of the bytes.
 fn sum_of(bytes: &[u8]) -> u32 {
     let mut sum = 0u32;
     for byte in bytes {
@@ -186,8 +187,8 @@ fn sum_of(bytes: &[u8]) -> u32 {
     sum
 }
 
-// Sixty packets, drawn errors: counts and packets are those of an independent program by the definitions, over index formulas
-// and whole lists.
+// Sixty packets with random errors: counts and packets are those of an independent program by the definitions, over
+// index formulas and whole lists.
 #[test]
 fn drawn_errors(rt: HostRuntime) -> Result<(), Fail> {
     let alloc = rt.alloc();

@@ -1,4 +1,4 @@
-// The outer code of a stream, against values from outside.
+// The outer code of a stream, against outside values.
 
 use crate::words::NEAR_NONE;
 use dispersal::Dispersal;
@@ -39,7 +39,7 @@ fn null_word(dispersal: &mut Dispersal) -> [u8; 204] {
     encode(&dispersal.apply(&Packet::null()))
 }
 
-// What becomes of a codeword with nine errors that no codeword is near to.
+// The slot of a codeword with nine errors and no codeword close to it.
 fn with_nine_errors(codeword: [u8; 204]) -> WordSlot {
     let mut slot = WordSlot {
         word: codeword,
@@ -52,7 +52,7 @@ fn with_nine_errors(codeword: [u8; 204]) -> WordSlot {
     slot
 }
 
-// A null packet that is marked.
+// A null packet with the error indicator set.
 fn marked() -> [u8; 188] {
     let mut bytes = [0xFFu8; 188];
     bytes[0] = 0x47;
@@ -61,8 +61,8 @@ fn marked() -> [u8; 188] {
     bytes
 }
 
-// A word with nine errors that no codeword is near to comes after a word of phase 0: its null packet
-// comes back marked, and the phase goes on.
+// A word with nine errors and no codeword close to it follows a word of phase 0: its null packet is received with the
+// error indicator, and the phase continues.
 #[test]
 fn bad_word_after_phase_zero(rt: HostRuntime) -> Result<(), Fail> {
     let mut rx = OuterRx::new(rt.alloc())?;
@@ -78,7 +78,7 @@ fn bad_word_after_phase_zero(rt: HostRuntime) -> Result<(), Fail> {
     Ok(())
 }
 
-// A packet whose bytes behind the first are this number.
+// A packet whose bytes after the first are this number.
 fn numbered(number: u8) -> Packet {
     let mut bytes = [number; 188];
     bytes[0] = 0x47;
@@ -88,7 +88,7 @@ fn numbered(number: u8) -> Packet {
     }
 }
 
-// The bytes of the packet that comes back with this byte, if one does.
+// The bytes of the packet received with this byte, if there is one.
 fn back(rx: &mut OuterRx, byte: u8) -> Option<[u8; 188]> {
     match rx.take_byte(byte) {
         Some(slot) => {
@@ -100,7 +100,7 @@ fn back(rx: &mut OuterRx, byte: u8) -> Option<[u8; 188]> {
     }
 }
 
-// Does this come back with the last byte of a word, and nothing with those before?
+// Whether this is received with the last byte of a word, and nothing before.
 fn comes_back(rx: &mut OuterRx, word: &[u8; 204], expected: Option<[u8; 188]>) -> bool {
     for k in 0..203usize {
         if back(rx, word[k]).is_some() {
@@ -110,7 +110,7 @@ fn comes_back(rx: &mut OuterRx, word: &[u8; 204], expected: Option<[u8; 188]>) -
     back(rx, word[203]) == expected
 }
 
-// The bytes of the packet eleven before this one, if it is the first that comes back or behind it.
+// The bytes of the packet eleven before this one, if it is not before the first received.
 fn eleven_before(number: u8, first: u8) -> Option<[u8; 188]> {
     if number >= 11 && number - 11 >= first {
         Some(*numbered(number - 11).bytes())
@@ -119,13 +119,13 @@ fn eleven_before(number: u8, first: u8) -> Option<[u8; 188]> {
     }
 }
 
-// Does the receiver miss this word, or give what comes back with it?
+// Whether the receiver misses this word, or gives the expected packet with it.
 fn is_received(tx: &mut OuterTx, rx: &mut OuterRx, number: u8, missed: u8, first: u8) -> bool {
     let word = tx.take(&numbered(number));
     number < missed || comes_back(rx, &word, eleven_before(number, first))
 }
 
-// The first word with which something else comes back, where the receiver misses so many words.
+// The first word with an unexpected result, if the receiver misses the first `missed` words.
 fn wrong_word(tx: &mut OuterTx, rx: &mut OuterRx, missed: u8, first: u8) -> Option<u8> {
     for number in 0..40u8 {
         if !is_received(tx, rx, number, missed, first) {
@@ -135,8 +135,8 @@ fn wrong_word(tx: &mut OuterTx, rx: &mut OuterRx, missed: u8, first: u8) -> Opti
     None
 }
 
-// Each word behind the eleven of the start-up gives the sender's packet at its last byte, from the first packet on that has
-// phase 0. A receiver that misses the first three words has to wait for packet 8.
+// Each word after the eleven of the start-up gives the sender's packet at its last byte, from the first packet with
+// phase 0 on. A receiver that misses the first three words has to wait for packet 8.
 #[test]
 fn own_bytes_after_eleven_words(rt: HostRuntime) -> Result<(), Fail> {
     for (missed, first) in [(0u8, 0u8), (3, 8)] {
@@ -147,14 +147,14 @@ fn own_bytes_after_eleven_words(rt: HostRuntime) -> Result<(), Fail> {
     Ok(())
 }
 
-// What a byte puts behind no slot.
+// The slots after putting a byte, with none before.
 fn put(alloc: Global, rx: &mut OuterRx, byte: u8) -> Result<Vec<WordSlot>, AllocError> {
     let mut slots = Vec::with_capacity(alloc, 1)?;
     rx.put_byte(byte, &mut slots);
     Ok(slots)
 }
 
-// Is the word that was put, if one was, the one that was taken?
+// Whether the word put, if any, is the one taken.
 fn is_taken(slots: &[WordSlot], taken: &Option<WordSlot>) -> bool {
     match taken {
         Some(slot) => {
@@ -164,7 +164,8 @@ fn is_taken(slots: &[WordSlot], taken: &Option<WordSlot>) -> bool {
     }
 }
 
-// A received word by the delay lines: keeps the next deinterleaved byte, and tells whether the slots hold the word that ends with it.
+// A received word by the delay lines: keeps the next deinterleaved byte, and returns whether the slots hold the word
+// that ends with it.
 fn is_deinterleaved(
     lines: &mut Deinterleaver,
     word: &mut [u8; 204],
@@ -176,7 +177,7 @@ fn is_deinterleaved(
     slots.is_empty() || slots[0].word == *word
 }
 
-// Putting bytes gives the words that taking them gives, five of these sixteen, and that the delay lines give.
+// Putting bytes gives the same words as taking them, five of these sixteen, and as the delay lines.
 #[test]
 fn bytes_put_as_taken(rt: HostRuntime) -> Result<(), Fail> {
     let mut putting = OuterRx::new(rt.alloc())?;

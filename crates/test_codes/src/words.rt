@@ -1,20 +1,19 @@
-// Words against values from outside, and the fast decoder against the plain one.
+// Words against outside values, and the fast decoder against the plain one.
 ghost use Rattle.std.specs.Prelude.{◌≤◌, length};
 
 use gf256::Elem;
 use rs204::{Outcome, decode, encode, plain};
 use test_tools::{next_byte, next_number};
 
-// The sixteen bytes behind 187 zeros and a one, which are the generator's coefficients behind its
-// first.
+// The sixteen bytes after 187 zeros and a one: the generator's coefficients after its first.
 const PARITY_OF_ONE: [u8; 16] = [
     0x3B, 0x0D, 0x68, 0xBD, 0x44, 0xD1, 0x1E, 0x08, 0xA3, 0x41, 0x29, 0xE5, 0x62, 0x32, 0x24, 0x3B,
 ];
 
-// The coefficients of the product of x + λ^i for i below 8, which as errors are near no codeword.
+// The coefficients of the product of x + λ^i for i below 8; as errors they are close to no codeword.
 pub(super) const NEAR_NONE: [u8; 9] = [0x01, 0xFF, 0x0B, 0x51, 0x36, 0xEF, 0xAD, 0xC8, 0x18];
 
-// Zeros, and these bytes at the end.
+// Zeros, with these bytes at the end.
 fn ends_with(last: &[u8]) -> [u8; 204]
     requires few { length last.now ≤ 204 }
 {
@@ -32,13 +31,13 @@ fn parity_of_a_single_one(rt: HostRuntime) {
     assert!(rt; encode(&message) == word);
 }
 
-// Is this the outcome for the word, and is this what stands behind it?
+// Whether this is the outcome for the word, and this the word afterwards.
 fn comes_out(received: &[u8; 204], outcome: Outcome, left: &[u8; 204]) -> bool {
     let mut word = *received;
     decode(&mut word) == outcome && word == *left
 }
 
-// Zeros, and eight bytes of this value at places that are so far apart.
+// Zeros, and eight bytes of this value at positions `apart` bytes apart.
 fn eight_errors(first: usize, apart: usize, value: u8) -> [u8; 204]
     requires first { first ≤ 7 }
     requires apart { apart ≤ 20 }
@@ -50,7 +49,7 @@ fn eight_errors(first: usize, apart: usize, value: u8) -> [u8; 204]
     word
 }
 
-// Zeros, and the coefficients of the product of x + λ^i for so many i from 0 on.
+// Zeros, and the coefficients of the product of x + λ^i for i below `factors`.
 pub(super) fn product_of(factors: u8) -> [u8; 204]
     requires { factors ≤ 12 }
 {
@@ -79,7 +78,7 @@ fn outcomes_of_words(rt: HostRuntime) {
     assert!(rt; product_of(8) == product && comes_out(&product, Outcome::Bad, &product));
 }
 
-// A codeword of a drawn message, and the same with so many drawn errors.
+// A codeword of a random message, and the same with this number of random errors.
 fn drawn_words(seed: &mut u32, errors: usize) -> ([u8; 204], [u8; 204])
     requires { errors ≤ 12 }
 {
@@ -96,7 +95,7 @@ fn drawn_words(seed: &mut u32, errors: usize) -> ([u8; 204], [u8; 204])
     (sent, word)
 }
 
-// Do both decoders say the same of a word, and up to eight errors what was sent?
+// Whether both decoders agree on a word, and with up to eight errors find the word sent.
 fn both_agree(sent: &[u8; 204], received: &[u8; 204], errors: usize) -> bool {
     let mut slow = *received;
     let outcome = plain::decode(&mut slow);
@@ -108,7 +107,7 @@ fn both_agree(sent: &[u8; 204], received: &[u8; 204], errors: usize) -> bool {
     is_right && comes_out(received, outcome, &slow)
 }
 
-// Codewords of drawn messages with 0 to 12 drawn errors, by both decoders.
+// Codewords of random messages with 0 to 12 random errors, with both decoders.
 #[test]
 fn drawn_errors_by_both_decoders(rt: HostRuntime) {
     let mut seed = 1u32;
@@ -118,7 +117,7 @@ fn drawn_errors_by_both_decoders(rt: HostRuntime) {
     }
 }
 
-// The word with these errors, each of them a place and a value.
+// The word with these errors, each a position and a value.
 fn with_errors(word: &[u8; 204], errors: &[(u8, u8)]) -> [u8; 204] {
     let mut disturbed = *word;
     for error in errors {
@@ -127,8 +126,8 @@ fn with_errors(word: &[u8; 204], errors: &[(u8, u8)]) -> [u8; 204] {
     disturbed
 }
 
-// Two errors at the ends of a word and beside one another, three whose first syndromes are those of
-// one, and four whose first five are those of two.
+// Two errors at the ends of a word and next to each other, three whose first syndromes are those of one, and four whose
+// first five are those of two.
 #[test]
 fn few_errors(rt: HostRuntime) {
     let mut seed = 2u32;
@@ -152,7 +151,7 @@ fn few_errors(rt: HostRuntime) {
     }
 }
 
-// Two drawn errors at drawn places.
+// Two random errors at random positions.
 #[test]
 fn two_drawn_errors(rt: HostRuntime) {
     let mut seed = 3u32;

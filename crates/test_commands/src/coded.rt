@@ -1,4 +1,4 @@
-// A run over one transport file, and the command `outer`. The expected bytes are those of an independent program.
+// A run with one transport file, and the command `outer`. The expected bytes are those of an independent program.
 use test_runs::{
     BASE, Conditions, File, Made, Ran, UNMADE, ample, checksum, run_files, text_bytes,
 };
@@ -8,16 +8,16 @@ use std::process::Abort;
 use std::test::Fail;
 use std::thread::Threads;
 
-/// What is to be found: the status, the report, how many bytes stand, and their sum.
+/// The expected result: the status, the report, the length of the output, and its sum.
 pub(crate) type Found = (u8, &'static str, usize, u32);
 
-/// A call that fails, the limit of packets, and the most bytes that a read gives.
+/// A call that fails, the limit of packets, and the most bytes that a read returns.
 pub(crate) type Terms = (Option<Failing>, u64, u32);
 
-/// No call fails, and nothing is in short supply.
+/// No call fails, and no limit applies.
 pub(crate) const FREE: Terms = (None, 100, u32::MAX);
 
-/// A run: its words, the settings, the transport file, the terms, and what is to be found.
+/// A run: its arguments, the settings, the transport file, the terms, and the expected result.
 pub(crate) type Case = (
     &'static str,
     (&'static str, &'static str),
@@ -26,7 +26,7 @@ pub(crate) type Case = (
     Found,
 );
 
-/// Runs the words over the settings and this file.
+/// Runs these arguments with the settings and this file.
 pub(crate) fn run_on<R: Abort + Threads + Sync>(
     rt: &R,
     alloc: Global,
@@ -46,7 +46,7 @@ pub(crate) fn run_on<R: Abort + Threads + Sync>(
     run_files(rt, alloc, text, settings, files, limit, conditions)
 }
 
-// Runs a case, and tells whether what is to be found stands. In none of the tables an output was made and is empty.
+// Runs a case, and returns whether it has the expected result. No table has a case of an output created and empty.
 fn is_found<R: Abort + Threads + Sync>(
     rt: &R,
     alloc: Global,
@@ -64,7 +64,7 @@ fn is_found<R: Abort + Threads + Sync>(
     Ok(is_told && is_held && ran.made == made)
 }
 
-/// The number, from 0, of the first run that leaves something else.
+/// The index of the first run with another result.
 pub(crate) fn first_wrong<R: Abort + Threads + Sync>(
     rt: &R,
     alloc: Global,
@@ -78,16 +78,16 @@ pub(crate) fn first_wrong<R: Abort + Threads + Sync>(
     Ok(None)
 }
 
-/// A part of the bytes that a run writes: where it stands, and its bytes.
+/// A part of the bytes that a run writes: its position, and its bytes.
 pub(crate) type Part = (usize, &'static [u8]);
 
-// Does this part stand in these bytes?
+// Whether this part is in these bytes.
 fn is_in(bytes: &[u8], part: &Part) -> bool {
     part.0 <= bytes.len() && bytes[part.0..].starts_with(part.1)
 }
 
-/// Runs the words over the settings and null packets. The status, the output's length, whether this is reported, and the
-/// number, from 0, of the first part that does not stand in the output.
+/// Runs these arguments with the settings and null packets. Returns the status, the output's length, whether the report
+/// is this, and the index of the first part that is not in the output.
 pub(crate) fn parts_of<R: Abort + Threads + Sync>(
     rt: &R,
     alloc: Global,

@@ -7,7 +7,7 @@ use std::test::Fail;
 
 const FORM: &str = "disperse a out";
 
-/// Nine dispersed null packets: how they begin, the second one's sync byte, and the ninth's front.
+/// Nine dispersed null packets: their first bytes, the second one's sync byte, and the start of the ninth.
 static PARTS: [Part; 3] = [
     (
         0,
@@ -66,7 +66,7 @@ static CASES: [Case; 11] = [
         (None, 9, 100),
         (4, "hp packet 1\n", 188, 3_363_878_293),
     ),
-    // an output that fails as it is closed behind a refusal
+    // an output that fails to close after a refusal
     (
         FORM,
         (BASE, ""),
@@ -104,14 +104,14 @@ static CASES: [Case; 11] = [
     ),
 ];
 
-// Words of no form, refusals, limits and faults: of each the output is a front of the dispersed packets.
+// Invalid command lines, refusals, limits and faults: the output is a prefix of the dispersed packets in each.
 #[test]
 fn refusals_and_limits(rt: HostRuntime) -> Result<(), Fail> {
     assert_eq!(rt; first_wrong(&rt, rt.alloc(), &CASES)?, None);
     Ok(())
 }
 
-// The program takes a hundred million packets of a transport file.
+// The program takes a hundred million packets from a transport file.
 #[test]
 fn shipped_limits(rt: HostRuntime) {
     assert_eq!(rt; Limits::shipped().packets, 100_000_000);

@@ -1,4 +1,4 @@
-// The trial of a number beside `receive` of a file of the cells that it feeds, which are made here once more.
+// The trial of a number against `receive` of a file of the cells that it feeds, which are made again here.
 ghost use Rattle.std.specs.Prelude.{◌≡◌};
 
 use crate::cells::{HEADER, SYMBOL, number_at, put_number};
@@ -14,7 +14,7 @@ use std::test::Fail;
 use std::thread::Threads;
 use ts_packet::Packet;
 
-/// The most that a data cell of QPSK is moved on each axis.
+/// The most by which a data cell of QPSK is moved on each axis.
 const TOLERANCE: u16 = 5792;
 
 /// What `BASE` states.
@@ -36,7 +36,7 @@ fn base() -> Settings
     }
 }
 
-// The next packet: drawn while one is left, and then a null packet.
+// The next packet: a random one while any is left, then a null packet.
 fn next_packet(load: &mut Load, left: &mut u32) -> Packet {
     if *left == 0 {
         return Packet::null();
@@ -45,7 +45,7 @@ fn next_packet(load: &mut Load, left: &mut u32) -> Packet {
     load.packet()
 }
 
-// Puts the next packet where one is wanted.
+// Puts the next packet if one is wanted.
 fn put_next(load: &mut Load, left: &mut u32, tx: &mut Modulator<Mode2k>) {
     if tx.wants() == Want::Hp {
         let packet = next_packet(load, left);
@@ -53,7 +53,7 @@ fn put_next(load: &mut Load, left: &mut u32, tx: &mut Modulator<Mode2k>) {
     }
 }
 
-// The next symbol. It wants two packets at most.
+// The next symbol. It needs at most two packets.
 fn sent(
     rt: &impl Abort,
     alloc: Global,
@@ -93,7 +93,7 @@ fn disturb(rt: &impl Abort, cells: &mut [u8], symbol: usize, load: &mut Load) {
     }
 }
 
-// Draws the lengths of the pieces in which a symbol is fed.
+// Generates the lengths of the pieces in which a symbol is fed.
 fn draw_pieces(load: &mut Load) {
     let mut rest = SYMBOL as u32;
     for _ in 0..SYMBOL {
@@ -103,7 +103,7 @@ fn draw_pieces(load: &mut Load) {
     }
 }
 
-// The cells that the trial of a number feeds, and how many packets it draws.
+// The cells that the trial of a number feeds, and the number of packets it generates.
 fn fed(rt: &impl Abort, alloc: Global, number: u32) -> Result<(Vec<u8>, u32), AllocError> {
     let mut load = Load::start(number);
     let packets = load.count();
@@ -128,7 +128,7 @@ fn byte_sum(bytes: &[u8]) -> u32 {
     sum
 }
 
-// Runs these words over the settings and one file.
+// Runs these arguments with the settings and one file.
 fn run<R: Abort + Threads + Sync>(
     rt: &R,
     alloc: Global,
@@ -142,7 +142,7 @@ fn run<R: Abort + Threads + Sync>(
     Ok(ran)
 }
 
-// What is counted in the trial is the sum of the cells fed, and what `receive` writes for a file of them.
+// The counts of the trial are the sum of the cells fed, and the output of `receive` for a file of them.
 #[test]
 fn trial_and_receive(rt: HostRuntime) -> Result<(), Fail> {
     let alloc = rt.alloc();

@@ -1,10 +1,9 @@
-//! The commands `modulate` and `receive` over a station in memory: whole runs with known outcomes, among
-//! them the null super-frame both ways, refusals, faults and limits with what stands after them, both
-//! streams of a hierarchy, noise, turned TPS bits, a transmission that is entered late, transmissions with
-//! a plan, of which `rescue` runs too, trials, and one of them beside `receive` of its cells; and the packet commands
-//! `disperse`, `outer` and `inner`.
+//! The commands `modulate`, `receive` and `trial` on a station in memory, and the packet commands `disperse`, `outer`
+//! and `inner`: whole runs with known outcomes.
 //!
-//! The crate has tests alone.
+//! Among them: the null super-frame both ways, refusals, faults and limits with their results, both streams of a
+//! hierarchy, noise, inverted TPS bits, a late start of reception, transmissions with a plan (also with `rescue`), and
+//! a trial against `receive` of its cells. The crate has tests alone.
 #![tactic(auto)]
 
 #[cfg(test)]

@@ -17,11 +17,11 @@ const ONE: &str = "modulate s a cells";
 
 const TWO: &str = "modulate s a b cells";
 
-// What is to be found: the status, the report, how many bytes of cells stand, and their sum.
+// The expected result: the status, the report, the length of the cells, and their sum.
 type Found = (u8, &'static str, usize, u32);
 
-// Modulates two transport files, at most 100 packets of each, and tells whether what is to be found stands. In none of the tables
-// a file of cells was made and is empty.
+// Modulates two transport files, at most 100 packets of each, and returns whether the result is as expected. No table
+// has a case of a file of cells created and empty.
 fn is_found<R: Threads + Sync>(
     rt: &R,
     alloc: Global,
@@ -47,8 +47,8 @@ fn is_found<R: Threads + Sync>(
     Ok(is_told && is_held && ran.made == made)
 }
 
-// The super-frame that carries null packets: how it begins, its first scattered pilot past carrier 0, and a TPS
-// carrier in the first and in the fourth symbol.
+// The super-frame of null packets: its first bytes, its first scattered pilot past carrier 0, and a TPS carrier in the
+// first and in the fourth symbol.
 #[test]
 fn null_super_frame(rt: HostRuntime) -> Result<(), Fail> {
     let alloc = rt.alloc();
@@ -84,7 +84,7 @@ const PART: &str = "hp packets 5 tail 7\nsuperframes 1\n";
 /// A hundred packets.
 const COUNTED: File = File::Counted(100, 0);
 
-/// One stream, two streams, and a part packet behind the last whole one: the report, and the sum of the cells.
+/// One stream, two streams, and a partial packet after the last whole one: the report, and the sum of the cells.
 static WHOLE: [(&str, &str, (File, File), (&str, u32)); 4] = [
     (ONE, BASE, (NONE, NONE), (NULLS, 2_468_371_442)),
     (ONE, BASE, (COUNTED, NONE), (HUNDRED, 720_243_768)),
@@ -108,7 +108,7 @@ fn whole_runs(rt: HostRuntime) -> Result<(), Fail> {
     Ok(())
 }
 
-/// A packet without its sync byte, the fourth of five among them, and the limits.
+/// A packet without its sync byte, also as the fourth of five, and the limits.
 static REFUSED: [(&str, File, Found); 3] = [
     (
         "",
@@ -127,7 +127,7 @@ static REFUSED: [(&str, File, Found); 3] = [
     ),
 ];
 
-/// The same of two streams: HP is asked for before LP.
+/// The same for two streams: HP is read before LP.
 static REFUSED_OF_TWO: [(File, File, Found); 2] = [
     (
         NONE,
@@ -155,7 +155,8 @@ fn refused_packets_and_limits(rt: HostRuntime) -> Result<(), Fail> {
     Ok(())
 }
 
-/// Words of no form, settings that do not fit the form or are refused, and a file that is not there: no cells are made.
+/// Invalid command lines, settings that do not fit the arguments or are rejected, and a missing file: no cells are
+/// created.
 static REFUSED_WORDS: [(&str, &str, Found); 6] = [
     (
         "modulate s gone cells",
@@ -191,12 +192,12 @@ const READ: &str = "read fault\n";
 
 const WRITE: &str = "write fault\n";
 
-/// The closing lines, of which the second was half written, or behind which a close failed.
+/// The closing lines with half of the second one written, or before a failed close.
 const HALF_LINE: &str = "hp packets 0 tail 0\nsuperfrwrite fault\n";
 
 const CLOSED: &str = "hp packets 0 tail 0\nsuperframes 1\nwrite fault\n";
 
-/// One call of the station fails, and this stands of so many null packets.
+/// One call of the station fails, with this result for this number of null packets.
 static FAULTS: [(Failing, usize, Found); 8] = [
     (Failing::Read(InPort::Settings, 1), 2, (5, READ, 0, 0)),
     (Failing::Attach(InPort::Hp, 1), 2, (5, READ, 0, 0)),
@@ -228,7 +229,7 @@ static FAULTS: [(Failing, usize, Found); 8] = [
     ),
 ];
 
-/// One fails at LP, and this stands of three null packets of each stream.
+/// One fails at LP, with this result for three null packets of each stream.
 static FAULTS_OF_LP: [(Failing, Found); 2] = [
     (Failing::Read(InPort::Lp, 1), (5, READ, 8, 4_029_675_199)),
     (

@@ -7,11 +7,11 @@ use std::alloc::{AllocError, Global};
 use std::test::Fail;
 use std::thread::Threads;
 
-/// LP comes with the second super-frame.
+/// LP appears with the second super-frame.
 const LP_COMES: &str =
     "plan = [{ after = 1, constellation = \"16qam\", hierarchy = \"4\", rate_hp = \"1/2\", rate_lp = \"3/4\" }]\n";
 
-/// LP goes with it, for good.
+/// LP disappears with it, for good.
 const LP_GOES: &str =
     "max_symbols = 1000\nplan = [{ after = 1, constellation = \"qpsk\", rate_hp = \"1/2\" }]\n";
 
@@ -59,7 +59,7 @@ fn sent<R: Threads + Sync>(
     Ok((ran.status, ran.report, ran.cells))
 }
 
-// Whether the command leaves this of cells of a transmission with this plan.
+// Whether the command has this result for cells of a transmission with this plan.
 fn comes_back<R: Threads + Sync>(
     rt: &R,
     alloc: Global,
@@ -74,8 +74,8 @@ fn comes_back<R: Threads + Sync>(
     Ok(stands(&ran, found))
 }
 
-// Whether a carrier's cell is turned in a symbol against the symbol before it: a TPS bit (EN 300 744, 4.6). The signs of the
-// real parts are compared.
+// Whether a carrier's cell is inverted in a symbol relative to the symbol before it: a TPS bit (EN 300 744, 4.6). The
+// signs of the real parts are compared.
 fn is_turned(cells: &[u8], symbol: usize, carrier: usize) -> bool {
     let at = 8 + symbol.min(600) * SYMBOL + 5 * carrier.min(1704);
     at < cells.len() && (cells[at] ^ cells[at.saturating_sub(SYMBOL)]) >= 128
@@ -98,7 +98,7 @@ fn are_announced(cells: &[u8]) -> bool {
     true
 }
 
-// What comes back of a transmission of two files: their packets, and null packets after them.
+// The packets received of a transmission of two files: those of the files, then null packets.
 #[test]
 fn packets_of_a_plan(rt: HostRuntime) -> Result<(), Fail> {
     let alloc = rt.alloc();
@@ -114,7 +114,7 @@ fn packets_of_a_plan(rt: HostRuntime) -> Result<(), Fail> {
     Ok(())
 }
 
-// A transmission that becomes one of two streams, and what comes back of it.
+// A transmission that becomes one of two streams, and its reception.
 #[test]
 fn lp_comes(rt: HostRuntime) -> Result<(), Fail> {
     let alloc = rt.alloc();
@@ -137,7 +137,7 @@ fn lp_comes(rt: HostRuntime) -> Result<(), Fail> {
     Ok(())
 }
 
-// LP goes before all its packets are sent: the transmission goes on up to its limit.
+// LP disappears before all its packets are sent: the transmission continues to its limit.
 #[test]
 fn lp_goes(rt: HostRuntime) -> Result<(), Fail> {
     let alloc = rt.alloc();
@@ -153,7 +153,7 @@ const RECEIVED_OUT_OF_NOISE: &str =
 const RESCUED_OUT_OF_NOISE: &str =
     "lp unmerged at 612164\nhp unmerged at 820042\nlp unmerged at 614213\nhp unmerged at 822091\nlp unmerged at 616262\nsymbols 856 tail 0\nhp words 878 clean 864 corrected 0 rescued 0 bad 14 unphased 0 unmerged 2\nlp words 441 clean 63 corrected 281 rescued 15 bad 82 unphased 0 unmerged 3\n";
 
-// Makes the cells of the last three symbols of super-frame 1 such that no paths merge there: all are (0, 11585).
+// Replaces the cells of the last three symbols of super-frame 1 so that no paths merge there: all are (0, 11585).
 fn spoil(file: &mut [u8]) {
     for place in 8 + 541 * SYMBOL..8 + 544 * SYMBOL {
         if place < file.len() {
@@ -162,8 +162,8 @@ fn spoil(file: &mut [u8]) {
     }
 }
 
-// LP comes, goes and comes again, with noise on all cells: the reports of its last symbol come once, and it goes on where
-// it stopped. Of 97 words of LP without a nearest codeword 15 are rescued.
+// LP appears, disappears and reappears, with noise on all cells: the reports of its last symbol are output once, and it
+// continues where it stopped. Of 97 words of LP without a nearest codeword 15 are rescued.
 #[test]
 fn lp_comes_again(rt: HostRuntime) -> Result<(), Fail> {
     let alloc = rt.alloc();

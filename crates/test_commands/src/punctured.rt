@@ -12,7 +12,7 @@ const FORM: &str = "inner s a out";
 /// One null packet.
 const NULL: File = File::Nulls(1, 0);
 
-/// `BASE` at 5/6, at which no packet ends with a whole byte.
+/// `BASE` at 5/6, where no packet ends with a whole byte.
 const FIVE_OF_SIX: &str =
     "mode = \"2k\"\nconstellation = \"qpsk\"\nrate_hp = \"5/6\"\nguard = \"1/32\"\n";
 
@@ -86,7 +86,7 @@ const TWICE: &str =
 const CLASH: &str =
     "plan = [{ after = 3, constellation = \"qpsk\", hierarchy = \"2\", rate_hp = \"1/2\" }]\n";
 
-/// The input is not looked for.
+/// The input is not opened.
 const GONE: &str = "inner s gone out";
 
 /// No packet.
@@ -158,7 +158,7 @@ static REFUSED: [Case; 9] = [
     ),
 ];
 
-// Runs the command with so many spaces for settings, and tells whether it is refused with this text.
+// Runs the command with this number of spaces for settings, and returns whether it is rejected with this text.
 fn is_refused<R: Abort + Threads + Sync>(
     rt: &R,
     alloc: Global,
@@ -228,8 +228,7 @@ static FAULTS: [Case; 8] = [
     ),
 ];
 
-// Files that are not there, calls that fail, packets that are refused, and the limit: no part byte is written
-// but at status 0.
+// Missing files, failed calls, rejected packets, and the limit: a partial byte is written only at status 0.
 #[test]
 fn faults_and_part_bytes(rt: HostRuntime) -> Result<(), Fail> {
     assert_eq!(rt; first_wrong(&rt, rt.alloc(), &FAULTS)?, None);

@@ -1,4 +1,4 @@
-// The command `receive` of one stream. The expected reports and lengths are those of an independent program.
+// The command `receive` with one stream. The expected reports and lengths are those of an independent program.
 ghost use Rattle.std.specs.Prelude.{◌≤◌};
 
 use crate::cells::{HEADER, SUPER_FRAME, SYMBOL, number_at, put_number, zero_cells};
@@ -28,7 +28,7 @@ const UNPHASED: &str =
 const ERASED: &str =
     "symbols 272 tail 0\ntps read 4 bad 0\nhp words 241 clean 241 corrected 0 bad 0 unphased 241 unmerged 0\n";
 
-/// A symbol and a byte of it, no symbol, and symbols that are cut within a cell and before its weight.
+/// A symbol and a byte of it, no symbol, and symbols cut within a cell or before its weight.
 const PART: &str =
     "symbols 1 tail 1\ntps read 0 bad 0\nhp words 0 clean 0 corrected 0 bad 0 unphased 0 unmerged 0\n";
 
@@ -45,31 +45,31 @@ const BEFORE_A_WEIGHT: &str =
 const EIGHT: &str =
     "mode = \"8k\"\nconstellation = \"qpsk\"\nrate_hp = \"1/2\"\nguard = \"1/32\"\n";
 
-// What is to be found: the status, the report, and how many bytes of null packets stand at HP, if it was made. No other output
-// is made.
+// The expected result: the status, the report, and the number of bytes of null packets at HP, if it was created. No
+// other output is created.
 type Found = (u8, &'static str, Option<usize>);
 
 /// Null packets in all words.
 const NULLS: Found = (0, WHOLE_NULLS, Some(45_308));
 
-// Cells, from the file of the super-frame that carries null packets.
+// Cells from the file of the super-frame of null packets.
 #[derive(Clone, Copy)]
 enum Cells {
     // All of them.
     Whole,
-    // So many bytes of the file.
+    // A number of bytes of the file.
     Front(usize),
-    // The file, and its first symbol once more.
+    // The file, then its first symbol again.
     OneMore,
     // The file without its header.
     Headless,
-    // The header of version 1, and a front of the file.
+    // The header of version 1, and a prefix of the file.
     OtherVersion,
     // A file of version 1: the cells without header and weights.
     Old,
 }
 
-// Receives these cells, and tells whether what is to be found stands.
+// Receives these cells, and returns whether the result is as expected.
 fn leaves<R: Threads + Sync>(
     rt: &R,
     alloc: Global,
@@ -101,7 +101,7 @@ fn leaves<R: Threads + Sync>(
     Ok(is_told && ran.made == made && ran.hp == nulls)
 }
 
-// The cells of the super-frame that carries null packets.
+// The cells of the super-frame of null packets.
 fn null_cells<R: Abort + Threads + Sync>(rt: &R, alloc: Global) -> Result<Vec<u8>, AllocError> {
     let settings = text_bytes(alloc, BASE, "")?;
     let none = (Vec::new(alloc), Vec::new(alloc));
@@ -149,7 +149,8 @@ fn bytes_of(alloc: Global, file: &[u8], cells: Cells) -> Result<Vec<u8>, AllocEr
     }
 }
 
-// Receives these cells of the file, each read of which gives at most so many bytes, and tells whether what is to be found stands.
+// Receives these cells of the file, with reads of at most this number of bytes, and returns whether the result is as
+// expected.
 fn is_found<R: Abort + Threads + Sync>(
     rt: &R,
     alloc: Global,
@@ -167,13 +168,13 @@ fn is_found<R: Abort + Threads + Sync>(
     leaves(rt, alloc, ONE, settings, cells, conditions, found)
 }
 
-/// A read gives all that it is asked for.
+/// A read returns all that it asks for.
 const WIDE: u32 = u32::MAX;
 
 const LIMIT: &str = "max_symbols = 272\n";
 
-/// The null super-frame: whole, a byte at each read, within the limit of symbols and past it. A line of the settings, the cells,
-/// and what is to be found.
+/// The null super-frame: whole, one byte for each read, within the limit of symbols and past it. A line of the
+/// settings, the cells, and the expected result.
 static WHOLE: [(&str, (Cells, u32), Found); 4] = [
     ("", (Cells::Whole, WIDE), NULLS),
     ("", (Cells::Whole, 1), NULLS),
@@ -196,7 +197,8 @@ fn null_super_frame(rt: HostRuntime) -> Result<(), Fail> {
     Ok(())
 }
 
-/// The header, a symbol and a byte of it, and the header alone. Cut within a cell or before its weight a symbol is none.
+/// The header, a symbol and a byte of it, and the header alone. Cut within a cell or before its weight, a symbol does
+/// not count.
 static PARTS: [((Cells, u32), &str); 6] = [
     ((Cells::Front(8 + SYMBOL + 1), WIDE), PART),
     ((Cells::Front(8 + SYMBOL + 1), 1), PART),
@@ -219,7 +221,7 @@ fn parts_of_the_null_super_frame(rt: HostRuntime) -> Result<(), Fail> {
 
 const HALF_LINE: &str = "symbols 2write fault\n";
 
-/// One call of the station fails, and this stands of the null super-frame.
+/// One call of the station fails, with this result for the null super-frame.
 static FAULTS: [(Failing, Found); 9] = [
     (Failing::Attach(InPort::Cells, 1), (5, "read fault\n", None)),
     (Failing::Read(InPort::Cells, 1), (5, "read fault\n", None)),
@@ -263,8 +265,9 @@ fn faults_of_the_station(rt: HostRuntime) -> Result<(), Fail> {
     Ok(())
 }
 
-/// A file that does not begin with the header of its mode is refused, before an output is made: shorter ones, one without a
-/// header, a file of version 1, one whose header has another version, and one of the other mode. The settings, and the cells.
+/// A file that does not begin with the header of its mode is rejected before an output is created: shorter ones, one
+/// without a header, a file of version 1, one whose header has another version, and one of the other mode. The
+/// settings, and the cells.
 static HEADERS: [(&str, (Cells, u32)); 7] = [
     (BASE, (Cells::Front(0), WIDE)),
     (BASE, (Cells::Front(7), WIDE)),
@@ -287,7 +290,8 @@ fn refused_headers(rt: HostRuntime) -> Result<(), Fail> {
     Ok(())
 }
 
-/// Words of no form, a file that is not there, and settings that do not fit the form or are refused: no output is made.
+/// Invalid command lines, a missing file, and settings that do not fit the arguments or are rejected: no output is
+/// created.
 static REFUSED: [(&str, &str, Found); 7] = [
     (
         "receive s gone hp",
@@ -321,7 +325,7 @@ fn refused_words_and_settings(rt: HostRuntime) -> Result<(), Fail> {
     Ok(())
 }
 
-// The bytes behind the header with this weight behind each cell.
+// The bytes after the header, with this weight for each cell.
 fn weighted(
     rt: &impl Abort,
     alloc: Global,
@@ -337,8 +341,8 @@ fn weighted(
     Ok(bytes)
 }
 
-// With weights of 1 the null super-frame comes back, and with weights above 15, which count as 15; with weights of
-// 0 every cost ties and no word has a phase, while the TPS words are read.
+// With weights of 1 the null super-frame is received, and with weights above 15, which count as 15; with weights of 0
+// every cost ties and no word has a phase, while the TPS words are read.
 #[test]
 fn weights_of_the_null_super_frame(rt: HostRuntime) -> Result<(), Fail> {
     let alloc = rt.alloc();
@@ -351,7 +355,7 @@ fn weights_of_the_null_super_frame(rt: HostRuntime) -> Result<(), Fail> {
     Ok(())
 }
 
-// Turns the sign of the TPS cells of a symbol.
+// Inverts the TPS cells of a symbol.
 fn negate_tps(rt: &impl Abort, bytes: &mut [u8], symbol: usize) {
     assert!(rt; symbol < 272);
     for carrier in tps_carriers(Mode::M2k) {
@@ -363,8 +367,8 @@ fn negate_tps(rt: &impl Abort, bytes: &mut [u8], symbol: usize) {
     }
 }
 
-// The TPS cells of symbols 5 to 59 of the first frame turn two bits of its word, which are corrected; those
-// of symbols 60 to 63 and 67 turn three.
+// The TPS cells of symbols 5 to 59 of the first frame invert two bits of its word, which are corrected; those of
+// symbols 60 to 63 and 67 invert three.
 #[test]
 fn turned_tps_bits(rt: HostRuntime) -> Result<(), Fail> {
     let alloc = rt.alloc();
@@ -383,7 +387,7 @@ fn turned_tps_bits(rt: HostRuntime) -> Result<(), Fail> {
     Ok(())
 }
 
-// Two symbols all of whose cells are (0, 11585): no survivors agree within 2048 steps.
+// Two symbols with all cells (0, 11585): no survivors agree within 2048 steps.
 #[test]
 fn unmerged_at_2049(rt: HostRuntime) -> Result<(), Fail> {
     let alloc = rt.alloc();
@@ -399,8 +403,8 @@ fn unmerged_at_2049(rt: HostRuntime) -> Result<(), Fail> {
     Ok(())
 }
 
-// A super-frame whose cells are all zero, from the register zero and from any: every cost ties, so the least path is all
-// zeros, and its words are the zero codeword, which has no phase.
+// A super-frame of zero cells, from the register zero and from any: every cost ties, so the least path is all zeros,
+// and its words are the zero codeword, which has no phase.
 #[test]
 fn cells_of_zeros(rt: HostRuntime) -> Result<(), Fail> {
     let alloc = rt.alloc();

@@ -1,5 +1,5 @@
-// Packets that are modulated and received again. The expected sums of cells, counts and reports are those of an
-// independent program.
+// Packets modulated and received again. The expected sums of cells, counts and reports are those of an independent
+// program.
 use crate::cells::{HEADER, SYMBOL, number_at, put_number};
 use mode_set::Mode;
 use pilots::CarrierKind::Payload;
@@ -31,7 +31,7 @@ const EIGHT: &str =
 const EIGHT_LAYERED: &str =
     "mode = \"8k\"\nconstellation = \"64qam\"\nhierarchy = \"2\"\nrate_hp = \"2/3\"\nrate_lp = \"3/4\"\nguard = \"1/32\"\n";
 
-// The cells that these packets give, where `modulate` reports this.
+// The cells for these packets, if `modulate` reports this.
 fn sent<R: Abort + Threads + Sync>(
     rt: &R,
     alloc: Global,
@@ -52,8 +52,8 @@ fn sent<R: Abort + Threads + Sync>(
     Ok(ran.cells)
 }
 
-// Receives these cells, and compares the report and the packets: so many of each stream, and so many null
-// packets behind them.
+// Receives these cells, and compares the report and the packets: this number of each stream, then this number of null
+// packets.
 fn comes_back<R: Abort + Threads + Sync>(
     rt: &R,
     alloc: Global,
@@ -98,7 +98,7 @@ const SEND: &str = "modulate s a b cells";
 
 const BOTH: &str = "receive s a hp lp";
 
-// Both streams of a hierarchy, in 16-QAM also with noise within what its costs forgive.
+// Both streams of a hierarchy, in 16-QAM also with noise within the tolerance.
 #[test]
 fn two_streams_and_noise(rt: HostRuntime) -> Result<(), Fail> {
     let alloc = rt.alloc();
@@ -121,8 +121,8 @@ fn two_streams_and_noise(rt: HostRuntime) -> Result<(), Fail> {
     Ok(())
 }
 
-// Of two super-frames with 300 packets the second alone: its first four words have no phase, and the packets
-// from number 256 on come back.
+// Only the second of two super-frames with 300 packets: its first four words have no phase, and the packets from number
+// 256 on are received.
 #[test]
 fn start_in_the_second_super_frame(rt: HostRuntime) -> Result<(), Fail> {
     let alloc = rt.alloc();

@@ -1,4 +1,4 @@
-// The command `trial` over a station in memory. The expected lines are those of an independent program.
+// The command `trial` on a station in memory. The expected lines are those of an independent program.
 use test_runs::{BASE, Conditions, LAYERED, UNMADE, ample, run_files, text_bytes};
 use station_core::{Failing, InPort, OutPort};
 use std::alloc::{AllocError, Global};
@@ -6,7 +6,7 @@ use std::process::Abort;
 use std::test::Fail;
 use std::thread::Threads;
 
-// Runs the words with these settings, and compares the status and the report. No output is made.
+// Runs these arguments with these settings, and compares the status and the report. No output is created.
 fn expect<R: Abort + Threads + Sync>(
     rt: &R,
     alloc: Global,
@@ -31,11 +31,11 @@ fn expect<R: Abort + Threads + Sync>(
     Ok(())
 }
 
-/// LP comes with the second super-frame.
+/// LP appears with the second super-frame.
 const LP_COMES: &str =
     "max_symbols = 543\nplan = [{ after = 1, constellation = \"16qam\", hierarchy = \"4\", rate_hp = \"1/2\", rate_lp = \"3/4\" }]\n";
 
-// The packets of LP take two super-frames, which are 544 symbols.
+// The packets of LP need two super-frames, which are 544 symbols.
 #[test]
 fn one_stream_and_its_refusals(rt: HostRuntime) -> Result<(), Fail> {
     let alloc = rt.alloc();
@@ -57,8 +57,8 @@ fn one_stream_and_its_refusals(rt: HostRuntime) -> Result<(), Fail> {
     Ok(())
 }
 
-// A number has one to ten digits and is at most 4294967295: then the settings are looked at, which are refused. Other words are
-// of no form.
+// A number has one to ten digits and is at most 4294967295: then the settings are checked, which are rejected. Other
+// arguments are invalid.
 #[test]
 fn numbers_among_the_words(rt: HostRuntime) -> Result<(), Fail> {
     let alloc = rt.alloc();

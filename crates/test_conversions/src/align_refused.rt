@@ -12,11 +12,11 @@ const WIDE: &str = "mode = \"8k\"\nconstellation = \"qpsk\"\nrate_hp = \"1/2\"\n
 
 const NONE: Found<'static> = (10, "tune none\n", HEADER, HEADER_SUM);
 
-/// The lines of a place with nothing behind it.
+/// The lines of a place with nothing after it.
 const AT_ZERO: &str =
     "tune at 0 frame 1\nannounced constellation qpsk hierarchy none rate_hp 1/2 guard 1/32\nsymbols 0 tail 0\n";
 
-/// So many symbols of a super-frame from its first one on, what follows the settings, and what is found.
+/// A number of symbols of a super-frame from its first one on, the lines after the settings, and the expected result.
 static FEW: [(usize, &str, Found<'static>); 6] = [
     (0, "", NONE),
     (67, "", NONE),
@@ -39,7 +39,7 @@ static FEW: [(usize, &str, Found<'static>); 6] = [
     ),
 ];
 
-// Cells that end before a frame is whole hold no place; more symbols than the limit are refused before that.
+// Cells that end before a frame is complete hold no place; more symbols than the limit are refused first.
 #[test]
 fn few_symbols(rt: HostRuntime) -> Result<(), Fail> {
     let alloc = rt.alloc();
@@ -52,7 +52,7 @@ fn few_symbols(rt: HostRuntime) -> Result<(), Fail> {
     Ok(())
 }
 
-/// Limits, and what is found of a file of 112 symbols of which three are handed on.
+/// Limits, and the expected result for a file of 112 symbols, three of which are copied.
 static LIMITS: [(&str, Found<'static>); 4] = [
     (
         "max_symbols = 108\n",
@@ -102,7 +102,7 @@ fn limits_of_symbols(rt: HostRuntime) -> Result<(), Fail> {
 
 const HEADLESS: &str = "cells header\n";
 
-/// Words, settings, the length of the file, the status and its text.
+/// Arguments, settings, the length of the file, the status and its text.
 static REFUSED: [(&str, &str, usize, u8, &str); 10] = [
     ("align s a", BASE, 8, 2, "usage\n"),
     ("align s a b cells", LAYERED, 8, 2, "usage\n"),
@@ -116,8 +116,8 @@ static REFUSED: [(&str, &str, usize, u8, &str); 10] = [
     (ALIGN, WIDE, 8, 9, HEADLESS),
 ];
 
-// Words of no form, settings that are refused, a file that is not there, and cells without the header of the
-// mode: no new file is made.
+// Invalid command lines, rejected settings, a missing file, and cells without the header of the mode: no new file is
+// created.
 #[test]
 fn refused_words_settings_and_cells(rt: HostRuntime) -> Result<(), Fail> {
     let alloc = rt.alloc();
@@ -136,7 +136,7 @@ const READ: &str = "read fault\n";
 
 const WRITE: &str = "write fault\n";
 
-/// The lines of the place, and what follows them.
+/// The lines of the place, and the lines after them.
 const READ_BEHIND: &str =
     "tune at 41 frame 4\nannounced constellation qpsk hierarchy none rate_hp 1/2 guard 1/32\nread fault\n";
 
@@ -161,7 +161,7 @@ const ONE: u32 = 1_101_841_114;
 
 const ALL: u32 = 3_642_937_220;
 
-/// A call that fails in the work on that file, and what stands.
+/// A call that fails in the work on that file, and the expected result.
 static FAULTS: [(Failing, Found<'static>); 12] = [
     (Failing::Read(InPort::Settings, 1), (5, READ, 0, 0)),
     (Failing::Attach(InPort::Cells, 1), (5, READ, 0, 0)),
@@ -198,7 +198,7 @@ static FAULTS: [(Failing, Found<'static>); 12] = [
     (Failing::Close(OutPort::Cells, 1), (6, CLOSED, 25_583, ALL)),
 ];
 
-// One call of the station fails, and this stands.
+// One call of the station fails, with this result.
 #[test]
 fn faults_of_the_station(rt: HostRuntime) -> Result<(), Fail> {
     let alloc = rt.alloc();

@@ -1,4 +1,4 @@
-// Runs of `align`, and what they leave.
+// Runs of `align`, and their results.
 use test_runs::{Conditions, Made, Ran, SYMBOL, UNMADE, checksum, run_files, text_bytes};
 use std::alloc::{AllocError, Global};
 use std::process::Abort;
@@ -6,7 +6,7 @@ use std::thread::Threads;
 
 pub(crate) const ALIGN: &str = "align s a cells";
 
-/// What is to be found: the status, the report, how many bytes of the new file stand, and their sum.
+/// The expected result: the status, the report, the length of the new file, and its sum.
 pub(crate) type Found<'a> = (u8, &'a str, usize, u32);
 
 /// The length of a header, and the sum of that of the 2K mode.
@@ -14,8 +14,8 @@ pub(crate) const HEADER: usize = 8;
 
 pub(crate) const HEADER_SUM: u32 = 4_029_675_199;
 
-/// The header of a file of cells in the 2K mode, and behind it its symbols from this one on and the first ones
-/// of a super-frame that follows. The only error is want of memory.
+/// The header of a file of cells in the 2K mode, then its symbols from this one on and the first ones of a super-frame
+/// that follows. The only error is lack of memory.
 pub(crate) fn heard(
     alloc: Global,
     cells: &[u8],
@@ -45,7 +45,7 @@ pub(crate) fn aligned<R: Abort + Threads + Sync>(
     run_files(rt, alloc, ALIGN, settings, inputs, 1, conditions)
 }
 
-/// Compares what stands. In none of the tables a new file was made and is empty.
+/// Compares the result. No table has a case of a new file created and empty.
 pub(crate) fn stands(rt: &impl Abort, ran: &Ran, found: Found<'_>) {
     let is_told = ran.status == found.0 && ran.report.as_slice() == found.1.as_bytes();
     assert!(rt; is_told, "status or report beside {}", found.1);

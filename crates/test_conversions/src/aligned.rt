@@ -1,4 +1,4 @@
-// Places that are found. The expected reports, lengths and sums are those of an independent program.
+// Places found. The expected reports, lengths and sums are those of an independent program.
 use crate::align_running::{ALIGN, Found, HEADER, HEADER_SUM, aligned, heard, stands};
 use test_runs::{
     BASE, Conditions, File, LAYERED, SUPER_FRAME, SYMBOL, ample, null_cells, run_files, text_bytes,
@@ -8,11 +8,11 @@ use std::alloc::{AllocError, Global};
 use std::test::Fail;
 use std::thread::Threads;
 
-/// The lines of the second of two super-frames, heard from symbol 10 of the first one on.
+/// The lines of the second of two super-frames, received from symbol 10 of the first one on.
 const SECOND: &str =
     "tune at 58 frame 2\nannounced constellation qpsk hierarchy none rate_hp 1/2 guard 1/32\nsymbols 272 tail 0\n";
 
-/// Those of the layered super-frame that a plan begins.
+/// Those of the layered super-frame at which the plan takes effect.
 const PLANNED: &str =
     "tune at 0 frame 1\nannounced constellation 16qam hierarchy 4 rate_hp 1/2 rate_lp 3/4 guard 1/32\nsymbols 272 tail 0\n";
 
@@ -40,7 +40,7 @@ fn two_super_frames<R: Threads + Sync>(
     Ok(run_files(rt, alloc, words, settings, (hp, lp), 1000, room)?.cells)
 }
 
-// The second of two super-frames stands as it is, by the settings of the transmission and by others.
+// The second of two super-frames is copied unchanged, with the settings of the transmission and with others.
 #[test]
 fn second_super_frame(rt: HostRuntime) -> Result<(), Fail> {
     let alloc = rt.alloc();
@@ -55,7 +55,7 @@ fn second_super_frame(rt: HostRuntime) -> Result<(), Fail> {
     Ok(())
 }
 
-// What is announced is what the plan sends next.
+// The announced parameters are those that the plan sends next.
 #[test]
 fn announced_plan(rt: HostRuntime) -> Result<(), Fail> {
     let alloc = rt.alloc();
@@ -65,7 +65,7 @@ fn announced_plan(rt: HostRuntime) -> Result<(), Fail> {
     Ok(())
 }
 
-/// How many symbols and bytes of that file are there, and what is found.
+/// The number of symbols and bytes of that file, and the expected result.
 static CUTS: [(usize, usize, Found<'static>); 3] = [
     (
         261,
@@ -113,8 +113,8 @@ fn ends_around_the_super_frame(rt: HostRuntime) -> Result<(), Fail> {
     Ok(())
 }
 
-/// The settings of a transmission, the first symbol of it that is heard, how many of a second super-frame
-/// follow, and what is found.
+/// The settings of a transmission, the first symbol received, the number of symbols of a second super-frame, and the
+/// expected result.
 static ANNOUNCED: [(&str, usize, usize, Found<'static>); 5] = [
     (
         BASE,
@@ -173,7 +173,7 @@ static ANNOUNCED: [(&str, usize, usize, Found<'static>); 5] = [
     ),
 ];
 
-// Every constellation, hierarchy, rate and guard interval is announced by its word, whatever the settings say.
+// Every constellation, hierarchy, rate and guard interval is announced by its name, whatever the settings say.
 #[test]
 fn every_word(rt: HostRuntime) -> Result<(), Fail> {
     let alloc = rt.alloc();
@@ -203,7 +203,7 @@ fn wide_symbols(rt: HostRuntime) -> Result<(), Fail> {
     Ok(())
 }
 
-// Puts numbers of up to 255 in place of the weights of a file from its symbol 109 on.
+// Replaces the weights of a file from its symbol 109 on by numbers of up to 255.
 fn weigh(file: &mut [u8]) {
     let first = 8 + 109 * SYMBOL + 4;
     for (place, byte) in file.iter_mut().enumerate() {
@@ -213,7 +213,7 @@ fn weigh(file: &mut [u8]) {
     }
 }
 
-// Symbols are handed on byte for byte, weights above 15 too, read as a whole and by few bytes.
+// Symbols are copied byte for byte, even weights above 15, with whole reads and with reads of few bytes.
 #[test]
 fn byte_for_byte(rt: HostRuntime) -> Result<(), Fail> {
     let alloc = rt.alloc();
@@ -239,7 +239,7 @@ fn byte_for_byte(rt: HostRuntime) -> Result<(), Fail> {
     Ok(())
 }
 
-// `receive` has of the new file the packets that `tune` has of the old one.
+// `receive` gives for the new file the packets that `tune` gives for the old one.
 #[test]
 fn received_as_tuned(rt: HostRuntime) -> Result<(), Fail> {
     let alloc = rt.alloc();

@@ -1,9 +1,9 @@
-// Roundings, directions and the middle one of numbers, beside values that Python's whole numbers give.
+// Roundings, directions and medians, against values from Python's integers.
 use std::process::Abort;
 use std::rt::HostRuntime;
 use track_arithmetic::{Complex, direction, middle, near, shifted, value_near};
 
-// A complex number, its direction, and what they are.
+// A complex number and its direction.
 #[rattlefmt::skip]
 static DIRECTIONS: [((i64, i64), (i64, i64)); 11] = [
     ((0, 0), (16384, 0)),
@@ -19,7 +19,7 @@ static DIRECTIONS: [((i64, i64), (i64, i64)); 11] = [
     ((2, -1), (16384, -8192)),
 ];
 
-// Each direction has parts that are the nearest whole numbers.
+// Each direction has parts that are the nearest integers.
 #[test]
 fn directions(rt: HostRuntime) {
     for &((re, im), (want_re, want_im)) in DIRECTIONS.iter() {
@@ -52,7 +52,7 @@ fn halves(rt: HostRuntime) {
     assert!(&rt; value_near(-65538, 2) == -32768);
 }
 
-// The middle one is the lower of two, and counts as often as it stands there.
+// The median of an even number is the lower of the two in the middle; equal numbers count separately.
 #[test]
 fn middles(rt: HostRuntime) {
     assert!(&rt; middle(&mut [7]) == 7);

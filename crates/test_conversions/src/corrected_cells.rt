@@ -1,4 +1,4 @@
-// Corrected cells and their weights, beside values that Python's whole numbers give.
+// Corrected cells and their weights, against values from Python's integers.
 use mode_set::Shape;
 use qam_map::Cell;
 use std::process::Abort;

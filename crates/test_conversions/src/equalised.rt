@@ -22,7 +22,7 @@ const EIGHTH: u32 = 3_635_339_598;
 
 const EQUALISE: &str = "equalise s a cells";
 
-// What is to be found: the status, the report, how many bytes of the new file stand, and their sum.
+// The expected result: the status, the report, the length of the new file, and its sum.
 type Found<'a> = (u8, &'a str, usize, u32);
 
 /// The sum of the header of the 2K mode, and of half of it.
@@ -35,8 +35,8 @@ const ONE_SYMBOL: u32 = 959_283_447;
 
 const TWO_SYMBOLS: u32 = 168_465_058;
 
-// The header of a mode, 0 for 2K and 1 for 8K, and behind it so many bytes by a rule of their own: weights of
-// 0 to 15 and above 15 are among them.
+// The header of a mode, 0 for 2K and 1 for 8K, then `count` bytes by a rule of their own, with weights of 0 to 15 and
+// above.
 fn cell_file(alloc: Global, mode: u8, count: u32) -> Result<Vec<u8>, AllocError> {
     let mut bytes = Vec::from_slice(alloc, b"DVTC\x02".as_slice())?;
     bytes.push(mode)?;
@@ -63,7 +63,7 @@ fn equalised<R: Abort + Threads + Sync>(
     run_files(rt, alloc, EQUALISE, settings, inputs, 1, conditions)
 }
 
-// Compares what stands. In none of the tables a new file was made and is empty.
+// Compares the result. No table has a case of a new file created and empty.
 fn stands(rt: &impl Abort, ran: &Ran, found: Found<'_>) {
     let is_told = ran.status == found.0 && ran.report.as_slice() == found.1.as_bytes();
     assert!(rt; is_told, "status or report beside {}", found.1);
@@ -84,7 +84,7 @@ fn part_of(high: u8, low: u8) -> i32 {
     i32::from((u16::from(high) * 256 + u16::from(low)).cast_signed())
 }
 
-// Adds a part of a cell that fits.
+// Appends a part of a cell that fits.
 fn push_part(part: i32, to: &mut Vec<u8>) -> Result<(), AllocError> {
     let bytes = (part.clamp(-32768, 32767) as i16).to_be_bytes();
     to.push(bytes[0])?;
@@ -92,7 +92,7 @@ fn push_part(part: i32, to: &mut Vec<u8>) -> Result<(), AllocError> {
     Ok(())
 }
 
-// A cell (x, y) as it comes through a channel: turned by a quarter, or by an eighth and weakened to 0.7.
+// A cell (x, y) after a channel: turned by a quarter, or by an eighth and weakened to 0.7.
 fn through(x: i32, y: i32, eighth: bool) -> (i32, i32) {
     let (x, y) = (x.clamp(-32768, 32767), y.clamp(-32768, 32767));
     if eighth {
@@ -102,7 +102,7 @@ fn through(x: i32, y: i32, eighth: bool) -> (i32, i32) {
     }
 }
 
-// The cell file of the super-frame of null packets, each cell of which came through such a channel.
+// The cell file of the super-frame of null packets, each cell after such a channel.
 fn turned_nulls<R: Threads + Sync>(
     rt: &R,
     alloc: Global,
@@ -126,7 +126,7 @@ fn turned_nulls<R: Threads + Sync>(
     Ok(bytes)
 }
 
-// The super-frame of null packets, turned by a quarter, comes back as it was sent.
+// The super-frame of null packets, turned by a quarter, is restored exactly.
 #[test]
 fn quarter_turn(rt: HostRuntime) -> Result<(), Fail> {
     let alloc = rt.alloc();
@@ -137,7 +137,7 @@ fn quarter_turn(rt: HostRuntime) -> Result<(), Fail> {
     Ok(())
 }
 
-// Turned by an eighth and weakened, it is corrected so well that a receiver finds all words clean.
+// Turned by an eighth and weakened, it is corrected well enough for a receiver to find all words clean.
 #[test]
 fn weakened_and_received(rt: HostRuntime) -> Result<(), Fail> {
     let alloc = rt.alloc();
@@ -152,7 +152,7 @@ fn weakened_and_received(rt: HostRuntime) -> Result<(), Fail> {
     Ok(())
 }
 
-// Cells of 0 tell no gain: they stay 0, and count for nothing.
+// Zero cells give no gain: they stay 0 with weight 0.
 #[test]
 fn zero_cells(rt: HostRuntime) -> Result<(), Fail> {
     let alloc = rt.alloc();
@@ -165,7 +165,8 @@ fn zero_cells(rt: HostRuntime) -> Result<(), Fail> {
     Ok(())
 }
 
-/// Settings, the mode of the header, how many bytes follow it, and of what is left the report, the length and the sum.
+/// Settings, the mode of the header, the number of bytes after it, and of the result the report, the length and the
+/// sum.
 static LENGTHS: [(&str, u8, u32, &str, usize, u32); 6] = [
     (BASE, 0, 0, "symbols 0 tail 0\n", 8, HEADER),
     (BASE, 0, 8_524, "symbols 0 tail 8524\n", 8, HEADER),
@@ -175,8 +176,8 @@ static LENGTHS: [(&str, u8, u32, &str, usize, u32); 6] = [
     (WIDE, 1, 34_088, "symbols 1 tail 3\n", 34_093, 2_002_112_095),
 ];
 
-// Whole symbols and parts of one, in both modes, whatever else is set, read as a whole and by single bytes: the
-// second super-frame's first symbols are at the phases of the first ones.
+// Whole symbols and parts of one, in both modes, with any other settings, with whole reads and single bytes: the second
+// super-frame's first symbols have the phases of the first ones.
 #[test]
 fn whole_symbols_and_parts(rt: HostRuntime) -> Result<(), Fail> {
     let alloc = rt.alloc();
@@ -217,7 +218,7 @@ fn symbols_of_every_phase(rt: HostRuntime) -> Result<(), Fail> {
     Ok(())
 }
 
-// As many symbols as the limit, and a part of one more or the whole of it.
+// As many symbols as the limit, and one more or part of it.
 #[test]
 fn limits_of_symbols(rt: HostRuntime) -> Result<(), Fail> {
     let alloc = rt.alloc();
@@ -238,7 +239,7 @@ fn limits_of_symbols(rt: HostRuntime) -> Result<(), Fail> {
 
 const HEADLESS: &str = "cells header\n";
 
-/// Words, settings, the mode of the header, the length of the file, the status and its text.
+/// Arguments, settings, the mode of the header, the length of the file, the status and its text.
 static REFUSED: [(&str, &str, u8, usize, u8, &str); 11] = [
     ("equalise s a", BASE, 0, 8_533, 2, "usage\n"),
     ("equalise s a b cells", LAYERED, 0, 8_533, 2, "usage\n"),
@@ -260,8 +261,8 @@ static REFUSED: [(&str, &str, u8, usize, u8, &str); 11] = [
     (EQUALISE, WIDE, 0, 34_093, 9, HEADLESS),
 ];
 
-// Words of no form, settings that are refused, a file that is not there, and cells without the header of the
-// mode: no new file is made.
+// Invalid command lines, rejected settings, a missing file, and cells without the header of the mode: no new file is
+// created.
 #[test]
 fn refused_words_settings_and_cells(rt: HostRuntime) -> Result<(), Fail> {
     let alloc = rt.alloc();
@@ -280,12 +281,12 @@ const READ: &str = "read fault\n";
 
 const WRITE: &str = "write fault\n";
 
-/// The closing line, of which the write or behind which a close failed.
+/// The closing line after a failed write of it, or before a failed close.
 const HALF_LINE: &str = "symbols write fault\n";
 
 const CLOSED: &str = "symbols 2 tail 0\nwrite fault\n";
 
-/// A call that fails in the work on two symbols, and what stands.
+/// A call that fails in the work on two symbols, and the expected result.
 static FAULTS: [(Failing, Found<'static>); 11] = [
     (Failing::Read(InPort::Settings, 1), (5, READ, 0, 0)),
     (Failing::Attach(InPort::Cells, 1), (5, READ, 0, 0)),
@@ -318,7 +319,7 @@ static FAULTS: [(Failing, Found<'static>); 11] = [
     ),
 ];
 
-// One call of the station fails in a correction of two symbols, and this stands.
+// One call of the station fails in a correction of two symbols, with this result.
 #[test]
 fn faults_of_the_station(rt: HostRuntime) -> Result<(), Fail> {
     let alloc = rt.alloc();

@@ -1,4 +1,4 @@
-// Runs of `track` that are refused, and what stands then: the front of what an independent program gives.
+// Refused runs of `track`, and their results: a prefix of an independent program's output.
 use crate::tracking_files::{HEADER, TRACK, WIDE_HEADER, random_cells, tracked};
 use test_runs::{
     BASE, Conditions, LAYERED, Made, Ran, SYMBOL, UNMADE, WIDE_SYMBOL, ample, checksum, run_files,
@@ -8,10 +8,10 @@ use station_core::{Failing, InPort, OutPort};
 use std::process::Abort;
 use std::test::Fail;
 
-/// Room for the new file.
+/// The capacity of the new file.
 const ROOM: u32 = 100_000;
 
-/// What is to be found: the status, the report, how many bytes of the new file stand, and their sum.
+/// The expected result: the status, the report, the length of the new file, and its sum.
 type Found<'a> = (u8, &'a str, usize, u32);
 
 /// The new file of nine symbols of random cells: the sums of its header, of half of that, and of its first symbols.
@@ -29,7 +29,7 @@ const TWO_AND_HALF: u32 = 1_962_133_641;
 
 const WHOLE: u32 = 3_771_601_802;
 
-// Compares what stands. In none of the tables a new file was made and is empty.
+// Compares the result. No table has a case of a new file created and empty.
 fn stands(rt: &impl Abort, ran: &Ran, found: Found<'_>) {
     let is_told = ran.status == found.0 && ran.report.as_slice() == found.1.as_bytes();
     assert!(rt; is_told, "status or report beside {}", found.1);
@@ -45,14 +45,14 @@ fn stands(rt: &impl Abort, ran: &Ran, found: Found<'_>) {
     );
 }
 
-/// So many whole symbols and bytes after them, and what is found under a limit of nine symbols.
+/// The number of whole symbols and of bytes after them, and the expected result with a limit of nine symbols.
 static LIMITS: [(u32, u32, Found<'static>); 3] = [
     (9, 0, (0, "symbols 9 tail 0\n", 76_733, WHOLE)),
     (9, 8_524, (0, "symbols 9 tail 8524\n", 76_733, WHOLE)),
     (10, 3, (8, "limit 9\n", 17_058, TWO)),
 ];
 
-// As many symbols as the limit, and a part of one more or the whole of it: the last seven are not given then.
+// As many symbols as the limit, and one more or part of it: then the last seven are not given.
 #[test]
 fn limits_of_symbols(rt: HostRuntime) -> Result<(), Fail> {
     let alloc = rt.alloc();
@@ -72,10 +72,10 @@ const WRITE: &str = "write fault\n";
 
 const CLOSED: &str = "symbols 9 tail 0\nwrite fault\n";
 
-/// The closing line, of which the write has failed.
+/// The closing line after a failed write of it.
 const HALF_LINE: &str = "symbols write fault\n";
 
-/// A call that fails in the work on nine symbols, and what stands.
+/// A call that fails in the work on nine symbols, and the expected result.
 #[rattlefmt::skip]
 static FAULTS: [(Failing, Found<'static>); 13] = [
     (Failing::Read(InPort::Settings, 1), (5, READ, 0, 0)),
@@ -93,7 +93,7 @@ static FAULTS: [(Failing, Found<'static>); 13] = [
     (Failing::Close(OutPort::Cells, 1), (6, CLOSED, 76_733, WHOLE)),
 ];
 
-// One call of the station fails, and this stands.
+// One call of the station fails, with this result.
 #[test]
 fn faults_of_the_station(rt: HostRuntime) -> Result<(), Fail> {
     let alloc = rt.alloc();
@@ -114,7 +114,7 @@ const HEADLESS: &str = "cells header\n";
 /// QPSK at 1/2 in the 8K mode.
 const WIDE: &str = "mode = \"8k\"\nconstellation = \"qpsk\"\nrate_hp = \"1/2\"\nguard = \"1/32\"\n";
 
-/// Words, settings, whether the cells are of the 8K mode, the length of the file, the status and its text.
+/// Arguments, settings, whether the cells are of the 8K mode, the length of the file, the status and its text.
 #[rattlefmt::skip]
 static REFUSED: [(&str, &str, bool, usize, u8, &str); 11] = [
     ("track s a", BASE, false, 8_533, 2, "usage\n"),
@@ -130,8 +130,8 @@ static REFUSED: [(&str, &str, bool, usize, u8, &str); 11] = [
     (TRACK, WIDE, false, 34_093, 9, HEADLESS),
 ];
 
-// Words of no form, settings that are refused, a file that is not there, and cells without the header of the mode:
-// no new file is made.
+// Invalid command lines, rejected settings, a missing file, and cells without the header of the mode: no new file is
+// created.
 #[test]
 fn refused_words_settings_and_cells(rt: HostRuntime) -> Result<(), Fail> {
     let alloc = rt.alloc();

@@ -1,4 +1,4 @@
-// What `track` makes of files of cells: the sums and digests are those of an independent program.
+// The output of `track` for files of cells: the sums and digests are those of an independent program.
 use crate::tracking_files::{
     HEADER, WIDE_HEADER, disturbed, has_digest, random_cells, still, sum_of, tracked, turned,
 };
@@ -11,16 +11,16 @@ use std::process::Abort;
 use std::test::Fail;
 use std::thread::Threads;
 
-/// Room for the new file.
+/// The capacity of the new file.
 const ROOM: u32 = 500_000;
 
 /// 16-QAM in the 8K mode at a guard interval of 1/4.
 const WIDE: &str = "mode = \"8k\"\nconstellation = \"16qam\"\nrate_hp = \"1/2\"\nguard = \"1/4\"\n";
 
-/// What is to be found: the report, the sum of the new file's bytes, and its SHA-256.
+/// The expected result: the report, the sum of the new file's bytes, and its SHA-256.
 type Found<'a> = (&'a str, u32, &'a str);
 
-// Tracks a file, read by pieces of at most so many bytes, and compares.
+// Tracks a file, with reads of at most `most` bytes, and compares.
 fn compare<R: Abort + Threads + Sync>(
     rt: &R,
     alloc: Global,
@@ -42,7 +42,8 @@ fn compare<R: Abort + Threads + Sync>(
     Ok(())
 }
 
-/// So many symbols of the 2K mode, the sum of the random cells that are that many and three bytes, and what is found.
+/// A number of symbols of the 2K mode, the sum of the random cells of that many symbols and three bytes, and the
+/// expected result.
 #[rattlefmt::skip]
 static RANDOM: [(u32, u32, Found<'static>); 6] = [
     (1, 1_091_223, ("symbols 1 tail 3\n", 878_684, "8bb1a53065f189e4a375a6e47251e31fcc98207f1ce754a286d824da563711cc")),
@@ -53,7 +54,7 @@ static RANDOM: [(u32, u32, Found<'static>); 6] = [
     (15, 16_280_599, ("symbols 15 tail 3\n", 13_191_749, "328b8362488f834a9b61f30ea82e243900c4a72f1c59ad95c6831afb465d5c38")),
 ];
 
-// Random cells, weights above 15 among them, from one symbol to fifteen, read as a whole and by pieces of 11 bytes.
+// Random cells, some with weights above 15, from one symbol to fifteen, with whole reads and with reads of 11 bytes.
 #[test]
 fn random_cells_of_few_symbols(rt: HostRuntime) -> Result<(), Fail> {
     let alloc = rt.alloc();
@@ -68,7 +69,7 @@ fn random_cells_of_few_symbols(rt: HostRuntime) -> Result<(), Fail> {
     Ok(())
 }
 
-// The header alone, and one symbol of zeros, which tell no gain: they stay, and count for nothing.
+// The header alone, and one symbol of zeros, which give no gain: they stay 0 with weight 0.
 #[test]
 fn nothing_to_track(rt: HostRuntime) -> Result<(), Fail> {
     let alloc = rt.alloc();
@@ -86,14 +87,14 @@ fn nothing_to_track(rt: HostRuntime) -> Result<(), Fail> {
     Ok(())
 }
 
-// Are two parts of cells within 64 of one another?
+// Whether two parts of cells are within 64 of each other.
 fn is_near(part: [u8; 2], other: [u8; 2]) -> bool {
     let part = i32::from(i16::from_be_bytes(part));
     let other = i32::from(i16::from_be_bytes(other));
     part - other <= 64 && other - part <= 64
 }
 
-// Is each cell near the other, and each weight 15?
+// Whether each cell is close to the other, and each weight is 15.
 fn are_near(cells: &[u8], others: &[u8]) -> bool {
     let mut near = cells.len() == others.len();
     for (cell, other) in cells.chunks_exact(5).zip(others.chunks_exact(5)) {
@@ -104,7 +105,7 @@ fn are_near(cells: &[u8], others: &[u8]) -> bool {
     near
 }
 
-// The super-frame of null packets, turned by a quarter, comes back, and is received.
+// The super-frame of null packets, turned by a quarter, is restored and received.
 #[test]
 fn quarter_turn(rt: HostRuntime) -> Result<(), Fail> {
     let alloc = rt.alloc();
@@ -133,7 +134,8 @@ fn quarter_turn(rt: HostRuntime) -> Result<(), Fail> {
     Ok(())
 }
 
-// Symbols that a pulse hit, and then noise: bad symbols are found by their neighbours, and the motion is followed.
+// Symbols hit by a pulse, and then noise: bad symbols are found by comparison with their neighbours, and the motion is
+// followed.
 #[test]
 fn bad_symbols_and_noise(rt: HostRuntime) -> Result<(), Fail> {
     let alloc = rt.alloc();
@@ -155,7 +157,7 @@ fn bad_symbols_and_noise(rt: HostRuntime) -> Result<(), Fail> {
     Ok(())
 }
 
-// Continual pilots that never change, in random cells: both residues are 0, and slow is taken on a tie.
+// Continual pilots that never change, in random cells: both residues are 0, and the tie gives slow.
 #[test]
 fn slow_on_a_tie(rt: HostRuntime) -> Result<(), Fail> {
     let alloc = rt.alloc();

@@ -14,7 +14,7 @@ use tracker::Tracker;
 #[rattlefmt::skip]
 static SUMS: [u32; 8] = [114151462, 4276086162, 1432800275, 3026201503, 4192966337, 654826319, 4267888721, 717707930];
 
-// Hands in one symbol. From the eighth one on the tracker gives another, whose sum is returned.
+// Takes one symbol. From the eighth one on the tracker gives another, whose sum is returned.
 fn taken(
     alloc: Global,
     bytes: &[u8],
@@ -41,7 +41,7 @@ fn taken(
     }
 }
 
-// The next one of the symbols that are left.
+// The next one of the remaining symbols.
 fn left(tracker: &mut Tracker<Mode2k>, room: &mut Vec<u8>) -> Option<u32>
     requires ended { tracker.old.ended ≡ true }
     requires room { 8525 ≤ vec_capacity room.old }
@@ -56,7 +56,7 @@ fn left(tracker: &mut Tracker<Mode2k>, room: &mut Vec<u8>) -> Option<u32>
     }
 }
 
-// Seven symbols give none, the eighth gives the first, and after the end the others come.
+// Seven symbols give none, the eighth gives the first, and after the end the rest follow.
 fn track_all(
     rt: &impl Abort,
     alloc: Global,

@@ -1,4 +1,4 @@
-// Files of cells that are tracked, and what they come to.
+// Files of cells for tracking.
 use mode_set::Mode;
 use pilots::is_pilot;
 use rand_core::utils::NextWord;
@@ -22,7 +22,8 @@ const DIGITS: &str = "0123456789abcdef";
 /// The generator's stream for random cells.
 const STREAM: u64 = 105;
 
-/// So many random bytes after a header, as the independent program draws them. The only error is want of memory.
+/// A number of random bytes after a header, as the independent program generates them. The only error is lack of
+/// memory.
 pub(crate) fn random_cells(
     alloc: Global,
     header: &[u8],
@@ -65,7 +66,7 @@ fn digit_of(number: u8) -> u8 {
     DIGITS.as_bytes()[usize::from(number % 16)]
 }
 
-/// Have the bytes this SHA-256, in hexadecimal digits? The only error is want of memory.
+/// Whether the bytes have this SHA-256, in hexadecimal digits. The only error is lack of memory.
 pub(crate) fn has_digest(alloc: Global, bytes: &[u8], digits: &str) -> Result<bool, AllocError> {
     let digest = Sha256::digest(bytes);
     let mut text = Vec::new(alloc);
@@ -86,7 +87,7 @@ fn part_bytes(part: i32) -> [u8; 2] {
     (part.clamp(-32_768, 32_767) as i16).to_be_bytes()
 }
 
-/// The cells of a file, each (x, y) as (-y, x). The only error is want of memory.
+/// The cells of a file, each (x, y) as (-y, x). The only error is lack of memory.
 pub(crate) fn turned(alloc: Global, file: &[u8]) -> Result<Vec<u8>, AllocError> {
     let mut bytes = Vec::from_slice(alloc, HEADER.as_slice())?;
     for cell in file[file.len().min(8)..].chunks_exact(5) {
@@ -104,7 +105,7 @@ fn exchanged(cell: &[u8; 5]) -> [u8; 5] {
     [cell[2], cell[3], cell[0], cell[1], cell[4]]
 }
 
-// A cell to which a quarter of another is added, rounded down.
+// A cell plus a quarter of another, rounded down.
 fn added(cell: &[u8; 5], other: &[u8; 5]) -> [u8; 5] {
     let re = part_of(cell[0], cell[1]).clamp(-32_768, 32_767);
     let im = part_of(cell[2], cell[3]).clamp(-32_768, 32_767);
@@ -119,7 +120,7 @@ fn added(cell: &[u8; 5], other: &[u8; 5]) -> [u8; 5] {
     [re[0], re[1], im[0], im[1], cell[4]]
 }
 
-// The cell at this place of a file, or zeros.
+// The cell at this index of a file, or zeros.
 fn cell_at(file: &[u8], place: usize) -> [u8; 5] {
     if file.len() < 5 || place > file.len() - 5 {
         return [0; 5];
@@ -133,8 +134,8 @@ fn cell_at(file: &[u8], place: usize) -> [u8; 5] {
     ]
 }
 
-/// The first 48 symbols of these cells, in which the cells of even carriers of symbols 8, 12 and 16 have their parts
-/// exchanged, and from symbol 20 on a quarter of random cells is added. The only error is want of memory.
+/// The first 48 symbols of these cells, with the parts of the cells of even carriers exchanged in symbols 8, 12 and 16,
+/// and a quarter of random cells added from symbol 20 on. The only error is lack of memory.
 pub(crate) fn disturbed(alloc: Global, file: &[u8]) -> Result<Vec<u8>, AllocError> {
     let drawn = random_cells(alloc, &HEADER, 48 * SYMBOL as u32, 48)?;
     let mut bytes = Vec::from_slice(alloc, HEADER.as_slice())?;
@@ -156,7 +157,7 @@ pub(crate) fn disturbed(alloc: Global, file: &[u8]) -> Result<Vec<u8>, AllocErro
     Ok(bytes)
 }
 
-// Is this carrier of the 2K mode a continual pilot: a pilot in four symbols in turn?
+// Whether this carrier of the 2K mode is a continual pilot: a pilot in four consecutive symbols.
 fn is_continual(carrier: u32) -> bool {
     let carrier = carrier.min(1704);
     is_pilot(Mode::M2k, 0, carrier)
@@ -165,8 +166,8 @@ fn is_continual(carrier: u32) -> bool {
         && is_pilot(Mode::M2k, 3, carrier)
 }
 
-/// Random cells of 24 symbols with weights of at most 15, whose continual pilots are in all symbols as in symbol 0.
-/// The only error is want of memory.
+/// Random cells of 24 symbols with weights of at most 15, whose continual pilots are those of symbol 0 in all symbols.
+/// The only error is lack of memory.
 pub(crate) fn still(alloc: Global) -> Result<Vec<u8>, AllocError> {
     let drawn = random_cells(alloc, &HEADER, 24 * SYMBOL as u32, 24)?;
     let mut bytes = Vec::from_slice(alloc, HEADER.as_slice())?;

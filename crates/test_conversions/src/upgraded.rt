@@ -19,7 +19,7 @@ const NEW_SUPER_FRAME: usize = 2_318_808;
 
 const UPGRADE: &str = "upgrade s a cells";
 
-// What is to be found: the status, the report, how many bytes of the new file stand, and their sum.
+// The expected result: the status, the report, the length of the new file, and its sum.
 type Found<'a> = (u8, &'a str, usize, u32);
 
 /// The sum of the header of the 2K mode, and of half of it.
@@ -32,7 +32,7 @@ const ONE_SYMBOL: u32 = 3_437_183_718;
 
 const TWO_SYMBOLS: u32 = 1_084_413_920;
 
-// So many bytes of old cells, by a rule of their own.
+// A number of bytes of old cells, by a rule of their own.
 fn old_bytes(alloc: Global, count: u32) -> Result<Vec<u8>, AllocError> {
     let mut bytes = Vec::new(alloc);
     for i in 0..count {
@@ -56,7 +56,7 @@ fn upgraded<R: Abort + Threads + Sync>(
     run_files(rt, alloc, UPGRADE, settings, inputs, 1, conditions)
 }
 
-// Compares what stands. In none of the tables a new file was made and is empty.
+// Compares the result. No table has a case of a new file created and empty.
 fn stands(rt: &impl Abort, ran: &Ran, found: Found<'_>) {
     let is_told = ran.status == found.0 && ran.report.as_slice() == found.1.as_bytes();
     assert!(rt; is_told, "status or report beside {}", found.1);
@@ -72,7 +72,7 @@ fn stands(rt: &impl Abort, ran: &Ran, found: Found<'_>) {
     );
 }
 
-// The cells that `modulate` has written, as a file of version 1: without header and weights.
+// The cells written by `modulate`, as a file of version 1: without header and weights.
 fn as_old_cells(alloc: Global, written: &[u8]) -> Result<Vec<u8>, AllocError> {
     let mut bytes = Vec::new(alloc);
     for (place, byte) in written.iter().skip(8).enumerate() {
@@ -83,8 +83,8 @@ fn as_old_cells(alloc: Global, written: &[u8]) -> Result<Vec<u8>, AllocError> {
     Ok(bytes)
 }
 
-// The super-frame of null packets becomes the file that `modulate` has written: its first cells, its first scattered pilot past
-// carrier 0, and a TPS carrier in the first and in the fourth symbol.
+// The super-frame of null packets becomes the file written by `modulate`: its first cells, its first scattered pilot
+// past carrier 0, and a TPS carrier in the first and in the fourth symbol.
 #[test]
 fn null_super_frame(rt: HostRuntime) -> Result<(), Fail> {
     let alloc = rt.alloc();
@@ -115,7 +115,7 @@ fn null_super_frame(rt: HostRuntime) -> Result<(), Fail> {
     Ok(())
 }
 
-/// Settings, how many bytes of old cells there are, and of what is left the report, the length and the sum.
+/// Settings, the number of bytes of old cells, and of the result the report, the length and the sum.
 static LENGTHS: [(&str, u32, &str, usize, u32); 6] = [
     (BASE, 0, "symbols 0 tail 0\n", 8, HEADER),
     (BASE, 6_819, "symbols 0 tail 6819\n", 8, HEADER),
@@ -125,7 +125,7 @@ static LENGTHS: [(&str, u32, &str, usize, u32); 6] = [
     (WIDE, 27_271, "symbols 1 tail 3\n", 34_093, 330_508_231),
 ];
 
-// Whole symbols and parts of one, in both modes, whatever else is set, read as a whole and by single bytes.
+// Whole symbols and parts of one, in both modes, with any other settings, with whole reads and single bytes.
 #[test]
 fn whole_symbols_and_parts(rt: HostRuntime) -> Result<(), Fail> {
     let alloc = rt.alloc();
@@ -143,7 +143,7 @@ fn whole_symbols_and_parts(rt: HostRuntime) -> Result<(), Fail> {
     Ok(())
 }
 
-// As many symbols as the limit, and a part of one more or the whole of it.
+// As many symbols as the limit, and one more or part of it.
 #[test]
 fn limits_of_symbols(rt: HostRuntime) -> Result<(), Fail> {
     let alloc = rt.alloc();
@@ -161,7 +161,7 @@ fn limits_of_symbols(rt: HostRuntime) -> Result<(), Fail> {
     Ok(())
 }
 
-/// Words, settings, the status and its text.
+/// Arguments, settings, the status and its text.
 static REFUSED: [(&str, &str, u8, &str); 7] = [
     ("upgrade s a", BASE, 2, "usage\n"),
     ("upgrade s a b cells", LAYERED, 2, "usage\n"),
@@ -172,7 +172,7 @@ static REFUSED: [(&str, &str, u8, &str); 7] = [
     ("upgrade s gone cells", BASE, 5, "read fault\n"),
 ];
 
-// Words of no form, settings that are refused, and a file that is not there: no new file is made.
+// Invalid command lines, rejected settings, and a missing file: no new file is created.
 #[test]
 fn refused_words_and_settings(rt: HostRuntime) -> Result<(), Fail> {
     let alloc = rt.alloc();
@@ -189,12 +189,12 @@ const READ: &str = "read fault\n";
 
 const WRITE: &str = "write fault\n";
 
-/// The closing line, of which the write or behind which a close failed.
+/// The closing line after a failed write of it, or before a failed close.
 const HALF_LINE: &str = "symbols write fault\n";
 
 const CLOSED: &str = "symbols 2 tail 0\nwrite fault\n";
 
-/// A call that fails in the work on two symbols, and what stands.
+/// A call that fails in the work on two symbols, and the expected result.
 static FAULTS: [(Failing, Found<'static>); 10] = [
     (Failing::Read(InPort::Settings, 1), (5, READ, 0, 0)),
     (Failing::Attach(InPort::Cells, 1), (5, READ, 0, 0)),
@@ -226,7 +226,7 @@ static FAULTS: [(Failing, Found<'static>); 10] = [
     ),
 ];
 
-// One call of the station fails in an upgrade of two symbols, and this stands.
+// One call of the station fails in an upgrade of two symbols, with this result.
 #[test]
 fn faults_of_the_station(rt: HostRuntime) -> Result<(), Fail> {
     let alloc = rt.alloc();

@@ -1,21 +1,21 @@
-// A run without a fault, and the runs of which one call fails.
+// A run without a fault, and the runs with one failed call.
 use test_runs::{Conditions, Ran, ample, checksum, run_files, text_bytes};
 use station_core::Failing;
 use std::alloc::{AllocError, Global};
 use std::process::Abort;
 use std::thread::Threads;
 
-/// The room of each output: a super-frame of cells.
+/// The capacity of each output: a super-frame of cells.
 const ROOM: u32 = 2_400_000;
 
-/// What is to stand where a call fails: the status, how many bytes of the closing lines stand before the text
-/// of the status, and how many bytes of the whole first output and of the whole output of LP.
+/// The expected result if a call fails: the status, the number of bytes of the closing lines before the text of the
+/// status, and the number of bytes of the whole first output and of the whole output of LP.
 pub(crate) type Stands = (u8, usize, (usize, usize));
 
-/// A command: its words, the settings, the two inputs, and the closing lines of its whole run.
+/// A command: its arguments, the settings, the two inputs, and the closing lines of its whole run.
 #[derive(Drop)]
 pub(crate) struct Work<'a> {
-    /// The words.
+    /// The arguments.
     pub text: &'a str,
     /// The settings.
     pub settings: &'a str,
@@ -25,7 +25,7 @@ pub(crate) struct Work<'a> {
     pub lines: &'a str,
 }
 
-// Runs a command where this call fails.
+// Runs a command with this failed call.
 fn run<R: Threads + Sync>(
     rt: &R,
     alloc: Global,
@@ -50,8 +50,8 @@ fn run<R: Threads + Sync>(
     )
 }
 
-/// Runs a command without a fault. Its first output and that of LP have these lengths and sums, which are an
-/// independent program's.
+/// Runs a command without a fault. Its first output and that of LP have these lengths and sums, from an independent
+/// program.
 pub(crate) fn whole<R: Abort + Threads + Sync>(
     rt: &R,
     alloc: Global,
@@ -82,7 +82,7 @@ fn first_output(ran: &Ran) -> &[u8] {
     }
 }
 
-// Is this the front of so many bytes, or all where there are fewer?
+// Whether this is the prefix of this number of bytes, or all if there are fewer.
 fn is_front(part: &[u8], whole: &[u8], count: usize) -> bool {
     let most = whole.len().min(count);
     part == &whole[..most]
@@ -99,14 +99,14 @@ fn text_of(status: u8) -> &'static str {
     }
 }
 
-// Does the report hold so many bytes of the lines, and behind them this text?
+// Whether the report holds this number of bytes of the lines, then this text.
 fn is_told(report: &[u8], lines: &[u8], count: usize, text: &str) -> bool {
     let most = report.len().min(count);
     is_front(&report[..most], lines, count) && &report[most..] == text.as_bytes()
 }
 
-/// Runs a command of which one call fails, and compares the status, the report and each output with what its
-/// whole run left.
+/// Runs a command with one failed call, and compares the status, the report and each output with the results of its
+/// whole run.
 pub(crate) fn fails<R: Abort + Threads + Sync>(
     rt: &R,
     alloc: Global,

@@ -9,12 +9,12 @@ const CELL: usize = 5;
 /// The bytes of a symbol.
 const SYMBOL: usize = 1705 * CELL;
 
-/// The bytes of the header and of so many symbols.
+/// The bytes of the header and of this number of symbols.
 pub(crate) fn symbols(count: usize) -> usize {
     HEADER.saturating_add(count.saturating_mul(SYMBOL))
 }
 
-/// The bytes of the header, of so many symbols and half of one more.
+/// The bytes of the header, of this number of symbols and half of one more.
 pub(crate) fn and_half(count: usize) -> usize {
     symbols(count).saturating_add(SYMBOL / 2)
 }

@@ -1,5 +1,5 @@
-// Refusals in the work whose flush fails, as on a full disk: the write came first, so the status is 6. The
-// outputs hold what they hold after the refusal, and the lines before it stand.
+// Refusals in the work followed by a failed flush, as on a full disk: the write was given first, so the status is 6.
+// The outputs are those after the refusal, and the report has the lines before it.
 use crate::cells::symbols;
 use test_runs::{BASE, Conditions, File, LAYERED, Ran, ample, run_files, text_bytes};
 use station_core::{Failing, InPort};
@@ -8,17 +8,17 @@ use std::process::Abort;
 use std::test::Fail;
 use std::thread::Threads;
 
-/// The room of each output: a super-frame of cells.
+/// The capacity of each output: a super-frame of cells.
 const ROOM: u32 = 2_400_000;
 
 /// A limit of 32 symbols.
 const LIMITED: &str = "max_symbols = 32\n";
 
-// A run that is refused: its words, what follows the settings, the most packets, the call that fails, and the
-// status and the text of the refusal.
+// A refused run: its arguments, the lines after the settings, the most packets, the call that fails, and the status and
+// the text of the refusal.
 type Refused<'a> = (&'a str, &'a str, u64, Option<Failing>, u8, &'a str);
 
-// Runs a command over these settings and inputs. Its flush fails, or does not.
+// Runs a command with these settings and inputs. Its flush fails, or does not.
 fn run<R: Threads + Sync>(
     rt: &R,
     alloc: Global,
@@ -40,13 +40,13 @@ fn run<R: Threads + Sync>(
     run_files(rt, alloc, text, settings, (first, second), most, conditions)
 }
 
-// Does the report end with this text, and is the rest the same as of the other?
+// Whether the report ends with this text, and the rest is that of the other.
 fn ends_with(report: &[u8], text: &str, other: &[u8], end: &str) -> bool {
     let lines = report.strip_suffix(text.as_bytes());
     lines.is_some() && lines == other.strip_suffix(end.as_bytes())
 }
 
-// Compares a refusal with the same one whose flush fails.
+// Compares a refusal with the same one after a failed flush.
 fn compare<R: Abort + Threads + Sync>(
     rt: &R,
     alloc: Global,
@@ -68,7 +68,7 @@ fn compare<R: Abort + Threads + Sync>(
     Ok(())
 }
 
-// A packet without its sync byte, a read that fails, and a packet more than the limit.
+// A packet without its sync byte, a failed read, and one packet more than the limit.
 fn of_packets<'a>(text: &'a str) -> [Refused<'a>; 3] {
     let read = Some(Failing::Read(InPort::Hp, 3));
     [
@@ -116,7 +116,7 @@ fn cells_of<R: Threads + Sync>(rt: &R, alloc: Global) -> Result<Vec<u8>, AllocEr
     Ok(ran.cells)
 }
 
-// A read that fails, and a symbol more than the limit.
+// A failed read, and one symbol more than the limit.
 fn of_symbols<'a>(text: &'a str) -> [Refused<'a>; 2] {
     let read = Some(Failing::Read(InPort::Cells, 30));
     [

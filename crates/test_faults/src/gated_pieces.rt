@@ -1,4 +1,4 @@
-// Two workers and two decoders at once, seen by a gate, and what one thread gives.
+// Two workers and two decoders in parallel, seen by a gate, and the result of one thread.
 ghost use Rattle.std.specs.Prelude.{◌≡◌, ◌≤◌, length, IfOk};
 ghost use Rattle.word_workers.specs.Symbols.{MayRun};
 
@@ -66,7 +66,7 @@ fn loaded(alloc: Global, pairs: &[CostPair]) -> Result<Plain, AllocError>
     Ok(branch)
 }
 
-/// What one decoder makes of these pairs, loaded and run alone.
+/// The result of one decoder for these pairs, loaded and run alone.
 fn run_alone(alloc: Global, pairs: &[CostPair]) -> Result<Plain, AllocError>
     requires { length pairs.now ≤ 5000 }
 {
@@ -75,7 +75,7 @@ fn run_alone(alloc: Global, pairs: &[CostPair]) -> Result<Plain, AllocError>
     Ok(branch)
 }
 
-/// Do the same bits wait in both, and have they the same reports?
+/// Whether both have the same pending bits and the same reports.
 fn same_bits(one: &mut Plain, other: &mut Plain) -> bool {
     let waiting = one.waiting();
     if waiting != other.waiting() || one.events() != other.events() {
@@ -103,7 +103,7 @@ fn two_decoders_at_once(rt: HostRuntime) -> Result<(), Fail> {
     Ok(())
 }
 
-/// Do two decoders that step through these pairs side by side make of them what one that loads them makes alone?
+/// Whether two decoders that step through these pairs in parallel give the result of one that loads them alone.
 fn same_over<R: Threads + Sync, G: Gate>(
     rt: &R,
     alloc: Global,

@@ -1,4 +1,4 @@
-// The command `receive` by workers.
+// The command `receive` with workers.
 use test_runs::{BASE, Meeting, Ran, WHOLE_NULLS, run_gated_files, text_bytes};
 use std::alloc::{AllocError, Global};
 use std::test::Fail;
@@ -9,7 +9,7 @@ use word_workers::{Gate, OpenGate};
 const LAYERED_64: &str =
     "mode = \"8k\"\nconstellation = \"64qam\"\nhierarchy = \"2\"\nrate_hp = \"3/4\"\nrate_lp = \"3/4\"\nguard = \"1/32\"\n";
 
-// Runs the words through this gate, over a file of cells under the name `b` and an empty one under `a`.
+// Runs these arguments through this gate, with a file of cells named `b` and an empty one named `a`.
 fn run<R: Threads + Sync, G: Gate>(
     rt: &R,
     alloc: Global,
@@ -23,8 +23,8 @@ fn run<R: Threads + Sync, G: Gate>(
     run_gated_files(rt, alloc, gate, text, settings, inputs)
 }
 
-// The first three symbols of two streams of null packets: two workers decode outer words at once, and so
-// are the inner decoders of the streams.
+// The first three symbols of two streams of null packets: two workers decode outer words in parallel, as do the inner
+// decoders of the streams.
 #[test]
 fn two_threads_in_a_reception(rt: HostRuntime) -> Result<(), Fail> {
     let alloc = rt.alloc();
@@ -40,7 +40,7 @@ fn two_threads_in_a_reception(rt: HostRuntime) -> Result<(), Fail> {
     Ok(())
 }
 
-// The null super-frame gives the same by 1, 3 and 16 workers.
+// The null super-frame gives the same with 1, 3 and 16 workers.
 #[test]
 fn null_super_frame_by_workers(rt: HostRuntime) -> Result<(), Fail> {
     let alloc = rt.alloc();

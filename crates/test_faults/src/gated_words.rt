@@ -1,4 +1,4 @@
-// Outer words by workers, against one thread.
+// Outer words with workers, against one thread.
 use outer_chain::WordSlot;
 use rs204::{Outcome, encode};
 use std::alloc::{AllocError, Global};
@@ -6,10 +6,10 @@ use std::test::Fail;
 use std::thread::Threads;
 use word_workers::{OpenGate, decode_all};
 
-/// What is added to the last nine bytes of a codeword, which no other codeword is then near to.
+/// The errors in the last nine bytes of a codeword, after which no codeword is close to it.
 const FAR: [u8; 9] = [0x01, 0xFF, 0x0B, 0x51, 0x36, 0xEF, 0xAD, 0xC8, 0x18];
 
-/// A received word: by its number clean, with one to eight wrong bytes, or far from all codewords.
+/// A received word: depending on its number clean, with one to eight wrong bytes, or far from all codewords.
 fn received(number: u8) -> WordSlot {
     let mut word = encode(&[number; 188]);
     for k in 0..number % 10 {
@@ -21,7 +21,7 @@ fn received(number: u8) -> WordSlot {
     }
 }
 
-/// What becomes of the word of this number.
+/// The outcome of the word of this number.
 fn expected(number: u8) -> Outcome {
     match number % 10 {
         0 => Outcome::Clean,
@@ -30,7 +30,7 @@ fn expected(number: u8) -> Outcome {
     }
 }
 
-/// The words of the numbers below this one.
+/// The words with numbers below this one.
 fn all_received(alloc: Global, count: u8) -> Result<Vec<WordSlot>, AllocError> {
     let mut slots = Vec::with_capacity(alloc, 24)?;
     for number in 0..count {
@@ -39,7 +39,7 @@ fn all_received(alloc: Global, count: u8) -> Result<Vec<WordSlot>, AllocError> {
     Ok(slots)
 }
 
-/// Is each word what it becomes when it is decoded by itself?
+/// Whether each word is as when decoded by itself.
 fn are_decoded(slots: &[WordSlot]) -> bool {
     let mut number = 0u8;
     for slot in slots {
@@ -53,7 +53,7 @@ fn are_decoded(slots: &[WordSlot]) -> bool {
     true
 }
 
-/// Does the phase give what one thread gives?
+/// Whether the phase gives the result of one thread.
 fn is_plain<R: Threads + Sync>(
     rt: &R,
     alloc: Global,

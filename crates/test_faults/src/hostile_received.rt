@@ -1,5 +1,5 @@
-// Cells that no modulator sends, with drawn weights, through the command `receive`. The expected lengths and sums are those of an
-// independent program.
+// Cells that no modulator sends, with random weights, through the command `receive`. The expected lengths and sums are
+// those of an independent program.
 use test_runs::{Conditions, ample, checksum, run_files, text_bytes};
 use std::alloc::{AllocError, Global};
 use std::process::Abort;
@@ -13,8 +13,8 @@ const CELLS: usize = 24 * 1705;
 /// The header of a cell file of the 2K mode.
 const HEADER: [u8; 8] = *b"DVTC\x02\x00\x00\x00";
 
-/// The constellations with their hierarchies, and of the eight receptions of each, of four kinds of cells, from the register zero
-/// and from any, what they leave: their reports and the packets of HP and of LP, one run after another.
+/// The constellations with their hierarchies, and the results of the eight receptions of each, of four kinds of cells,
+/// from the register zero and from any: their reports and the packets of HP and of LP, one run after another.
 const CASES: [(&str, bool, (usize, u32)); 9] = [
     (
         "constellation = \"qpsk\"\nrate_hp = \"7/8\"\n",
@@ -63,7 +63,7 @@ const CASES: [(&str, bool, (usize, u32)); 9] = [
     ),
 ];
 
-// A file of such cells, each of these parts on both axes or of drawn ones, with drawn weights from 0 to 31; and three bytes.
+// A file of such cells, with this part on both axes or random ones, with random weights from 0 to 31; and three bytes.
 fn file_of(alloc: Global, part: Option<i16>) -> Result<Vec<u8>, AllocError> {
     let mut bytes = Vec::from_slice(alloc, HEADER.as_slice())?;
     let mut state = 23;
@@ -81,7 +81,7 @@ fn file_of(alloc: Global, part: Option<i16>) -> Result<Vec<u8>, AllocError> {
     Ok(bytes)
 }
 
-// Receives such cells, of which a read gives a part of a symbol, and adds what is left to these bytes.
+// Receives such cells, with reads of part of a symbol, and appends the result to these bytes.
 fn receive<R: Abort + Threads + Sync>(
     rt: &R,
     alloc: Global,
@@ -108,7 +108,7 @@ fn receive<R: Abort + Threads + Sync>(
     to.extend_from_slice(&ran.lp)
 }
 
-// What the receptions by these lines leave.
+// The results of the receptions with these lines.
 fn left_by<R: Abort + Threads + Sync>(
     rt: &R,
     alloc: Global,

@@ -1,6 +1,6 @@
-//! Each call of the station in memory that a command makes fails once, at its first turn, at its last and at
-//! the one-and-thirtieth: the status, the report and what stands of each output. And each refusal in the work
-//! whose flush fails. Hostile cells through `receive` itself, and the gate that workers enter.
+//! Each call of the station in memory that a command makes fails once: the first, the last and the thirty-first of its
+//! kind. The status, the report and the content of each output are checked. Also each refusal in the work followed by a
+//! failed flush, hostile cells through `receive` itself, and the gate that workers enter.
 //!
 //! The crate has tests alone.
 #![tactic(auto)]

@@ -1,6 +1,6 @@
-// The command `receive` of one stream and of two, over the first frame of a transmission of forty packets of HP and
-// seventy of LP, and three bytes of its next symbol. The first read gives the header, each other one a symbol.
-// How many packets stand behind so many symbols is an independent program's answer.
+// The command `receive` with one stream and with two, on the first frame of a transmission of forty packets of HP and
+// seventy of LP, and three bytes of its next symbol. The first read returns the header, each other one a symbol. The
+// numbers of packets after the symbols are those of an independent program.
 use crate::cases::{Stands, Work, each_fails, whole};
 use crate::cells::symbols;
 use test_runs::{BASE, File, LAYERED, Ran, ample, checksum, run_files, text_bytes};
@@ -17,10 +17,11 @@ const ONE_LINES: &str =
 const TWO_LINES: &str =
     "symbols 68 tail 3\ntps read 1 bad 0\nhp words 52 clean 52 corrected 0 bad 0 unphased 0 unmerged 0\nlp words 83 clean 83 corrected 0 bad 0 unphased 0 unmerged 0\n";
 
-/// The symbols that are received.
+/// The number of symbols received.
 const SYMBOLS: usize = 68;
 
-// The cells that are received, of those that the words of `modulate` give for forty packets of HP, and so many of LP.
+// The cells to receive, from those that `modulate` with these arguments gives for forty packets of HP and this number
+// of LP.
 fn cells_of<R: Abort + Threads + Sync>(
     rt: &R,
     alloc: Global,
@@ -42,7 +43,7 @@ fn cells_of<R: Abort + Threads + Sync>(
     Vec::from_slice(alloc, &ran.cells[..count])
 }
 
-// Are these the packets that were sent, and the null packets behind them?
+// Whether these are the packets sent, then null packets.
 fn is_sent(
     rt: &impl Abort,
     alloc: Global,
@@ -57,37 +58,38 @@ fn is_sent(
     Ok(())
 }
 
-// A fault before an output is made, or as HP's is.
+// A fault before an output is created, or while HP's is.
 const UNREAD: Stands = (5, 0, (0, 0));
 
 const UNMADE: Stands = (6, 0, (0, 0));
 
-// A read of a symbol fails, where so many packets of HP and of LP are out.
+// A read of a symbol fails, with this number of packets of HP and of LP written.
 fn read(hp: usize, lp: usize) -> Stands {
     (5, 0, (packets(hp), packets(lp)))
 }
 
-// A write of packets fails: so many bytes of HP and of LP are out.
+// A write of packets fails: this number of bytes of HP and of LP is written.
 fn write(hp: usize, lp: usize) -> Stands {
     (6, 0, (hp, lp))
 }
 
-// A fault behind the last packet: so much of the closing lines stands.
+// A fault after the last packet: this much of the closing lines is written.
 fn behind(lines: usize) -> Stands {
     (6, lines, (usize::MAX, usize::MAX))
 }
 
-// The bytes of so many packets.
+// The bytes of this number of packets.
 fn packets(count: usize) -> usize {
     count.saturating_mul(188)
 }
 
-// The bytes of so many packets and of half a packet.
+// The bytes of this number of packets and of half a packet.
 fn and_half(count: usize) -> usize {
     packets(count).saturating_add(94)
 }
 
-// The calls before the work, which one stream and two have alike, and those behind it at HP and at the first lines.
+// The calls before the work, which are the same for one stream and for two, and those after it at HP and at the first
+// lines.
 fn shared(all: usize) -> [(Failing, Stands); 9] {
     [
         (Attach(InPort::Settings, 1), UNREAD),
@@ -102,7 +104,7 @@ fn shared(all: usize) -> [(Failing, Stands); 9] {
     ]
 }
 
-// The 46th symbol completes the 31st packet of HP, and the end gives the last one.
+// The 46th symbol completes the 31st packet of HP, and the last one follows at the end.
 #[test]
 fn one_stream(rt: HostRuntime) -> Result<(), Fail> {
     let alloc = rt.alloc();

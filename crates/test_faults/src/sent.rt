@@ -1,4 +1,4 @@
-// The command `modulate` of one stream and of two: forty packets of HP, and seventy of LP. A super-frame has 272
+// The command `modulate` with one stream and with two: forty packets of HP, and seventy of LP. A super-frame has 272
 // symbols, and the first write is that of the header.
 use crate::cases::{Stands, Work, each_fails, whole};
 use crate::cells::{and_half, symbols};
@@ -16,7 +16,7 @@ const ONE_LINES: &str = "hp packets 40 tail 0\nsuperframes 1\n";
 
 const TWO_LINES: &str = "hp packets 40 tail 0\nlp packets 70 tail 0\nsuperframes 1\n";
 
-// The words over forty packets that count on, and so many in the second file.
+// The work for forty counting packets, and this number in the second file.
 fn work_of<'a>(
     alloc: Global,
     text: &'a str,
@@ -34,28 +34,28 @@ fn work_of<'a>(
     })
 }
 
-// A fault before the output is made.
+// A fault before the output is created.
 const UNREAD: Stands = (5, 0, (0, 0));
 
-// A read of a packet fails where so many symbols are out.
+// A read of a packet fails with this number of symbols written.
 fn read(count: usize) -> Stands {
     (5, 0, (symbols(count), 0))
 }
 
-// The write of the header fails, of which the first half is out.
+// The write of the header fails, with its first half written.
 const HEADER: Stands = (6, 0, (4, 0));
 
-// The write of a symbol fails, of which the first half is out.
+// The write of a symbol fails, with its first half written.
 fn write(count: usize) -> Stands {
     (6, 0, (and_half(count), 0))
 }
 
-// A fault behind the last symbol: so much of the closing lines stands.
+// A fault after the last symbol: this much of the closing lines is written.
 fn behind(lines: usize) -> Stands {
     (6, lines, (symbols(272), 0))
 }
 
-// The calls at the settings and at the cells, which one stream and two have alike.
+// The calls at the settings and at the cells, which are the same for one stream and for two.
 fn shared() -> [(Failing, Stands); 9] {
     [
         (Attach(InPort::Settings, 1), UNREAD),
@@ -70,8 +70,8 @@ fn shared() -> [(Failing, Stands); 9] {
     ]
 }
 
-// A symbol takes 1512 of the 1632 bits of a packet: thirty packets suffice for 32 symbols, and forty for 43.
-// Where the limit is 32 symbols no packet is read for another one.
+// A symbol takes 1512 of the 1632 bits of a packet: thirty packets suffice for 32 symbols, and forty for 43. With a
+// limit of 32 symbols no packet is read for another one.
 #[test]
 fn one_stream(rt: HostRuntime) -> Result<(), Fail> {
     let alloc = rt.alloc();
@@ -96,7 +96,7 @@ fn one_stream(rt: HostRuntime) -> Result<(), Fail> {
     Ok(())
 }
 
-// Of LP a symbol takes 2268 bits: thirty packets suffice for 21 symbols, and seventy for 50.
+// A symbol takes 2268 bits of LP: thirty packets suffice for 21 symbols, and seventy for 50.
 #[test]
 fn two_streams(rt: HostRuntime) -> Result<(), Fail> {
     let alloc = rt.alloc();

@@ -1,5 +1,5 @@
-// The commands `disperse`, `outer` and `inner` over 33 packets. What a read gives is a packet, and what a write
-// takes are the whole bytes that a packet gives.
+// The commands `disperse`, `outer` and `inner` on 33 packets. A read returns one packet, and a write takes the whole
+// bytes for one packet.
 use crate::cases::{Stands, Work, each_fails, whole};
 use test_runs::File;
 use station_core::Failing::{Attach, Close, Create, Read, Write};
@@ -7,13 +7,13 @@ use station_core::{Failing, InPort, OutPort};
 use std::alloc::{AllocError, Global};
 use std::test::Fail;
 
-/// `BASE` at 5/6, at which no packet ends with a whole byte.
+/// `BASE` at 5/6, where no packet ends with a whole byte.
 const FIVE_OF_SIX: &str =
     "mode = \"2k\"\nconstellation = \"qpsk\"\nrate_hp = \"5/6\"\nguard = \"1/32\"\n";
 
 const LINES: &str = "hp packets 33 tail 0\n";
 
-// The words over 33 packets that count on.
+// The work for 33 counting packets.
 fn work_of<'a>(alloc: Global, text: &'a str) -> Result<Work<'a>, AllocError> {
     Ok(Work {
         text,
@@ -23,22 +23,22 @@ fn work_of<'a>(alloc: Global, text: &'a str) -> Result<Work<'a>, AllocError> {
     })
 }
 
-// A read fails where these bytes are out.
+// A read fails with these bytes written.
 fn read(count: usize) -> Stands {
     (5, 0, (count, 0))
 }
 
-// A write of the output fails, of which with its half these bytes are out.
+// A write of the output fails, with these bytes written, including its first half.
 fn write(count: usize) -> Stands {
     (6, 0, (count, 0))
 }
 
-// A fault behind the work: so much of the closing line stands.
+// A fault after the work: this much of the closing line is written.
 fn behind(lines: usize) -> Stands {
     (6, lines, (usize::MAX, 0))
 }
 
-// The calls that each of the three makes but once, and the last read, behind which these bytes are out.
+// The calls that each of the three makes only once, and the last read, with these bytes written after it.
 fn shared(all: usize) -> [(Failing, Stands); 6] {
     [
         (Attach(InPort::Hp, 1), read(0)),
@@ -82,8 +82,8 @@ fn outer(rt: HostRuntime) -> Result<(), Fail> {
     Ok(())
 }
 
-// At 5/6 five steps send six bits: 1632 steps 1959 bits, 30 packets 58,752, 31 packets 60,711, 32 packets
-// 62,669 and 33 packets 64,628. The last write is that of the part byte.
+// At 5/6 five steps send six bits: 1632 steps 1959 bits, 30 packets 58,752, 31 packets 60,711, 32 packets 62,669 and 33
+// packets 64,628. The last write is that of the partial byte.
 #[test]
 fn inner(rt: HostRuntime) -> Result<(), Fail> {
     let alloc = rt.alloc();

@@ -1,10 +1,10 @@
-//! Every command on files: packets are modulated and received in both modes, in each constellation, with a hierarchy and with a
-//! plan; what was sent is tuned in to, and aligned; cells with noise and weights are received, rescued, equalised, tracked and
-//! measured; packets are dispersed and coded, and old cells upgraded; a trial runs. One of the files has a packet that is refused.
+//! Every command on files. Packets are modulated and received in both modes, in each constellation, with a hierarchy
+//! and with a plan; transmissions are tuned in to and aligned. Cells with noise and weights are received, rescued,
+//! equalised, tracked and measured; packets are dispersed and coded, and old cells upgraded; a trial runs. One of the
+//! files has a packet that is rejected.
 //!
-//! Each run has a station of its own. It prints its report and its status, and then what stands in
-//! each file that it wrote, as the system reads it. What it has to print, in the file `stdout`, was
-//! made by the independent reference.
+//! Each run has a station of its own. It prints its report and its status, and then the content of each file that it
+//! wrote, as the system reads it. The expected output, in the file `stdout`, was made by the independent reference.
 #![tactic(auto)]
 
 use dvbt_top::run;
@@ -17,7 +17,7 @@ use std::{fs, io};
 /// A command, and the files that it writes.
 type Run = (&'static str, &'static [&'static str]);
 
-/// One stream on QPSK: packets and back again, once whole and once with a refused packet in its midst.
+/// One stream on QPSK: packets and back again, once whole and once with a rejected packet in the middle.
 static PLAIN: [Run; 4] = [
     (
         "modulate settings.toml packets.ts packets.cells",
@@ -49,8 +49,8 @@ static WIDE: [Run; 2] = [
     ),
 ];
 
-/// One stream on QPSK, and on 16-QAM from its second super-frame on, up to a limit of symbols. What is announced suffices to
-/// receive it from there on.
+/// One stream on QPSK, and on 16-QAM from its second super-frame on, up to a limit of symbols. The announced parameters
+/// suffice to receive it from there on.
 static PLANNED: [Run; 4] = [
     (
         "modulate planned.toml lp.ts planned.cells",
@@ -105,7 +105,7 @@ static OTHERS: [Run; 5] = [
     ("trial settings.toml 7", &[]),
 ];
 
-// Runs the command of these words, and prints its status.
+// Runs the command with these arguments, and prints its status.
 fn run_command<R: Threads + Files + Print + AllocGlobal + Sync>(
     rt: &R,
     command: &str,
@@ -125,7 +125,7 @@ fn show_file<R: Files + Print + AllocGlobal>(rt: &R, name: &str) -> io::Result<(
     println!(rt; "{name}: {} bytes, sum {}", bytes.len(), checksum(&bytes))
 }
 
-// Runs a command, and prints what stands in its files.
+// Runs a command, and prints the content of its files.
 fn show_run<R: Threads + Files + Print + AllocGlobal + Sync>(
     rt: &R,
     command: &str,
@@ -138,7 +138,7 @@ fn show_run<R: Threads + Files + Print + AllocGlobal + Sync>(
     Ok(())
 }
 
-// The same for each of a table.
+// The same for each run of a table.
 fn show_runs<R: Threads + Files + Print + AllocGlobal + Sync>(
     rt: &R,
     runs: &[Run],
@@ -149,7 +149,7 @@ fn show_runs<R: Threads + Files + Print + AllocGlobal + Sync>(
     Ok(())
 }
 
-// Gives the cells of a file weights from 0 to 18, of which those above 15 count as 15.
+// Gives the cells of a file weights from 0 to 18; those above 15 count as 15.
 fn weigh(file: &mut [u8]) {
     let mut weight = 0u8;
     for (place, byte) in file.iter_mut().enumerate() {
@@ -160,7 +160,7 @@ fn weigh(file: &mut [u8]) {
     }
 }
 
-// Makes a file of cells from another one, with noise and weights.
+// Creates a file of cells from another one, with noise and weights.
 fn disturb<R: Files + AllocGlobal>(rt: &R, from: &str, to: &str) -> io::Result<()> {
     let cells = fs::read(rt, from)?;
     let mut bytes = noisy(rt.alloc(), &cells, 5_600)?;

@@ -6,10 +6,10 @@ use std::alloc::{AllocError, Global};
 use std::process::Abort;
 use std::test::Fail;
 
-/// The unchanged bytes between two bursts that the law asks for.
+/// The number of unchanged bytes between two bursts that the law requires.
 const APART: usize = 2448;
 
-// Packets that are drawn from this number, and their interleaved bytes.
+// Random packets from this number, and their interleaved bytes.
 fn sent(alloc: Global, number: u32, count: usize) -> Result<(Vec<u8>, Vec<u8>), AllocError> {
     let mut load = Load::start(number);
     let mut tx = OuterTx::new(alloc)?;
@@ -23,7 +23,7 @@ fn sent(alloc: Global, number: u32, count: usize) -> Result<(Vec<u8>, Vec<u8>), 
     Ok((packets, bytes))
 }
 
-// Lays the mask on so many bytes from a place on.
+// Applies the mask to `len` bytes from an index on.
 fn lay(bytes: &mut [u8], first: usize, len: usize, mask: u8) {
     let end = first.saturating_add(len);
     for (place, byte) in bytes.iter_mut().enumerate() {
@@ -33,7 +33,7 @@ fn lay(bytes: &mut [u8], first: usize, len: usize, mask: u8) {
     }
 }
 
-// What comes back of interleaved bytes: the packets, and the numbers of the words without a codeword near.
+// The result for interleaved bytes: the packets, and the numbers of the words without a codeword close to them.
 fn back(alloc: Global, bytes: &[u8]) -> Result<(Vec<u8>, Vec<u64>), AllocError> {
     let mut rx = OuterRx::new(alloc)?;
     let mut packets = Vec::new(alloc);
@@ -61,8 +61,8 @@ fn front<'b>(rt: &impl Abort, packets: &'b [u8], count: usize) -> &'b [u8] {
     &packets[..188 * count]
 }
 
-// Puts in a packet's place what a word gives that came with its places 0, 12 and so on to 96 inverted: the sync byte is set anew, and
-// the packet is marked.
+// Replaces a packet by the result for a word received with its bytes 0, 12 and so on to 96 inverted: the sync byte is
+// restored, and the packet has the error indicator.
 fn lose(packets: &mut [u8], number: u64) {
     let first = (number as usize).wrapping_mul(188);
     for (place, byte) in packets.iter_mut().enumerate() {
@@ -76,7 +76,7 @@ fn lose(packets: &mut [u8], number: u64) {
     }
 }
 
-// Does this come back, with these words lost, where so many bytes from a place on are inverted?
+// Whether this is received, with these words lost, if this number of bytes from an index on is inverted.
 fn comes_back(
     rt: &impl Abort,
     alloc: Global,
@@ -94,9 +94,9 @@ fn comes_back(
     Ok(bad.as_slice() == lost && found == expected)
 }
 
-// Thirty packets, of whose interleaved bytes a run is inverted. Place p belongs to word p / 204 less p mod 12, so 97 bytes
-// that lie in two words of places hit no word in more than eight places, and 97 in one hit one in nine: only the
-// second word is lost. Nineteen packets come back.
+// Thirty packets, with a run of inverted interleaved bytes. Byte p belongs to word p / 204 less p mod 12, so 97 bytes
+// across two words of positions hit no word in more than eight bytes, and 97 within one hit a word in nine: only that
+// word, the second, is lost. Nineteen packets are received.
 #[test]
 fn runs_of_96_and_97(rt: HostRuntime) -> Result<(), Fail> {
     let alloc = rt.alloc();
@@ -114,14 +114,14 @@ fn runs_of_96_and_97(rt: HostRuntime) -> Result<(), Fail> {
     Ok(())
 }
 
-// The place behind a burst and the unchanged bytes that follow it.
+// The position after a burst and the unchanged bytes that follow it.
 fn behind(place: usize, burst: Burst) -> usize {
     place
         .saturating_add(usize::from(burst.len))
         .saturating_add(APART)
 }
 
-// Lays eight bursts that are drawn from this number, from a drawn place on.
+// Applies eight random bursts from this number, from a random position on.
 fn lay_drawn(bytes: &mut [u8], number: u32) {
     let mut load = Load::start(number);
     let mut place = load.piece(APART as u32) as usize;
@@ -132,7 +132,7 @@ fn lay_drawn(bytes: &mut [u8], number: u32) {
     }
 }
 
-// Do the bursts of this number change bytes, and no packet?
+// Whether the bursts of this number change bytes, but no packet.
 fn nothing_is_lost(rt: &impl Abort, alloc: Global, number: u32) -> Result<bool, AllocError> {
     let (packets, bytes) = sent(alloc, number, 80)?;
     let mut received = bytes.clone()?;
@@ -141,7 +141,7 @@ fn nothing_is_lost(rt: &impl Abort, alloc: Global, number: u32) -> Result<bool, 
     Ok(received != bytes && bad.is_empty() && found.as_slice() == front(rt, &packets, 69))
 }
 
-// Drawn bursts, as near to one another as the law lets them be and from a drawn place on, change no packet.
+// Random bursts, as close to each other as the law allows and from a random position on, change no packet.
 #[test]
 fn drawn_bursts(rt: HostRuntime) -> Result<(), Fail> {
     let alloc = rt.alloc();

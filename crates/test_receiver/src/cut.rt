@@ -1,17 +1,17 @@
-// How bytes are cut.
+// How bytes are divided into pieces.
 use load_gen::Load;
 
-/// How bytes are cut into pieces.
+/// How bytes are divided into pieces.
 #[derive(Clone, Copy)]
 pub enum Cut {
-    /// Pieces of so many bytes.
+    /// Pieces of this number of bytes.
     Size(usize),
-    /// Pieces of at most so many bytes, drawn from a number.
+    /// Pieces of at most this number of bytes, of random length.
     Drawn(u32),
 }
 
 impl Cut {
-    /// The next piece of what is left, which is at most that.
+    /// The next piece of the rest, which it does not exceed.
     pub fn piece<'b>(self, rest: &'b [u8], load: &mut Load) -> &'b [u8] {
         let size = match self {
             Cut::Size(size) => size,

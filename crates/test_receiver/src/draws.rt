@@ -1,4 +1,4 @@
-// Expected draws come from the independent reference, a plain Rust program with a generator of its own.
+// The expected values come from the independent reference, a plain Rust program with its own generator.
 use load_gen::{Burst, Load};
 use rand_core::utils::NextWord;
 use rand_pcg::Lcg64Xsh32;
@@ -19,8 +19,8 @@ fn generator_is_the_published_one(rt: HostRuntime) {
     }
 }
 
-/// Draws of a number in this order: two counts; shifts by at most 5792, 5792, 1 and 0; pieces of 100000,
-/// 100000, 3 and 0; two bursts.
+/// The values of a number in this order: two counts; shifts by at most 5792, 5792, 1 and 0; pieces of 100000, 100000, 3
+/// and 0; two bursts.
 #[derive(Debug, Drop, PartialEq, Eq)]
 struct Draws {
     counts: [u32; 2],
@@ -104,7 +104,7 @@ fn first_packets_are_those_of_the_reference(rt: HostRuntime) {
     );
 }
 
-// A packet is 47 words: the next one and a count after it.
+// A packet takes 47 words: the next one and a count after it.
 #[test]
 fn packets_follow_one_another(rt: HostRuntime) {
     let mut load = Load::start(7);

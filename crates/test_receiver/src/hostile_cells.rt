@@ -12,23 +12,23 @@ use std::thread::Threads;
 /// The cells of five symbols of the 2K mode.
 const CELLS: usize = 5 * 1705;
 
-/// The bytes behind the last whole symbol.
+/// The bytes after the last whole symbol.
 const TAIL: usize = 3;
 
 /// Cells that no modulator sends.
 #[derive(Clone, Copy)]
 enum Cells {
-    /// Of this number on both axes.
+    /// This number on both axes.
     All(i16),
-    /// Of numbers that are drawn.
+    /// Random numbers.
     Drawn,
 }
 
-/// What receptions gave in all: the reports, the sum of their steps, the clean words and the bad ones.
+/// The total output of receptions: the reports, the sum of their steps, the clean words and the bad ones.
 type Found = (u64, u64, u64, u64);
 
-/// The constellations with their hierarchies, and what the eight receptions of each give: four kinds of cells, from the
-/// register zero and from any.
+/// The constellations with their hierarchies, and the result of the eight receptions of each: four kinds of cells, from
+/// the register zero and from any.
 const CASES: [(&str, Found); 9] = [
     (
         "constellation = \"qpsk\"\nrate_hp = \"7/8\"\n",
@@ -68,7 +68,7 @@ const CASES: [(&str, Found); 9] = [
     ),
 ];
 
-// The settings of a case from this register.
+// The settings of a case with this start register.
 fn settings_of(
     rt: &impl Abort,
     alloc: Global,
@@ -84,7 +84,7 @@ fn settings_of(
     }
 }
 
-// The bytes of a cell with the weight 15.
+// The bytes of a cell with weight 15.
 fn push_cell(to: &mut Vec<u8>, re: i16, im: i16) -> Result<(), AllocError> {
     to.extend_from_slice(re.to_be_bytes().as_slice())?;
     to.extend_from_slice(im.to_be_bytes().as_slice())?;
@@ -109,7 +109,7 @@ fn bytes_of(alloc: Global, cells: Cells) -> Result<Vec<u8>, AllocError> {
     Ok(bytes)
 }
 
-// Adds what a reception gave.
+// Adds the result of a reception.
 fn add(found: &mut Found, received: &Received) {
     for given in &received.given {
         for event in &given.events {
@@ -128,7 +128,8 @@ fn add_words(found: &mut Found, counts: StreamCounts) {
     found.3 = found.3.wrapping_add(counts.bad);
 }
 
-// Was this given after five symbols and at the end, all bytes taken, and nothing between two symbols?
+// Whether there was output after each of five symbols and at the end, all bytes were taken, and there was no output
+// between two symbols.
 fn is_whole(received: &Received, bytes: usize) -> bool {
     let counts = received.counts;
     received.quiet
@@ -136,7 +137,7 @@ fn is_whole(received: &Received, bytes: usize) -> bool {
         && (received.given.len(), counts.symbols, counts.tail) == (6, 5, TAIL as u32)
 }
 
-// The reception of the bytes, cut so.
+// The reception of the bytes in these pieces.
 fn received<R: Abort + Threads + Sync>(
     rt: &R,
     alloc: Global,
@@ -148,7 +149,7 @@ fn received<R: Abort + Threads + Sync>(
     Received::of::<Mode2k, R>(rt, alloc, settings, bytes, cut)
 }
 
-// Receives the bytes whole, by single bytes and in drawn pieces, which give the same after each symbol.
+// Receives the bytes whole, byte by byte and in random pieces, which give the same after each symbol.
 fn compare_cuts<R: Abort + Threads + Sync>(
     rt: &R,
     alloc: Global,
@@ -166,7 +167,7 @@ fn compare_cuts<R: Abort + Threads + Sync>(
     Ok(())
 }
 
-// Receives each kind of cells by the settings.
+// Receives each kind of cells with the settings.
 fn compare_cells<R: Abort + Threads + Sync>(
     rt: &R,
     alloc: Global,
@@ -185,7 +186,7 @@ fn compare_cells<R: Abort + Threads + Sync>(
     Ok(())
 }
 
-// What the receptions by these lines give in all, from the register zero and from any.
+// The total of the receptions with these lines, from the register zero and from any.
 fn found_by<R: Abort + Threads + Sync>(
     rt: &R,
     alloc: Global,

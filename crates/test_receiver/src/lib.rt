@@ -1,5 +1,5 @@
-//! The receiver over the symbols of the modulator: pieces of any size, paths that do not merge, the text of reports, hostile
-//! cells; and trials.
+//! The receiver with the symbols of the modulator: pieces of any size, paths that do not merge, the text of reports,
+//! hostile cells, and trials.
 //!
 //! The crate has tests alone. [`Received`] feeds a receiver, a [`Cut`] cuts bytes into pieces.
 #![tactic(auto)]

@@ -1,4 +1,4 @@
-// Receptions, and what they gave.
+// Receptions and their results.
 ghost use Rattle.std.specs.Prelude.{◌≡◌, ◌<◌, ◌^◌, false};
 
 use crate::cut::Cut;
@@ -10,7 +10,7 @@ use std::alloc::{AllocError, Global};
 use std::thread::Threads;
 use word_workers::Gate;
 
-/// What a call gave: packets of HP and of LP, and reports.
+/// The output of a call: packets of HP and of LP, and reports.
 #[derive(Drop, PartialEq)]
 pub struct Given {
     /// The packets of HP.
@@ -21,20 +21,20 @@ pub struct Given {
     pub events: Vec<Event>,
 }
 
-/// What a reception gave in all.
+/// The result of a reception.
 #[derive(Drop, PartialEq)]
 pub struct Received {
-    /// What was given after each symbol, and at the end.
+    /// The output after each symbol, and at the end.
     pub given: Vec<Given>,
-    /// Whether nothing was given between two symbols.
+    /// Whether there was no output between two symbols.
     pub quiet: bool,
-    /// How many bytes were taken.
+    /// The number of bytes taken.
     pub taken: usize,
     /// The counts at the end.
     pub counts: Counts,
 }
 
-/// A receiver of a mode, and what its last call gave.
+/// A receiver of a mode, and the output of its last call.
 #[derive(Drop)]
 pub struct Reception<M: Carriers> {
     receiver: Receiver<M>,
@@ -51,7 +51,7 @@ impl<M: Carriers> Reception<M> {
         Ok(Reception { receiver, out })
     }
 
-    /// Feeds a piece, and answers how many bytes of it were taken: none where the receiver may not be fed.
+    /// Feeds a piece, and returns the number of bytes taken: 0 if the receiver must not be fed.
     pub fn feed<R: Threads + Sync>(&mut self, rt: &R, piece: &[u8]) -> usize {
         if self.receiver.ended() || self.receiver.symbols() >= 4294967296 {
             return 0;
@@ -79,14 +79,14 @@ impl<M: Carriers> Reception<M> {
         }
     }
 
-    /// The symbols so far, and how many bytes of packets and how many reports the last call gave.
+    /// The number of symbols so far, and how many bytes of packets and how many reports the last call gave.
     pub fn stands(&self) -> (u64, usize, usize) {
         let hp = self.out.hp().len();
         let bytes = hp.saturating_add(self.out.lp().len());
         (self.receiver.symbols(), bytes, self.out.events().len())
     }
 
-    /// What the last call gave.
+    /// The output of the last call.
     pub fn given(&self, alloc: Global) -> Result<Given, AllocError> {
         Ok(Given {
             hp: Vec::from_slice(alloc, self.out.hp())?,
@@ -100,7 +100,7 @@ impl<M: Carriers> Reception<M> {
         self.receiver.counts()
     }
 
-    /// How many steps the decoder of HP has loaded, and whether it has ended.
+    /// The number of steps loaded into the decoder of HP, and whether it has ended.
     pub fn decoder(&self) -> (u32, bool) {
         symbol_parameters::laws::settings();
         let branch = self.receiver.branch(Stream::Hp);
@@ -108,7 +108,7 @@ impl<M: Carriers> Reception<M> {
     }
 }
 
-// Feeds a piece, and tells nothing of what is received.
+// Feeds a piece; its contract says nothing of the reception.
 fn take_piece<M: Carriers, R: Threads + Sync>(
     rt: &R,
     receiver: &mut Receiver<M>,
@@ -135,14 +135,14 @@ fn take_gated<M: Carriers, R: Threads + Sync, G: Gate>(
     receiver.feed_gated(rt, gate, piece, out)
 }
 
-// Ends the reception, and tells nothing of it.
+// Ends the reception; its contract says nothing of it.
 fn take_end<M: Carriers, R: Threads + Sync>(rt: &R, receiver: &mut Receiver<M>, out: &mut RxOut)
     requires { receiver.old.ended ≡ false }
 {
     receiver.finish(rt, out);
 }
 
-// Notes what the last call gave, if a symbol came to its end, and else whether nothing was given.
+// Records the output of the last call if a symbol was completed, otherwise whether there was none.
 fn note<M: Carriers>(
     alloc: Global,
     before: u64,
@@ -160,7 +160,7 @@ fn note<M: Carriers>(
 }
 
 impl Received {
-    /// The reception of these bytes by these settings, whose mode is `M`.
+    /// The reception of these bytes with these settings, whose mode is `M`.
     pub fn of<M: Carriers, R: Threads + Sync>(
         rt: &R,
         alloc: Global,
@@ -194,7 +194,7 @@ impl Received {
     }
 }
 
-// Feeds the bytes piece by piece, notes what was given, and answers how many bytes were taken.
+// Feeds the bytes piece by piece, records the output, and returns the number of bytes taken.
 fn feed_all<M: Carriers, R: Threads + Sync>(
     rt: &R,
     alloc: Global,

@@ -1,4 +1,4 @@
-// Transmissions beside those of an independent program, which was given the same packets.
+// Transmissions against those of an independent program with the same packets.
 ghost use Rattle.std.specs.Prelude.{◌≡◌, ◌*◌, ◌≤◌, length, vec_capacity};
 
 use mode_set::{Carriers, Mode, Mode2k, Mode8k, Settings};
@@ -8,7 +8,7 @@ use std::process::Abort;
 use std::rt::HostRuntime;
 use ts_packet::Packet;
 
-// Packets that a formula gives, and then null packets.
+// Packets from a formula, and then null packets.
 #[derive(Drop)]
 struct Source {
     count: u16,
@@ -16,7 +16,7 @@ struct Source {
     salt: u8,
 }
 
-// Byte j of packet i is 37 i + 11 j + (j² mod 7) (i + 1) + salt modulo 256, behind the sync byte.
+// Byte j of packet i is 37 i + 11 j + (j² mod 7) (i + 1) + salt modulo 256, after the sync byte.
 fn packet_bytes(i: u16, salt: u8) -> [u8; 188] {
     let mut bytes = [0x47u8; 188];
     for (j, byte) in bytes.iter_mut().enumerate() {
@@ -46,7 +46,7 @@ fn put_next<M: Carriers>(rt: &impl Abort, tx: &mut Modulator<M>, sources: &mut (
     }
 }
 
-// The next symbol in the place of what stands in `to`.
+// The next symbol, replacing the content of `to`.
 fn next_symbol<M: Carriers>(
     rt: &impl Abort,
     tx: &mut Modulator<M>,
@@ -87,7 +87,7 @@ fn next_symbol_over<M: Carriers>(
     tx.symbol_into(to);
 }
 
-// The bytes as the digits of a number to the base 31, modulo 2^32.
+// The bytes as the digits of a number in base 31, modulo 2^32.
 fn with_bytes(sum: u32, bytes: &[u8]) -> u32 {
     bytes.iter().fold(
         sum,
@@ -109,7 +109,7 @@ fn sources_of(hp: u16, lp: u16) -> (Source, Source) {
     (hp, lp)
 }
 
-// All bytes of so many super-frames.
+// All bytes of this number of super-frames.
 pub(crate) fn super_frames_of<M: Carriers>(
     rt: &impl Abort,
     alloc: Global,
@@ -242,7 +242,7 @@ fn first_cells(rt: HostRuntime) {
     assert!(&rt; &bytes[170..175] == [0xC0, 0, 0, 0, 15u8].as_slice());
 }
 
-// Eleven words more than packets: 241 packets fill a super-frame of 252 words, 242 want a second one.
+// Eleven words more than packets: 241 packets fill a super-frame of 252 words, 242 need a second one.
 #[test]
 fn super_frames_for_packets(rt: HostRuntime) {
     let alloc = rt.alloc();

@@ -10,9 +10,8 @@ use std::test::Fail;
 use std::thread::Threads;
 use ts_packet::Packet;
 
-// What is asked of a reception: how often something was given, the bytes of HP, those given at the end, whether all
-// packets are null packets with no packet of LP and no report beside them, and whether nothing was given between
-// two symbols.
+// The checks of a reception: how often there was output, the bytes of HP, those given at the end, whether all packets
+// are null packets with no packet of LP and no report, and whether there was no output between two symbols.
 type Summary = (usize, usize, usize, bool, bool);
 
 // The reception of bytes that begin with the start of a transmission.
@@ -25,7 +24,7 @@ fn received<R: Threads + Sync>(
     Received::of::<Mode2k, R>(rt, alloc, &settings(Start::Zero), bytes, Cut::Size(size))
 }
 
-// Are these whole null packets, and nothing beside them?
+// Whether these are whole null packets, and nothing else.
 fn are_nulls(given: &Given) -> bool {
     let null = Packet::null();
     for packet in given.hp.chunks(188) {
@@ -55,8 +54,8 @@ fn sixteen_symbols(rt: &impl Abort, alloc: Global) -> Result<Vec<u8>, AllocError
     Ok(bytes)
 }
 
-// After each symbol and at the end the same is given, however the bytes are cut: 16 symbols of 1512 bits have 14
-// whole words, of which eleven are the start-up, and the last whole word comes back at the end.
+// After each symbol and at the end the output is the same, however the bytes are divided: 16 symbols of 1512 bits have
+// 14 whole words, of which eleven are the start-up, and the last whole word is output at the end.
 #[test]
 fn pieces_of_any_size(rt: HostRuntime) -> Result<(), Fail> {
     let alloc = rt.alloc();
@@ -71,8 +70,8 @@ fn pieces_of_any_size(rt: HostRuntime) -> Result<(), Fail> {
     Ok(())
 }
 
-// The super-frame of null packets, byte by byte and by whole symbols: after each of its 272 symbols the same is
-// given, 240 packets in all, and at the end the last one.
+// The super-frame of null packets, byte by byte and by whole symbols: the output after each of its 272 symbols is the
+// same, 240 packets in all, and at the end the last one.
 #[test]
 fn null_super_frame_byte_by_byte(rt: HostRuntime) -> Result<(), Fail> {
     let alloc = rt.alloc();
@@ -87,7 +86,7 @@ fn null_super_frame_byte_by_byte(rt: HostRuntime) -> Result<(), Fail> {
     Ok(())
 }
 
-// The counts of the super-frame of null packets: 241 words, of which none needed a correction.
+// The counts of the super-frame of null packets: 241 words, none of which needed a correction.
 fn clean_counts() -> Counts {
     Counts {
         symbols: 272,
@@ -115,8 +114,8 @@ fn lopsided_symbol(alloc: Global) -> Result<Vec<u8>, AllocError> {
     Ok(bytes)
 }
 
-// What stands after one symbol from any register, after two of the kind and at the end; of the decoder of HP after two
-// and at the end; and what the second symbol gave.
+// The state after one symbol from any register, after two of this kind and at the end; of the decoder of HP after two
+// and at the end; and the output for the second symbol.
 #[derive(Drop)]
 struct Unmerged {
     stands: [(u64, usize, usize); 3],
@@ -146,7 +145,7 @@ fn receive_twice<R: Threads + Sync>(
     })
 }
 
-// Is this all that was reported?
+// Whether this is the only report.
 fn is_only_report(reports: &[Event], stream: Stream, at: u64) -> bool {
     match reports.first() {
         Some(report) => reports.len() == 1 && report.stream == stream && report.at == at,
@@ -170,7 +169,7 @@ fn unmerged_at_2049(rt: HostRuntime) -> Result<(), Fail> {
     Ok(())
 }
 
-// The counts of two symbols without a word, in which the paths did not merge once.
+// The counts of two symbols without a word, with one unmerged report.
 fn unmerged_counts() -> Counts {
     Counts {
         symbols: 2,

@@ -1,4 +1,4 @@
-// Transmissions whose parameters change, beside those of an independent program.
+// Transmissions with changing parameters, against those of an independent program.
 use crate::super_frames::super_frames_of;
 use mode_set::{Entry, Hierarchy, Mode2k, Plan, Rate, Settings, Shape};
 use modulator::Modulator;
@@ -45,7 +45,7 @@ const ONE_STREAM: &[u8] =
 const TWO_STREAMS: &[u8] =
     b"mode = \"2k\"\nconstellation = \"16qam\"\nhierarchy = \"4\"\nrate_hp = \"1/2\"\nrate_lp = \"3/4\"\nguard = \"1/32\"\n";
 
-// A second stream that comes; one that goes and comes again, while the rate of HP changes each time.
+// A second stream that appears; one that disappears and reappears, while the rate of HP changes each time.
 #[test]
 fn parameters_that_change(rt: HostRuntime) {
     let alloc = rt.alloc();
@@ -88,7 +88,7 @@ fn parameters_that_change(rt: HostRuntime) {
     }
 }
 
-// LP has 378 words in the first super-frame and none later: 367 packets fit, and no more.
+// LP has 378 words in the first super-frame and none later: exactly 367 packets fit.
 #[test]
 fn a_stream_that_goes(rt: HostRuntime) {
     let alloc = rt.alloc();

@@ -1,4 +1,4 @@
-// Trials beside those of the independent reference, a plain Rust program.
+// Trials against those of the independent reference, a plain Rust program.
 ghost use Rattle.std.specs.Prelude.{◌≡◌};
 
 use mode_set::{Carriers, Mode, Mode2k, Mode8k, Settings};
@@ -10,7 +10,7 @@ use trial::{StreamReturn, TrialCounts};
 use trial::Trial;
 use word_workers::OpenGate;
 
-// What is counted, where the trial has super-frames.
+// The counts, if the trial has super-frames.
 fn counts_of<M: Carriers, R: Threads + Sync>(
     rt: &R,
     alloc: Global,

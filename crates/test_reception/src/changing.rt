@@ -1,5 +1,5 @@
-// `tune` among super-frames whose parameters change. The expected reports, lengths and sums are those of an independent
-// program.
+// `tune` across super-frames with changing parameters. The expected reports, lengths and sums are those of an
+// independent program.
 use test_runs::{
     BASE, EMPTY, File, Found, Held, LAYERED, SUPER_FRAME, SYMBOL, ample, run_files, stands,
     text_bytes,
@@ -18,7 +18,7 @@ const LP_GOES: &str = "plan = [{ after = 1, constellation = \"qpsk\", rate_hp = 
 
 const DENSER: &str = "plan = [{ after = 2, constellation = \"16qam\", rate_hp = \"2/3\" }]\n";
 
-/// Both streams of the super-frame that begins with the parameters that were announced.
+/// Both streams of the super-frame with the announced parameters.
 const BOTH: &str =
     "tune at 41 frame 4\nsymbols 24 tail 0\ntps read 0 bad 0\nhp words 11 clean 11 corrected 0 bad 0 unphased 4 unmerged 0\nlp words 22 clean 22 corrected 0 bad 0 unphased 0 unmerged 0\n";
 
@@ -26,13 +26,13 @@ const BOTH: &str =
 const ALONE: &str =
     "tune at 41 frame 4\nsymbols 24 tail 0\ntps read 0 bad 0\nhp words 11 clean 11 corrected 0 bad 0 unphased 4 unmerged 0\n";
 
-/// A super-frame with the parameters that were announced, and the first symbols of one that has others.
+/// A super-frame with the announced parameters, and the first symbols of one with others.
 const CHANGED_BEHIND: &str =
     "tune at 41 frame 4\nsymbols 296 tail 0\ntps read 4 bad 0\nhp words 263 clean 241 corrected 0 bad 22 unphased 4 unmerged 0\n";
 
 const HP: Held = Some((1_316, 50_597_823));
 
-// The header of the transmission's cells, and behind it its symbols from number 163 on, as far as this one.
+// The header of the transmission's cells, then its symbols from number 163 on, up to this one.
 fn heard<R: Threads + Sync>(
     rt: &R,
     alloc: Global,
@@ -65,7 +65,7 @@ fn heard<R: Threads + Sync>(
     Ok(bytes)
 }
 
-// Tunes in to this file by settings without a plan.
+// Tunes in to this file with settings without a plan.
 fn is_found<R: Threads + Sync>(
     rt: &R,
     alloc: Global,
@@ -79,8 +79,9 @@ fn is_found<R: Threads + Sync>(
     Ok(stands(&ran, found))
 }
 
-// The parameters change at the super-frame that is waited for: those that are announced for it are taken, LP that comes or goes
-// among them. They change once more behind it: what follows is received by the parameters that were announced, and is bad.
+// The parameters change at the super-frame that `tune` waits for: the ones announced for it are used, even if LP
+// appears or disappears. They change again after it: what follows is received with the announced parameters, and is
+// bad.
 #[test]
 fn parameters_change_while_tuning(rt: HostRuntime) -> Result<(), Fail> {
     let alloc = rt.alloc();

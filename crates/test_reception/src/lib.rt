@@ -1,5 +1,5 @@
-//! The commands `tune`, `measure` and `rescue` over a station in memory, beside an independent program; and a `Measurer` that is
-//! fed pieces.
+//! The commands `tune`, `measure` and `rescue` on a station in memory, against an independent program; and a
+//! `Measurer` fed in pieces.
 //!
 //! The crate has tests alone.
 #![tactic(auto)]

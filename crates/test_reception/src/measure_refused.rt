@@ -1,4 +1,5 @@
-// Rejected words, settings and cells, and faults. The expected reports are those of an independent program.
+// Invalid command lines, rejected settings and cells, and faults. The expected reports are those of an independent
+// program.
 use crate::measure_running::{MEASURE, first, measured, sent, stands};
 use test_runs::{BASE, Conditions, LAYERED, ample, run_files, text_bytes};
 use station_core::{Failing, InPort, OutPort};
@@ -7,7 +8,7 @@ use std::test::Fail;
 /// QPSK at 1/2 in the 8K mode.
 const WIDE: &str = "mode = \"8k\"\nconstellation = \"qpsk\"\nrate_hp = \"1/2\"\nguard = \"1/32\"\n";
 
-/// Words, settings, the length of the file, the status and its text.
+/// Arguments, settings, the length of the file, the status and its text.
 static REFUSED: [(&str, &str, usize, u8, &str); 10] = [
     ("measure s", BASE, 8, 2, "usage\n"),
     ("measure s a hp", LAYERED, 8, 2, "usage\n"),
@@ -63,7 +64,7 @@ static FAULTS: [(Failing, u8, &str); 8] = [
     ),
 ];
 
-// The lines of the super-frame come with symbol 274, and each by one write.
+// The lines of the super-frame are written with symbol 274, one write for each.
 #[test]
 fn faults(rt: HostRuntime) -> Result<(), Fail> {
     let alloc = rt.alloc();

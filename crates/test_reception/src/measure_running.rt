@@ -1,4 +1,4 @@
-// Runs of `measure`, and what they leave.
+// Runs of `measure`, and their results.
 use test_runs::{Conditions, File, Ran, SUPER_FRAME, SYMBOL, UNMADE, ample, run_files, text_bytes};
 use std::alloc::{AllocError, Global};
 use std::process::Abort;
@@ -20,7 +20,7 @@ pub(crate) fn measured<R: Abort + Threads + Sync>(
     run_files(rt, alloc, MEASURE, settings, inputs, 1, conditions)
 }
 
-/// Compares what stands. No output is made.
+/// Compares the result. No output is created.
 pub(crate) fn stands(rt: &impl Abort, ran: &Ran, status: u8, report: &str) {
     assert!(rt;
         ran.status == status && ran.report.as_slice() == report.as_bytes(),
@@ -42,8 +42,8 @@ pub(crate) fn prints<R: Abort + Threads + Sync>(
     Ok(())
 }
 
-/// The cells of a transmission of so many packets whose payloads count on, of one stream or of two. The only error is want of
-/// memory.
+/// The cells of a transmission of this number of packets with counting payloads, of one stream or of two. The only
+/// error is lack of memory.
 pub(crate) fn sent<R: Threads + Sync>(
     rt: &R,
     alloc: Global,
@@ -64,7 +64,7 @@ pub(crate) fn sent<R: Threads + Sync>(
     Ok(run_files(rt, alloc, words, settings, (hp, lp), 1000, room)?.cells)
 }
 
-/// The header of a file and so many of its symbols, and this many bytes after them.
+/// The header of a file and a number of its symbols, and this many bytes after them.
 pub(crate) fn first(
     alloc: Global,
     cells: &[u8],

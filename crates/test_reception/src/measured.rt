@@ -1,4 +1,4 @@
-// What is measured of one super-frame. The expected reports are those of an independent program.
+// The measurement of one super-frame. The expected reports are those of an independent program.
 use crate::measure_running::{first, negate, prints, sent};
 use mode_set::Mode;
 use pilots::CarrierKind::Payload;
@@ -58,7 +58,7 @@ fn moved_cells(rt: HostRuntime) -> Result<(), Fail> {
 const SECOND: &str =
     "superframe 0 symbols 271 cells 409752 muted 0 power 109987455236400 error 0 tps read 4 bad 0\nhp bits 819504 wrong 0 words 241 clean 241 corrected 0 bad 0 unphased 4 unmerged 0 repaired 0\nsymbols 272 tail 0\ntps read 4 bad 0\nhp words 241 clean 241 corrected 0 bad 0 unphased 4 unmerged 0\n";
 
-// Of two super-frames the second alone: its first symbol is not compared.
+// Only the second of two super-frames: its first symbol is not compared.
 #[test]
 fn second_super_frame(rt: HostRuntime) -> Result<(), Fail> {
     let alloc = rt.alloc();
@@ -90,7 +90,7 @@ fn muted_cells(rt: HostRuntime) -> Result<(), Fail> {
 const NEGATED: &str =
     "superframe 0 symbols 20 cells 30240 muted 0 power 8117155368000 error 1073697800 tps read 0 bad 0\nhp bits 60480 wrong 2 words 7 clean 7 corrected 0 bad 0 unphased 0 unmerged 0 repaired 0\nsymbols 20 tail 0\ntps read 0 bad 0\nhp words 7 clean 7 corrected 0 bad 0 unphased 0 unmerged 0\n";
 
-// One cell on the other side is compared with what was sent, and not with the nearest point.
+// One cell on the other side is compared with the cell sent, and not with the nearest point.
 #[test]
 fn negated_cell(rt: HostRuntime) -> Result<(), Fail> {
     let alloc = rt.alloc();

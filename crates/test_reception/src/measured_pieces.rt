@@ -1,4 +1,4 @@
-// A measurer that is fed pieces. The expected lines are those of an independent program.
+// A measurer fed in pieces. The expected lines are those of an independent program.
 use measure_report::Line;
 use measurer::{MeasureOut, Measurer};
 use mode_set::{Carriers, Mode, Mode2k, Mode8k, Rate, Settings, Shape};
@@ -10,7 +10,7 @@ use std::thread::Threads;
 use test_tools::flat;
 use word_workers::OpenGate;
 
-// Appends the lines, one after another.
+// Appends the lines in order.
 fn note(lines: &[Line], text: &mut Vec<u8>) -> Result<(), AllocError> {
     for line in lines {
         text.extend_from_slice(line.as_str().as_bytes())?;
@@ -48,7 +48,7 @@ fn feed_all<M: Carriers, R: Abort + Threads + Sync>(
     note(out.lines(), text)
 }
 
-// A new measurer that is fed so: the lines in all.
+// A new measurer fed in this way: all its lines.
 fn fed<M: Carriers, R: Abort + Threads + Sync>(
     rt: &R,
     alloc: Global,

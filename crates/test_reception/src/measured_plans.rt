@@ -1,9 +1,9 @@
-// Transmissions whose parameters change. The expected reports are those of an independent program.
+// Transmissions with changing parameters. The expected reports are those of an independent program.
 use crate::measure_running::{first, measured, prints, sent, stands};
 use test_runs::{BASE, LAYERED, ample};
 use std::test::Fail;
 
-/// LP comes with the second super-frame.
+/// LP appears with the second super-frame.
 const LP_COMES: &str =
     "plan = [{ after = 1, constellation = \"16qam\", hierarchy = \"4\", rate_hp = \"1/2\", rate_lp = \"3/4\" }]\n";
 
@@ -16,7 +16,7 @@ const COMES: &str =
 const COMES_ANY: &str =
     "superframe 0 symbols 271 cells 409752 muted 0 power 109987455236400 error 0 tps read 4 bad 0\nhp bits 819504 wrong 0 words 241 clean 241 corrected 0 bad 0 unphased 0 unmerged 0 repaired 0\nlp bits 0 wrong 0 words 0 clean 0 corrected 0 bad 0 unphased 0 unmerged 0 repaired 0\nsuperframe 1 symbols 271 cells 409752 muted 0 power 110984225243136 error 0 tps read 4 bad 0\nhp bits 819504 wrong 0 words 252 clean 252 corrected 0 bad 0 unphased 0 unmerged 0 repaired 0\nlp bits 819504 wrong 0 words 367 clean 367 corrected 0 bad 0 unphased 0 unmerged 0 repaired 0\nsymbols 544 tail 0\ntps read 8 bad 0\nhp words 493 clean 493 corrected 0 bad 0 unphased 0 unmerged 0\nlp words 367 clean 367 corrected 0 bad 0 unphased 0 unmerged 0\n";
 
-// LP has no sums before it comes. From any start its first symbol is not compared either.
+// LP has no sums before it appears. From start any its first symbol is not compared either.
 #[test]
 fn lp_comes(rt: HostRuntime) -> Result<(), Fail> {
     let alloc = rt.alloc();
@@ -40,7 +40,7 @@ const PAUSES_274: &str =
 const PAUSES_275: &str =
     "superframe 0 symbols 271 cells 409752 muted 0 power 110582416408576 error 0 tps read 4 bad 0\nhp bits 819504 wrong 0 words 241 clean 241 corrected 0 bad 0 unphased 0 unmerged 0 repaired 0\nlp bits 819504 wrong 0 words 366 clean 366 corrected 0 bad 0 unphased 0 unmerged 0 repaired 0\nsuperframe 1 symbols 3 cells 4536 muted 0 power 1217573305200 error 0 tps read 0 bad 0\nhp bits 9072 wrong 0 words 2 clean 2 corrected 0 bad 0 unphased 0 unmerged 0 repaired 0\nlp bits 0 wrong 0 words 1 clean 1 corrected 0 bad 0 unphased 0 unmerged 0 repaired 0\nsymbols 275 tail 0\ntps read 4 bad 0\nhp words 243 clean 243 corrected 0 bad 0 unphased 0 unmerged 0\nlp words 367 clean 367 corrected 0 bad 0 unphased 0 unmerged 0\n";
 
-// The last word of LP before the pause is counted with the super-frame before LP goes on.
+// The last word of LP before the pause is counted with the super-frame before LP resumes.
 #[test]
 fn lp_pauses(rt: HostRuntime) -> Result<(), Fail> {
     let alloc = rt.alloc();

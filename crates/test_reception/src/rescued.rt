@@ -14,15 +14,16 @@ use std::thread::Threads;
 /// QPSK at 7/8.
 const QPSK: &str = "mode = \"2k\"\nconstellation = \"qpsk\"\nrate_hp = \"7/8\"\nguard = \"1/32\"\n";
 
-/// 64-QAM at 7/8, and what 14 symbols of it give from any register where noise moves each part by at most 2,875: 3 words of 5 come
-/// back.
+/// 64-QAM at 7/8, and the result for 14 symbols of it from any register, with noise that moves each part by at most
+/// 2,875: 3 words of 5 are rescued.
 const SIXTY_FOUR: &str =
     "mode = \"2k\"\nconstellation = \"64qam\"\nrate_hp = \"7/8\"\nguard = \"1/32\"\n";
 
 const THREE_OF_FIVE: &str =
     "symbols 14 tail 0\nhp words 57 clean 0 corrected 52 rescued 3 bad 2 unphased 0 unmerged 0\n";
 
-/// 16-QAM at 2/3, and what 20 symbols of it give where noise moves each part by at most 7,380: 4 words of 18 come back.
+/// 16-QAM at 2/3, and the result for 20 symbols of it, with noise that moves each part by at most 7,380: 4 words of 18
+/// are rescued.
 const SIXTEEN: &str =
     "mode = \"2k\"\nconstellation = \"16qam\"\nrate_hp = \"2/3\"\nguard = \"1/32\"\n";
 
@@ -31,25 +32,25 @@ const FOUR_OF_18: &str =
 
 const ALL: Held = Some((7_144, 3_112_967_656));
 
-/// What those give but for the last symbol.
+/// The output without the last symbol.
 const ALL_BUT_ONE: Held = Some((6_580, 2_132_560_500));
 
-/// Half of what is written first.
+/// Half of the first write.
 const HALF: Held = Some((282, 1_288_369_202));
 
-/// The lines of them all, behind which a close failed.
+/// The lines of them all, before a failed close.
 const CLOSED: &str =
     "symbols 20 tail 0\nhp words 38 clean 0 corrected 20 rescued 4 bad 14 unphased 0 unmerged 0\nwrite fault\n";
 
-/// QPSK: all of three words without a nearest codeword come back.
+/// QPSK: all three words without a nearest codeword are rescued.
 const ALL_THREE: &str =
     "symbols 20 tail 0\nhp words 21 clean 2 corrected 16 rescued 3 bad 0 unphased 0 unmerged 0\n";
 
-/// Two streams: of nine such words of LP two come back.
+/// Two streams: two of nine such words of LP are rescued.
 const TWO_OF_NINE: &str =
     "symbols 30 tail 0\nhp words 16 clean 16 corrected 0 rescued 0 bad 0 unphased 0 unmerged 0\nlp words 30 clean 0 corrected 21 rescued 2 bad 7 unphased 0 unmerged 0\n";
 
-/// The lines of them all, behind which a close failed.
+/// The lines of them all, before a failed close.
 const CLOSED_OF_TWO: &str =
     "symbols 30 tail 0\nhp words 16 clean 16 corrected 0 rescued 0 bad 0 unphased 0 unmerged 0\nlp words 30 clean 0 corrected 21 rescued 2 bad 7 unphased 0 unmerged 0\nwrite fault\n";
 
@@ -60,8 +61,8 @@ const WHOLE_NULLS: &str =
 const NO_WORDS: &str =
     "symbols 0 tail 0\nhp words 0 clean 0 corrected 0 rescued 0 bad 0 unphased 0 unmerged 0\n";
 
-// A file with noise: the settings of its transmission, how many of its symbols there are, and by how much each part is moved at
-// most.
+// A file with noise: the settings of its transmission, the number of its symbols, and the most by which each part is
+// moved.
 type Noisy<'a> = (&'a str, usize, u32);
 
 // The header and the first symbols of a cell file.
@@ -80,7 +81,7 @@ fn disturbed<R: Threads + Sync>(
     noisy(alloc, front(&cells, file.1), file.2)
 }
 
-// Whether the words over this file leave this.
+// Whether these arguments with this file have this result.
 fn leaves<R: Threads + Sync>(
     rt: &R,
     alloc: Global,
@@ -100,7 +101,7 @@ fn leaves<R: Threads + Sync>(
 
 const ANY: &str = "start = \"any\"\n";
 
-/// A file with noise, the line of the settings' start, and what is left of it.
+/// A file with noise, the line of the settings' start, and the expected result.
 static CASES: [(Noisy<'static>, &str, Found<'static>); 4] = [
     (
         (QPSK, 20, 12_460),
@@ -125,7 +126,8 @@ static CASES: [(Noisy<'static>, &str, Found<'static>); 4] = [
     ),
 ];
 
-// QPSK and 64-QAM from any register, 16-QAM from the register zero, and two streams; whole reads, and reads of few bytes.
+// QPSK and 64-QAM from any register, 16-QAM from the register zero, and two streams; whole reads, and reads of few
+// bytes.
 #[test]
 fn words_come_back(rt: HostRuntime) -> Result<(), Fail> {
     let alloc = rt.alloc();
@@ -178,7 +180,7 @@ fn limits_of_symbols(rt: HostRuntime) -> Result<(), Fail> {
     Ok(())
 }
 
-/// A call that fails, and what stands.
+/// A call that fails, and the expected result.
 type Fault<'a> = (Failing, Found<'a>);
 
 /// Those of one stream.
@@ -214,7 +216,7 @@ static FAULTS: [Fault<'static>; 8] = [
     (Failing::Close(OutPort::Hp, 1), (6, CLOSED, ALL, None)),
 ];
 
-/// Those of two streams at LP, whose first two packets come with the tenth symbol.
+/// Those of two streams at LP, whose first two packets are output with the tenth symbol.
 static FAULTS_OF_LP: [Fault<'static>; 3] = [
     (
         Failing::Create(OutPort::Lp, 1),
@@ -235,7 +237,7 @@ static FAULTS_OF_LP: [Fault<'static>; 3] = [
     ),
 ];
 
-// The number, from 0, of the first call of which this file leaves something else where it fails.
+// The index of the first call whose failure gives another result for this file.
 fn first_wrong<R: Threads + Sync>(
     rt: &R,
     alloc: Global,
@@ -255,7 +257,7 @@ fn first_wrong<R: Threads + Sync>(
     Ok(None)
 }
 
-// One call of the station fails. A write that fails writes the first half of its bytes.
+// One call of the station fails. A failed write writes the first half of its bytes.
 #[test]
 fn faults_of_the_station(rt: HostRuntime) -> Result<(), Fail> {
     let alloc = rt.alloc();
@@ -289,7 +291,7 @@ fn faults_of_the_station(rt: HostRuntime) -> Result<(), Fail> {
     Ok(())
 }
 
-// The super-frame of null packets, its header and parts of it, forms that do not fit, and refused settings.
+// The super-frame of null packets, its header and parts of it, arguments that do not fit, and rejected settings.
 #[test]
 fn null_super_frame(rt: HostRuntime) -> Result<(), Fail> {
     let alloc = rt.alloc();
@@ -319,8 +321,8 @@ fn null_super_frame(rt: HostRuntime) -> Result<(), Fail> {
     Ok(())
 }
 
-/// 16-QAM at 2/3 in the 8K mode, and what seven symbols of it give where noise moves each part by at most 7,200: 2 words of 4 come
-/// back.
+/// 16-QAM at 2/3 in the 8K mode, and the result for seven symbols of it, with noise that moves each part by at most
+/// 7,200: 2 words of 4 are rescued.
 const WIDE_SIXTEEN: &str =
     "mode = \"8k\"\nconstellation = \"16qam\"\nrate_hp = \"2/3\"\nguard = \"1/32\"\n";
 

@@ -11,25 +11,25 @@ use std::process::Abort;
 use std::test::Fail;
 use std::thread::Threads;
 
-/// The symbols that are taken of the super-frame that follows.
+/// The number of symbols taken from the super-frame that follows.
 const FOLLOWING: usize = 24;
 
-/// The closing lines of the symbols of `BASE` that follow.
+/// The closing lines for the symbols of `BASE` that follow.
 const RECEIVED: &str =
     "tune at 4 frame 4\nsymbols 24 tail 0\ntps read 0 bad 0\nhp words 11 clean 11 corrected 0 bad 0 unphased 0 unmerged 0\n";
 
-// A transmission that is announced: its shape and rates, the first symbol of it that is heard, and what is found.
+// An announced transmission: its shape and rates, the first symbol received, and the expected result.
 type Announced<'a> = (&'a str, usize, Found<'a>);
 
 const PACKETS: Held = Some((2_068, 3_923_578_435));
 
-/// What those give but for the last symbol.
+/// The output without the last symbol.
 const ALL_BUT_ONE: Held = Some((1_880, 3_596_870_170));
 
 /// Half of the first packet.
 const HALF: Held = Some((94, 2_357_816_009));
 
-/// The closing lines, behind which a close failed.
+/// The closing lines, before a failed close.
 const CLOSED: &str =
     "tune at 4 frame 4\nsymbols 24 tail 0\ntps read 0 bad 0\nhp words 11 clean 11 corrected 0 bad 0 unphased 0 unmerged 0\nwrite fault\n";
 
@@ -37,7 +37,7 @@ const CLOSED: &str =
 const CLOSED_OF_TWO: &str =
     "tune at 4 frame 4\nsymbols 24 tail 0\ntps read 0 bad 0\nhp words 11 clean 11 corrected 0 bad 0 unphased 0 unmerged 0\nlp words 22 clean 22 corrected 0 bad 0 unphased 0 unmerged 0\nwrite fault\n";
 
-/// The lines where the cells end with the frame at the place.
+/// The lines if the cells end with the frame at the place.
 const AT_ZERO: &str =
     "tune at 0 frame 1\nsymbols 0 tail 0\ntps read 0 bad 0\nhp words 0 clean 0 corrected 0 bad 0 unphased 0 unmerged 0\n";
 
@@ -49,7 +49,7 @@ const SECOND: &str =
 const EIGHT: &str =
     "mode = \"8k\"\nconstellation = \"qpsk\"\nrate_hp = \"1/2\"\nguard = \"1/32\"\n";
 
-// The header, and behind it the symbols of that file from this one on and the first ones of a super-frame that follows.
+// The header, then the symbols of that file from this one on and the first ones of a super-frame that follows.
 fn heard(
     alloc: Global,
     cells: &[u8],
@@ -59,7 +59,7 @@ fn heard(
     heard_in(alloc, cells, SYMBOL, first, following)
 }
 
-// The same of symbols of so many bytes.
+// The same for symbols of this number of bytes.
 fn heard_in(
     alloc: Global,
     cells: &[u8],
@@ -77,7 +77,7 @@ fn heard_in(
     Ok(bytes)
 }
 
-// Tunes in to this file by settings of their own.
+// Tunes in to this file with settings of its own.
 fn tuned<R: Threads + Sync>(
     rt: &R,
     alloc: Global,
@@ -101,7 +101,7 @@ fn tuned<R: Threads + Sync>(
     )
 }
 
-// A transmission of these choices is found, and by settings of another one, from this symbol on.
+// A transmission with these choices is found from this symbol on, with its own settings and with others.
 fn is_found<R: Threads + Sync>(
     rt: &R,
     alloc: Global,
@@ -238,7 +238,7 @@ fn each_hierarchy(rt: HostRuntime) -> Result<(), Fail> {
     Ok(())
 }
 
-/// 16-QAM at 2/3, and the front of its report where 24 symbols follow the place.
+/// 16-QAM at 2/3, and the start of its report with 24 symbols after the place.
 const SIXTEEN: &str =
     "mode = \"2k\"\nconstellation = \"16qam\"\nrate_hp = \"2/3\"\nguard = \"1/32\"\n";
 
@@ -270,7 +270,7 @@ fn noise_on_all_cells(rt: HostRuntime) -> Result<(), Fail> {
 // Symbols from the first number to before the second.
 type Span = (usize, usize);
 
-// Symbols 200 to 271 of the null super-frame of `BASE`, and its symbols 0 to 23 behind them.
+// Symbols 200 to 271 of the null super-frame of `BASE`, and its symbols 0 to 23 after them.
 fn late_nulls<R: Threads + Sync>(rt: &R, alloc: Global) -> Result<Vec<u8>, AllocError> {
     let cells = null_cells(rt, alloc, BASE, false)?;
     heard(alloc, &cells, 200, FOLLOWING)
@@ -289,7 +289,7 @@ fn turned(alloc: Global, file: &[u8], spans: (Span, Span)) -> Result<Vec<u8>, Al
     Ok(bytes)
 }
 
-// Votes that are wrong: each turned span has one at its begin and one behind its end. Up to two do not matter.
+// Wrong votes: each turned span has one at its start and one after its end. Up to two do not matter.
 #[test]
 fn wrong_votes(rt: HostRuntime) -> Result<(), Fail> {
     let alloc = rt.alloc();
@@ -311,7 +311,7 @@ fn wrong_votes(rt: HostRuntime) -> Result<(), Fail> {
     Ok(())
 }
 
-/// A line of the settings, and what stands.
+/// A line of the settings, and the expected result.
 static LIMITS: [(&str, Found<'static>); 6] = [
     ("max_symbols = 60\n", (8, "limit 60\n", EMPTY, None)),
     ("max_symbols = 71\n", (8, "limit 71\n", EMPTY, None)),
@@ -330,7 +330,7 @@ static LIMITS: [(&str, Found<'static>); 6] = [
     ("max_symbols = 96\n", (0, RECEIVED, PACKETS, None)),
 ];
 
-// The limit counts all symbols of the file: within the frame of the place, behind it, and in the reception.
+// The limit counts all symbols of the file: within the frame of the place, after it, and in the reception.
 #[test]
 fn limits_of_symbols(rt: HostRuntime) -> Result<(), Fail> {
     let alloc = rt.alloc();
@@ -343,7 +343,7 @@ fn limits_of_symbols(rt: HostRuntime) -> Result<(), Fail> {
     Ok(())
 }
 
-/// A call that fails, and what stands.
+/// A call that fails, and the expected result.
 type Fault<'a> = (Failing, Found<'a>);
 
 /// Those of one stream.
@@ -387,8 +387,8 @@ static FAULTS: [Fault<'static>; 10] = [
     (Failing::Close(OutPort::Hp, 1), (6, CLOSED, PACKETS, None)),
 ];
 
-/// Those of a transmission of two streams at LP, whose first packet comes with the ninth symbol. With the 13th come the first
-/// of HP and two of LP, its sixth and its seventh.
+/// Those of a transmission of two streams at LP, whose first packet is output with the ninth symbol. The 13th gives the
+/// first of HP and two of LP, its sixth and its seventh.
 static FAULTS_OF_LP: [Fault<'static>; 4] = [
     (
         Failing::Create(OutPort::Lp, 1),
@@ -413,7 +413,7 @@ static FAULTS_OF_LP: [Fault<'static>; 4] = [
     ),
 ];
 
-// The number, from 0, of the first call of which this file leaves something else where it fails.
+// The index of the first call whose failure gives another result for this file.
 fn first_wrong<R: Threads + Sync>(
     rt: &R,
     alloc: Global,
@@ -435,7 +435,7 @@ fn first_wrong<R: Threads + Sync>(
     Ok(None)
 }
 
-// One call of the station fails, before the place and behind it. A write that fails writes the first half of its bytes.
+// One call of the station fails, before the place and after it. A failed write writes the first half of its bytes.
 #[test]
 fn faults_of_the_station(rt: HostRuntime) -> Result<(), Fail> {
     let alloc = rt.alloc();
@@ -450,7 +450,7 @@ fn faults_of_the_station(rt: HostRuntime) -> Result<(), Fail> {
     Ok(())
 }
 
-/// Words of no form, files that are not there, and refused settings, before the cells are looked for: nothing is written.
+/// Invalid command lines, missing files, and rejected settings, before the cells are opened: nothing is written.
 static REFUSED: [(&str, &str, Found<'static>); 7] = [
     ("tune s a", "", (2, "usage\n", None, None)),
     ("tune s a hp lp more", "", (2, "usage\n", None, None)),
@@ -481,7 +481,7 @@ fn refused_words_and_settings(rt: HostRuntime) -> Result<(), Fail> {
     Ok(())
 }
 
-// The first symbols of a super-frame, by these settings and with these forms: 67 hold no frame, and 68 hold one.
+// The first symbols of a super-frame, with these settings and these arguments: 67 hold no frame, and 68 hold one.
 #[test]
 fn first_symbols(rt: HostRuntime) -> Result<(), Fail> {
     let alloc = rt.alloc();
@@ -512,7 +512,7 @@ fn first_symbols(rt: HostRuntime) -> Result<(), Fail> {
 const WIDE_RECEIVED: &str =
     "tune at 4 frame 4\nsymbols 9 tail 0\ntps read 0 bad 0\nhp words 22 clean 22 corrected 0 bad 0 unphased 0 unmerged 0\n";
 
-// Symbols 200 to 271 of the null super-frame of the 8K mode, and its symbols 0 to 8 behind them.
+// Symbols 200 to 271 of the null super-frame of the 8K mode, and its symbols 0 to 8 after them.
 #[test]
 fn symbols_of_the_8k_mode(rt: HostRuntime) -> Result<(), Fail> {
     let alloc = rt.alloc();
@@ -524,7 +524,7 @@ fn symbols_of_the_8k_mode(rt: HostRuntime) -> Result<(), Fail> {
     Ok(())
 }
 
-// The cells of a hundred packets of HP and two hundred of LP, of which HP alone is to be written.
+// The cells of a hundred packets of HP and two hundred of LP, with only HP to be written.
 #[test]
 fn packets_of_two_streams_for_one_file(rt: HostRuntime) -> Result<(), Fail> {
     let alloc = rt.alloc();
@@ -554,7 +554,7 @@ fn cells_of_the_other_mode(rt: HostRuntime) -> Result<(), Fail> {
     Ok(())
 }
 
-// Two super-frames without their first ten symbols: the second one is received, whose first four words have no phase.
+// Two super-frames without their first ten symbols: the second one is received, with no phase for its first four words.
 #[test]
 fn second_super_frame(rt: HostRuntime) -> Result<(), Fail> {
     let alloc = rt.alloc();

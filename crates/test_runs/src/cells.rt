@@ -1,4 +1,4 @@
-// The cells that runs receive, and what a reception leaves.
+// The cells for receiving runs, and the results of a reception.
 use crate::files::{checksum, text_bytes};
 use crate::runs::{Ran, ample, run_files};
 use std::alloc::{AllocError, Global};
@@ -17,16 +17,16 @@ pub const SUPER_FRAME: u32 = 2_318_808;
 /// The bytes of a cell file of a super-frame of the 8K mode.
 pub const WIDE_SUPER_FRAME: u32 = 9_271_128;
 
-/// What an output holds: how many bytes, and their sum. None if it was not made.
+/// The content of an output: the number of bytes, and their sum. None if it was not created.
 pub type Held = Option<(usize, u32)>;
 
-/// What is to be found: the status, the report, and what HP and LP hold.
+/// The expected result: the status, the report, and the content of HP and LP.
 pub type Found<'a> = (u8, &'a str, Held, Held);
 
-/// An output that was made and holds no byte.
+/// An output that was created and is empty.
 pub const EMPTY: Held = Some((0, 0));
 
-// The cells of the super-frame of null packets by these settings, after their header, if these bytes are enough for it.
+// The cells of the super-frame of null packets with these settings, after their header, if these bytes suffice for it.
 fn null_cells_in<R: Threads + Sync>(
     rt: &R,
     alloc: Global,
@@ -44,8 +44,8 @@ fn null_cells_in<R: Threads + Sync>(
     Ok(run_files(rt, alloc, words, settings, inputs, 1, ample(room))?.cells)
 }
 
-/// The cells of the super-frame of null packets by these settings, after their header; in the 2K mode. The only error is want of
-/// memory.
+/// The cells of the super-frame of null packets with these settings, after their header, in the 2K mode. The only error
+/// is lack of memory.
 pub fn null_cells<R: Threads + Sync>(
     rt: &R,
     alloc: Global,
@@ -64,7 +64,7 @@ pub fn wide_null_cells<R: Threads + Sync>(
     null_cells_in(rt, alloc, settings, false, WIDE_SUPER_FRAME)
 }
 
-// What an output holds.
+// The content of an output.
 fn held(is_made: bool, bytes: &[u8]) -> Held {
     if is_made {
         Some((bytes.len(), checksum(bytes)))
@@ -73,22 +73,22 @@ fn held(is_made: bool, bytes: &[u8]) -> Held {
     }
 }
 
-/// Whether this stands, and no other output was made.
+/// Whether this is the result, and no other output was created.
 pub fn stands(ran: &Ran, found: Found<'_>) -> bool {
     let is_told = ran.status == found.0 && ran.report.as_slice() == found.1.as_bytes();
     let is_held = held(ran.made.hp, &ran.hp) == found.2 && held(ran.made.lp, &ran.lp) == found.3;
     is_told && is_held && !ran.made.cells && !ran.made.bytes
 }
 
-// A part of a cell moved by a drawn number of at most this size, and kept within 16 bits.
+// A part of a cell moved by a random number of at most this size, and limited to 16 bits.
 fn moved(part: [u8; 2], most: u32, state: &mut u32) -> [u8; 2] {
     let drawn = (next_number(state) >> 16) % (2 * most.min(32_767) + 1);
     let number = i32::from(i16::from_be_bytes(part)) + drawn as i32 - most.min(32_767) as i32;
     (number.clamp(-32_768, 32_767) as i16).to_be_bytes()
 }
 
-/// A cell file with noise on all cells, those of the pilots and of the signalling too: both parts of each are moved by at most
-/// this much, as drawn from 1. The only error is want of memory.
+/// A cell file with noise on all cells, including pilots and TPS: both parts of each are moved by at most this much,
+/// random from seed 1. The only error is lack of memory.
 pub fn noisy(alloc: Global, file: &[u8], most: u32) -> Result<Vec<u8>, AllocError> {
     let mut bytes = Vec::from_slice(alloc, &file[..8.min(file.len())])?;
     let mut state = 1;

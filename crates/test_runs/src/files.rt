@@ -1,4 +1,4 @@
-// The files that the runs begin with.
+// The input files of the runs.
 use std::alloc::{AllocError, Global};
 use ts_packet::Packet;
 
@@ -17,16 +17,16 @@ pub const WHOLE_NULLS: &str =
 /// A transport file.
 #[derive(Clone, Copy)]
 pub enum File {
-    /// So many null packets, and so many bytes of one more.
+    /// A number of null packets, and a number of bytes of one more.
     Nulls(usize, usize),
-    /// So many null packets, a packet that begins with 00, and so many null packets.
+    /// A number of null packets, a packet that begins with 00, and a number of null packets.
     Unsynced(usize, usize),
-    /// So many packets whose payloads count on, and so many null packets.
+    /// A number of packets with counting payloads, and a number of null packets.
     Counted(u32, usize),
 }
 
 impl File {
-    /// The file's bytes. The only error is want of memory.
+    /// The file's bytes. The only error is lack of memory.
     pub fn bytes(self, alloc: Global) -> Result<Vec<u8>, AllocError> {
         let mut bytes = Vec::new(alloc);
         match self {
@@ -59,7 +59,7 @@ fn add_nulls(count: usize, to: &mut Vec<u8>) -> Result<(), AllocError> {
     Ok(())
 }
 
-// A packet whose payload counts on, as those of `examples/sample.ts`.
+// A packet with a counting payload, like those of `examples/sample.ts`.
 fn add_counted(number: u32, to: &mut Vec<u8>) -> Result<(), AllocError> {
     let unit_start = if number == 0 { 0x41 } else { 0x01 };
     let counter = 0x10 | (number % 16) as u8;
@@ -70,7 +70,7 @@ fn add_counted(number: u32, to: &mut Vec<u8>) -> Result<(), AllocError> {
     Ok(())
 }
 
-/// The bytes of a text, and of one more behind it. The only error is want of memory.
+/// The bytes of a text, followed by another. The only error is lack of memory.
 pub fn text_bytes(alloc: Global, text: &str, more: &str) -> Result<Vec<u8>, AllocError> {
     let mut bytes = Vec::new(alloc);
     bytes.extend_from_slice(text.as_bytes())?;
@@ -78,7 +78,7 @@ pub fn text_bytes(alloc: Global, text: &str, more: &str) -> Result<Vec<u8>, Allo
     Ok(bytes)
 }
 
-/// The bytes as the digits of a number of base 31, modulo 2^32.
+/// The bytes as the digits of a number in base 31, modulo 2^32.
 pub fn checksum(bytes: &[u8]) -> u32 {
     let mut sum = 0u32;
     for byte in bytes {

@@ -1,5 +1,5 @@
-//! What tests of whole runs share: settings, transport files, cells with noise, a station in memory with files, what
-//! a run left there, and a gate at which workers wait for each other.
+//! Shared by tests of whole runs: settings, transport files, cells with noise, a station in memory with files, the
+//! results of a run, and a gate at which workers wait for each other.
 //!
 //! No command uses the crate.
 #![tactic(auto)]

@@ -1,11 +1,11 @@
-// A gate at which pieces of work wait for one another.
+// A gate at which pieces of work wait for each other.
 ghost use Rattle.std.specs.Prelude.{true};
 
 use std::sync::atomic::{AtomicBool, Ordering};
 use word_workers::{Gate, Job};
 
-/// Two flags of a job, which stay raised: piece 0 was there, and another piece was. The third one says
-/// that a piece gave up waiting.
+/// Two flags of a job, which stay set: piece 0 was there, and another piece was. The third one says that a piece gave
+/// up waiting.
 #[derive(Drop)]
 pub struct Flags {
     first: AtomicBool,
@@ -13,7 +13,7 @@ pub struct Flags {
     tired: AtomicBool,
 }
 
-// Raises the flag, and turns until the other one is raised.
+// Sets the flag, and spins until the other one is set.
 fn meet(own: &AtomicBool, awaited: &AtomicBool, tired: &AtomicBool) {
     own.store(true, Ordering::SeqCst);
     for _turn in 0..1_000_000_000u64 {
@@ -41,12 +41,12 @@ impl Flags {
         }
     }
 
-    /// Was any piece there?
+    /// Whether any piece was there.
     pub fn seen(&self) -> bool {
         self.first.load(Ordering::SeqCst) || self.other.load(Ordering::SeqCst)
     }
 
-    /// Were piece 0 and another one there, and did none give up waiting?
+    /// Whether piece 0 and another one were there, and none gave up waiting.
     pub fn have_met(&self) -> bool {
         self.first.load(Ordering::SeqCst)
             && self.other.load(Ordering::SeqCst)
@@ -64,7 +64,7 @@ pub struct Meeting {
 }
 
 impl Meeting {
-    /// A gate at which nobody was.
+    /// A gate where no piece has been.
     pub fn new() -> Meeting {
         Meeting {
             outer: Flags::new(),

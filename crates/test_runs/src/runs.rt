@@ -1,4 +1,4 @@
-// A station for a run of a command, and what the run leaves there.
+// A station for a run of a command, and the results of the run.
 ghost use Rattle.std.specs.Prelude.{◌≡◌, ◌≤◌, None, IfOk, false};
 ghost use Rattle.station_core.specs.Meaning.{IsFresh};
 ghost use Rattle.station_core.specs.Memory.{memory_meaning};
@@ -9,7 +9,7 @@ use std::alloc::{AllocError, Global};
 use std::thread::Threads;
 use word_workers::Gate;
 
-/// The outputs that a run made. One that was made may be empty.
+/// The outputs created by a run; they may be empty.
 #[derive(Clone, Copy, Debug, PartialEq, Eq)]
 pub struct Made {
     /// The output of `disperse`, `outer` and `inner`.
@@ -22,7 +22,7 @@ pub struct Made {
     pub lp: bool,
 }
 
-/// No output was made.
+/// No output was created.
 pub const UNMADE: Made = Made {
     bytes: false,
     cells: false,
@@ -30,12 +30,12 @@ pub const UNMADE: Made = Made {
     lp: false,
 };
 
-/// What a run left: its status, the outputs that it made, and the bytes that were written to each.
+/// The results of a run: its status, the outputs created, and the bytes written to each.
 #[derive(Drop)]
 pub struct Ran {
     /// The status.
     pub status: u8,
-    /// The outputs that were made.
+    /// The outputs created.
     pub made: Made,
     /// The lines and the text of the report.
     pub report: Vec<u8>,
@@ -50,7 +50,7 @@ pub struct Ran {
 }
 
 impl Ran {
-    /// What stands in the station behind a run of this status. The only error is want of memory.
+    /// The content of the station after a run with this status. The only error is lack of memory.
     pub fn new(alloc: Global, status: u8, station: &MemoryStation<'_>) -> Result<Ran, AllocError> {
         Ok(Ran {
             status,
@@ -69,20 +69,20 @@ impl Ran {
     }
 }
 
-/// How a station behaves.
+/// The behaviour of a station.
 #[derive(Clone, Copy)]
 pub struct Conditions {
-    /// The most bytes that a read gives.
+    /// The most bytes that a read returns.
     pub most: u32,
-    /// The bytes that each output has room for.
+    /// The capacity of each output in bytes.
     pub room: u32,
-    /// The call that fails, if one does.
+    /// The call that fails, if any.
     pub failing: Option<Failing>,
     /// Whether each flush fails.
     pub flush_fails: bool,
 }
 
-/// A station with room for these bytes at each output, of which no call fails.
+/// A station with this capacity for each output, where no call fails.
 pub fn ample(room: u32) -> Conditions
     ensures { result ≡ record { most = 4294967295; room = room; failing = None; flush_fails = false } }
 {
@@ -94,7 +94,7 @@ pub fn ample(room: u32) -> Conditions
     }
 }
 
-/// The words of this text. The only error is want of memory.
+/// The words of this text. The only error is lack of memory.
 pub fn words_of(alloc: Global, text: &str) -> Result<Vec<String>, AllocError> {
     let mut words = Vec::new(alloc);
     for word in text.split_whitespace() {
@@ -103,7 +103,7 @@ pub fn words_of(alloc: Global, text: &str) -> Result<Vec<String>, AllocError> {
     Ok(words)
 }
 
-// The settings under the name `s` and two files under the names `a` and `b`.
+// The settings with the name `s` and two files with the names `a` and `b`.
 fn named(
     alloc: Global,
     settings: Vec<u8>,
@@ -116,8 +116,8 @@ fn named(
     Ok(files)
 }
 
-/// A station for one run, with the settings under the name `s` and two files under the names `a` and `b`.
-/// At least one byte a read is asked for. The only error is want of memory.
+/// A station for one run, with the settings named `s` and two files named `a` and `b`. Reads return at least one byte.
+/// The only error is lack of memory.
 fn station_of<'a>(
     alloc: Global,
     settings: Vec<u8>,
@@ -138,7 +138,7 @@ fn station_of<'a>(
     MemoryStation::new(alloc, files, conditions.most, conditions.room, failing)
 }
 
-// Runs the words with this limit of packets, and tells the status alone.
+// Runs these arguments with this limit of packets, and returns only the status.
 fn run_words<'a, R: Threads + Sync>(
     rt: &R,
     alloc: Global,
@@ -153,7 +153,7 @@ fn run_words<'a, R: Threads + Sync>(
     run_within(rt, alloc, words, Limits { packets }, station)
 }
 
-// The same through this gate, at a limit of a thousand packets.
+// The same through this gate, with a limit of a thousand packets.
 fn run_words_gated<'a, R: Threads + Sync, G: Gate>(
     rt: &R,
     alloc: Global,
@@ -166,8 +166,8 @@ fn run_words_gated<'a, R: Threads + Sync, G: Gate>(
     run_gated(rt, alloc, words, Limits { packets: 1000 }, gate, station)
 }
 
-/// Runs the words over the settings, named `s`, and two files, named `a` and `b`, with this limit of
-/// packets. The only error is want of memory.
+/// Runs these arguments with the settings, named `s`, and two files, named `a` and `b`, with this limit of packets. The
+/// only error is lack of memory.
 pub fn run_files<R: Threads + Sync>(
     rt: &R,
     alloc: Global,
@@ -187,7 +187,7 @@ pub fn run_files<R: Threads + Sync>(
     Ran::new(alloc, status, &station)
 }
 
-/// The same through this gate, at a limit of a thousand packets, in a station with room for a super-frame of
+/// The same through this gate, with a limit of a thousand packets, in a station with the capacity for a super-frame of
 /// the 2K mode.
 pub fn run_gated_files<R: Threads + Sync, G: Gate>(
     rt: &R,

@@ -1,4 +1,4 @@
--- What is known of a station between two calls of a test.
+-- The known state of a station between two calls of a test.
 use Rattle.std.specs.Prelude.{◌≡◌, Bool, true, false, None}
 use Rattle.station_core.specs.Meaning.{Meaning}
 

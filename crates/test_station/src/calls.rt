@@ -1,4 +1,4 @@
-// Calls on a station over files, and what each answers.
+// Calls on a station over files, and their results.
 ghost use Rattle.std.specs.Prelude.{◌<◌, length, true};
 ghost use Rattle.station_core.specs.Meaning.{IsFresh};
 ghost use Rattle.test_station.specs.Ports.{AreTrue};
@@ -9,7 +9,7 @@ use station_files::{Buffers, FileStation};
 use std::alloc::{AllocError, Global};
 use std::fs;
 
-/// A call on a station, or a look at what it did to the system.
+/// A call on a station, or a check of its effect on the system.
 #[derive(Clone, Copy)]
 pub enum Call<'n> {
     /// Creates the file of Bytes.
@@ -24,32 +24,32 @@ pub enum Call<'n> {
     Line,
     /// Attaches HP.
     Attach(&'n str),
-    /// Reads at most so many bytes at HP, from 1 to 1,000.
+    /// Reads at most this number of bytes at HP, from 1 to 1,000.
     Read(usize),
     /// Reads HP to its end in pieces.
     ReadAll,
-    /// Looks up the length of a file.
+    /// Checks the length of a file.
     Length(&'n str),
-    /// Looks up how many bytes were printed.
+    /// Checks how many bytes were printed.
     Printed,
 }
 
-/// What a call answers.
+/// The result of a call.
 #[derive(Clone, Copy, Debug, PartialEq)]
 pub enum Answer {
     /// It did not fail.
     Done,
     /// It failed.
     Failed,
-    /// So many bytes.
+    /// A number of bytes.
     Bytes(u64),
-    /// So many bytes, their sum, and the last one.
+    /// A number of bytes, their sum, and the last one.
     All(usize, u32, u8),
-    /// It was not made: the station's contract bars it here.
+    /// It was not made, as the station's contract excludes it here.
     Barred,
 }
 
-// What was asked of the ports, and which are open.
+// The names requested at the ports, and which ports are open.
 #[derive(Drop)]
 struct Ports {
     bytes_asked: bool,
@@ -58,7 +58,7 @@ struct Ports {
     hp_attached: bool,
 }
 
-// The answer of a call that gives nothing back.
+// The result of a call without a value.
 fn done(outcome: Result<(), Failed>) -> Answer {
     match outcome {
         Ok(()) => Answer::Done,
@@ -163,7 +163,7 @@ fn length(watched: &Watched<'_>, name: &str) -> Answer {
     }
 }
 
-// Makes a call, where the contract allows it.
+// Makes a call, if the contract allows it.
 fn make_call<'a, S: Station<'a>>(
     ports: &mut Ports,
     station: &mut S,
@@ -187,7 +187,7 @@ fn make_call<'a, S: Station<'a>>(
     }
 }
 
-// What each of the calls answers at a station at which nothing was asked.
+// The result of each call at a station where nothing was requested.
 fn answers<'a, S: Station<'a>>(
     alloc: Global,
     station: &mut S,
@@ -209,15 +209,15 @@ fn answers<'a, S: Station<'a>>(
     Ok(answers)
 }
 
-/// What each of the calls answers at a station with buffers. The only error is want of memory.
+/// The result of each call at a station with buffers. The only error is lack of memory.
 pub fn buffered<'c>(rt: &'c HostRuntime, calls: &'c [Call<'c>]) -> Result<Vec<Answer>, AllocError> {
     let watched = Watched::new(rt, 0);
     let mut station = FileStation::with_buffers(&watched, Buffers::new(rt.alloc())?);
     answers(rt.alloc(), &mut station, &watched, calls)
 }
 
-/// What each of the calls answers at a station without buffers, where so many signals interrupt.
-/// The only error is want of memory.
+/// The result of each call at a station without buffers, interrupted by this number of signals. The only error is lack
+/// of memory.
 pub fn unbuffered<'c>(
     rt: &'c HostRuntime,
     signals: u32,

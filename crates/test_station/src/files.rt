@@ -30,7 +30,7 @@ fn files_written_and_read_back(rt: HostRuntime) -> Result<(), Fail> {
     Ok(())
 }
 
-// Attaches LP and creates Cells, and tells whether each did not fail.
+// Attaches LP and creates Cells, and returns which of them succeeded.
 fn open_missing<'a, S: Station<'a>>(station: &mut S) -> [bool; 2]
     requires { IsFresh (S.meaning station.old) }
 {
@@ -44,7 +44,7 @@ fn files_that_are_not_there(rt: HostRuntime) {
     assert_eq!(rt; open_missing(&mut FileStation::new(&rt)), [false, false]);
 }
 
-// A full device takes bytes into the station's buffer, and no further.
+// A full device: bytes still fit the station's buffer, but are not written.
 #[test]
 fn a_fault_of_the_file_is_answered_at_close(rt: HostRuntime) -> Result<(), Fail> {
     let answers = buffered(&rt, &[Create("/dev/full"), Write(&[1, 2, 3]), Close])?;
@@ -52,7 +52,7 @@ fn a_fault_of_the_file_is_answered_at_close(rt: HostRuntime) -> Result<(), Fail>
     Ok(())
 }
 
-// A flush answers it as well, and again, since nothing was handed over. Without a write it has nothing to say.
+// A flush reports it as well, and repeatedly, since nothing was written. Without a write there is nothing to report.
 #[test]
 fn a_fault_of_the_file_is_answered_at_a_flush(rt: HostRuntime) -> Result<(), Fail> {
     let calls = [
@@ -70,7 +70,7 @@ fn a_fault_of_the_file_is_answered_at_a_flush(rt: HostRuntime) -> Result<(), Fai
     Ok(())
 }
 
-// Behind a flush the bytes stand in the file, and more may be written.
+// After a flush the bytes are in the file, and more may be written.
 #[test]
 fn flushed_bytes_stand_in_the_file(rt: HostRuntime) -> Result<(), Fail> {
     let calls = [
@@ -88,7 +88,7 @@ fn flushed_bytes_stand_in_the_file(rt: HostRuntime) -> Result<(), Fail> {
     Ok(())
 }
 
-// An output that is an input is not made, and the input stays. A device may be both.
+// An output that is an input is not created, and the input stays. A device may be both.
 #[test]
 fn an_open_file_is_no_output(rt: HostRuntime) -> Result<(), Fail> {
     let made = [Create("in.ts"), Write(&[1, 2, 3]), Close];
@@ -103,7 +103,7 @@ fn an_open_file_is_no_output(rt: HostRuntime) -> Result<(), Fail> {
     Ok(())
 }
 
-// The bytes of a piece that is larger than the buffer are written at once.
+// The bytes of a piece larger than the buffer are written at once.
 #[test]
 fn a_fault_of_the_file_is_answered_at_the_write(rt: HostRuntime) -> Result<(), Fail> {
     let small = Write(&[1, 2, 3]);
@@ -114,7 +114,7 @@ fn a_fault_of_the_file_is_answered_at_the_write(rt: HostRuntime) -> Result<(), F
     Ok(())
 }
 
-// A folder can be opened, and not be read.
+// A folder can be opened, but not read.
 #[test]
 fn a_fault_of_the_file_is_not_its_end(rt: HostRuntime) -> Result<(), Fail> {
     let answers = unbuffered(&rt, 0, &[Attach("."), Read(1000)])?;
@@ -122,8 +122,8 @@ fn a_fault_of_the_file_is_not_its_end(rt: HostRuntime) -> Result<(), Fail> {
     Ok(())
 }
 
-// One file is written and read: what stands in it as it is read was written before. The second
-// byte was in the station's buffer, so nothing had to be written for it.
+// One file is written and read: earlier writes are in it when it is read. The second byte was in the station's buffer,
+// so nothing had to be written for it.
 #[test]
 fn a_read_of_the_file_comes_behind_the_writes(rt: HostRuntime) -> Result<(), Fail> {
     let calls = [
@@ -168,8 +168,7 @@ fn a_line_comes_behind_the_writes(rt: HostRuntime) -> Result<(), Fail> {
     Ok(())
 }
 
-// The first line tells the fault and isn't written, the next is written, and `close` doesn't tell
-// it again.
+// The first line reports the fault and isn't written, the next is written, and `close` doesn't report it again.
 #[test]
 fn a_line_tells_the_fault_of_a_file_once(rt: HostRuntime) -> Result<(), Fail> {
     let calls = [
@@ -186,7 +185,7 @@ fn a_line_tells_the_fault_of_a_file_once(rt: HostRuntime) -> Result<(), Fail> {
     Ok(())
 }
 
-// A read can't tell it: the next write does, once for all.
+// A read can't report it: the next write does, once.
 #[test]
 fn a_write_tells_the_fault_that_a_read_met(rt: HostRuntime) -> Result<(), Fail> {
     let calls = [
@@ -202,7 +201,7 @@ fn a_write_tells_the_fault_that_a_read_met(rt: HostRuntime) -> Result<(), Fail> 
     Ok(())
 }
 
-// A call that signals interrupt is tried a thousand times: a read of a file, and a line.
+// An interrupted call is retried up to a thousand times: a read of a file, and a line.
 #[test]
 fn calls_that_signals_interrupt_are_tried_again(rt: HostRuntime) -> Result<(), Fail> {
     let calls = [Create("sevens"), Write(&[7; 10]), Length("sevens")];

@@ -1,5 +1,5 @@
-//! The stations call by call, the one in memory and the one over files, in an empty folder; and settings documents, with
-//! plans, read and refused.
+//! Both stations call by call, the one in memory and the one over files in an empty folder; and settings documents,
+//! with plans, accepted and rejected.
 //!
 //! The crate has tests alone.
 #![tactic(auto)]

@@ -7,7 +7,7 @@ use station_core::{Failed, Failing, InPort, MemoryStation, OutPort, Station};
 use std::alloc::{AllocError, Global};
 use std::test::Fail;
 
-// Two files of one name.
+// Two files with the same name.
 fn files(alloc: Global) -> Result<Vec<(String, Vec<u8>)>, AllocError> {
     let first = vec![in alloc; 1u8, 2, 3, 4, 5]?;
     let second = vec![in alloc; 9u8]?;
@@ -17,7 +17,7 @@ fn files(alloc: Global) -> Result<Vec<(String, Vec<u8>)>, AllocError> {
     Ok(files)
 }
 
-// A station with these files, whose reads give at most two bytes.
+// A station with these files, whose reads return at most two bytes.
 fn station<'a>(
     alloc: Global,
     room: u32,
@@ -29,7 +29,7 @@ fn station<'a>(
     MemoryStation::new(alloc, files(alloc)?, 2, room, failing)
 }
 
-// Reads at HP, and gives how many bytes, if it does not fail.
+// Reads at HP, and returns the number of bytes, if it does not fail.
 fn next<'a, S: Station<'a>>(station: &mut S, buf: &mut [u8; 4]) -> Option<usize>
     requires { (S.meaning station.old).hp.attached ≡ true }
     ensures { (S.meaning station.new).hp.attached ≡ true }
@@ -37,7 +37,7 @@ fn next<'a, S: Station<'a>>(station: &mut S, buf: &mut [u8; 4]) -> Option<usize>
     station.read(InPort::Hp, buf).ok()
 }
 
-// Writes to HP, and tells whether it did not fail.
+// Writes to HP, and returns whether it succeeded.
 fn put<'a, S: Station<'a>>(station: &mut S, bytes: &[u8]) -> bool
     requires some { 0 < length bytes.now }
     requires created { (S.meaning station.old).hp_out.created ≡ true }
@@ -48,8 +48,8 @@ fn put<'a, S: Station<'a>>(station: &mut S, bytes: &[u8]) -> bool
     station.write(OutPort::Hp, bytes).is_ok()
 }
 
-// What the calls of a reader gave: whether a missing file is there, how many bytes each read gave,
-// and behind two of them what stands in front of the buffer.
+// The results of a reader's calls: whether a missing file exists, the number of bytes of each read, and after two of
+// them the first bytes of the buffer.
 type Reads = (
     bool,
     (Option<usize>, [u8; 2]),
@@ -58,7 +58,7 @@ type Reads = (
     [Option<usize>; 2],
 );
 
-// Asks for a file that is not there, and reads one that is.
+// Requests a missing file, and reads an existing one.
 fn read_file<'a, S: Station<'a>>(station: &mut S) -> Result<Reads, Failed>
     requires { IsFresh (S.meaning station.old) }
 {
@@ -82,7 +82,7 @@ fn reads_of_at_most_two_bytes(rt: HostRuntime) -> Result<(), Fail> {
     Ok(())
 }
 
-// Makes a file, and writes two pieces.
+// Creates a file, and writes two pieces.
 fn write_twice<'a, S: Station<'a>>(station: &mut S) -> Result<[bool; 2], Failed>
     requires { IsFresh (S.meaning station.old) }
     ensures created { OnOk result ((S.meaning station.new).hp_out.created ≡ true) }
@@ -121,7 +121,7 @@ fn half_a_write_and_no_room(rt: HostRuntime) -> Result<(), Fail> {
     Ok(())
 }
 
-// Makes a file, writes to it, and flushes it twice.
+// Creates a file, writes to it, and flushes it twice.
 fn write_and_flush<'a, S: Station<'a>>(station: &mut S) -> Result<[bool; 3], Failed>
     requires { IsFresh (S.meaning station.old) }
 {
@@ -130,7 +130,7 @@ fn write_and_flush<'a, S: Station<'a>>(station: &mut S) -> Result<[bool; 3], Fai
     Ok([written, station.flush().is_ok(), station.flush().is_ok()])
 }
 
-// A flush that fails leaves what was written.
+// A failed flush leaves the written bytes.
 #[test]
 fn flushes_that_fail(rt: HostRuntime) -> Result<(), Fail> {
     let mut failing = station(rt.alloc(), 6, &[Failing::Flush])?;

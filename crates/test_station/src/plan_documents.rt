@@ -1,4 +1,4 @@
-// Documents with a plan, as in `DOCUMENTS`: behind the settings in each answer stand the entries.
+// Documents with a plan, as in `DOCUMENTS`: the entries follow the settings in each answer.
 
 pub(super) const PLANS: &str = "\
 == (M2k, Qpsk, Flat, R1of2, None, G1of32, None, Zero, 1, 1000000) (1, Qam16, Alpha4, R1of2, Some(R3of4))\n\

@@ -1,4 +1,4 @@
-// Plans of entries, and the parameters of the super-frames before, at and behind each number.
+// Plans of entries, and the parameters of the super-frames before, at and after each number.
 use mode_set::{Entry, Hierarchy, Mode, Plan, Rate, Settings, Shape};
 use test_tools::{flat, hierarchical};
 
@@ -53,7 +53,7 @@ fn entry(given: Given) -> Entry {
     }
 }
 
-// The plan of entries, as far as they may follow one another, and their number.
+// The plan of these entries, as far as they may follow one another, and how many it accepted.
 fn plan_of(entries: &[Given]) -> (Plan, u32) {
     let mut plan = Plan::none();
     let mut taken = 0u32;
@@ -77,7 +77,7 @@ fn planned(entries: &[Given]) -> Settings {
     with_plan(plan_of(entries).0)
 }
 
-// How many of the entries the plan has, and how many it took.
+// The number of entries in the plan, and how many it accepted.
 fn taken_of(entries: &[Given]) -> (usize, u32) {
     let (plan, taken) = plan_of(entries);
     (plan.len(), taken)
@@ -102,7 +102,7 @@ fn numbers_rise(rt: HostRuntime) {
     }
 }
 
-// Does the plan refuse each of these entries, and is it then what it was?
+// Whether the plan rejects each of these entries, and stays unchanged.
 fn refuses(plan: &mut Plan, entries: &[Given]) -> bool {
     let before = *plan;
     for given in entries {
@@ -113,7 +113,7 @@ fn refuses(plan: &mut Plan, entries: &[Given]) -> bool {
     *plan == before
 }
 
-// Are these the entries of the plan?
+// Whether these are the entries of the plan.
 fn has_entries(plan: &Plan, entries: &[Given]) -> bool {
     for i in 0..plan.len() {
         if i >= entries.len() || plan.get(i) != entry(entries[i]) {
@@ -132,7 +132,7 @@ fn refused_entries_leave_a_plan(rt: HostRuntime) {
     assert!(rt; has_entries(&plan, &[Plain(1), Layered(3), Plain(4)]));
 }
 
-// The plan of two streams from each fifth super-frame up to the 80th on, if it takes them all.
+// The plan with an entry of two streams at every fifth super-frame up to the 80th, if it accepts them all.
 fn every_fifth() -> Option<Plan> {
     let mut plan = Plan::none();
     for number in 1..17u32 {
@@ -143,7 +143,7 @@ fn every_fifth() -> Option<Plan> {
     Some(plan)
 }
 
-// Does each super-frame before the 80th have the entry of the fifth at it or before it?
+// Whether each super-frame before the 80th has the entry of the last multiple of five.
 fn changes_at_fifths(settings: &Settings) -> bool {
     for super_frame in 0..80u32 {
         if settings.entry(super_frame).after != super_frame / 5 * 5 {

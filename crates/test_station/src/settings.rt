@@ -8,7 +8,7 @@ use mode_set::{
 };
 use test_tools::flat;
 
-// A generic call knows the mode's numbers by the trait's laws.
+// A generic call uses the mode's numbers by the trait's laws.
 fn symbol_bytes<M: Carriers>(settings: &Settings) -> (u32, u32)
     requires mode { settings.now.mode ≡ M.MODE }
     ensures bytes { result.0 ≤ 27268 }

@@ -23,7 +23,7 @@ fn settings_text(alloc: Global, s: &Settings) -> Result<String, AllocError> {
     format!(in alloc; "{values:?}")
 }
 
-// An entry behind those before it.
+// An entry after the earlier ones.
 fn entry_text(alloc: Global, e: Entry) -> Result<String, AllocError> {
     let values = (e.after, e.shape, e.hierarchy, e.rate_hp, e.rate_lp);
     format!(in alloc; " {values:?}")
@@ -38,7 +38,7 @@ fn shown(alloc: Global, settings: &Settings) -> Result<String, AllocError> {
     Ok(line)
 }
 
-// The answer to a document as one line.
+// The result for a document as one line.
 fn answer(alloc: Global, document: &str) -> Result<String, AllocError> {
     match Settings::read(alloc, document.as_bytes()) {
         Ok(settings) => shown(alloc, &settings),
@@ -59,19 +59,19 @@ fn parts(case: &str) -> (&str, &str) {
     case.split_once("\n").unwrap_or((case, ""))
 }
 
-// The answer to the document of a case.
+// The result for the document of a case.
 fn answer_of_case(alloc: Global, case: &str) -> Result<String, AllocError> {
     let text = document(alloc, parts(case).1)?;
     answer(alloc, &text)
 }
 
-// The document of a case has the answer that stands before it.
+// The document of a case has the result written before it.
 fn has_its_answer(rt: &impl Abort, alloc: Global, case: &str) {
     let got = answer_of_case(alloc, case).expect(rt, "memory");
     assert_eq!(rt; got.as_str(), parts(case).0, "at {case}");
 }
 
-// The same of each case.
+// The same for each case.
 fn have_their_answers(rt: &impl Abort, alloc: Global, cases: &str) {
     for case in cases.split("== ").skip(1) {
         has_its_answer(rt, alloc, case);
@@ -88,12 +88,12 @@ fn plans_have_their_answers(rt: HostRuntime) {
     have_their_answers(&rt, rt.alloc(), PLANS);
 }
 
-// A name and an answer as a line.
+// A name and a result as a line.
 fn line(alloc: Global, name: &str, answer: &str) -> Result<String, AllocError> {
     format!(in alloc; "{name} {answer}\n")
 }
 
-// The name of an example and the answer to it.
+// The name of an example and its result.
 fn named_answer(alloc: Global, case: &str) -> Result<String, AllocError> {
     let got = answer_of_case(alloc, case)?;
     line(alloc, parts(case).0, &got)
@@ -121,7 +121,7 @@ plan (M2k, Qpsk, Flat, R1of2, None, G1of32, None, Zero, 1, 1000000) (1, Qam16, A
 qpsk (M2k, Qpsk, Flat, R1of2, None, G1of32, None, Zero, 1, 1000000)\n\
 ";
 
-// The examples, by what they are for. One has a plan.
+// The examples by their purpose. One has a plan.
 #[test]
 fn examples_are_settings(rt: HostRuntime) {
     let lines = named_answers(rt.alloc()).expect(&rt, "memory");
@@ -133,7 +133,7 @@ fn entry_of_document(alloc: Global, after: u32) -> Result<String, AllocError> {
     format!(in alloc; "{{ after = {after}, constellation = \"16qam\", rate_hp = \"5/6\" }},")
 }
 
-// The base with so many entries, of super-frames 5, 10 and so on.
+// The base with this number of entries, for super-frames 5, 10 and so on.
 fn with_entries(alloc: Global, count: u32) -> Result<String, AllocError> {
     let mut text = format!(in alloc; "{BASE}plan = [")?;
     for number in 1..count.wrapping_add(1) {
@@ -143,7 +143,7 @@ fn with_entries(alloc: Global, count: u32) -> Result<String, AllocError> {
     Ok(text)
 }
 
-// How many entries a document has, and where those begin that stand at super-frames 4, 5 and the last.
+// The number of entries of a document, and where those in effect at super-frames 4, 5 and the last begin.
 fn entries_read(alloc: Global, document: &str) -> Result<(usize, u32, u32, u32), SettingsError> {
     let settings = Settings::read(alloc, document.as_bytes())?;
     Ok((
@@ -167,7 +167,7 @@ fn a_document_has_1_to_16_entries(rt: HostRuntime) {
     }
 }
 
-// Why the base is refused, if it is, with spaces behind it and this as the last of 65,536 bytes.
+// The reason to reject the base, if any, with spaces after it and this as the last of 65,536 bytes.
 fn refusal(alloc: Global, last: u8) -> Option<SettingsError> {
     let mut bytes = [b' '; 65_536];
     bytes[..BASE.len()].copy_from_slice(BASE.as_bytes());
@@ -175,7 +175,7 @@ fn refusal(alloc: Global, last: u8) -> Option<SettingsError> {
     Settings::read(alloc, &bytes).err()
 }
 
-// The largest settings file that the program takes, and bytes that are no text.
+// The largest settings file that the program accepts, and bytes that are not text.
 #[test]
 fn long_and_broken_documents(rt: HostRuntime) {
     for (last, expected) in [(b' ', None), (0xFF, Some(SettingsError::NotToml))] {

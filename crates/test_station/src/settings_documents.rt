@@ -1,4 +1,4 @@
-// Documents with the answer to each: a line `== ANSWER`, then the document; `@` stands for the base.
+// Documents with the result for each: a line `== ANSWER`, then the document; `@` stands for the base.
 
 pub(super) const BASE: &str =
     "mode = \"2k\"\nconstellation = \"qpsk\"\nrate_hp = \"1/2\"\nguard = \"1/32\"\n";

@@ -1,4 +1,4 @@
-// What tests put in the place of the system.
+// Stand-ins for the system.
 use std::alloc::Allocator;
 use std::cell::Cell;
 use std::fmt::Display;
@@ -7,8 +7,8 @@ use std::io;
 use std::io::{ErrorKind, Read, Seek, SeekFrom, Write};
 use std::rt::Files;
 
-/// The files of the system, and a standard output that counts what it takes. Signals interrupt
-/// its first writes, and the first reads of each file.
+/// The files of the system, and a standard output that counts its bytes. Signals interrupt its first writes, and the
+/// first reads of each file.
 #[derive(Drop)]
 pub struct Watched<'a> {
     pub rt: &'a HostRuntime,
@@ -17,7 +17,7 @@ pub struct Watched<'a> {
 }
 
 impl<'a> Watched<'a> {
-    /// With so many signals.
+    /// With this number of signals.
     pub fn new(rt: &'a HostRuntime, signals: u32) -> Watched<'a> {
         Watched {
             rt,

@@ -1,4 +1,4 @@
-// Numbers and bits of a linear congruential generator, which independent programs draw too.
+// Random numbers and bits of a linear congruential generator, which independent programs generate too.
 ghost use Rattle.std.specs.Prelude.{◌≤◌};
 
 use bit_pack::WaitBuf;
@@ -14,7 +14,7 @@ pub fn next_byte(state: &mut u32) -> u8 {
     (next_number(state) >> 24) as u8
 }
 
-/// Puts drawn bytes behind the waiting bits until so many bits wait.
+/// Appends random bytes to the queue until it has `count` bits.
 pub fn fill(state: &mut u32, count: usize, to: &mut WaitBuf)
     requires { count ≤ 36000 }
 {

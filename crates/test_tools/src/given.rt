@@ -24,7 +24,7 @@ pub fn flat(mode: Mode, shape: Shape, rate: Rate) -> Settings
     }
 }
 
-/// Two streams, and all else as in [`flat`].
+/// Two streams, all else as in [`flat`].
 pub fn hierarchical(
     mode: Mode,
     shape: Shape,

@@ -1,4 +1,4 @@
-//! What tests of single layers share: settings, and numbers and bits that are drawn.
+//! Shared by tests of single layers: settings, and random numbers and bits.
 //!
 //! No command uses the crate.
 #![tactic(auto)]

@@ -1,4 +1,4 @@
--- Sums of two elements of a list that are all different.
+-- Sums of two different elements of a list.
 use Rattle.std.proofs.Common.{◌≡◌, ℕ, zero, suc, ◌+◌, ◌-◌, ◌/◌, ◌%◌, ◌^◌, ◌<◌, List, [], ◌∷◌, ◌++◌, map, length, get_or, refl, sym, ap, ◌∙◌, subst, inl, inr, arith, Bool, true, false, not, cond, ◌&&◌}
 use Rattle.std.specs.Prelude.{slice_index, bit_or, bit_xor, ◌≢◌, ◌==◌, nat_lt}
 use Rattle.std.specs.List.{list_all}
@@ -9,20 +9,20 @@ use Rattle.std.proofs.lemmas.Bool.{eq-eqb, and_parts, cases_lt}
 use Rattle.std.proofs.lemmas.Nat.Bits.{bit_at_or, bit_at-pow_same, bit_at-lt}
 use Rattle.spec_words.specs.Bits.{is_set}
 
--- whether a number is of the class c
+-- whether a number is of class c
 abbrev of_class : ℕ → ℕ → Bool
 of_class c x = x / 1024 == c
 
--- the marks with that of x
+-- the marks including that of x
 abbrev marked_with : ℕ → ℕ → ℕ → ℕ
 marked_with c x n = cond (of_class c x) (bit_or n (2 ^ (x % 1024))) n
 
--- each element of the class c is marked in a number, as a bit that was not set before
+-- each element of class c is marked in a number, as a bit not set before
 unfoldable pub marks : ℕ → List ℕ → ℕ → Bool
 marks c [] n = true
 marks c (x ∷ xs) n = cond (of_class c x) (not (is_set n (x % 1024))) true && marks c xs (marked_with c x n)
 
--- the same for 16 classes; the number 0 is marked from the start
+-- the same for 16 classes; the number 0 is marked at the start
 unfoldable pub all_marks : List ℕ → ℕ → Bool
 all_marks xs zero = true
 all_marks xs (suc c) = marks c xs (cond (c == 0) 1 0) && all_marks xs c
@@ -55,7 +55,7 @@ unset c n y x k e f same =
     let both : not true ≡ true = subst (λ (b : Bool). not b ≡ true) set one in
     cc
 
--- what is marked comes no more
+-- a marked element does not occur again
 not_again : (c : ℕ) (xs : List ℕ) (n x : ℕ) → x / 1024 ≡ c → bit_at n (x % 1024) ≡ 1 → marks c xs n ≡ true → (k : ℕ) → k < length xs → slice_index xs k ≢ x
 unfolding marks
 not_again c [] n x h e m k l = absurd (omega (arith, l))
@@ -85,7 +85,7 @@ unfoldable pub pair_sums : List ℕ → List ℕ
 pair_sums [] = []
 pair_sums (x ∷ xs) = map (bit_xor x) xs ++ pair_sums xs
 
--- where the sum of the elements a and b stands among them
+-- the index of the sum of elements a and b among them
 unfoldable place : List ℕ → ℕ → ℕ → ℕ
 place [] a b = 0
 place (x ∷ xs) zero b = b - 1
@@ -141,7 +141,7 @@ same_place xs small m i j il jl e =
       | inr ge ↦ elim (cases_lt j i) [ inl less ↦ absurd (differ xs small m j i less il e) | inr le ↦ omega arith ]
     ]
 
--- sums of two elements are equal only where the elements are
+-- sums of two elements are equal only if the elements are
 pub same_sums : (xs : List ℕ) → AreSmall (pair_sums xs) → all_marks (pair_sums xs) 16 ≡ true → (a b c d : ℕ) → a < b → b < length xs → c < d → d < length xs → bit_xor (slice_index xs a) (slice_index xs b) ≡ bit_xor (slice_index xs c) (slice_index xs d) → (a ≡ c) × (b ≡ d)
 same_sums xs small m a b c d ab bl cd dl e =
     one_place xs a b c d ab bl cd dl (same_place (pair_sums xs) small m (place xs a b) (place xs c d) (within xs a b ab bl) (within xs c d cd dl) (at_place xs a b ab bl ∙ e ∙ sym (at_place xs c d cd dl)))

@@ -1,4 +1,4 @@
--- What each exit of a correction leaves.
+-- The result of each exit of a correction.
 use Rattle.std.proofs.Common.{◌≡◌, ℕ, suc, ◌<◌, ◌≤◌, List, length, refl, sym, ap, ◌∙◌, subst, arith, Bool, false, not, get_or-set_other, length-set}
 use Rattle.std.specs.Prelude.{bit_xor, ◌≢◌}
 use Rattle.std.specs.Int.Bits.{xor_self, xor_assoc}
@@ -9,11 +9,11 @@ use Rattle.tps_bch.specs.Syndromes.{syndromes, syndrome_by, syndrome_at}
 use Rattle.tps_bch.proofs.Rests.{is_of_code, size}
 use Rattle.tps_bch.proofs.Errors.{nearest, flipped, flipped_syndrome, flipped_distance, no_distance}
 
--- the number is the one that was answered
+-- the number is the one returned
 pub read_as : (old new : List Bool) (k n : ℕ) → IsCorrected old new k → Read k ≡ Read n → IsCorrected old new n
 read_as old new k n h e = let same : k ≡ n = cc in subst (IsCorrected old new) same h
 
--- no other word is within two places
+-- no other word is within distance 2
 pub only : (old new : List Bool) (n : ℕ) → length old ≡ 67 → IsCorrected old new n → (w : List Bool) → IsTpsWord w → bit_distance old w ≤ 2 → (Read n ≡ Read (bit_distance old w)) × (new ≡ w)
 only old new n e h w is close =
     let same : new ≡ w = nearest old new n e h w is close in

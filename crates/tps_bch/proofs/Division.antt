@@ -55,7 +55,7 @@ length-xor_bits [] p l = refl
 length-xor_bits (a ∷ t) [] l = absurd (omega (arith, l))
 length-xor_bits (a ∷ t) (b ∷ p) l = omega (arith, length-xor_bits t p (omega (arith, l)))
 
--- the generator behind its first coefficient, or nothing
+-- the generator after its first coefficient, or nothing
 abbrev scaled_tail : Bool → List Bool
 scaled_tail a = map (λ g. a && g) (drop 1 bch_generator)
 

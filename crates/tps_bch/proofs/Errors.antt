@@ -1,4 +1,4 @@
--- Words that differ in few places, and their syndromes.
+-- Words that differ in few bits, and their syndromes.
 use Rattle.std.proofs.Common.{◌≡◌, ℕ, zero, suc, ◌+◌, ◌<◌, ◌≤◌, List, [], ◌∷◌, ◌++◌, drop, length, get_or, refl, sym, ap, ◌∙◌, inl, inr, arith, Bool, true, false, not, cond, set}
 use Rattle.std.specs.Prelude.{bit_xor, slice_index, ◌≢◌, nat_lt}
 use Rattle.std.specs.List.{list_all}
@@ -13,7 +13,7 @@ use Rattle.tps_bch.proofs.Division.{both}
 use Rattle.tps_bch.proofs.Apart.{marks, all_marks, pair_sums, same_sums, no_zero_sum, small_at}
 use Rattle.tps_bch.proofs.Rests.{linear, of_word, size, xor_zero, xor_left}
 
--- the places of the set bits, from k on
+-- the positions of the set bits, from k on
 pub places : ℕ → List Bool → List ℕ
 places k [] = []
 places k (true ∷ e) = k ∷ places (suc k) e
@@ -64,7 +64,7 @@ length-sum [] (b ∷ w) e = absurd (omega (arith, e))
 length-sum (a ∷ v) [] e = refl
 length-sum (a ∷ v) (b ∷ w) e = omega (arith, length-sum v w (omega (arith, e)))
 
--- the syndromes, and 0 behind them
+-- the syndromes, followed by 0
 unfoldable with_zero : List ℕ
 with_zero = syndromes ++ 0 ∷ []
 
@@ -88,7 +88,7 @@ at_end : slice_index with_zero 67 ≡ 0
 unfolding with_zero syndromes
 at_end = refl
 
--- the sums of the syndromes at one or two places, as sums of two elements of that list
+-- the sums of the syndromes at one or two positions, as sums of two elements of that list
 two_sums : (a b c d x y z u : ℕ) → a < b → b < 68 → c < d → d < 68 → slice_index with_zero a ≡ x → slice_index with_zero b ≡ y → slice_index with_zero c ≡ z → slice_index with_zero d ≡ u → bit_xor x y ≡ bit_xor z u → a ≡ c
 two_sums a b c d x y z u ab bl cd dl ex ey ez eu e =
     let left : bit_xor (slice_index with_zero a) (slice_index with_zero b) ≡ bit_xor x y = ap (λ (k : ℕ). bit_xor k (slice_index with_zero b)) ex ∙ ap (bit_xor x) ey in
@@ -100,7 +100,7 @@ no_sum a b x y ab bl ex ey e =
     let left : bit_xor (slice_index with_zero a) (slice_index with_zero b) ≡ bit_xor x y = ap (λ (k : ℕ). bit_xor k (slice_index with_zero b)) ex ∙ ap (bit_xor x) ey in
     no_zero_sum with_zero all_differ a b ab (omega (arith, bl, length-with_zero)) (left ∙ e)
 
--- one to four errors have a syndrome that is not 0
+-- one to four errors have a nonzero syndrome
 some_syndrome : (xs : List ℕ) → Rises 0 xs → length xs ≤ 4 → sum_at xs ≡ 0 → length xs ≡ 0
 some_syndrome [] r l e = refl
 some_syndrome (a ∷ []) r l e = absurd (no_sum a 67 (syndrome_at a) 0 r.1 (omega arith) (at a r.1) at_end e)
@@ -133,7 +133,7 @@ between v w lv lw = sym (linear syndromes v w) ∙ sum_of_places 0 (xor_bits v w
 rise : (v w : List Bool) → length v ≡ 67 → length w ≡ 67 → Rises 0 (places 0 (xor_bits v w))
 rise v w lv lw = rising 0 (xor_bits v w) (omega (arith, lv, length-sum v w (omega (arith, lv, lw))))
 
--- two words of the code within four places are one
+-- two words of the code within distance 4 are equal
 pub one_word : (v w : List Bool) → IsTpsWord v → IsTpsWord w → bit_distance v w ≤ 4 → v ≡ w
 one_word v w hv hw close =
     let size : length v ≡ length w = omega (arith, hv.long, hw.long) in
@@ -160,12 +160,12 @@ triangle (a ∷ v) (b ∷ w) (c ∷ u) e f = omega (arith, here a b c, triangle 
     here false false true = omega arith
     here false false false = omega arith
 
--- where a word was corrected, it is the only one within two places
+-- a corrected word is the only one within distance 2
 pub nearest : (old new : List Bool) (n : ℕ) → length old ≡ 67 → IsCorrected old new n → (w : List Bool) → IsTpsWord w → bit_distance old w ≤ 2 → new ≡ w
 nearest old new n e h w is close =
     one_word new w h.is_word is (omega (arith, triangle new old w (omega (arith, e, h.is_word.long)) (omega (arith, e, is.long)), h.distance, h.near, close))
 
--- no word of the code is within two places, where no errors at so few places have the syndrome
+-- no word of the code is within distance 2 if no errors at so few positions have the syndrome
 pub far : (bits : List Bool) → length bits ≡ 67 → syndrome_by syndromes bits ≢ 0 → ((i : ℕ) → i < 67 → syndrome_at i ≢ syndrome_by syndromes bits)
     → ((i j : ℕ) → i < 67 → j < 67 → bit_xor (syndrome_at i) (syndrome_at j) ≢ syndrome_by syndromes bits) → IsFar bits
 far bits e none one two w is = elim (cases_lt 2 (bit_distance bits w)) [ inl more ↦ more | inr close ↦ absurd (few (places 0 (xor_bits bits w)) (rise bits w e is.long) (omega (arith, close, distance_is 0 bits w (omega (arith, e, is.long)))) sum) ]
@@ -179,7 +179,7 @@ far bits e none one two w is = elim (cases_lt 2 (bit_distance bits w)) [ inl mor
     few (a ∷ b ∷ []) r l s = two a b r.1 r.2.1 (ap (bit_xor (syndrome_at a)) (sym (xor_zero_r (syndrome_at b))) ∙ s)
     few (a ∷ b ∷ c ∷ xs) r l s = absurd (omega (arith, l))
 
--- one bit more that differs
+-- one more bit that differs
 abbrev pub flipped : List Bool → ℕ → List Bool
 flipped w i = set w i (not (bit w i))
 

@@ -1,4 +1,4 @@
--- Syndromes: what a word of the code has, and what its parity is.
+-- Syndromes: that of a word of the code, and that of its parity.
 use Rattle.std.proofs.Common.{◌≡◌, ℕ, zero, suc, ◌+◌, ◌^◌, ◌<◌, ◌≤◌, List, [], ◌∷◌, ◌++◌, drop, length, replicate, refl, sym, ap, ◌∙◌, arith, Bool, true, false, ◌&&◌}
 use Rattle.std.specs.Prelude.{◌==◌, ◌≢◌, bit_xor}
 use Rattle.std.specs.Int.{bit_at}
@@ -13,7 +13,7 @@ use Rattle.tps_bch.specs.Bch.{bch_generator, xor_bits, bch_multiple, bch_rest, I
 use Rattle.tps_bch.specs.Syndromes.{syndromes, syndrome_by}
 use Rattle.tps_bch.proofs.Division.{both, xor_false, factor_of, length-factor, divided, length-rest, length-xor_bits}
 
--- the sum of equal numbers can be taken away
+-- equal numbers cancel in a sum
 pub xor_zero : (a b : ℕ) → bit_xor a b ≡ 0 → a ≡ b
 xor_zero a b e = sym (xor_zero_r a) ∙ ap (bit_xor a) (sym (xor_self b)) ∙ sym (xor_assoc a b b) ∙ ap (λ (z : ℕ). bit_xor z b) e
 
@@ -50,7 +50,7 @@ zeros_before ss zero p l = refl
 zeros_before [] (suc n) p l = absurd (omega (arith, l))
 zeros_before (s ∷ ss) (suc n) p l = zeros_before ss n p (omega (arith, l))
 
--- the generator has the syndrome 0 at each place
+-- the generator has the syndrome 0 at each position
 unfoldable generator_at_each : ℕ → List ℕ → Bool
 generator_at_each zero ss = true
 generator_at_each (suc n) [] = false
@@ -114,7 +114,7 @@ top_unset n v l = ap (λ (z : ℕ). z == 1) (bit_at_above v n n l (omega arith))
 lower : (n v i : ℕ) → i < n → bit_at (bit_xor (2 ^ n) v) i ≡ bit_at v i
 lower n v i l = let other : i ≢ n = omega (arith, l) in omega (arith, bit_at_xor (2 ^ n) v i, bit_at-pow_other n i other, bit_at-lt v i)
 
--- bits are spelled by their sum of powers of two
+-- a number is the sum of the powers of two of its bits
 pub spelled_twos : (n : ℕ) (p : List Bool) → length p ≡ n → spelled n (syndrome_by (twos n) p) ≡ p
 spelled_twos zero [] e = refl
 spelled_twos zero (a ∷ p) e = absurd (omega (arith, e))
@@ -132,7 +132,7 @@ pub size : length syndromes ≡ 67
 unfolding syndromes
 size = refl
 
--- the syndrome of the rest of a division, behind zeros
+-- the syndrome of the remainder of a division, after zeros
 of_rest : (rest : List Bool) → syndrome_by syndromes (replicate 53 false ++ rest) ≡ syndrome_by (twos 14) rest
 of_rest rest = zeros_before syndromes 53 rest (omega (arith, size)) ∙ ap (λ (ss : List ℕ). syndrome_by ss rest) last_rests
 
@@ -143,7 +143,7 @@ same_rest p e =
     sym (linear syndromes p (replicate 53 false ++ rest)) ∙ ap (syndrome_by syndromes) (sym (divided 53 p e)) ∙ of_multiple (factor_of 53 p) (length-factor 53 p e) in
     xor_zero _ _ sum ∙ of_rest rest
 
--- the parity bits spell the syndrome of the others
+-- the parity bits are the syndrome of the others
 pub of_parity : (info : List Bool) → length info ≡ 53 → spelled 14 (syndrome_by syndromes info) ≡ tps_parity info
 unfolding tps_parity
 of_parity info e =
@@ -157,7 +157,7 @@ nothing_added [] (suc n) l = absurd (omega (arith, l))
 nothing_added (a ∷ w) zero l = refl
 nothing_added (a ∷ w) (suc n) l = both (xor_false a) (nothing_added w n (omega (arith, l)))
 
--- 67 bits with the syndrome 0 are a word of the code
+-- 67 bits with syndrome 0 are a word of the code
 pub is_of_code : (w : List Bool) → length w ≡ 67 → syndrome_by syndromes w ≡ 0 → IsTpsWord w
 is_of_code w e zero_sum =
     let rest : List Bool = bch_rest 53 w in

@@ -7,7 +7,7 @@ use Rattle.spec_words.specs.Bits.{is_set, spelled}
 use Rattle.tps_bch.proofs.Division.{both}
 use Rattle.tps_bch.specs.Syndromes.{syndrome_by}
 
--- one bit more is summed up
+-- one more bit is added
 here : (ss : List ℕ) (w : List Bool) (i : ℕ) (b : Bool) → i < length w → i < length ss → get_or w i false ≡ b → syndrome_by (drop i ss) (drop i w) ≡ syndrome_by (get_or ss i 0 ∷ drop (suc i) ss) (b ∷ drop (suc i) w)
 here ss w i b l m e =
     ap (λ (z : List ℕ). syndrome_by z (drop i w)) (drop-cons ss i 0 m) ∙ ap (syndrome_by (get_or ss i 0 ∷ drop (suc i) ss)) (drop-cons w i false l)
@@ -37,7 +37,7 @@ no_bits (s ∷ ss) = refl
 pub parted : (a b c : ℕ) → bit_xor a b ≡ c → b ≡ bit_xor a c
 parted a b c e = sym (ap (bit_xor a) (sym e) ∙ sym (xor_assoc a a b) ∙ ap (λ (z : ℕ). bit_xor z b) (xor_self a))
 
--- bits that are those of a number, the most significant first, are spelled by it
+-- bits that are those of a number, most significant first, are its digits
 pub spelled_is : (n x : ℕ) (bits : List Bool) → length bits ≡ n → ((k : ℕ) → k < n → get_or bits k false ≡ is_set x (n - 1 - k)) → bits ≡ spelled n x
 spelled_is zero x [] e same = refl
 spelled_is zero x (b ∷ bits) e same = absurd (omega (arith, e))

@@ -1,18 +1,18 @@
--- Syndromes: the rests of the powers of x, and sums of them. They are the code's own way to the words of the code.
+-- Syndromes: the remainders of the powers of x, and sums of them. This is how the code finds words of the BCH code.
 use Rattle.std.specs.Prelude.{ℕ, Bool, true, false, List, [], ◌∷◌, bit_xor, slice_index}
 use Rattle.tps_bch.specs.declared.syndromes.TheConstants.{SYNDROMES}
 
--- the rests of x^66 to x^0
+-- the remainders of x^66 to x^0
 unfoldable pub syndromes : List ℕ
 syndromes = SYNDROMES
 
--- the sum of the rests at the bits that are set
+-- the sum of the remainders at the set bits
 abbrev pub syndrome_by : List ℕ → List Bool → ℕ
 syndrome_by [] w = 0
 syndrome_by (s ∷ ss) [] = 0
 syndrome_by (s ∷ ss) (true ∷ w) = bit_xor s (syndrome_by ss w)
 syndrome_by (s ∷ ss) (false ∷ w) = syndrome_by ss w
 
--- the syndrome of the error at a place
+-- the syndrome of an error in bit i
 abbrev pub syndrome_at : ℕ → ℕ
 syndrome_at i = slice_index syndromes i

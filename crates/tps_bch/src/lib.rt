@@ -11,16 +11,16 @@ mod syndromes;
 
 use syndromes::{place_of, places_of, syndrome};
 
-/// What a correction found.
+/// The outcome of a correction.
 #[derive(Clone, Copy, Debug, PartialEq, Eq)]
 pub enum TpsOutcome {
-    /// A word of the code stood so many places away, 0 to 2.
+    /// A word of the code is at this distance, 0 to 2.
     Read(u8),
-    /// None stands within two places.
+    /// No word of the code is within distance 2.
     Unreadable,
 }
 
-/// The parity bits s54 to s67 of the bits s1 to s53: both together are a multiple of the generator.
+/// The parity bits s54 to s67 for bits s1 to s53: together they are a multiple of the generator.
 pub fn parity(info: &[bool; 53]) -> [bool; 14]
     ensures rest { result ≡ tps_parity info.now }
     ensures word { IsTpsWord (info.now ++ result) }
@@ -40,8 +40,8 @@ fn flip(word: &mut [bool; 67], place: usize)
     word[place] = !word[place];
 }
 
-/// Puts the word of the code that stands within two places in place of the bits s1 to s67, if there
-/// is one, and answers at how many places they differed; else it leaves them as they are.
+/// Replaces bits s1 to s67 by the word of the code within distance 2, if there is one, and returns the distance;
+/// otherwise leaves them unchanged.
 pub fn correct(word: &mut [bool; 67]) -> TpsOutcome
     ensures read { (n : ℕ) → result ≡ TpsOutcome.Read n → IsCorrected word.old word.new n }
     ensures unreadable { result ≡ TpsOutcome.Unreadable → (word.new ≡ word.old) × IsFar word.old }
@@ -63,8 +63,7 @@ pub fn correct(word: &mut [bool; 67]) -> TpsOutcome
     TpsOutcome::Unreadable
 }
 
-/// Any two words of the code differ in at least five places, so at most one stands within two places
-/// of given bits.
+/// Any two words of the code differ in at least five bits, so at most one is within distance 2 of given bits.
 pub fn words_are_apart()
     ensures { AreApart }
 {}

@@ -1,9 +1,9 @@
-// Syndromes of the code: rests of a division by the generator.
+// Syndromes of the code: remainders of division by the generator.
 ghost use Rattle.std.specs.Prelude.{◌≡◌, ℕ, ◌<◌, ◌≤◌, ◌^◌, ◌≢◌, length, IfSome, IfNone, bit_xor};
 ghost use Rattle.tps_bch.specs.Syndromes.{syndromes, syndrome_by, syndrome_at};
 
-/// The rests of x^66 to x^0, each with the coefficient of x^13 as bit 13: entry `i` is the syndrome of
-/// an error in bit s_(i+1) alone.
+/// The remainders of x^66 to x^0, each with the coefficient of x^13 as bit 13: entry `i` is the syndrome of a single
+/// error in bit s_(i+1).
 #[rattlefmt::skip]
 static SYNDROMES: [u16; 67] = [
     0x2302, 0x1181, 0x297B, 0x3506, 0x1A83, 0x2CFA, 0x167D, 0x2A85,
@@ -23,7 +23,7 @@ fn table() -> &'static [u16; 67]
     &SYNDROMES
 }
 
-/// The syndrome of up to 67 bits: 0 exactly where 67 bits are a word of the code.
+/// The syndrome of up to 67 bits: 0 exactly if 67 bits are a word of the code.
 pub(crate) fn syndrome(bits: &[bool]) -> u16
     requires { length bits.now ≤ 67 }
     ensures { result ≡ syndrome_by syndromes bits.now }
@@ -38,7 +38,7 @@ pub(crate) fn syndrome(bits: &[bool]) -> u16
     sum
 }
 
-/// The place of the one error with this syndrome.
+/// The position of a single error with this syndrome.
 pub(crate) fn place_of(syndrome: u16) -> Option<usize>
     ensures found { IfSome result (λ i. (i < 67) × (syndrome_at i ≡ syndrome)) }
     ensures none { IfNone result ((i : ℕ) → i < 67 → syndrome_at i ≢ syndrome) }
@@ -46,7 +46,7 @@ pub(crate) fn place_of(syndrome: u16) -> Option<usize>
     table().iter().position(|rest| *rest == syndrome)
 }
 
-/// The places of two errors with this syndrome.
+/// The positions of two errors with this syndrome.
 pub(crate) fn places_of(syndrome: u16) -> Option<(usize, usize)>
     ensures found { IfSome result (λ two. (two.0 < 67) × (two.1 < 67) × (bit_xor (syndrome_at two.0) (syndrome_at two.1) ≡ syndrome)) }
     ensures none { IfNone result ((i j : ℕ) → i < 67 → j < 67 → bit_xor (syndrome_at i) (syndrome_at j) ≢ syndrome) }

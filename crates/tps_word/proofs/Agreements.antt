@@ -1,4 +1,4 @@
--- The sum of two symbols' products, product after product.
+-- The sum of two symbols' products, one by one.
 use Rattle.std.proofs.Common.{◌≡◌, ℕ, suc, ◌+◌, ◌<◌, List, [], ◌∷◌, drop, length, get_or, refl, sym, ap, ◌∙◌, arith, ℤ, pos, ◌+ℤ◌, ◌*ℤ◌, Bool, true, false}
 use Rattle.std.specs.Bool.{beq}
 use lib.Pointwise.{pointwise}

@@ -1,4 +1,4 @@
--- The fields of a word stand at their places.
+-- The fields of a word are at their positions.
 use Rattle.std.proofs.Common.{◌≡◌, ℕ, zero, suc, ◌+◌, ◌-◌, ◌%◌, List, [], ◌∷◌, ◌++◌, take, drop, length, get_or, refl, sym, ap, ◌∙◌, subst, arith, Bool, true, false, append_assoc, append-nil, length-append, length-drop, replicate}
 use Rattle.std.specs.Prelude.{◌==◌, if◌then◌else◌, codes, Option, Some, None}
 use Rattle.std.proofs.Math.Seq.{drop-append_seam, take-append_seam}
@@ -105,7 +105,7 @@ unfolding length_bits
 cell_bit true rest = refl
 cell_bit false rest = refl
 
--- what stands behind a field
+-- the bits after a field
 skip : (k n : ℕ) (w field rest : List Bool) → drop k w ≡ field ++ rest → length field ≡ n → drop (k + n) w ≡ rest
 skip k n w field rest e size =
     sym (drop-drop n k w) ∙ ap (drop n) e ∙ ap (λ (z : ℕ). drop z (field ++ rest)) (sym size) ∙ drop-append_seam field rest
@@ -119,7 +119,7 @@ dropped zero i w = let here : i ≡ zero + i = omega arith in ap (λ (z : ℕ). 
 dropped (suc k) i [] = refl
 dropped (suc k) i (b ∷ w) = let next : suc (k + i) ≡ suc k + i = omega arith in dropped k i w ∙ ap (λ (z : ℕ). get_or (b ∷ w) z false) next
 
--- the fields of a word, as they are read at their places
+-- the fields of a word, as read at their positions
 pub record HasFields (bits : List Bool) (t : TpsWord) : Type 0 where
   pub frame : number_of (take 2 (drop 22 bits)) ≡ t.frame - 1
   pub with_cell : get_or bits 18 false ≡ t.with_cell
@@ -214,7 +214,7 @@ inside s = cc
 pub apart : {A B : Type 0} {x : A} {y z : B} → ◌≡◌ {A = Option A} None (Some x) → y ≡ z
 apart s = cc
 
--- words of valid fields are equal only where the fields are
+-- words of valid fields are equal only if the fields are
 pub one_reading : (t u : TpsWord) → IsValid t → IsValid u → tps_word t ≡ tps_word u → u ≡ t
 one_reading t u vt vu e =
     let a = has_fields t vt in
@@ -230,7 +230,7 @@ unfolding tps_info
 length-info t =
     omega (arith, length-append {A = Bool}, length-sync t.frame, length-length t.with_cell, length-spelled 2 (t.frame - 1), length-shape t.shape, length-hierarchy t.hierarchy, length-rate t.rate_hp, length-rate t.rate_lp, length-guard t.guard, length-mode t.mode, length-spelled 8 t.cell_byte)
 
--- a front as long as the whole is the whole
+-- a prefix as long as the whole is the whole
 pub whole : (n : ℕ) (bits xs : List Bool) → take n bits ≡ xs → length bits ≡ length xs → bits ≡ xs
 whole n [] [] e l = refl
 whole n [] (x ∷ xs) e l = absurd (omega (arith, l))
@@ -238,7 +238,7 @@ whole n (b ∷ bits) [] e l = absurd (omega (arith, l))
 whole zero (b ∷ bits) (x ∷ xs) e l = absurd (omega (arith, ap length e))
 whole (suc n) (b ∷ bits) (x ∷ xs) e l = let parts : take (suc n) (b ∷ bits) ≡ x ∷ xs = e in let heads : b ≡ x = cc in let tails : take n bits ≡ xs = cc in ap (λ (z : Bool). z ∷ bits) heads ∙ ap (λ (zs : List Bool). x ∷ zs) (whole n bits xs tails (omega (arith, l)))
 
--- two parts written one behind the other
+-- two parts written one after the other
 pub two_parts : (first back info parity : List Bool) → first ≡ info → back ≡ parity → length first ≡ 53 → put_mid 53 14 (first ++ replicate 14 false) back ≡ info ++ parity
 two_parts first back info parity a b l =
     let zeros : List Bool = replicate 14 false in
@@ -247,6 +247,6 @@ two_parts first back info parity a b l =
     ap (λ (z : List Bool). z ++ (back ++ post_of 53 14 (first ++ zeros))) front ∙ ap (λ (z : List Bool). first ++ (back ++ z)) none
     ∙ ap (λ (z : List Bool). first ++ z) (append-nil back) ∙ ap (λ (z : List Bool). z ++ back) a ∙ ap (λ (z : List Bool). info ++ z) b
 
--- a field behind a front
+-- a field after a prefix
 pub joined : {x a b c d : List Bool} → x ≡ a ++ c → a ≡ b → c ≡ d → x ≡ b ++ d
 joined {b = b} {c = c} e f g = e ∙ ap (λ (z : List Bool). z ++ c) f ∙ ap (λ (z : List Bool). b ++ z) g

@@ -1,4 +1,4 @@
--- What bits signal, where a few of them are wrong.
+-- The fields that bits with a few errors signal.
 use Rattle.std.proofs.Common.{◌≡◌, ◌+◌, ◌<◌, ◌≤◌, Bool, true, false, cond, inl, inr, ◌⊎◌, List, [], ◌∷◌, length, refl, sym, ap, ◌∙◌, subst, arith}
 use Rattle.std.specs.Prelude.{Option, Some, None}
 use Rattle.std.proofs.lemmas.Bool.{cases_lt}
@@ -13,7 +13,7 @@ pub back : (t : TpsWord) → IsValid t → (answer : Option TpsWord) → ReadsAs
 back t valid None none = absurd (none t valid refl)
 back t valid (Some u) some = ap Some (one_reading t u valid some.0 some.1)
 
--- what is signalled is read of the corrected bits
+-- the signalled fields are read from the corrected bits
 pub found : (bits new : List Bool) (answer : Option TpsWord) (t : TpsWord) → new ≡ tps_word t → Signals bits t → ReadsAs new answer → answer ≡ Some t
 found bits new answer t e h r = back t h.valid answer (subst (λ (z : List Bool). ReadsAs z answer) e r)
 

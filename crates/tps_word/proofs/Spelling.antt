@@ -20,7 +20,7 @@ digit zero l = refl
 digit (suc zero) l = refl
 digit (suc (suc z)) l = absurd (omega (arith, l))
 
--- the low part with one digit more
+-- the low part with one more digit
 one_more : (n x : ℕ) → x % 2 ^ suc n ≡ bit_at x n * 2 ^ n + x % 2 ^ n
 one_more n x = ap (λ (z : ℕ). x % z) (pow-succ' 2 n) ∙ mod-mul x (omega arith) (pow_pos n)
 
@@ -33,7 +33,7 @@ spelled_behind (suc n) x a =
 pub number_of_spelled : (n x : ℕ) → x < 2 ^ n → number_of (spelled n x) ≡ x
 number_of_spelled n x l = spelled_behind n x 0 ∙ omega (arith, mod-eq_of_lt l)
 
--- one bit more is read
+-- one more bit is read
 pub read_on : (bits : List Bool) (i n whole : ℕ) → i < length bits → number_behind n (drop i bits) ≡ whole → number_behind (2 * n + cond (get_or bits i false) 1 0) (drop (i + 1) bits) ≡ whole
 read_on bits i n whole l e =
     let next : i + 1 ≡ suc i = omega arith in
@@ -56,7 +56,7 @@ spelled_at zero x i l = absurd (omega (arith, l))
 spelled_at (suc n) x zero l = let top : n ≡ suc n - 1 - 0 = omega arith in ap (is_set x) top
 spelled_at (suc n) x (suc i) l = let next : n - 1 - i ≡ suc n - 1 - suc i = omega arith in spelled_at n x i (omega (arith, l)) ∙ ap (is_set x) next
 
--- one digit more behind the front
+-- one more digit after the prefix
 pub put_digit : (bits old : List Bool) (at i n x : ℕ) (v : Bool) → at + i < length bits → i < n → v ≡ is_set x (n - 1 - i) → take (at + i) bits ≡ old ++ take i (spelled n x)
     → take (at + (i + 1)) (set bits (at + i) v) ≡ old ++ take (i + 1) (spelled n x)
 put_digit bits old at i n x v room l e h =

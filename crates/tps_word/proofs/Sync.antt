@@ -1,4 +1,4 @@
--- A word's first sixteen bits are a sync word, so bits near to a word begin near to one.
+-- A word's first sixteen bits are a sync word, so bits close to a word begin close to one.
 use Rattle.std.proofs.Common.{◌≡◌, ℕ, zero, suc, ◌+◌, ◌%◌, ◌<◌, ◌≤◌, Bool, true, false, cond, inl, inr, ◌⊎◌, List, [], ◌∷◌, ◌++◌, length, take, map, get_or, refl, sym, ap, ◌∙◌, subst, arith}
 use Rattle.std.specs.Prelude.{not, ◌==◌, nat_le, IsTrue}
 use mir.Val.{bool_byte}
@@ -9,7 +9,7 @@ use Rattle.tps_word.specs.Tps.{tps_word, tps_info, sync_word, length_bits}
 use Rattle.tps_word.specs.declared.word.TpsWord.{TpsWord}
 use Rattle.tps_word.specs.Signals.{Signals}
 
--- a place more
+-- one more position
 pub place_more : (v : List Bool) (text : List ℕ) (i : ℕ) → i < length v → i < length text
     → bit_distance (take (i + 1) v) (take (i + 1) (digits text)) ≡ bit_distance (take i v) (take i (digits text)) + cond (xor (get_or v i false) (get_or text i 0 == 49)) 1 0
 place_more [] text i l k = absurd (omega (arith, l))
@@ -21,7 +21,7 @@ place_more (x ∷ v) (c ∷ text) (suc i) l k =
     ap (λ (n : ℕ). bit_distance (take n (x ∷ v)) (take n (digits (c ∷ text)))) next in
     omega (arith, here, place_more v text i (omega (arith, l)) (omega (arith, k)))
 
--- the front differs at no more places than the whole
+-- a prefix differs in at most as many positions as the whole
 front_closer : (v s r : List Bool) → bit_distance (take (length s) v) s ≤ bit_distance v (s ++ r)
 front_closer v [] r = go v
   where
@@ -31,7 +31,7 @@ front_closer v [] r = go v
 front_closer [] (y ∷ s) r = omega arith
 front_closer (x ∷ v) (y ∷ s) r = omega (arith, front_closer v s r)
 
--- what differs from a bit is its opposite
+-- what differs from a bit is its complement
 differ : (x y : Bool) → cond (xor x y) 1 0 + cond (xor x (not y)) 1 0 ≡ 1
 differ true true = refl
 differ true false = refl

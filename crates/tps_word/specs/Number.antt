@@ -1,4 +1,4 @@
--- The number that bits spell, and the fields by their numbers. They are the code's own; `read` is judged by the digits of the standard.
+-- Fields by their numbers, as the code reads them. The definition of `read` uses the digits of the standard.
 use Rattle.std.specs.Prelude.{ℕ, ◌+◌, ◌*◌, ◌==◌, Bool, List, [], ◌∷◌, if◌then◌else◌, Option, Some, None}
 use Rattle.mode_set.specs.declared.modes.Mode.{Mode}
 use Rattle.mode_set.specs.declared.modes.Mode.TheVariants.{M2k, M8k}
@@ -11,7 +11,7 @@ use Rattle.mode_set.specs.declared.modes.Rate.TheVariants.{R1of2, R2of3, R3of4, 
 use Rattle.mode_set.specs.declared.modes.Guard.{Guard}
 use Rattle.mode_set.specs.declared.modes.Guard.TheVariants.{G1of32, G1of16, G1of8, G1of4}
 
--- n, with the digits behind it
+-- n followed by these binary digits
 abbrev pub number_behind : ℕ → List Bool → ℕ
 number_behind n [] = n
 number_behind n (b ∷ bits) = number_behind (2 * n + (if b then 1 else 0)) bits

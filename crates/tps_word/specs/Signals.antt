@@ -1,15 +1,16 @@
--- What bits signal where a few of them are wrong (that two errors are corrected is this project's own choice; the code of EN 300 744, 4.6.2.11, corrects as many).
+-- The fields that bits with a few errors signal (this project's choice: two errors are corrected, as many as the code
+-- of EN 300 744, 4.6.2.11 can correct).
 use Rattle.std.specs.Prelude.{◌≡◌, ◌≤◌, Bool, List, length}
 use Rattle.tps_bch.specs.Bch.{IsTpsWord, bit_distance}
 use Rattle.tps_word.specs.Tps.{tps_word, IsValid}
 use Rattle.tps_word.specs.declared.word.TpsWord.{TpsWord}
 
--- the bits are within two errors of the word of these fields, which is a word of the code and can be sent
+-- the bits are within two errors of the word of these fields, which is a word of the code and valid
 pub record Signals (bits : List Bool) (fields : TpsWord) : Type 0 where
   pub is_word : IsTpsWord (tps_word fields)
   pub close : bit_distance bits (tps_word fields) ≤ 2
   pub valid : IsValid fields
 
--- 67 bits signal one set of fields at most
+-- 67 bits signal at most one set of fields
 abbrev pub OneSignalled : Type 0
 OneSignalled = (bits : List Bool) (fields other : TpsWord) → length bits ≡ 67 → Signals bits fields → Signals bits other → fields ≡ other

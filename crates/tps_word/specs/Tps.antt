@@ -1,4 +1,4 @@
--- The TPS bits of a frame (EN 300 744, 4.6.2). Each text of digits is the standard's own.
+-- The TPS bits of a frame (EN 300 744, 4.6.2). The strings of digits are the standard's.
 use Rattle.std.specs.Prelude.{◌≡◌, ℕ, ◌-◌, ◌/◌, ◌%◌, ◌≤◌, ◌<◌, IsTrue, IsFalse, ◌==◌, Bool, if◌then◌else◌, List, ◌++◌, codes, unwrap_or, Option, Some, None, is_some}
 use Rattle.spec_words.specs.Bits.{digits, spelled}
 use Rattle.tps_bch.specs.Bch.{tps_parity}
@@ -16,7 +16,7 @@ use Rattle.mode_set.specs.declared.modes.Guard.TheVariants.{G1of32, G1of16, G1of
 use Rattle.mode_set.specs.declared.settings.Settings.{Settings}
 use Rattle.tps_word.specs.declared.word.TpsWord.{TpsWord}
 
--- s1 to s16, by the number of the frame, 1 to 4
+-- s1 to s16, for frame 1 to 4
 unfoldable pub sync_word : ℕ → List Bool
 sync_word frame = if frame % 2 == 1 then digits (codes "0011010111101110") else digits (codes "1100101000010001")
 
@@ -76,16 +76,16 @@ tps_info t =
 unfoldable pub tps_word : TpsWord → List Bool
 tps_word t = tps_info t ++ tps_parity (tps_info t)
 
--- the high byte of the cell identifier in frames 1 and 3, the low byte in frames 2 and 4, zero without one
+-- the high byte of the cell identifier in frames 1 and 3, the low byte in frames 2 and 4; 0 without an identifier
 abbrev pub cell_byte : Option ℕ → ℕ → ℕ
 cell_byte None frame = 0
 cell_byte (Some id) frame = if frame % 2 == 1 then id / 256 else id % 256
 
--- what a frame signals
+-- the fields signalled by a frame
 abbrev pub signalled : Settings → ℕ → TpsWord
 signalled s frame = record { frame = frame; with_cell = is_some s.cell_id; shape = s.shape; hierarchy = s.hierarchy; rate_hp = s.rate_hp; rate_lp = unwrap_or s.rate_lp R1of2; guard = s.guard; mode = s.mode; cell_byte = cell_byte s.cell_id frame }
 
--- fields that can be sent
+-- valid fields
 pub record IsValid (t : TpsWord) : Type 0 where
   pub first : 1 ≤ t.frame
   pub last : t.frame ≤ 4
@@ -94,7 +94,7 @@ pub record IsValid (t : TpsWord) : Type 0 where
   pub rate : IsTrue (is_flat t.hierarchy) → t.rate_lp ≡ R1of2
   pub cell : IsFalse t.with_cell → t.cell_byte ≡ 0
 
--- what 67 bits are read as: the valid fields whose word they are, and nothing where there are none
+-- the fields read from 67 bits: the valid fields with this word, or none
 abbrev pub ReadsAs : List Bool → Option TpsWord → Type 0
 ReadsAs bits None = (t : TpsWord) → IsValid t → bits ≡ tps_word t → ⊥
 ReadsAs bits (Some t) = IsValid t × (bits ≡ tps_word t)

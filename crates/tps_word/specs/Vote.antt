@@ -1,4 +1,5 @@
--- The bit of a symbol, from the TPS cells of it and of the symbol before (this project's own rule: the sign of their correlation), and the bits of a frame.
+-- The TPS bit of a symbol, from its TPS cells and those of the symbol before (this project's own rule: the sign of
+-- their correlation), and the bits of a frame.
 use Rattle.std.specs.Prelude.{ℕ, ◌+◌, Bool, List, [], ◌∷◌, map, ℤ, pos, ◌+ℤ◌, ◌*ℤ◌, int_lt}
 use Rattle.spec_words.specs.Words.{numbers}
 use Rattle.mode_set.specs.declared.modes.Mode.{Mode}
@@ -16,11 +17,11 @@ agreement [] now = pos 0
 agreement (a ∷ before) [] = pos 0
 agreement (a ∷ before) (b ∷ now) = a.re *ℤ b.re +ℤ a.im *ℤ b.im +ℤ agreement before now
 
--- 1 exactly where it is negative
+-- 1 exactly if the sum is negative
 unfoldable pub vote : List Cell → List Cell → Bool
 vote before now = int_lt (agreement before now) (pos 0)
 
--- bit s_(k+1) of a frame that begins with symbol i, from the TPS cells of each symbol: the vote of the frame's symbols k and k + 1
+-- bit s_(k+1) of a frame that begins with symbol i: the vote of symbols i + k and i + k + 1
 abbrev pub bit_from : (ℕ → List Cell) → ℕ → ℕ → Bool
 bit_from cells i k = vote (cells (i + k)) (cells (i + k + 1))
 

@@ -20,8 +20,8 @@ fn gather(carriers: &[u16], symbol: &[Cell], to: &mut [Cell])
     }
 }
 
-/// Copies the TPS cells out of the cells of a symbol, carriers rising, and answers how many they are:
-/// 17 in the 2K mode, 68 in the 8K mode. They stand first.
+/// Copies the TPS cells of a symbol, carriers rising, to the start of `to`, and returns their number: 17 in the 2K
+/// mode, 68 in the 8K mode.
 pub fn take_tps_cells(mode: Mode, symbol: &[Cell], to: &mut [Cell; 68]) -> usize
     requires { length symbol.now ≡ carriers mode }
     ensures number { result ≡ length (tps_carriers mode) }

@@ -6,7 +6,7 @@ ghost use Rattle.tps_word.specs.Number.{number_of, shape_numbered, hierarchy_num
 
 use mode_set::{Guard, Hierarchy, Mode, Rate, Shape};
 
-/// Writes a text of digits behind the first `at` bits, and answers where it ends.
+/// Writes a string of digits after the first `at` bits, and returns where it ends.
 pub(crate) fn put(bits: &mut [bool], at: usize, text: &[u8]) -> usize
     requires { at + length text.now ≤ length bits.old }
     ensures end { result ≡ at + length text.now }
@@ -18,7 +18,7 @@ pub(crate) fn put(bits: &mut [bool], at: usize, text: &[u8]) -> usize
     at + text.len()
 }
 
-/// Writes a number in `width` digits behind the first `at` bits, and answers where it ends.
+/// Writes a number in `width` digits after the first `at` bits, and returns where it ends.
 pub(crate) fn put_number(bits: &mut [bool], at: usize, width: usize, number: u8) -> usize
     requires width { width ≤ 8 }
     requires room { at + width ≤ length bits.old }
@@ -31,7 +31,7 @@ pub(crate) fn put_number(bits: &mut [bool], at: usize, width: usize, number: u8)
     at + width
 }
 
-/// The number that bits spell, the most significant first.
+/// The number of a list of bits, most significant first.
 pub(crate) fn number(bits: &[bool]) -> u8
     requires { length bits.now ≤ 8 }
     ensures value { result ≡ number_of bits.now }
@@ -127,7 +127,7 @@ pub(crate) fn mode_digits(mode: Mode) -> &'static [u8; 2]
     }
 }
 
-/// The constellation whose digits spell the number.
+/// The constellation for the number of its digits.
 pub(crate) fn shape_of(number: u8) -> Option<Shape>
     ensures { result ≡ shape_numbered number }
 {

@@ -1,5 +1,5 @@
-//! Transmission parameter signalling (TPS): the 67 bits that a frame of 68 symbols carries on its TPS
-//! carriers, from their fields and back, and the bit that two symbols show.
+//! Transmission parameter signalling (TPS): the 67 bits that a frame of 68 symbols carries on its TPS carriers, from
+//! their fields and back, and the bit decided from two symbols.
 //!
 //! EN 300 744, 4.6.
 #![tactic(auto)]

@@ -1,4 +1,4 @@
-// The word that bits signal where some of them are wrong.
+// The word signalled by bits with some errors.
 ghost use Rattle.std.specs.Prelude.{◌≡◌, IfSome, IsTrue, Some, take};
 ghost use Rattle.tps_bch.specs.Bch.{bit_distance};
 ghost use Rattle.tps_word.specs.Tps.{sync_word};
@@ -15,7 +15,7 @@ const CORRECTED: u8 = 2;
 // The bits of a sync word.
 const SYNC: u8 = 16;
 
-// At how many places the first bits differ from the sync word of the frames 1 and 3.
+// The number of bits where the first ones differ from the sync word of frames 1 and 3.
 fn sync_errors(bits: &[bool; 67]) -> u8
     ensures { result ≡ bit_distance (take 16 bits.now) (sync_word 1) }
 {
@@ -26,8 +26,8 @@ fn sync_errors(bits: &[bool; 67]) -> u8
     errors
 }
 
-// Are the first bits so near to a sync word that the bits may signal a word? The sync word of the
-// frames 2 and 4 is the opposite of the other.
+// Whether the first bits are close enough to a sync word to signal a word. The sync word of frames 2 and 4 is the
+// complement of the other.
 fn may_signal(bits: &[bool; 67]) -> bool
     ensures { (t : Word) → Signals bits.now t → IsTrue result }
 {
@@ -36,9 +36,8 @@ fn may_signal(bits: &[bool; 67]) -> bool
 }
 
 impl TpsWord {
-    /// The fields that the bits s1 to s67 signal where at most two of them are wrong: those of the word
-    /// of the code within two errors, if its fields can be sent. Bits without a sync word within two
-    /// errors cost little.
+    /// The fields that bits s1 to s67 signal with at most two errors: those of the word of the code within distance 2,
+    /// if they are valid. Bits without a sync word within two errors are cheap to reject.
     pub fn nearest(bits: &[bool; 67]) -> Option<TpsWord>
         ensures signalled { IfSome result (λ t. Signals bits.now t) }
         ensures found { (t : Word) → Signals bits.now t → result ≡ Some t }

@@ -20,9 +20,9 @@ fn correlation(before: Cell, now: Cell) -> i64
     i64::from(re) + i64::from(im)
 }
 
-/// The TPS bit of a symbol from its TPS cells `now` and those of the symbol `before` it: 1 exactly
-/// where the sum of the products `re re' + im im'` over the carriers is negative, since a 1 turns the
-/// sign of every TPS cell (EN 300 744, 4.6.3). Both have as many cells, at most 68.
+/// The TPS bit of a symbol, from its TPS cells `now` and those of the symbol `before` it: 1 exactly if the sum of the
+/// products `re re' + im im'` over the carriers is negative, since a 1 inverts every TPS cell (EN 300 744, 4.6.3). Both
+/// have the same number of cells, at most 68.
 pub fn vote(before: &[Cell], now: &[Cell]) -> bool
     requires same { length before.now ≡ length now.now }
     requires few { length before.now ≤ 68 }

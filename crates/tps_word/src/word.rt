@@ -6,9 +6,9 @@ use crate::fields::{
 use mode_set::{Guard, Hierarchy, Mode, Rate, Settings, Shape};
 use tps_bch::parity;
 
-/// What the TPS bits of a frame signal (EN 300 744, 4.6.2).
+/// The fields signalled by the TPS bits of a frame (EN 300 744, 4.6.2).
 ///
-/// `shape` to `mode` announce the following super-frame; the other fields speak of the present one.
+/// `shape` to `mode` announce the next super-frame; the other fields are those of the current one.
 #[derive(Clone, Copy, Debug, PartialEq, Eq)]
 pub struct TpsWord {
     /// The frame's number in its super-frame, 1 to 4.
@@ -17,7 +17,7 @@ pub struct TpsWord {
     pub with_cell: bool,
     /// The constellation.
     pub shape: Shape,
-    /// The hierarchy; QPSK stands without one.
+    /// The hierarchy; QPSK has none.
     pub hierarchy: Hierarchy,
     /// The inner code's rate of the HP stream.
     pub rate_hp: Rate,
@@ -37,7 +37,7 @@ impl TpsWord {
     ghost use Rattle.tps_word.specs.declared.word.TpsWord.{TpsWord as Word};
     ghost use Rattle.tps_word.specs.Tps.{tps_info, tps_word, signalled, IsValid, ReadsAs};
 
-    /// What a frame of a transmission with these settings signals.
+    /// The fields that a frame of a transmission with these settings signals.
     pub fn signalled(settings: &Settings, frame: u8) -> TpsWord
         requires first { 1 ≤ frame }
         requires last { frame ≤ 4 }
@@ -86,8 +86,8 @@ impl TpsWord {
         bits
     }
 
-    /// The bits s1 to s67 of a frame with these fields (EN 300 744, 4.6.2). `frame` is 1 to 4, and without an
-    /// identifier of the cell `cell_byte` is 0.
+    /// The bits s1 to s67 of a frame with these fields (EN 300 744, 4.6.2). `frame` is 1 to 4, and without a cell
+    /// identifier `cell_byte` is 0.
     pub fn write(&self) -> [bool; 67]
         requires first { 1 ≤ self.now.frame }
         requires last { self.now.frame ≤ 4 }
@@ -101,7 +101,7 @@ impl TpsWord {
         word
     }
 
-    // QPSK stands without a hierarchy.
+    // QPSK has no hierarchy.
     fn shape_stands(&self) -> bool
         ensures { IsTrue result ↔ (IsTrue (is_qpsk self.now.shape) → IsTrue (is_flat self.now.hierarchy)) }
     {
@@ -123,7 +123,7 @@ impl TpsWord {
         }
     }
 
-    // Whether these fields can be sent.
+    // Whether these fields are valid.
     fn is_valid(&self) -> bool
         requires first { 1 ≤ self.now.frame }
         requires last { self.now.frame ≤ 4 }
@@ -139,7 +139,7 @@ impl TpsWord {
         if self.with_cell { true } else { byte == 0 }
     }
 
-    // The fields at their places, which are those of every word that the bits can be.
+    // The fields at their fixed positions in the bits.
     fn fields_of(bits: &[bool; 67]) -> Option<TpsWord>
         ensures word { (t : Word) → IsValid t → bits.now ≡ tps_word t → result ≡ Some t }
         ensures frame { IfSome result (λ t. (1 ≤ t.frame) × (t.frame ≤ 4)) }
@@ -157,8 +157,8 @@ impl TpsWord {
         })
     }
 
-    /// The fields that the bits s1 to s67 signal: `None` exactly where a field holds a value outside
-    /// the standard's table, two fields contradict each other, or the parity does not hold.
+    /// The fields that bits s1 to s67 signal: `None` exactly if a field has a value outside the standard's table, two
+    /// fields contradict each other, or the parity is wrong.
     pub fn read(bits: &[bool; 67]) -> Option<TpsWord>
         ensures { ReadsAs bits.now result }
     {

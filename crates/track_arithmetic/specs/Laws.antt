@@ -1,4 +1,4 @@
--- Laws of rounding and of the root, and the bounds that keep sums in range.
+-- Laws of rounding and of the square root, and bounds that keep sums in range.
 use Rattle.std.specs.Prelude.{ℕ, ◌*◌, ◌<◌, ◌≤◌, ℤ, pos, nat_abs, ◌+ℤ◌, ◌*ℤ◌, ◌≤ℤ◌, ◌<ℤ◌}
 use Rattle.track_arithmetic.specs.Numbers.{floor, root}
 use Rattle.track_arithmetic.specs.declared.complex.Complex.{Complex}
@@ -13,6 +13,7 @@ pub record IsFloorOf (x : ℤ) (n : ℕ) (q : ℤ) : Type 0 where
   pub above : (pos n *ℤ q) ≤ℤ x
   pub below : x <ℤ (pos n *ℤ q +ℤ pos n)
 
+-- every quotient is rounded down
 abbrev pub QuotientsAreRoundedDown : Type 0
 QuotientsAreRoundedDown = (x : ℤ) (n : ℕ) → 0 < n → IsFloorOf x n (floor x n)
 
@@ -21,5 +22,6 @@ pub record IsRoot (n s : ℕ) : Type 0 where
   pub within : s * s ≤ n
   pub greatest : (t : ℕ) → t * t ≤ n → t ≤ s
 
+-- the root is that number
 abbrev pub RootIsGreatest : Type 0
 RootIsGreatest = (n : ℕ) → IsRoot n (root n)

@@ -13,7 +13,7 @@ use Rattle.track_arithmetic.specs.Laws.{IsWithin}
 use Rattle.track_arithmetic.specs.Numbers.{nothing}
 use Rattle.track_arithmetic.specs.declared.complex.Complex.{Complex}
 
--- the gain at a number
+-- gain k
 abbrev pub gain_of : List Complex → ℕ → Complex
 gain_of gains k = get_or gains k nothing
 
@@ -21,11 +21,11 @@ gain_of gains k = get_or gains k nothing
 abbrev pub AreWithin : ℕ → List Complex → Type 0
 AreWithin n gains = (k : ℕ) → k < length gains → IsWithin n (gain_of gains k)
 
--- the bytes of the first n carriers after their correction
+-- the bytes of the first n carriers after correction
 unfoldable pub corrected_bytes : ℕ → List Complex → List Cell → List ℕ → ℕ → List ℕ
 corrected_bytes full gains cells weights n = flat_map (λ k. bytes_of (corrected full (gain_of gains k) (cell_of cells k) (slice_index weights k))) (numbers n)
 
--- the gains at the points of a symbol are turned so that the middle of the guard interval has no delay
+-- the gains at the points of a symbol, turned so that the middle of the guard interval has no delay
 abbrev pub AreCentred : Guard → Mode → (ℕ → Complex) → List Complex → Type 0
 AreCentred guard mode gains list = (j : ℕ) → j < points mode → gain_of list j ≡ centred guard gains j
 

@@ -1,4 +1,4 @@
--- The running means of what the predictions leave.
+-- The running means of the prediction errors.
 use Rattle.std.specs.Prelude.{◌≡◌, ℕ, ◌+◌, ◌-◌, ◌*◌, ◌≤◌, Option, None, Some}
 use Rattle.tracking.specs.Comb.{Comb}
 use Rattle.tracking.specs.Moving.{mean_residue, predicted}
@@ -7,18 +7,19 @@ use Rattle.tracking.specs.declared.motion.Motion.TheVariants.{Slow, Fast}
 use Rattle.track_arithmetic.specs.Numbers.{minus, power}
 use Rattle.track_motion.specs.declared.residues.Residues.{Residues}
 
--- how far point j of symbol m is from what is predicted
+-- the prediction error of point j of symbol m
 abbrev pub left : Comb → Motion → ℕ → ℕ → ℕ
 left c f m j = power (minus (c.value m j) (predicted c f m j))
 
--- no point is further, so no sum over 177 points exceeds this
+-- the greatest error of a point; it bounds the sum over 177 points
 abbrev pub most_left : ℕ
 most_left = 173946175488
 
+-- the greatest residue
 abbrev pub most_residue : ℕ
 most_residue = 177 * most_left
 
--- each mean by itself
+-- each mean separately
 abbrev pub slow_of : Option Residues → Option ℕ
 slow_of None = None
 slow_of (Some r) = Some r.slow
@@ -27,12 +28,12 @@ abbrev pub fast_of : Option Residues → Option ℕ
 fast_of None = None
 fast_of (Some r) = Some r.fast
 
--- they are the running means after symbol m
+-- these are the running means after symbol m
 pub record AreMeans (c : Comb) (m : ℕ) (means : Option Residues) : Type 0 where
   pub slow : slow_of means ≡ mean_residue c Slow m
   pub fast : fast_of means ≡ mean_residue c Fast m
 
--- none is greater than a sum can be
+-- no mean exceeds the greatest sum
 abbrev pub AreSmall : Option Residues → Type 0
 AreSmall None = Unit {0}
 AreSmall (Some r) = (r.slow ≤ most_residue) × (r.fast ≤ most_residue)

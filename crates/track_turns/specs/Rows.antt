@@ -8,7 +8,7 @@ use Rattle.track_arithmetic.specs.declared.complex.Complex.{Complex}
 abbrev pub at : List Complex → ℕ → Complex
 at row j = get_or row j nothing
 
--- each of these points is in the row, and no value of the row exceeds that of a cell
+-- all these points are in the row, and no value of the row exceeds that of a cell
 pub record IsRow (points : List ℕ) (row : List Complex) : Type 0 where
   pub has : (i : ℕ) → i < length points → get_or points i 0 < length row
   pub small : (j : ℕ) → j < length row → IsWithin (2 ^ 15) (at row j)
@@ -20,7 +20,7 @@ product row other j = times (at row j) (conjugate (at other j))
 abbrev pub products : List ℕ → List Complex → List Complex → Complex
 products points row other = sum_of (product row other) points
 
--- how far a row is from another that is turned
+-- the distance of a row from another row after a turn
 abbrev pub difference : List Complex → List Complex → Complex → ℕ → ℕ
 difference row other turn j = power (minus (at row j) (near 14 (times (at other j) turn)))
 

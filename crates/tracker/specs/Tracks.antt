@@ -1,4 +1,4 @@
--- What a tracker stands for: the symbols that it has had, and those that it has given.
+-- The state of a tracker: the symbols that it has received and given.
 use Rattle.std.specs.Prelude.{◌≡◌, ℕ, ◌+◌, ◌-◌, ◌^◌, ◌≤◌, Bool, false, List, map, Option}
 use Rattle.mode_set.specs.StreamTable.{carriers}
 use Rattle.mode_set.specs.declared.modes.Mode.{Mode}
@@ -10,13 +10,13 @@ use Rattle.track_motion.specs.declared.residues.Residues.{Residues}
 use Rattle.track_pilots.specs.Window.{WindowState, StandsFor}
 use Rattle.track_ring.specs.Ring.{RingState, Keeps}
 
--- room for the gains at the comb points, twice, and at all carriers
+-- space for the gains at the comb points, twice, and at all carriers
 pub record HasRoom (m : Mode) (at_points turned at_carriers : ℕ) : Type 0 where
   pub gains : at_points ≡ points m
   pub centred : turned ≡ points m
   pub all : at_carriers ≡ carriers m
 
--- what is seen of a tracker
+-- the visible state of a tracker
 pub record TrackerState : Type 0 where
   pub settings : Settings
   pub window : WindowState
@@ -25,7 +25,7 @@ pub record TrackerState : Type 0 where
   pub given : ℕ
   pub ended : Bool
 
--- before the end the last seven symbols are not given yet, after it at most these
+-- before the end the last seven symbols are not yet given, after it at most these
 pub record IsTracking (m : Mode) (t : TrackerState) : Type 0 where
   pub mode : t.settings.mode ≡ m
   pub same : t.ring.count ≡ t.window.count
@@ -35,7 +35,7 @@ pub record IsTracking (m : Mode) (t : TrackerState) : Type 0 where
   pub few : t.window.count ≤ 2 ^ 32
   pub small : AreSmall t.means
 
--- these are the symbols that it has had
+-- the symbols received
 pub record Tracks (t : TrackerState) (symbols : List Symbol) : Type 0 where
   pub window : StandsFor t.settings.mode t.window (map (λ x. x.cells) symbols)
   pub ring : Keeps (carriers t.settings.mode) t.ring symbols

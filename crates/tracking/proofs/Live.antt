@@ -1,4 +1,4 @@
--- A symbol depends on those up to seven after it alone.
+-- A symbol depends on no symbol beyond the next seven.
 use Rattle.std.proofs.Common.{◌≡◌, ℕ, zero, suc, ◌+◌, ◌-◌, ◌*◌, ◌/◌, ◌<◌, ◌≤◌, List, [], ◌∷◌, ◌++◌, length, get_or, Bool, true, false, not, nat_le, nat_lt, refl, ap, sym, ◌∙◌, subst, arith, map, min, cond}
 use Rattle.std.specs.Prelude.{◌&&◌, ◌==◌, if◌then◌else◌, pos, Option, Some, None, filter, sum_by}
 use Rattle.std.specs.List.{list_any, range_with_len}
@@ -19,7 +19,7 @@ use Rattle.track_arithmetic.specs.Middle.{middle_of}
 use Rattle.track_arithmetic.specs.Numbers.{times, minus, conjugate, scaled, power, sum_of, shifted, near, forward, direction}
 use Rattle.track_arithmetic.specs.declared.complex.Complex.{Complex}
 
--- both combs have the first n symbols, and these are the same
+-- both combs have the same first n symbols
 pub record Agree (c d : Comb) (n : ℕ) : Type 0 where
   pub mode : c.mode ≡ d.mode
   pub here : n ≤ c.count
@@ -78,7 +78,7 @@ module _ (c d : Comb) (n : ℕ) (a : Agree c d n) where
       let each : (j : ℕ) → f j ≡ g j = λ j. ap (λ (z : Complex). power (minus z (near 14 (turned_value c t (t - 1) j)))) (a.value t j h) ∙ ap (λ (z : Complex). power (minus (d.value t j) (near 14 z))) (same_value t (t - 1) j h (omega (arith, h))) in
       ap (λ (z : Mode). sum_by f (continual_points z)) a.mode ∙ total_same (continual_points d.mode) f g (λ i k. each (get_or (continual_points d.mode) i 0))
 
-  -- from here on symbol m and the seven after it are among the n
+  -- from here on, symbol m and the seven after it are among the n
   same_end : (m : ℕ) → m + 8 ≤ n → window_end c m ≡ window_end d m
   same_end m h = omega (arith, h, a.here, a.there)
 

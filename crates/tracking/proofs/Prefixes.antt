@@ -27,7 +27,7 @@ use Rattle.tracking.proofs.Same.{sum_same, total_same, map_same, bytes_same}
 use Rattle.track_arithmetic.specs.Numbers.{times, scaled, power, near, sum_of, turned_by}
 use Rattle.track_arithmetic.specs.declared.complex.Complex.{Complex}
 
--- ---- by the gains at the points alone
+-- ---- from the gains at the points only
 same_carrier : (g : Guard) (m : Mode) (h i : ℕ → Complex) (k : ℕ) → ((j : ℕ) → h j ≡ i j) → carrier_gain g m h k ≡ carrier_gain g m i k
 unfolding carrier_gain
 same_carrier g m h i k e =

@@ -5,7 +5,8 @@ use Rattle.mode_set.specs.declared.modes.Guard.TheVariants.{G1of32, G1of16, G1of
 use Rattle.tracking.specs.declared.motion.Motion.{Motion}
 use Rattle.tracking.specs.declared.motion.Motion.TheVariants.{Slow, Fast}
 
--- the taps of the interpolation in time for a channel that changes slowly or fast, four for each distance from 0 to 3, as 4096 times the weight of a symbol
+-- the taps of the interpolation in time for a slow and a fast channel, four for each distance 0 to 3, as 4096 times the
+-- weight of a symbol
 unfoldable pub time_taps : Motion → List (List ℤ)
 time_taps Slow =
     (pos 1365 ∷ pos 1366 ∷ pos 1365 ∷ pos 0 ∷ []) ∷
@@ -18,7 +19,8 @@ time_taps Fast =
     (neg_ℤ (pos 381) ∷ pos 2429 ∷ pos 2429 ∷ neg_ℤ (pos 381) ∷ []) ∷
     (neg_ℤ (pos 268) ∷ pos 1233 ∷ pos 3426 ∷ neg_ℤ (pos 295) ∷ []) ∷ []
 
--- the first seventeen rows of the interpolation in frequency, by the guard interval, as 16384 times the weight of a comb point
+-- the first 17 rows of the interpolation in frequency for each guard interval, as 16384 times the weight of a comb
+-- point
 unfoldable pub frequency_rows : Guard → List (List ℤ)
 frequency_rows G1of32 =
     (pos 13948 ∷ pos 4381 ∷ neg_ℤ (pos 488) ∷ neg_ℤ (pos 1757) ∷ neg_ℤ (pos 1000) ∷ pos 260 ∷ pos 975 ∷ pos 778 ∷ neg_ℤ (pos 46) ∷ neg_ℤ (pos 798) ∷ neg_ℤ (pos 705) ∷ pos 753 ∷ []) ∷

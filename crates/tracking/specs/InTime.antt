@@ -10,12 +10,13 @@ use Rattle.track_arithmetic.specs.Numbers.{scaled, near, sum_of}
 use Rattle.track_arithmetic.specs.declared.complex.Complex.{Complex}
 use Rattle.tracking.specs.declared.motion.Motion.{Motion}
 
--- how many symbols before symbol m point j was a scattered pilot last: it is one where the numbers of symbol and point are equal modulo 4
+-- the number of symbols since point j was last a scattered pilot at symbol m; it is one when the numbers of symbol and
+-- point are equal modulo 4
 abbrev pub distance : ℕ → ℕ → ℕ
 distance m j = (m + 3 * j) % 4
 
--- The four symbols around symbol m at which a point at this distance is a scattered pilot, one before the last one, the last one, and two more.
--- They are numbered by their places in the fifteen symbols around m: symbol m is at place 7. Place 15 is eight after m.
+-- The four symbols around symbol m where a point at distance d is a scattered pilot: one before the last, the last, and
+-- the two after. Places 0 to 14 are the fifteen symbols around m, place 7 being m; place 15 is eight after m.
 abbrev pub place : ℕ → ℕ → ℕ
 place d i = 3 + 4 * i - d
 
@@ -27,11 +28,11 @@ symbol_at m p = m + p - 7
 abbrev pub is_there : Comb → ℕ → ℕ → Bool
 is_there c m p = nat_le 7 (m + p) && is_inside c m (symbol_at m p)
 
--- whether it is there and not bad for m
+-- whether the file has it and it is not bad for m
 abbrev pub is_good : Comb → ℕ → ℕ → Bool
 is_good c m p = is_there c m p && not (is_bad c m (symbol_at m p))
 
--- the good ones among the four, or all that are there if none is good
+-- the good ones of the four, or all present ones if none is good
 abbrev pub counting_of : List ℕ → List ℕ → List ℕ
 counting_of [] there = there
 counting_of (p ∷ ps) there = p ∷ ps
@@ -40,15 +41,15 @@ counting_of (p ∷ ps) there = p ∷ ps
 unfoldable pub counting : Comb → ℕ → ℕ → List ℕ
 counting c m d = counting_of (filter (is_good c m) (map (place d) (numbers 4))) (filter (is_there c m) (map (place d) (numbers 4)))
 
--- how far a place is from symbol m
+-- the distance of a place from symbol m
 abbrev pub apart : ℕ → ℕ
 apart p = (p - 7) + (7 - p)
 
--- the place nearest to symbol m, and of two the earlier
+-- the place nearest to symbol m, of two the earlier
 abbrev pub nearest_place : List ℕ → ℕ
 nearest_place ps = unwrap_or (find (λ p. apart p == least (map apart ps)) ps) 7
 
--- where the tap of a place goes: its own if it counts, else to the nearest one that counts
+-- the place that gets the tap of p: p itself if it counts, otherwise the nearest one that counts
 abbrev pub receiver : List ℕ → ℕ → ℕ
 receiver ps p = if is_among ps p then p else nearest_place ps
 
@@ -56,11 +57,11 @@ abbrev pub sum_ℤ : (ℕ → ℤ) → List ℕ → ℤ
 sum_ℤ f [] = pos 0
 sum_ℤ f (i ∷ is) = f i +ℤ sum_ℤ f is
 
--- all taps that go to place p
+-- the sum of the taps for place p
 unfoldable pub tap_at : Motion → ℕ → List ℕ → ℕ → ℤ
 tap_at f d ps p = sum_ℤ (λ i. if receiver ps (place d i) == p then tap f d i else pos 0) (numbers 4)
 
--- the gain at point j of symbol m by the pilots at the places that count, as 16 times the value of a pilot
+-- the gain at point j of symbol m from the pilots at the places that count, as 16 times the value of a pilot
 abbrev pub gain_by : Comb → ℕ → ℕ → Motion → List ℕ → Complex
 gain_by c m j f ps = near 22 (sum_of (λ p. scaled (tap_at f (distance m j) ps p) (turned_value c m (symbol_at m p) j)) ps)
 

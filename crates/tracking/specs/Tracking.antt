@@ -1,4 +1,5 @@
--- A file of cells, corrected by the scattered pilots of neighbouring symbols. It begins at the first symbol of a super-frame.
+-- A cell file corrected by the scattered pilots of neighbouring symbols. It begins at the first symbol of a
+-- super-frame.
 use Rattle.std.specs.Prelude.{ℕ, ◌-◌, ◌/◌, ◌==◌, if◌then◌else◌, List, [], length, map, get_or, slice_index, flat_map, Option, Some, None}
 use Rattle.spec_words.specs.Words.{numbers}
 use Rattle.mode_set.specs.Entries.{entry}
@@ -17,12 +18,12 @@ use Rattle.track_arithmetic.specs.declared.complex.Complex.{Complex}
 use Rattle.tracking.specs.declared.motion.Motion.TheVariants.{Slow, Fast}
 use Rattle.tracking.specs.declared.tracked.Tracked.{Tracked}
 
--- a symbol that was received: the cells of its carriers and their weights
+-- a received symbol: the cells of its carriers and their weights
 pub record Symbol : Type 0 where
   pub cells : List Cell
   pub weights : List ℕ
 
--- what a file shows at its comb points
+-- the comb points of a file
 abbrev pub comb : Settings → List Symbol → Comb
 comb s symbols = comb_of s.mode (map (λ x. x.cells) symbols)
 
@@ -30,7 +31,7 @@ comb s symbols = comb_of s.mode (map (λ x. x.cells) symbols)
 unfoldable pub gain : Settings → Comb → ℕ → ℕ → Complex
 gain s c m k = carrier_gain s.guard s.mode (point_gain s.guard c m) k
 
--- the noise by the motion, or half the middle change if none was measured
+-- the noise from the motion, or half the median change if no motion was measured
 abbrev pub noise_by : Option ℕ → Option ℕ → ℕ → ℕ
 noise_by None fast middle = middle / 2
 noise_by (Some slow) None middle = middle / 2
@@ -40,13 +41,14 @@ noise_by (Some slow) (Some fast) middle = noise_of slow fast
 unfoldable pub noise : Comb → ℕ → ℕ
 noise c m = noise_by (mean_residue c Slow m) (mean_residue c Fast m) (middle c m)
 
--- the power with which a cell of symbol m counts whole; the mean if nothing is known of the noise, as the file has one symbol
+-- the power at which a cell of symbol m has full weight; the mean power if the file has one symbol, where the noise is
+-- unknown
 unfoldable pub reference_power : Settings → Comb → ℕ → ℕ
 reference_power s c m =
     if length (window c m) == 1 then mean_power s.mode (gain s c m)
     else full_power (entry s (m / 272)).shape (mean_power s.mode (gain s c m)) (noise c m) (length (continual_points s.mode))
 
--- carrier k of symbol m after its correction
+-- carrier k of symbol m after correction
 unfoldable pub tracked : Settings → List Symbol → ℕ → ℕ → Tracked
 tracked s symbols m k =
     let x = get_or symbols m (record { cells = []; weights = [] }) in
@@ -56,7 +58,7 @@ tracked s symbols m k =
 abbrev pub bytes_of : Tracked → List ℕ
 bytes_of x = cell_bytes x.cell x.weight
 
--- the bytes of symbol m after its correction, carriers rising
+-- the bytes of symbol m after correction, carriers rising
 unfoldable pub tracked_bytes : Settings → List Symbol → ℕ → List ℕ
 tracked_bytes s symbols m = flat_map (λ k. bytes_of (tracked s symbols m k)) (numbers (carriers s.mode))
 

@@ -1,7 +1,7 @@
-//! Channel tracking: what the cells of a file are corrected to by the scattered pilots of neighbouring
-//! symbols. Definitions, and laws as contracts of functions that do nothing.
+//! Channel tracking: the cells of a file corrected by the scattered pilots of neighbouring symbols. Definitions, and
+//! laws as contracts of functions with empty bodies.
 //!
-//! EN 300 744, 4.5, has the pilots; the rule is this project's own.
+//! The pilots are those of EN 300 744, 4.5; the rule is this project's own.
 #![tactic(auto)]
 
 pub mod laws;

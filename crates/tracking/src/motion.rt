@@ -1,9 +1,9 @@
-// How fast the channel changes.
+// The speed of the channel's changes.
 
-/// How fast the channel is taken to change from symbol to symbol. It decides the interpolation in time.
+/// The assumed speed of the channel's changes from symbol to symbol. It selects the interpolation in time.
 #[derive(Clone, Copy, Debug, PartialEq, Eq)]
 pub enum Motion {
-    /// So slowly that the pilots of sixteen symbols are averaged.
+    /// Slow enough to average the pilots of sixteen symbols.
     Slow,
     /// So fast that the nearest pilots count most.
     Fast,

@@ -1,7 +1,7 @@
 // A corrected cell.
 use qam_map::Cell;
 
-/// A cell after its correction, and how far it can be trusted, 0 to 15.
+/// A cell after correction, and its reliability, 0 to 15.
 #[derive(Clone, Copy, Debug, PartialEq, Eq)]
 pub struct Tracked {
     /// The cell divided by the gain of the channel.

@@ -1,4 +1,4 @@
--- A symbol depends on the packets up to its own alone.
+-- A symbol depends only on the packets up to its own.
 use Rattle.std.proofs.Common.{◌≡◌, ℕ, zero, suc, ◌+◌, ◌-◌, ◌*◌, ◌/◌, ◌%◌, ◌<◌, ◌≤◌, ◌⊎◌, inl, inr, List, [], ◌∷◌, refl, sym, ap, ◌∙◌, subst, arith, Bool, true, false, cond, IsTrue}
 use Rattle.std.specs.Prelude.{slice_index, slice_index_or, nat_lt}
 use Rattle.std.proofs.lemmas.Bool.{cases_lt, lt-ltb, le-ltb}
@@ -33,7 +33,7 @@ use Rattle.transmission.specs.SuperFrames.{packets_for}
 use Rattle.transmission.specs.Laws.{SameBeginning}
 use Rattle.transmission.proofs.PacketCounts.{the_packets_are_least}
 
--- ---- the word that a payload place carries
+-- ---- the word on a payload carrier
 word_within : HIsAPermutation → PlacesAndWordsAgree → (m : Mode) (odd : Bool) (q : ℕ) → q < payload m → carried m odd q < payload m
 word_within perm agree m true q l = (perm m).below q l
 word_within perm agree m false q l =
@@ -45,7 +45,7 @@ word_within perm agree m false q l =
     below_at : (a b n : ℕ) → a ≡ b → b < n → a < n
     below_at a b n e k = omega (arith, e, k)
 
--- ---- each place of a word has a coded bit of the symbol
+-- ---- each bit of a word is a coded bit of the symbol
 offset_small : (e : ℕ) → offset e < 126
 offset_small zero = omega arith
 offset_small (suc zero) = omega arith
@@ -62,7 +62,7 @@ index_within : (m : Mode) (w o : ℕ) → w < payload m → 126 * (w / 126) + (w
 index_within M2k w o l = omega (arith, l)
 index_within M8k w o l = omega (arith, l)
 
--- bit d of a stream with n bits a label, from place f on, stands at place e of word w, and is one of so many
+-- bit d of a stream with n bits a label, from bit f on, is bit e of word w, and one of `most`
 record At (n half f e w most : ℕ) : Type 0 where
   d : ℕ
   place : d % n / half + 2 * (d % n % half) + f ≡ e
@@ -123,7 +123,7 @@ at_6 m f e w l k b =
       within = p.2;
     }
 
--- the coded bit that stands at place e of word w
+-- the coded bit at bit e of word w
 record Placed (c : Shape) (hi : Hierarchy) (σ : Stream) (e w most : ℕ) : Type 0 where
   d : ℕ
   place : place_in_label c hi σ d ≡ e
@@ -187,7 +187,7 @@ number_within found s e w l b =
     below_at : (a b n : ℕ) → a ≡ b → b < n → a < n
     below_at a b n e k = omega (arith, e, k)
 
--- ---- sent bits of paths that begin alike
+-- ---- sent bits of paths with a common prefix
 last_step : (r : Rate) (i : ℕ) → step_in_period (slice_index_or (sent r) i (X 1)) ≤ steps_in_period r
 last_step R1of2 zero = omega arith
 last_step R1of2 (suc zero) = omega arith
@@ -296,7 +296,7 @@ same_paths bytes more s inputs other m σ same i l =
     sum_up : (c a n b : ℕ) → c ≡ a + n → c ≤ 1632 * b → i < n + 6 → a + i < 8 * (204 * b) + 6
     sum_up c a n b e q t = omega (arith, e, q, t)
 
--- what is known of the coding of a symbol
+-- the known facts on the coding of a symbol
 pub record AreCoded : Type 0 where
   pub bytes : SameBytes
   pub more : StepsOfOneMore
@@ -315,7 +315,7 @@ same_labels known s inputs other m same q e l k =
     same_coded_bit known.steps z σ (number_at z e w) (paths_at s inputs m σ) (paths_at s other m σ) (number_within known.found z e w k (word_within known.permutation known.agree z.mode (is_odd m) q l))
     (same_paths known.bytes known.more s inputs other m σ (same σ))
 
--- symbols follow their labels, whatever the settings of their mode
+-- symbols depend on their labels only, for any settings of the mode
 pub same_beginning : (s : Settings) (m : ℕ) → ModeStays → AreCoded
     → ((now next : Settings) (labels more : ℕ → ℕ → Bool) → now.mode ≡ s.mode → Agree now labels more → announcing_bytes now next m labels ≡ announcing_bytes now next m more) → SameBeginning s m
 unfolding tx_symbol

@@ -1,4 +1,4 @@
--- A work without end is refused.
+-- Endless work is refused.
 use Rattle.std.proofs.Common.{◌≡◌, ℕ, ◌+◌, ◌*◌, List, [], ◌∷◌, ◌++◌, sym, ap, ◌∙◌, subst, arith, Bool, true, false, cond, ◌⊎◌, inl, inr}
 use Rattle.std.specs.Prelude.{Some, None, Option, find, flat_map, is_some, option_and_then, option_map, unwrap_or}
 use Rattle.std.proofs.lemmas.Bool.{le-leb, true≢false, cases_Bool}
@@ -12,12 +12,12 @@ use Rattle.transmission.specs.AgendaLaws.{EndlessIsRefused}
 use Rattle.mode_set.specs.declared.modes.Stream.TheVariants.{Hp, Lp}
 use Rattle.mode_set.specs.declared.settings.Settings.{Settings}
 
--- the last symbol whose turn comes is the one before which the limit refuses
+-- the last symbol due is the one before which the limit refuses
 turns : (s : Settings) (inputs : Inputs) → super_frames s (counts_of inputs) ≡ None → symbols_of s inputs ≡ s.max_symbols + 1
 unfolding symbols_of
 turns s inputs e = ap (λ (o : Option ℕ). unwrap_or (option_map (λ n. 272 * n) o) (s.max_symbols + 1)) e
 
--- an item that passes is found, or one before it
+-- an item that passes is found, or an earlier one
 pub record IsFound (p : Item → Bool) (xs : List Item) : Type 0 where
   pub item : Item
   pub is : find p xs ≡ Some item

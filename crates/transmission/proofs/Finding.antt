@@ -45,7 +45,7 @@ not_found_is most n l = case_of (cases_Bool (nat_lt n most))
     case_of (inr e) = ap (λ (b : Bool). cond b (Some n) None) e
     case_of (inl e) = absurd (let less = ltb-true n most e in omega (arith, l, less))
 
--- ---- from the last change on the settings stay
+-- ---- after the last change the settings stay
 passed : (e : Entry) (k : ℕ) → nat_le e.after (e.after + k) ≡ true
 passed e k = le-leb e.after (e.after + k) (omega arith)
 
@@ -56,7 +56,7 @@ last_in (e ∷ es) d k = rw (passed e k) refl
 stays : (s : Settings) (k : ℕ) → entry s (last_change s + k) ≡ get_or (reverse (entries_of s.plan)) 0 (top s)
 stays s k = last_in (reverse (entries_of s.plan)) (top s) k
 
--- the words of a super-frame from there on
+-- the words of a super-frame after it
 abbrev last_words : Settings → Stream → ℕ
 last_words s σ = words_per_super_frame (settings_in s (last_change s)) σ
 
@@ -125,7 +125,7 @@ suffices_if s counts n h = (leb-true 1 n a.0, each)
 if_suffices : (s : Settings) (counts : Stream → ℕ) (n : ℕ) → 1 ≤ n → Suffices s counts n → is_enough s counts n ≡ true
 if_suffices s counts n some each = rw (le-leb 1 n some, carries_if s counts n Hp (each Hp), carries_if s counts n Lp (each Lp)) refl
 
--- a number that suffices is not needed to be searched far
+-- the search need not go far for a number that suffices
 soon : WordsOfOneMore → (s : Settings) (counts : Stream → ℕ) (n : ℕ) → 1 ≤ n → Suffices s counts n → (k : ℕ) × (k < most_frames s counts) × (is_enough s counts k ≡ true)
 soon more s counts n some each = go (cases_lt n (most_frames s counts))
   where

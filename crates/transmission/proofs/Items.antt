@@ -1,4 +1,4 @@
--- Lists of items before the first one that is refused.
+-- Lists of items before the first refused one.
 use Rattle.std.proofs.Common.{◌≡◌, ℕ, zero, suc, ◌+◌, ◌-◌, ◌≤◌, ◌<◌, List, [], ◌∷◌, ◌++◌, refl, sym, ap, ◌∙◌, arith, cond}
 use Rattle.std.specs.Prelude.{map, find, take_while, count_by, Option, Some, None, is_some, is_none, option_and_then, ⊤}
 use Rattle.std.specs.List.{range_with_len}
@@ -32,7 +32,7 @@ pub taken_all : (r : Item → Option Refusal) (xs : List Item) → AreClear r xs
 taken_all r [] a = refl
 taken_all r (y ∷ xs) a = let here : r y ≡ None = a.0 in take_while-cons (λ i. is_none (r i)) y xs ∙ rw here (ap (λ (z : List Item). y ∷ z) (taken_all r xs a.1))
 
--- what is taken of a list goes on behind a part that is clear
+-- taking from a list continues after a part without refusals
 pub taken_through : (r : Item → Option Refusal) (xs ys : List Item) → AreClear r xs → take_while (λ i. is_none (r i)) (xs ++ ys) ≡ xs ++ take_while (λ i. is_none (r i)) ys
 taken_through r [] ys a = refl
 taken_through r (y ∷ xs) ys a = let here : r y ≡ None = a.0 in take_while-cons (λ i. is_none (r i)) y (xs ++ ys) ∙ rw here (ap (λ (z : List Item). y ∷ z) (taken_through r xs ys a.1))
@@ -40,7 +40,7 @@ taken_through r (y ∷ xs) ys a = let here : r y ≡ None = a.0 in take_while-co
 pub count_both : (xs ys : List Item) → count_by is_send (xs ++ ys) ≡ count_by is_send xs + count_by is_send ys
 count_both xs ys = sum_by-append (λ x. cond (is_send x) 1 0) xs ys
 
--- packets that are taken
+-- packets being taken
 pub takes_clear : (r : Item → Option Refusal) (σ : Stream) (a n : ℕ) → ((p : ℕ) → p < a + n → r (take_packet σ p) ≡ None) → AreClear r (map (take_packet σ) (range_with_len a n))
 takes_clear r σ a zero h = tt
 takes_clear r σ a (suc n) h = (h a (omega arith), takes_clear r σ (a + 1) n (λ p l. h p (omega (arith, l))))
@@ -69,7 +69,7 @@ range_parts a (suc n) k =
     let there : a + 1 + n ≡ a + suc n = omega arith in
     ap (range_with_len a) more ∙ ap (λ (z : List ℕ). a ∷ z) (range_parts (a + 1) n k) ∙ ap (λ (z : ℕ). a ∷ (range_with_len (a + 1) n ++ range_with_len z k)) there
 
--- the numbers below n, at one of them
+-- the numbers below n, split at one of them
 pub numbers_at : (m n : ℕ) → m < n → numbers n ≡ numbers m ++ m ∷ range_with_len (m + 1) (n - m - 1)
 unfolding numbers
 numbers_at m n l =

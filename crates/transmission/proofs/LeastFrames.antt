@@ -92,7 +92,7 @@ pub record AreAlike (s : Settings) : Type 0 where
   pub words : (σ : Stream) (n : ℕ) → words_before s σ n ≡ n * words_per_super_frame s σ
   pub streams : (σ : Stream) → exists_in s σ ≡ has_stream s.hierarchy σ
 
--- so many super-frames carry a stream, by the words of one
+-- n super-frames carry a stream, by the words of one
 abbrev Carries : Settings → (Stream → ℕ) → ℕ → Stream → Type 0
 Carries s counts n σ = IsTrue (has_stream s.hierarchy σ) → counts σ + 11 ≤ n * words_per_super_frame s σ
 
@@ -123,7 +123,7 @@ the_formula_is_least s alike counts =
     each s counts Hp has = at_max (words_per_super_frame s Hp) (frames_by_formula_for s counts Hp) (frames (is_flat s.hierarchy) (frames_by_formula_for s counts Hp) (frames_by_formula_for s counts Lp)) (counts Hp + 11) (enough (counts Hp + 11) (words_per_super_frame s Hp) (some_words s Hp has)) (long_enough (is_flat s.hierarchy) (frames_by_formula_for s counts Hp) (frames_by_formula_for s counts Lp))
     each s counts Lp has = at_max (words_per_super_frame s Lp) (frames_by_formula_for s counts Lp) (frames (is_flat s.hierarchy) (frames_by_formula_for s counts Hp) (frames_by_formula_for s counts Lp)) (counts Lp + 11) (enough (counts Lp + 11) (words_per_super_frame s Lp) (some_words s Lp has)) (long_enough_lp (is_flat s.hierarchy) (frames_by_formula_for s counts Hp) (frames_by_formula_for s counts Lp) has)
 
--- from the definition alone, for any number that has it
+-- from the definition only, for any such number
 too_few_for : WordsGrow → (s : Settings) (counts : Stream → ℕ) (k n : ℕ) (σ : Stream) → AreSuperFrames s counts k → IsTrue (exists_in s σ) → words_before s σ n < counts σ + 11 → n < k
 too_few_for grow s counts k n σ are has few = go (cases_lt n k)
   where
@@ -149,14 +149,14 @@ length_for s counts (Some n) (Some k) a b = ap Some (one_for s counts k n b a)
 pub one_length : TheNumberIsFound → OneLength
 one_length found s counts o is = length_for s counts o (super_frames s counts) is (found s counts)
 
--- the number that is found has the definition
+-- the number found satisfies the definition
 pub is_least : TheNumberIsFound → (s : Settings) (counts : Stream → ℕ) (k : ℕ) → super_frames s counts ≡ Some k → AreSuperFrames s counts k
 is_least found s counts k e = subst (IsLength s counts) e (found s counts)
 
 pub too_few : WordsGrow → TheNumberIsFound → TooFew
 too_few grow found s counts k n σ e has few = too_few_for grow s counts k n σ (is_least found s counts k e) has few
 
--- where a number suffices one is found
+-- if a number suffices, one is found
 enough_for : (s : Settings) (counts : Stream → ℕ) (n : ℕ) (o : Option ℕ) → super_frames s counts ≡ o → IsLength s counts o → 1 ≤ n → Suffices s counts n
     → (k : ℕ) × (super_frames s counts ≡ Some k) × (k ≤ n)
 enough_for s counts n None e is some all = absurd (is n some all)

@@ -157,7 +157,7 @@ limit_clear s most inputs m l = let test : nat_le s.max_symbols m ≡ false = lt
 limit_refused : (s : Settings) (most : ℕ) (inputs : Inputs) (m : ℕ) → s.max_symbols ≤ m → refusal s most inputs (ask_limit m) ≡ Some (Limit s.max_symbols)
 limit_refused s most inputs m l = let test : nat_le s.max_symbols m ≡ true = le-leb s.max_symbols m l in rw test refl
 
--- the packets of symbol m, where all of them were taken
+-- the packets of symbol m, if all of them were taken
 stream_clear : PacketsGrow → (s : Settings) (most : ℕ) (inputs : Inputs) (σ : Stream) (k n : ℕ) → packets_for s σ (k + 1) ≤ n → ((p : ℕ) → p < n → packet_refusal most inputs σ p ≡ None) → AreClear (refusal s most inputs) (takes s σ k)
 stream_clear grow s most inputs σ k n all ok =
     takes_clear (refusal s most inputs) σ (packets_for s σ k) (packets_for s σ (k + 1) - packets_for s σ k)
@@ -243,7 +243,7 @@ unfolding items_of
 stops_at_limit grow s most inputs m hp lp at more past =
     stops s most inputs (before s m) _ (ask_limit m) (Limit s.max_symbols) m (agenda_at s inputs m more) (before_clear grow s most inputs m hp lp at) (limit_refused s most inputs m past) (sends_before s m)
 
--- where the packets before packet p of the takes were taken
+-- if the packets before packet p of the takes were taken
 takes_at : (s : Settings) (σ : Stream) (m p : ℕ) → packets_for s σ m ≤ p → p < packets_for s σ (m + 1)
     → takes s σ m ≡ map (take_packet σ) (range_with_len (packets_for s σ m) (p - packets_for s σ m)) ++ take_packet σ p ∷ map (take_packet σ) (range_with_len (p + 1) (packets_for s σ (m + 1) - p - 1))
 takes_at s σ m p l k = go (packets_for s σ m) (packets_for s σ (m + 1)) l k

@@ -51,7 +51,7 @@ one_symbol_more s inputs n =
     ∙ flat_map-append (tx_symbol s inputs) (numbers n) (n ∷ [])
     ∙ ap (λ (z : List ℕ). flat_map (tx_symbol s inputs) (numbers n) ++ z) (append-nil (tx_symbol s inputs n))
 
--- q is p and something behind it
+-- q begins with p
 pub record Continues (p q : List ℕ) : Type 0 where
   pub rest : List ℕ
   pub is : q ≡ p ++ rest
@@ -59,7 +59,7 @@ pub record Continues (p q : List ℕ) : Type 0 where
 continued : (p q more : List ℕ) → Continues p q → Continues p (q ++ more)
 continued p q more c = record { rest = c.rest ++ more; is = ap (λ (z : List ℕ). z ++ more) c.is ∙ append_assoc p c.rest more }
 
--- a front is one that is taken
+-- a prefix can be written with `take`
 front_of : (p q : List ℕ) → Continues p q → (k : ℕ) × (p ≡ take k q)
 front_of p q c = (length p, sym (ap (take (length p)) c.is ∙ take-append_seam p c.rest))
 

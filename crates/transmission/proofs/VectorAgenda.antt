@@ -12,7 +12,7 @@ use Rattle.transmission.specs.SuperFrames.{super_frames, symbols_of}
 use Rattle.transmission.specs.Agenda.{ask_limit, take_packet, send_symbol, items_of, agenda, packet_refusal, Limit, NotSync, first_refusal, done, symbols_sent}
 use Rattle.transmission.proofs.VectorSettings.{flat, limited, two_16}
 
--- five packets, of which number 3 begins 00
+-- five packets; number 3 begins with 00
 abbrev five : Inputs
 five = by_stream ((0x47 ∷ []) ∷ (0x47 ∷ []) ∷ (0x47 ∷ []) ∷ (0x00 ∷ []) ∷ (0x47 ∷ []) ∷ []) []
 
@@ -29,7 +29,7 @@ two_packets : first_refusal (flat M2k Qpsk R1of2) 3 five ≡ Some (Limit 3)
 unfolding first_refusal agenda items_of packet_refusal symbols_of super_frames exists_in settings_in steps_before words_before numbers
 two_packets = refl
 
--- no packets: null packets are no refusal, 272 symbols are sent, or 271 within a limit
+-- no packets: null packets are not refused, 272 symbols are sent, or 271 within a limit
 none : first_refusal (flat M2k Qpsk R1of2) 100000000 (by_stream [] []) ≡ None
 unfolding first_refusal agenda items_of packet_refusal symbols_of super_frames exists_in settings_in steps_before words_before numbers
 none = refl
@@ -46,7 +46,7 @@ within_limit : symbols_sent (limited M2k Qpsk R1of2) 100000000 (by_stream [] [])
 unfolding done agenda items_of packet_refusal symbols_of super_frames exists_in settings_in steps_before words_before numbers
 within_limit = refl
 
--- HP's packets are taken before LP's, so of two bad ones HP's decides
+-- HP's packets are taken before LP's, so HP's bad packet decides
 hp_first : items_of (two_16 M2k R1of2 R1of2) 0 ≡ ask_limit 0 ∷ take_packet Hp 0 ∷ take_packet Lp 0 ∷ send_symbol 0 ∷ []
 unfolding items_of settings_in steps_before numbers
 hp_first = refl

@@ -50,14 +50,14 @@ first_byte : (packets : List (List ℕ)) → outer_byte packets 0 ≡ 0xB8
 unfolding coded_byte codeword
 first_byte packets = refl
 
--- the first bits of each half of the path, where its first bytes are known
+-- the first bits of each half of the path, if its first bytes are known
 first_sent : (bytes : ℕ → ℕ) → bytes 0 ≡ 0xB8 → sent_bit R1of2 (path_of bytes) 0 ≡ true
 first_sent bytes e = subst (λ (z : ℕ). parity_x (false ∷ false ∷ false ∷ false ∷ false ∷ false ∷ is_set z 7 ∷ []) ≡ true) (sym e) refl
 
 sent_127 : (bytes : ℕ → ℕ) → bytes 7 ≡ 0 → sent_bit R1of2 (path_of bytes) 127 ≡ false
 sent_127 bytes e = subst (λ (z : ℕ). parity_y (is_set z 6 ∷ is_set z 5 ∷ is_set z 4 ∷ is_set z 3 ∷ is_set z 2 ∷ is_set z 1 ∷ is_set z 0 ∷ []) ≡ false) (sym e) refl
 
--- payload place 0 carries word 0, whose label has the coded bits 0 and 127
+-- payload carrier 0 has word 0, whose label has the coded bits 0 and 127
 word_0 : carried M2k false 0 ≡ 0
 unfolding h words_from
 word_0 = refl

@@ -1,4 +1,4 @@
--- How many words a super-frame has (EN 300 744, 4.7), and how many super-frames some transmissions.
+-- The number of words in a super-frame (EN 300 744, 4.7), and of super-frames in some transmissions.
 use Rattle.std.proofs.Common.{◌≡◌, ℕ, ◌*◌, List, [], ◌∷◌, map, refl}
 use Rattle.std.specs.Prelude.{Some}
 use Rattle.mode_set.specs.StreamTable.{need, words_per_super_frame}
@@ -61,7 +61,7 @@ needs : map (λ r. need (flat M2k Qpsk r) Hp) rates ≡ 1512 ∷ 2016 ∷ 2268 �
 unfolding rates
 needs = refl
 
--- one super-frame at least; eleven words more than there are packets
+-- at least one super-frame; eleven words more than packets
 no_packet : super_frames (flat M2k Qpsk R1of2) (by_stream 0 0) ≡ Some 1
 unfolding super_frames exists_in settings_in words_before numbers
 no_packet = refl

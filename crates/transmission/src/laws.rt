@@ -1,4 +1,4 @@
-// The laws of a transmission, as contracts of functions that do nothing.
+// The laws of a transmission, as contracts of functions with empty bodies.
 ghost use Rattle.transmission.specs.Laws.{SymbolsAreCells, SymbolsAreLong, NoSymbol, OneSymbolMore, FrontOfSymbols, PartOfSymbols, TheNumberIsFound, OneLength, ConstantFrames, TooFew, Enough, ThePacketsAreLeast, NoPackets, PacketsGrow, PacketsOfSuperFrames, SameBeginning};
 ghost use Rattle.transmission.specs.AgendaLaws.{WorkBegins, TakesOfHp, TakesOfLp, SendsSymbol, StopsAtLimit, StopsAtPacket, EndsUnrefused, EndlessIsRefused, SentSoFar, SentAtFault};
 
@@ -10,7 +10,7 @@ use puncture::sent_bits_have_steps;
 use symbol_interleave::laws::{h_is_a_permutation, places_and_words_agree};
 use symbol_parameters::laws::{settings as super_frame_settings, steps, words};
 
-/// Symbols are the bytes of their cells, five a carrier, one symbol after another.
+/// Symbols are the bytes of their cells, five for each carrier, one symbol after another.
 pub fn symbols()
     ensures cells { SymbolsAreCells }
     ensures long { SymbolsAreLong }
@@ -22,8 +22,8 @@ pub fn symbols()
     super_frame_settings();
 }
 
-/// A symbol depends on the packets of the symbols up to it alone: it is the same for all streams that
-/// begin with these packets, null packets behind the end among them.
+/// A symbol depends only on the packets up to its own: it is the same for all streams with the same first packets,
+/// including null packets after the end.
 pub fn symbols_begin_alike(settings: &Settings, m: u64)
     ensures { SameBeginning settings.now m }
 {
@@ -37,8 +37,8 @@ pub fn symbols_begin_alike(settings: &Settings, m: u64)
     sending();
 }
 
-/// The number of super-frames is the least that carries all packets and eleven words more of each
-/// stream. There is none where no number does; without a plan there is always one.
+/// The number of super-frames is the least that carries all packets of each stream and eleven words more. It may not
+/// exist; without a plan it always does.
 pub fn super_frames()
     ensures found { TheNumberIsFound }
     ensures constant { ConstantFrames }
@@ -50,8 +50,7 @@ pub fn super_frames()
     words();
 }
 
-/// The packets of so many symbols are the least whose words have the symbols' input bits; a super-frame
-/// has whole words.
+/// The packets for n symbols are the fewest whose words hold the symbols' input bits; a super-frame holds whole words.
 pub fn packets()
     ensures least { ThePacketsAreLeast }
     ensures none { NoPackets }
@@ -62,8 +61,8 @@ pub fn packets()
     words();
 }
 
-/// How the work goes along its order: it begins, takes packets, sends symbols, and stops at the first
-/// point that is refused, or goes through. A work without end is refused.
+/// The order of work: it begins, takes packets, sends symbols, and stops at the first item that is refused, or
+/// completes. Endless work is refused.
 pub fn work()
     ensures begins { WorkBegins }
     ensures takes_hp { TakesOfHp }

@@ -1,4 +1,4 @@
--- The cells of a symbol are disturbed one after another.
+-- The disturbance of a symbol's cells, one after another.
 use Rattle.std.proofs.Common.{◌≡◌, ℕ, ◌+◌, ◌*◌, ◌%◌, ◌≤◌, List, [], ◌∷◌, ◌++◌, length, refl, sym, ap, ap₂, ◌∙◌, arith, append-nil, Bool, true, false, cond, not, ◌||◌}
 use Rattle.std.specs.Prelude.{flat_map, count_by, ◌==◌, ◌+ℤ◌}
 use Rattle.std.specs.Prelude.{nat_le}
@@ -57,7 +57,7 @@ pub all_payload : (m : Mode) (l : ℕ) → length (payload_carriers m l) ≡ pay
 unfolding payload_below payload_carriers
 all_payload m l e = sym (length-filter (is_payload m l) (numbers (carriers m))) ∙ e
 
--- what a carrier's kind says of it
+-- the kind of a carrier
 abbrev pub Says : Bool → ℕ → CarrierKind → Type 0
 Says b n Continual = b ≡ false
 Says b n Scattered = b ≡ false
@@ -114,7 +114,7 @@ module _ (add : DrawsAdd) (s : Settings) (number m : ℕ) (below : ℕ) (g : Lcg
   load_is Tps b h = stays b h
   load_is (Payload q) b h = add 1 1 g ∙ ap (after 2) at ∙ add 2 (2 * below) start ∙ ap (λ (n : ℕ). after n start) (two_words b h.1)
 
--- the cell of carrier k, and the generator behind it
+-- the cell of carrier k, and the generator after it
 module _ (add : DrawsAdd) (s : Settings) (number m k : ℕ) (mode : Mode) (is : s.mode ≡ mode) (g : Lcg) (at : g ≡ after (2 * payload_below mode (m % 68) k) (shifts_from s number m (before s number m))) where
   pub next_cell_is : (c : Cell) → c ≡ tx_cell s (drawn s number) m k → disturbed_by (tolerance (settings_at s m).shape (settings_at s m).hierarchy) (m % 17 == 16) g c (kind mode (m % 68) k) ≡ fed_cell s number m k
   unfolding fed_cell

@@ -1,4 +1,4 @@
--- The packets drawn are as many as their counts, and one super-frame carries them.
+-- As many packets are generated as their counts say, and one super-frame carries them.
 use Rattle.std.proofs.Common.{◌≡◌, ℕ, ◌+◌, ◌-◌, ◌*◌, ◌/◌, ◌≤◌, ◌<◌, length, get_or, [], refl, sym, ap, ap₂, ◌∙◌, subst, arith, Bool, true, false, cond, not}
 use Rattle.std.specs.Prelude.{min, Option, Some, option_map, unwrap_or}
 use Rattle.std.proofs.lemmas.Bool.{false≢true}
@@ -91,7 +91,7 @@ few : (s : Settings) (number : ℕ) (σ : Stream) → drawn_count s number σ �
 few s number Hp = few_counted (generator number)
 few s number Lp = few_where (exists_in s Lp) (count_of (after 1 (generator number))) (few_counted (after 1 (generator number)))
 
--- the symbols of the trial want as many packets as are counted
+-- the symbols of the trial need as many packets as are counted
 symbols_are : (s : Settings) (number n : ℕ) → trial_frames s number ≡ Some n → trial_symbols s number ≡ 272 * n
 symbols_are s number n e = ap (λ (o : Option ℕ). 272 * unwrap_or o 0) e
 
@@ -102,7 +102,7 @@ none_where false x p h = omega arith
 some_where : (b : Bool) (x p : ℕ) → b ≡ true → cond b x 0 + 11 ≤ p → x ≤ p
 some_where b x p e l = let f = ap (λ (z : Bool). cond z x 0) e in omega (arith, l, f)
 
--- what is known of super-frames
+-- the known facts on super-frames
 pub record AreFramed : Type 0 where
   pub found : TheNumberIsFound
   pub hp : HpExists
@@ -184,8 +184,7 @@ unfolding symbols_of
 symbols_of_drawn frames s number n e =
     symbols_are s number n e ∙ sym (ap (λ (o : Option ℕ). unwrap_or (option_map (λ k. 272 * k) o) (s.max_symbols + 1)) (frames s number n e))
 
--- ---- without a plan
--- a super-frame carries all that can be counted
+-- ---- without a plan one super-frame carries all that can be counted
 fits : (d w : ℕ) → d ≤ 199 → 252 ≤ w → d + 11 ≤ 1 * w
 fits d w l k = omega (arith, l, k)
 

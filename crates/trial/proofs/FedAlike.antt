@@ -1,4 +1,4 @@
--- The number of workers stands in no definition of what a trial draws, feeds and counts.
+-- No definition of what a trial generates, feeds and counts depends on the number of workers.
 use Rattle.std.proofs.Common.{◌≡◌, ℕ, zero, suc, ◌*◌, ◌%◌, Bool, List, map, refl, sym, ap, ◌∙◌, subst}
 use Rattle.std.specs.Prelude.{Option, unwrap_or, flat_map, ◌+◌, ◌==◌, if◌then◌else◌, ℤ, ◌+ℤ◌}
 use Rattle.spec_words.specs.Words.{numbers}
@@ -29,7 +29,7 @@ use Rattle.reception.proofs.Alike.{with_workers, over}
 use Rattle.trial.proofs.Keeping.{kept_prop}
 use Rattle.trial.specs.TrialsAlike.{SameFed, SameFrames, SameGiven, SameCounts}
 
--- what the type of settings keeps, of another number of workers
+-- the invariant of settings with another number of workers
 kept_for : (s : Settings) (w : ℕ) → IsKept s.shape s.hierarchy s.rate_lp w s.max_symbols → IsKept s.shape s.hierarchy s.rate_lp w s.max_symbols
 kept_for s w k = record { qpsk = s.kept.qpsk; lp = s.kept.lp; some_worker = k.some_worker; few_workers = k.few_workers; some_symbol = s.kept.some_symbol }
 
@@ -37,7 +37,7 @@ module _ (s : Settings) (w : ℕ) (k : IsKept s.shape s.hierarchy s.rate_lp w s.
   abbrev t : Settings
   t = with_workers s w (kept_for s w k)
 
-  -- the generator stands before each symbol where it stands with other workers
+  -- the generator before each symbol is the same with other workers
   before_alike : (m : ℕ) → before s number m ≡ before t number m
   unfolding kept_for before settings_in exists_in steps_before
   before_alike zero = refl
@@ -47,7 +47,7 @@ module _ (s : Settings) (w : ℕ) (k : IsKept s.shape s.hierarchy s.rate_lp w s.
   unfolding kept_for packets_of_symbol settings_in exists_in steps_before
   packets_alike σ m = ap (λ (g : Lcg). map (λ i. packet_of (after (packet_words * i) (by_stream g (lp_from s number m g) σ))) (numbers (drawn_for s number σ m))) (before_alike m)
 
-  -- and there are as many symbols
+  -- and the number of symbols is the same
   frames_alike : trial_frames s number ≡ trial_frames t number
   unfolding kept_for super_frames settings_in exists_in words_before
   frames_alike = refl
@@ -59,7 +59,7 @@ module _ (s : Settings) (w : ℕ) (k : IsKept s.shape s.hierarchy s.rate_lp w s.
   unfolding drawn
   drawn_alike = λ i σ. flat_map (λ m. packets_alike σ m i) (numbers (many_alike i))
 
-  -- a cell of a transmission is the same, whatever the carrier is for
+  -- a cell of a transmission is the same, for any kind of carrier
   kinds_alike : (m : ℕ) (labels : ℕ → ℕ → Bool) (c : ℕ) (kd : CarrierKind)
       → cell_of_kind (settings_for (settings_at s m) (announced_at s m) kd) m labels c kd ≡ cell_of_kind (settings_for (settings_at t m) (announced_at t m) kd) m labels c kd
   unfolding kept_for cell_of_kind settings_in
@@ -72,12 +72,12 @@ module _ (s : Settings) (w : ℕ) (k : IsKept s.shape s.hierarchy s.rate_lp w s.
   unfolding kept_for tx_cell tx_label announcing_cell label_bit number_at settings_in steps_before
   cells_alike inputs m c = kinds_alike m (tx_label s inputs m) c (kind s.mode (m % 68) c)
 
-  -- and it is disturbed alike
+  -- and so is its disturbance
   shifts_alike : (m : ℕ) → shifts_from s number m (before s number m) ≡ shifts_from t number m (before t number m)
   unfolding kept_for settings_in exists_in steps_before
   shifts_alike m = ap (shifts_from s number m) (before_alike m)
 
-  -- the cell on payload place q, moved by the shifts that are drawn from here, and negated or not
+  -- the cell on payload carrier q, moved by the shifts from here, and negated or not
   abbrev by_shifts : ℕ → Cell → ℕ → Lcg → Cell
   by_shifts m c q g =
       let shift : ℕ → ℤ = λ i. shift_of (tolerance (settings_at s m).shape (settings_at s m).hierarchy) (after i g) in
@@ -105,7 +105,7 @@ module _ (s : Settings) (w : ℕ) (k : IsKept s.shape s.hierarchy s.rate_lp w s.
   unfolding fed
   fed_alike = λ i. flat_map (λ m. symbols_alike m i) (numbers (many_alike i))
 
--- whatever shows that the type keeps it
+-- for any proof of the invariant
 of_workers : (Fact : Settings → Type 0) (s : Settings) (w : ℕ) (k : IsKept s.shape s.hierarchy s.rate_lp w s.max_symbols) → Fact (with_workers s w (kept_for s w k)) → Fact (with_workers s w k)
 of_workers Fact s w k fact = subst (λ (j : IsKept s.shape s.hierarchy s.rate_lp w s.max_symbols). Fact (with_workers s w j)) (kept_prop s.shape s.hierarchy s.rate_lp w s.max_symbols (kept_for s w k) k) fact
 
@@ -119,7 +119,7 @@ same_frames s t number d =
 pub same_given : SameFinal → SameGiven
 same_given final s t number r d given = subst (λ (l : List ℕ). Final t l r) (sym (same_fed s t number d)) (final s t (fed s number) r d given)
 
--- what is counted, by the cells fed
+-- the counts, from the cells fed
 abbrev counted : Settings → ℕ → Reception → List ℕ → TrialCounts
 counted s number r l = record (trial_counts s number r) { cells = byte_sum l }
 

@@ -1,4 +1,4 @@
--- What the type of settings keeps has no two proofs.
+-- The invariant of settings has at most one proof.
 use Rattle.std.proofs.Common.{◌≡◌, ℕ, ◌≤◌, Option}
 use Rattle.std.specs.Prelude.{is_some, not, true}
 use Rattle.mode_set.specs.Kept.{IsKept, is_flat, is_qpsk}

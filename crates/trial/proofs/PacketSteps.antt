@@ -1,4 +1,4 @@
--- The packets of a symbol are drawn and put one after another.
+-- The packets of a symbol, generated and put one after another.
 use Rattle.std.proofs.Common.{◌≡◌, ◌⊎◌, inl, inr, ℕ, ◌+◌, ◌-◌, ◌*◌, ◌≤◌, ◌<◌, List, refl, sym, ap, ap₂, ◌∙◌, subst, arith, Bool, true, false, cond, Option, Some, None}
 use Rattle.std.specs.Prelude.{min, nat_lt, ◌==◌, IfSome, unwrap_or}
 use Rattle.std.proofs.lemmas.Bool.{cases_lt, ltb-true, ltb-false, ne_eqb, eq-eqb}
@@ -28,7 +28,7 @@ pub counted : DrawsAdd → (b : Bool) (g : Lcg) → cond b (after 1 (after 1 g))
 counted add true g = add 1 1 g
 counted add false g = refl
 
--- where a trial has a symbol its counts have a number of super-frames
+-- if a trial has a symbol, its counts have a number of super-frames
 has_frames : (m : ℕ) (o : Option ℕ) → m < 272 * unwrap_or o 0 → (n : ℕ) × (o ≡ Some n)
 has_frames m None l = absurd (omega (arith, l))
 has_frames m (Some n) l = (n, refl)
@@ -105,7 +105,7 @@ not_yet h b l a k j f = go (cases_lt a l)
 none_below : (a l l' h b : ℕ) → l ≡ a → l' ≡ l → a < l' → h ≡ b
 none_below a l l' h b e f k = absurd (omega (arith, e, f, k))
 
--- ---- a packet, and the generator behind it
+-- ---- a packet, and the generator after it
 next_is : DrawnInOrder → NullsBehind → (s : Settings) (number : ℕ) (σ : Stream) (m put left : ℕ) (now : Lcg) → m < trial_symbols s number → packets_for s σ m ≤ put → put < packets_for s σ (m + 1)
     → left ≡ drawn_count s number σ - put → now ≡ after (packet_words * drawn_since s number σ m put) (packets_from s number m σ) → next_of left now ≡ packet_at (drawn s number σ) put
 next_is order nulls s number σ m put left now few least less is at = go (cases_lt put (drawn_count s number σ))
@@ -136,7 +136,7 @@ behind add c a put left g now now' is least at next = go (cases_lt put c)
         ∙ at
         ∙ ap (λ (n : ℕ). after (packet_words * n) g) (sym (no_more c a put l))
 
--- the same point, as the modulator is seen after it
+-- the same point, in terms of the modulator after it
 pub seen_again : (s s' : Settings) (m m' : ℕ) (d : Draws) (t : Transmitter) → s' ≡ s → m' ≡ m → IsPutting s m d t → IsPutting s' m' d t
 seen_again s s' m m' d t e f i = subst (λ (z : Settings). IsPutting z m' d t) (sym e) (subst (λ (n : ℕ). IsPutting s n d t) (sym f) i)
 
@@ -227,7 +227,7 @@ module _ (add : DrawsAdd) (order : DrawnInOrder) (nulls : NullsBehind) (s : Sett
           load = words ∙ ap₂ (λ (a b : ℕ). at_lp a b) (sym both.0) (sym both.1);
         }
 
--- ---- the measure: the packets that the symbol still wants
+-- ---- the measure: the packets that the symbol still needs
 fewer : (a b h l a' b' h' l' : ℕ) → a' ≡ a → b' ≡ b → h' ≡ h + 1 → l' ≡ l → h < a → a' - h' + (b' - l') < a - h + (b - l)
 fewer a b h l a' b' h' l' p q r s k = omega (arith, p, q, r, s, k)
 

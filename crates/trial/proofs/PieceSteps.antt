@@ -1,4 +1,4 @@
--- A symbol is fed in pieces, and what comes back is summed.
+-- A symbol fed in pieces, and the sum of the output.
 use Rattle.std.proofs.Common.{◌≡◌, ℕ, zero, suc, ◌+◌, ◌-◌, ◌*◌, ◌/◌, ◌%◌, ◌^◌, ◌≤◌, ◌<◌, ◌⊎◌, inl, inr, List, [], ◌++◌, length, take, drop, length-append, length-drop, length-take-le, refl, sym, ap, ◌∙◌, subst, arith, append_assoc}
 use Rattle.std.specs.Prelude.{min, sum, map, nat_le}
 use Rattle.std.proofs.lemmas.Bool.{cases_lt, le-leb, lt-leb}
@@ -52,7 +52,7 @@ long_enough g (suc n) =
     up : (n a b c : ℕ) → n ≤ a → 1 ≤ b → c ≡ a + b → suc n ≤ c
     up n a b c p q r = omega (arith, p, q, r)
 
--- so many pieces were fed of a symbol
+-- the first `fed` pieces of a symbol were fed
 pub record IsFeeding (start now : Lcg) (fed whole : ℕ) : Type 0 where
   pub count : ℕ
   pub load : now ≡ after count start
@@ -136,7 +136,7 @@ more_summed xs ys = ap (λ (n : ℕ). n % 2 ^ 32) (sum_by-append (λ (x : ℕ). 
 pub summed : (before more after : List ℕ) (old new : ℕ) → old ≡ byte_sum before → new ≡ (old + sum more) % 2 ^ 32 → after ≡ before ++ more → new ≡ byte_sum after
 summed before more after old new e f g = f ∙ ap (λ (n : ℕ). (n + sum more) % 2 ^ 32) e ∙ sym (more_summed before more) ∙ ap byte_sum (sym g)
 
--- ---- what a receiver has given
+-- ---- the output of a receiver so far
 pub nothing_given : (x : ReceiverState) → StandsFor so_far x [] nothing → HasGiven x [] 0 0
 nothing_given x stands = record { given = nothing; stands = stands; hp_sum = refl; lp_sum = refl }
 
@@ -164,7 +164,7 @@ all_given x x' bytes hp lp hp' lp' out h same f e e' = record {
   lp_sum = summed (h.given.packets Lp) out.lp (f.after.packets Lp) lp lp' h.lp_sum e' (f.packets Lp);
 }
 
--- a part of a symbol behind whole symbols is no whole symbol
+-- part of a symbol after whole symbols is no whole symbol
 part_of : (m : Mode) (n f : ℕ) → n % (5 * carriers m) ≡ 0 → f < 5 * carriers m → (n + f) / (5 * carriers m) ≡ n / (5 * carriers m)
 part_of M2k n f e l = omega (arith, e, l)
 part_of M8k n f e l = omega (arith, e, l)

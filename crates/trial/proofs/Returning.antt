@@ -1,4 +1,4 @@
--- A packet comes back for each word that has a phase.
+-- One packet is received for each word with a phase.
 use Rattle.std.proofs.Common.{◌≡◌, ℕ, zero, suc, ◌+◌, ◌*◌, ◌≤◌, ◌<◌, List, [], ◌∷◌, ◌++◌, length, take, drop, refl, ap, ◌∙◌, arith, length-append, length-set, Bool, true, false, cond, not, Option, Some, None}
 use Rattle.std.specs.Prelude.{bit_or, slice_index}
 use Rattle.std.proofs.Common.{length-drop, length-take-le}

@@ -110,7 +110,7 @@ pub cells_are_small : CellsAreSmall
 unfolding tx_cell announcing_cell
 cells_are_small s inputs m k = let kd : CarrierKind = kind (settings_at s m).mode (m % 68) k in kind_small (settings_for (settings_at s m) (announced_at s m) kd) m (tx_label s inputs m) k kd
 
--- ---- a part among parts of one length
+-- ---- a part among parts of the same length
 record BeginsWith (xs part : List ℕ) : Type 0 where
   rest : List ℕ
   is : xs ≡ part ++ rest
@@ -177,7 +177,7 @@ cell_in cells s inputs m k l =
 pub cells_are_read : SymbolsAreCells → CellsAreRead
 cells_are_read cells s inputs m k l = cell_is (tx_cell s inputs m k) (tx_symbol s inputs m) k (cells_are_small s inputs m k) (cell_in cells s inputs m k l)
 
--- ---- how long a disturbed symbol is
+-- ---- the length of a disturbed symbol
 parts_of_one_length : (f : ℕ → List ℕ) (c a n : ℕ) → ((k : ℕ) → length (f k) ≡ c) → length (flat_map f (range_with_len a n)) ≡ c * n
 parts_of_one_length f c a zero each = omega arith
 parts_of_one_length f c a (suc n) each =

@@ -1,4 +1,4 @@
--- A trial goes from symbol to symbol, and its counts at the end.
+-- A trial from symbol to symbol, and its counts at the end.
 use Rattle.std.proofs.Common.{◌≡◌, ℕ, zero, suc, ◌+◌, ◌-◌, ◌*◌, ◌/◌, ◌%◌, ◌^◌, ◌≤◌, ◌<◌, List, [], ◌∷◌, ◌++◌, length, refl, sym, ap, ap₂, ◌∙◌, subst, arith, append-nil, length-append, Bool, true, false, cond, Option, Some, None}
 use Rattle.std.specs.Prelude.{sum, flat_map}
 use Rattle.std.specs.List.{range_with_len}

@@ -1,4 +1,4 @@
--- A receiver that is fed, and the sums of what it gave.
+-- A receiver during a trial, and the sums of its output.
 use Rattle.std.specs.Prelude.{◌≡◌, ℕ, List}
 use Rattle.mode_set.specs.declared.modes.Stream.TheVariants.{Hp, Lp}
 use Rattle.reception.specs.Cells.{tail}
@@ -7,20 +7,20 @@ use Rattle.receiver.specs.Seen.{ReceiverState}
 use Rattle.receiver.specs.Standing.{StandsFor}
 use Rattle.trial.specs.Fed.{byte_sum}
 
--- it has had these bytes, and the bytes of the packets that it gave have these sums
+-- it has received these bytes, and these are the sums of its packets' bytes
 pub record HasGiven (x : ReceiverState) (bytes : List ℕ) (hp lp : ℕ) : Type 0 where
   pub given : Reception
   pub stands : StandsFor so_far x bytes given
   pub hp_sum : hp ≡ byte_sum (given.packets Hp)
   pub lp_sum : lp ≡ byte_sum (given.packets Lp)
 
--- it has had whole symbols alone
+-- it has received only whole symbols
 pub record HasWhole (x : ReceiverState) (hp lp : ℕ) : Type 0 where
   pub bytes : List ℕ
   pub whole : tail x.settings bytes ≡ 0
   pub given : HasGiven x bytes hp lp
 
--- it has ended behind these bytes
+-- it has ended after these bytes
 pub record HasEnded (x : ReceiverState) (bytes : List ℕ) (hp lp : ℕ) : Type 0 where
   pub given : Reception
   pub stands : StandsFor at_end x bytes given

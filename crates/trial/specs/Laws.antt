@@ -1,4 +1,4 @@
--- The laws of a trial, each the clause of a public function of the module laws.
+-- The laws of a trial. Each is the clause of a public function of module laws.
 use Rattle.std.specs.Prelude.{◌≡◌, ℕ, ◌+◌, ◌-◌, ◌*◌, ◌<◌, ◌≤◌, List, [], length, nat_abs, Some}
 use Rattle.mode_set.specs.Plans.{entries_of}
 use Rattle.mode_set.specs.StreamTable.{carriers}
@@ -19,11 +19,11 @@ use Rattle.trial.specs.Fed.{fed_symbol}
 
 -- ---- packets
 
--- where the counts have a number of super-frames, as many packets of a stream are drawn as its count says
+-- if the counts have a number of super-frames, as many packets of a stream are generated as its count says
 abbrev pub AllAreDrawn : Type 0
 AllAreDrawn = (s : Settings) (number n : ℕ) (σ : Stream) → trial_frames s number ≡ Some n → length (drawn s number σ) ≡ drawn_count s number σ
 
--- so the super-frames of the counts are those of the packets drawn, and a trial's symbols are those of their transmission
+-- so the super-frames for the counts are those for the packets, and a trial's symbols are those of their transmission
 abbrev pub FramesOfDrawn : Type 0
 FramesOfDrawn = (s : Settings) (number n : ℕ) → trial_frames s number ≡ Some n → super_frames s (counts_of (drawn s number)) ≡ Some n
 
@@ -34,12 +34,12 @@ SymbolsOfDrawn = (s : Settings) (number n : ℕ) → trial_frames s number ≡ S
 abbrev pub OneSuperFrame : Type 0
 OneSuperFrame = (s : Settings) (number : ℕ) → entries_of s.plan ≡ [] → trial_frames s number ≡ Some 1
 
--- the packets that are drawn for a symbol stand behind those of the symbols before it
+-- the packets generated for a symbol follow those of earlier symbols
 abbrev pub DrawnInOrder : Type 0
 DrawnInOrder = (s : Settings) (number : ℕ) (σ : Stream) (m i : ℕ) → m < trial_symbols s number → i < drawn_for s number σ m
     → packet_at (drawn s number σ) (drawn_before s number σ m + i) ≡ packet_of (after (packet_words * i) (packets_from s number m σ))
 
--- behind them come null packets
+-- null packets follow them
 abbrev pub NullsBehind : Type 0
 NullsBehind = (s : Settings) (number n : ℕ) (σ : Stream) (p : ℕ) → trial_frames s number ≡ Some n → drawn_count s number σ ≤ p → packet_at (drawn s number σ) p ≡ null_packet
 
@@ -57,13 +57,13 @@ CellsAreSmall = (s : Settings) (inputs : Inputs) (m k : ℕ) → IsSmall (tx_cel
 abbrev pub CellsAreRead : Type 0
 CellsAreRead = (s : Settings) (inputs : Inputs) (m k : ℕ) → k < carriers s.mode → cell_from (tx_symbol s inputs m) k ≡ tx_cell s inputs m k
 
--- a disturbed symbol is as long as any
+-- a disturbed symbol has the usual length
 abbrev pub FedSymbolsAreLong : Type 0
 FedSymbolsAreLong = (s : Settings) (number m : ℕ) → length (fed_symbol s number m) ≡ symbol_length s
 
--- ---- what comes back
+-- ---- packets received
 
--- the bytes are those of one packet for each word that has a phase
+-- the bytes are one packet for each word with a phase
 pub record AreCounted (packets : List ℕ) (tally : Tally) : Type 0 where
   pub few : tally.unphased ≤ tally.words
   pub long : length packets ≡ 188 * (tally.words - tally.unphased)

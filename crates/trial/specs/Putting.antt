@@ -1,4 +1,4 @@
--- The packets that are drawn for a symbol and put.
+-- The random packets for a symbol, and how they are put into the modulator.
 use Rattle.std.specs.Prelude.{◌≡◌, ℕ, ◌+◌, ◌-◌, ◌*◌, ◌<◌, ◌≤◌, ◌==◌, min, if◌then◌else◌, List}
 use Rattle.mode_set.specs.declared.modes.Stream.{Stream}
 use Rattle.mode_set.specs.declared.modes.Stream.TheVariants.{Hp, Lp}
@@ -11,7 +11,7 @@ use Rattle.modulator.specs.State.{Transmitter, HasPut}
 use Rattle.trial.specs.Drawn.{hp_count, lp_count, drawn, drawn_count, drawn_before, before}
 use Rattle.trial.specs.declared.draws.Draws.{Draws}
 
--- the counts of the packets were drawn, and nothing else
+-- the counts of the packets were generated, and nothing else
 pub record IsStarted (s : Settings) (number : ℕ) (d : Draws) : Type 0 where
   pub number_is : d.number ≡ number
   pub hp_packets : d.hp_packets ≡ hp_count number
@@ -20,23 +20,23 @@ pub record IsStarted (s : Settings) (number : ℕ) (d : Draws) : Type 0 where
   pub lp_left : d.lp_left ≡ lp_count s number
   pub load : d.load ≡ before s number 0
 
--- the next packet of a stream of which so many are still to be drawn
+-- the next packet of a stream with `left` packets still to generate
 abbrev pub next_of : ℕ → Lcg → List ℕ
 next_of left g = if left == 0 then null_packet else packet_of g
 
--- the generator behind it
+-- the generator after it
 abbrev pub behind_next : ℕ → Lcg → Lcg
 behind_next left g = if left == 0 then g else after packet_words g
 
--- only the generator and the packets that are still to be drawn have changed
+-- only the generator and the packets still to generate have changed
 abbrev pub KeepsCounts : Draws → Draws → Type 0
 KeepsCounts old new = new ≡ record old { load = new.load; hp_left = new.hp_left; lp_left = new.lp_left }
 
--- the packets of a stream that were drawn for symbol m, where so many of the stream were put
+-- the number of a stream's packets generated for symbol m so far, if `put` packets of the stream were put
 abbrev pub drawn_since : Settings → ℕ → Stream → ℕ → ℕ → ℕ
 drawn_since s number σ m put = min (drawn_count s number σ) put - drawn_before s number σ m
 
--- Between the packets of symbol m: those of the symbols before it were put, and some of its own, HP before LP.
+-- Between the packets of symbol m: those of earlier symbols were put, and some of its own, HP before LP.
 pub record IsPutting (s : Settings) (m : ℕ) (d : Draws) (t : Transmitter) : Type 0 where
   pub settings : t.settings ≡ s
   pub made : t.made ≡ m

@@ -1,4 +1,4 @@
--- What a trial keeps between its symbols.
+-- The state of a trial between its symbols.
 use Rattle.std.specs.Prelude.{◌≡◌, ℕ, ◌-◌, false, List, flat_map}
 use Rattle.spec_words.specs.Words.{numbers}
 use Rattle.mode_set.specs.declared.modes.Stream.TheVariants.{Hp, Lp}
@@ -11,16 +11,16 @@ use Rattle.trial.specs.Fed.{fed_symbol, byte_sum}
 use Rattle.trial.specs.declared.draws.Draws.{Draws}
 use Rattle.trial.specs.Feeding.{HasGiven}
 
--- what is seen of a trial: its settings, and the number from which all is drawn
+-- the visible state of a trial: its settings, and the number that all random values come from
 pub record TrialOf : Type 0 where
   pub settings : Settings
   pub number : ℕ
 
--- the bytes of the first m symbols that are fed
+-- the bytes of the first m symbols fed
 unfoldable pub first_fed : Settings → ℕ → ℕ → List ℕ
 first_fed s number m = flat_map (fed_symbol s number) (numbers m)
 
--- before symbol m: all that was drawn, made, fed and counted is that of the symbols before it
+-- before symbol m: everything generated, made, fed and counted belongs to earlier symbols
 pub record IsBefore (s : Settings) (m : ℕ) (d : Draws) (t : Transmitter) (x : ReceiverState) (hp lp cells : ℕ) : Type 0 where
   pub hp_packets : d.hp_packets ≡ hp_count d.number
   pub lp_packets : d.lp_packets ≡ lp_count s d.number

@@ -1,4 +1,4 @@
--- Trials by settings that differ in the number of workers alone.
+-- Trials with settings that differ only in the number of workers.
 use Rattle.std.specs.Prelude.{◌≡◌, ℕ}
 use Rattle.mode_set.specs.declared.settings.Settings.{Settings}
 use Rattle.reception.specs.Streams.{Reception}
@@ -7,18 +7,18 @@ use Rattle.trial.specs.Fed.{fed}
 use Rattle.trial.specs.Outcome.{TrialGives, trial_counts}
 use Rattle.reception.specs.Alike.{DifferInWorkers}
 
--- a number's cells by the ones are its cells by the others ..
+-- both give the same cells for a number ..
 abbrev pub SameFed : Type 0
 SameFed = (s t : Settings) (number : ℕ) → DifferInWorkers s t → fed t number ≡ fed s number
 
--- .. they have as many super-frames ..
+-- .. the same super-frames ..
 abbrev pub SameFrames : Type 0
 SameFrames = (s t : Settings) (number : ℕ) → DifferInWorkers s t → trial_frames t number ≡ trial_frames s number
 
--- .. what is received of them is the same ..
+-- .. the same reception ..
 abbrev pub SameGiven : Type 0
 SameGiven = (s t : Settings) (number : ℕ) (r : Reception) → DifferInWorkers s t → TrialGives s number r → TrialGives t number r
 
--- .. and so is what is counted
+-- .. and the same counts
 abbrev pub SameCounts : Type 0
 SameCounts = (s t : Settings) (number : ℕ) (r : Reception) → DifferInWorkers s t → trial_counts t number r ≡ trial_counts s number r

@@ -1,20 +1,20 @@
-// What a trial counts.
+// The counts of a trial.
 
-/// What came back of a stream in a trial.
+/// The result of a trial for one stream.
 #[derive(Clone, Copy, Debug, PartialEq, Eq)]
 pub struct StreamReturn {
-    /// The packets that were drawn.
+    /// The number of packets generated.
     pub packets: u32,
-    /// The packets that came back, null packets among them.
+    /// The number of packets received, including null packets.
     pub back: u64,
     /// The sum of the bytes of these packets, modulo 2^32.
     pub sum: u32,
 }
 
-/// What was counted in a trial.
+/// The counts of a trial.
 #[derive(Clone, Copy, Debug, PartialEq, Eq)]
 pub struct TrialCounts {
-    /// The sum of the bytes of the cells that were fed, modulo 2^32.
+    /// The sum of the bytes of the cells fed, modulo 2^32.
     pub cells: u32,
     /// The high priority stream, or the only one.
     pub hp: StreamReturn,

@@ -1,4 +1,4 @@
-// The cells of a symbol are disturbed.
+// The disturbance of the cells of a symbol.
 ghost use Rattle.std.specs.Prelude.{◌≡◌, ◌+◌, ◌*◌, ◌%◌, ◌<◌, ◌≤◌, ◌==◌, ◌++◌, ◌+ℤ◌, if◌then◌else◌, length, nat_abs, vec_len, vec_capacity};
 ghost use Rattle.load_gen.specs.Draws.{after, shift_of};
 ghost use Rattle.qam_map.specs.Points.{tolerance as tolerance_of};
@@ -32,7 +32,7 @@ fn read_cell(bytes: &[u8], k: usize) -> Cell
     }
 }
 
-// Appends a cell, whose five bytes fit the spare: it counts whole.
+// Appends a cell at full weight; its five bytes fit the spare capacity.
 #[tactic(auto, unfolding(frame_build::specs::Symbol::cell_bytes, frame_build::specs::Symbol::sent_bytes))]
 fn push_cell(cell: Cell, to: &mut Vec<u8>)
     requires { vec_len to.old + 5 ≤ vec_capacity to.old }
@@ -87,7 +87,7 @@ fn negate_cell(cell: Cell, negate: bool) -> Cell
     }
 }
 
-// A cell by what its carrier is for.
+// A cell after the disturbance for its kind of carrier.
 fn disturb_cell(cell: Cell, kind: CarrierKind, delta: u16, negate: bool, load: &mut Load) -> Cell
     requires small { IsSmall cell }
     requires most { delta ≤ 5792 }
@@ -127,8 +127,7 @@ fn next_cell<M: Carriers>(
     disturb_cell(cell, kind, delta, symbol % 17 == 16, &mut draws.load)
 }
 
-/// Puts the disturbed cells of a symbol, of which `sent` has the cells sent, in the place of what stands
-/// in `fed`.
+/// Replaces the content of `fed` by the disturbed cells of a symbol; `sent` has the cells sent.
 pub(crate) fn disturb<M: Carriers>(
     settings: &Settings,
     symbol: u32,

@@ -1,4 +1,4 @@
-// What is drawn from a number, and the packets of it that are put.
+// The random values of a trial, and its packets put into the modulator.
 ghost use Rattle.std.specs.Prelude.{◌≡◌, ◌-◌, ◌<◌, ◌==◌, Some, None, if◌then◌else◌};
 ghost use Rattle.mode_set.specs.declared.modes.Stream.TheVariants as streams;
 ghost use Rattle.load_gen.specs.Draws.{after, count_of};
@@ -14,8 +14,8 @@ use modulator::{Modulator, Want};
 use symbol_parameters::laws::settings as super_frame_settings;
 use ts_packet::Packet;
 
-/// What is drawn from a number: how many packets of each stream, and how many of them are still to be
-/// drawn.
+/// The random values from a number: the number of packets of each stream, and how many of them are still to be
+/// generated.
 #[derive(Drop)]
 pub(crate) struct Draws {
     pub number: u32,
@@ -26,7 +26,7 @@ pub(crate) struct Draws {
     pub lp_left: u32,
 }
 
-// The count of LP, where it exists in the transmission.
+// The count of LP, if LP exists in the transmission.
 fn lp_packets(settings: &Settings, load: &mut Load) -> u32
     ensures count { result ≡ (if exists_in settings.now streams.Lp then count_of load.old else 0) }
     ensures next { load.new ≡ (if exists_in settings.now streams.Lp then after 1 load.old else load.old) }
@@ -39,7 +39,7 @@ fn lp_packets(settings: &Settings, load: &mut Load) -> u32
 }
 
 impl Draws {
-    /// Draws the counts of the packets.
+    /// Generates the counts of the packets.
     pub fn start(settings: &Settings, number: u32) -> Draws
         ensures { IsStarted settings.now number result }
     {
@@ -58,7 +58,7 @@ impl Draws {
     }
 }
 
-// The next packet of a stream: drawn while one is left, and then a null packet.
+// The next packet of a stream: a random one while any is left, then a null packet.
 fn next_packet(left: &mut u32, load: &mut Load) -> Packet
     ensures packet { result ≡ next_of left.old load.old }
     ensures left { left.new ≡ left.old - 1 }
@@ -103,7 +103,7 @@ fn put_lp<M: Carriers>(draws: &mut Draws, tx: &mut Modulator<M>)
     tx.put(&packet);
 }
 
-// Puts the next packet of the stream that is wanted.
+// Puts in the next packet of the wanted stream.
 fn put_next<M: Carriers>(stream: Stream, draws: &mut Draws, tx: &mut Modulator<M>)
     requires wanted { wanted tx.old ≡ Some stream }
     requires within { tx.old.made < trial_symbols tx.old.settings draws.old.number }
@@ -120,7 +120,7 @@ fn put_next<M: Carriers>(stream: Stream, draws: &mut Draws, tx: &mut Modulator<M
     }
 }
 
-// The stream of which the next symbol wants a packet.
+// The stream of the next packet to put, if the next symbol needs one.
 fn wanted_stream<M: Carriers>(tx: &Modulator<M>) -> Option<Stream>
     ensures { result ≡ wanted tx.now }
 {
@@ -131,7 +131,7 @@ fn wanted_stream<M: Carriers>(tx: &Modulator<M>) -> Option<Stream>
     }
 }
 
-/// Draws and puts the packets that the next symbol wants.
+/// Generates and puts in the packets that the next symbol needs.
 pub(crate) fn put_wanted<M: Carriers>(draws: &mut Draws, tx: &mut Modulator<M>)
     requires within { tx.old.made < trial_symbols tx.old.settings draws.old.number }
     requires putting { IsPutting tx.old.settings tx.old.made draws.old tx.old }

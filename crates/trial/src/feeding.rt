@@ -1,4 +1,4 @@
-// A receiver is fed in pieces, and what it gives is summed.
+// A receiver fed in pieces, with the sums of its output.
 ghost use Rattle.std.specs.Prelude.{◌≡◌, ◌+◌, ◌%◌, ◌^◌, ◌<◌, ◌≤◌, ◌++◌, ℕ, List, [], false, length, sum, IfOk};
 ghost use Rattle.load_gen.specs.Draws.{after};
 ghost use Rattle.reception.specs.Cells.{symbol_length, tail};
@@ -14,7 +14,7 @@ use std::alloc::{AllocError, Global};
 use std::thread::Threads;
 use word_workers::Gate;
 
-/// A receiver, what its last call gave, and the sums of the bytes of all packets that it gave.
+/// A receiver, the output of its last call, and the sums of the bytes of all packets that it gave.
 #[derive(Drop)]
 pub(crate) struct SummedReceiver<M: Carriers> {
     pub receiver: Receiver<M>,
@@ -24,7 +24,7 @@ pub(crate) struct SummedReceiver<M: Carriers> {
 }
 
 impl<M: Carriers> SummedReceiver<M> {
-    /// It has had no byte. It takes all its memory; the only error is want of it.
+    /// It has received no byte. It allocates all its memory; the only error is lack of memory.
     pub fn new(alloc: Global, settings: &Settings) -> Result<Self, AllocError>
         requires mode { settings.now.mode ≡ M.MODE }
         ensures settings { IfOk result (λ x. x.receiver.settings ≡ settings.now) }
@@ -38,7 +38,7 @@ impl<M: Carriers> SummedReceiver<M> {
         })
     }
 
-    // Adds what the last call gave.
+    // Adds the output of the last call.
     fn add(&mut self)
         ensures receiver { self.new.receiver ≡ self.old.receiver }
         ensures hp { self.new.hp ≡ (self.old.hp + sum self.old.out.hp) % 2 ^ 32 }
@@ -48,7 +48,7 @@ impl<M: Carriers> SummedReceiver<M> {
         self.lp = sum_onto(self.lp, self.out.lp());
     }
 
-    // Feeds a piece that goes no further than the symbol.
+    // Feeds a piece that does not exceed the symbol.
     fn feed<R: Threads + Sync, G: Gate>(&mut self, rt: &R, gate: &G, piece: &[u8])
         requires going { self.old.receiver.ended ≡ false }
         requires few { self.old.receiver.taken < 2 ^ 32 }
@@ -62,7 +62,7 @@ impl<M: Carriers> SummedReceiver<M> {
         self.add();
     }
 
-    /// Feeds a symbol in pieces whose lengths are drawn.
+    /// Feeds a symbol in pieces of random length.
     pub fn feed_symbol<R: Threads + Sync, G: Gate>(
         &mut self,
         rt: &R,

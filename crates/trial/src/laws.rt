@@ -1,9 +1,8 @@
-// The laws of a trial, as contracts of functions that do nothing.
+// The laws of a trial, as contracts of functions with empty bodies.
 ghost use Rattle.trial.specs.Laws.{AllAreDrawn, FramesOfDrawn, SymbolsOfDrawn, OneSuperFrame, DrawnInOrder, NullsBehind, CellsAreSmall, CellsAreRead, FedSymbolsAreLong, PacketsAreCounted};
 
-/// The packets drawn, where their counts have a number of super-frames: as many as their counts, in the
-/// order of the symbols that want them, and null packets behind them. Without a plan one super-frame
-/// carries them.
+/// The random packets, if their counts have a number of super-frames: as many as the counts, in the order of the
+/// symbols that need them, then null packets. Without a plan one super-frame carries them.
 pub fn packets()
     ensures all { AllAreDrawn }
     ensures frames { FramesOfDrawn }
@@ -27,7 +26,7 @@ pub fn cells()
     transmission::laws::symbols();
 }
 
-/// What comes back is one packet for each word that has a phase.
+/// One packet is received for each word that has a phase.
 pub fn packets_back()
     ensures { PacketsAreCounted }
 {

@@ -1,9 +1,9 @@
-//! A trial of the whole way: packets made from a number are sent, their cells disturbed and received again, and
-//! what comes back is counted.
+//! A trial of the whole chain: random packets from a number are sent, their cells disturbed and received, and the
+//! received packets counted.
 //!
-//! The definitions stand in `specs/`: the packets of a number, the disturbed cells of their transmission, and what
-//! a receiver gives for them. [`Trial`] goes symbol by symbol and never holds the whole transmission; [`TrialCounts`]
-//! is what it counts. [`laws`] are the laws of the definitions; by [`workers`] the number of workers changes nothing.
+//! The definitions are in `specs/`: the packets of a number, the disturbed cells of their transmission, and the output
+//! of a receiver for them. [`Trial`] works symbol by symbol and never holds the whole transmission; [`TrialCounts`] has
+//! its counts. [`laws`] are the laws of the definitions; by [`workers`] the number of workers changes nothing.
 #![tactic(auto)]
 
 mod counts;

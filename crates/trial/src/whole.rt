@@ -12,11 +12,10 @@ use std::thread::Threads;
 use crate::TrialCounts;
 use word_workers::Gate;
 
-/// A trial of settings and a number: packets are drawn from the number and modulated, the cells are
-/// disturbed and received in pieces, and what comes back is counted. As many super-frames are sent as the
-/// counts of packets need.
+/// A trial of settings and a number: random packets from the number are modulated, the cells are disturbed and received
+/// in pieces, and the received packets are counted. As many super-frames are sent as the counts of packets need.
 ///
-/// It is seen as the settings and the number. No call but `new` takes memory.
+/// Contracts see the settings and the number. Only `new` allocates memory.
 #[derive(Drop)]
 pub struct Trial<M: Carriers> {
     settings: Settings,
@@ -36,7 +35,7 @@ impl<M: Carriers> Model for Trial<M> {
 }
 
 impl<M: Carriers> Trial<M> {
-    /// A trial before its first symbol. It takes all its memory; the only error is want of it.
+    /// A trial before its first symbol. It allocates all its memory; the only error is lack of memory.
     pub fn new(alloc: Global, settings: &Settings, number: u32) -> Result<Self, AllocError>
         requires mode { settings.now.mode ≡ M.MODE }
         ensures settings { IfOk result (λ t. t.settings ≡ settings.now) }
@@ -48,15 +47,15 @@ impl<M: Carriers> Trial<M> {
         })
     }
 
-    /// The super-frames that carry the packets counted; none where no number does.
+    /// The number of super-frames for the counts of packets; none if no number carries them.
     pub fn super_frames(&self) -> Option<u64>
         ensures { result ≡ trial_frames self.now.settings self.now.number }
     {
         self.work.super_frames(&self.settings)
     }
 
-    /// Runs the trial over its super-frames, of which there are so many, and answers what was counted. Its
-    /// receiver is fed through the gate; what its end decodes passes none.
+    /// Runs the trial over its super-frames, whose number is given, and returns the counts. Its receiver is fed through
+    /// the gate; the decoding at the end passes none.
     pub fn run<R: Threads + Sync, G: Gate>(self, rt: &R, gate: &G, super_frames: u64) -> TrialCounts
         requires frames { trial_frames self.settings self.number ≡ Some super_frames }
         requires few { 272 * super_frames < 2 ^ 32 }

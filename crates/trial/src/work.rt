@@ -21,7 +21,7 @@ use crate::laws::{cells, packets_back};
 use crate::{StreamReturn, TrialCounts};
 use word_workers::Gate;
 
-// What came back of a stream: a packet for each word that has a phase.
+// The result for a stream: one packet for each word with a phase.
 fn stream_return(packets: u32, counts: &StreamCounts, sum: u32) -> StreamReturn
     ensures { result ≡ return_of packets counts.now sum }
 {
@@ -41,8 +41,8 @@ fn lp_return(packets: u32, counts: &Option<StreamCounts>, sum: u32) -> Option<St
     }
 }
 
-/// The parts of a trial: what is drawn, the modulator, the bytes of a symbol as it is sent and as it is
-/// fed, the receiver, and the sum of the bytes fed.
+/// The parts of a trial: the random values, the modulator, the bytes of a symbol as sent and as fed, the receiver, and
+/// the sum of the bytes fed.
 #[derive(Drop)]
 pub(crate) struct Work<M: Carriers> {
     pub draws: Draws,
@@ -54,7 +54,7 @@ pub(crate) struct Work<M: Carriers> {
 }
 
 impl<M: Carriers> Work<M> {
-    /// Nothing was drawn but the counts. It takes all its memory; the only error is want of it.
+    /// Only the counts were generated. It allocates all its memory; the only error is lack of memory.
     pub fn new(alloc: Global, settings: &Settings, number: u32) -> Result<Self, AllocError>
         requires mode { settings.now.mode ≡ M.MODE }
         ensures number { IfOk result (λ w. w.draws.number ≡ number) }
@@ -74,7 +74,7 @@ impl<M: Carriers> Work<M> {
         })
     }
 
-    // Draws, sends, disturbs and feeds the next symbol.
+    // Generates, sends, disturbs and feeds the next symbol.
     fn next_symbol<R: Threads + Sync, G: Gate>(
         &mut self,
         rt: &R,
@@ -103,7 +103,7 @@ impl<M: Carriers> Work<M> {
             .feed_symbol(rt, gate, &self.fed, &mut self.draws.load);
     }
 
-    /// The super-frames that carry the packets counted; none where no number does.
+    /// The number of super-frames for the counts of packets; none if no number carries them.
     pub fn super_frames(&self, settings: &Settings) -> Option<u64>
         requires hp { self.now.draws.hp_packets ≡ hp_count self.now.draws.number }
         requires lp { self.now.draws.lp_packets ≡ lp_count settings.now self.now.draws.number }
@@ -116,7 +116,7 @@ impl<M: Carriers> Work<M> {
         )
     }
 
-    /// All symbols of the transmission, of which there are so many.
+    /// All symbols of the transmission, whose number is given.
     pub fn all_symbols<R: Threads + Sync, G: Gate>(
         &mut self,
         rt: &R,

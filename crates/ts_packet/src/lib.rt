@@ -16,7 +16,7 @@ pub const SYNC: u8 = 0x47;
 #[derive(Clone, Copy, Debug, PartialEq, Eq)]
 pub struct NotSync;
 
-/// A transport packet: 188 bytes of which the first is 0x47. Contracts see it as the list of them.
+/// A transport packet: 188 bytes, the first of them 0x47. Contracts see it as the list of its bytes.
 #[derive(Drop)]
 pub struct Packet {
     bytes: [u8; 188],
@@ -31,7 +31,7 @@ impl Model for Packet {
 }
 
 impl Packet {
-    /// The packet of these bytes. `NotSync` exactly where the first one is not 0x47.
+    /// The packet of these bytes. `NotSync` exactly if the first one is not 0x47.
     pub fn read(bytes: &[u8; 188]) -> Result<Packet, NotSync>
         ensures packet { IfOk result (λ p. p ≡ bytes.now) }
         ensures refused { IsErr result ↔ (slice_index bytes.now 0 ≢ 0x47) }
@@ -42,7 +42,7 @@ impl Packet {
         Ok(Packet { bytes: *bytes })
     }
 
-    /// The null packet, which carries nothing: `47 1F FF 10` and 184 bytes FF.
+    /// The null packet: `47 1F FF 10` and 184 bytes FF.
     pub fn null() -> Packet
         ensures null { result ≡ null_packet }
     {

@@ -61,7 +61,7 @@ stays_in_bytes same s bytes more found h =
     (count_grows s.mode (length bytes) (length (bytes ++ more)) (omega (arith, length-append bytes more)))
     (found_agrees s.mode (tps_cells s bytes) (tps_cells s (bytes ++ more)) (symbols s bytes) found (λ m l. sym (same s bytes more m l)) h)
 
--- one number more is one item more
+-- one more number is one more item
 mapped_more : (f g : ℕ → List Cell) (n : ℕ) → ((m : ℕ) → m < n → f m ≡ g m) → map f (range_with_len 0 (n + 1)) ≡ map g (range_with_len 0 n) ++ f n ∷ []
 mapped_more f g n same =
     let long : length (map g (range_with_len 0 n)) ≡ n = length-map-range_with_len g 0 n in

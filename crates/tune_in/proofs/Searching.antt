@@ -28,7 +28,7 @@ this_one mode symbols cells = ap (tps_cells_of mode) (get_or_push symbols cells 
 place_before : (mode : Mode) (f g : ℕ → List Cell) (n i : ℕ) (w : TpsWord) → i + 68 ≤ n → ((m : ℕ) → m < n → f m ≡ g m) → IsPlace mode g (n + 1) i w → IsPlace mode f n i w
 place_before mode f g n i w held same h = record { held = held; announces = subst (λ (b : List Bool). Announces mode b w) (sym (bits_agree f g n i held same)) h.announces }
 
--- where there was none, a place ends with the last symbol
+-- if there was none, a place ends with the last symbol
 place_ends : (mode : Mode) (f g : ℕ → List Cell) (n i : ℕ) (w : TpsWord) → ((m : ℕ) → m < n → f m ≡ g m) → NoPlace mode f n → IsPlace mode g (n + 1) i w → i + 68 ≡ n + 1
 place_ends mode f g n i w same none h = go (cases_lt n (i + 68))
   where
@@ -52,7 +52,7 @@ a_place mode t f g n found same none keeps full at told = record {
   least = λ i w h. omega (arith, at, place_ends mode f g n i w same none h);
 }
 
--- ---- a symbol more
+-- ---- one more symbol
 
 pub keeps_more : (mode : Mode) (x y : TunerState) (cells : List Cell) (symbols : List (List Cell)) → ((shown : ℕ → List Cell) (n : ℕ) → shown n ≡ tps_cells_of mode cells → Keeps mode x shown n → Keeps mode y shown (n + 1))
     → StandsFor mode x symbols → Keeps mode y (tps_of mode (symbols ++ cells ∷ [])) (length symbols + 1)

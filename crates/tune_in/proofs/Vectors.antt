@@ -27,11 +27,11 @@ kept_flat = record { qpsk = λ _. refl; lp = refl; some_worker = omega arith; fe
 abbrev base : Settings
 base = record { mode = M2k; shape = Qpsk; hierarchy = Flat; rate_hp = R1of2; rate_lp = None; guard = G1of32; cell_id = None; start = Zero; workers = 1; max_symbols = 1000000; plan = no_plan; kept = kept_flat }
 
--- two TPS cells of symbol m + 10 of a transmission; those of the symbols a to b are negated
+-- two TPS cells of symbol m + 10 of a transmission, negated in symbols a to b
 abbrev late_cells : ℕ → ℕ → ℕ → List Cell
 late_cells a b m = map (λ k. real 16384 (xor (nat_le a m && nat_le m b) (tps_sign (tps_word (signalled base (frame_of (m + 10)))) k ((m + 10) % 68)))) (34 ∷ 50 ∷ [])
 
--- where ten symbols were left out, the second frame begins with symbol 58
+-- without the first ten symbols, the second frame begins with symbol 58
 second_frame : bit_distance (bits_from (late_cells 200 200) 58) (tps_word (signalled base 2)) ≡ 0
 unfolding bits_from numbers tps_word tps_info sync_word length_bits shape_bits hierarchy_bits rate_bits guard_bits mode_bits tps_parity vote tps_sign reference eleven_from
 second_frame = refl

@@ -17,7 +17,7 @@ use Rattle.tune_in.specs.Tuning.{TunerState, Keeps, IsTuning}
 kept_length : (xs : List Bool) (b : Bool) (n : ℕ) → 0 < n → length xs ≡ min 67 (n - 1) → length (keep_last 67 (xs ++ b ∷ [])) ≡ min 67 n
 kept_length xs b n some l = length-drop (length (xs ++ b ∷ []) - 67) (xs ++ b ∷ []) ∙ omega (arith, length_push xs b, l, some)
 
--- of the votes before symbol n, the last ones, and that of the symbols n - 1 and n
+-- the last of the votes before symbol n, and that of symbols n - 1 and n
 kept_votes : (cells : ℕ → List Cell) (n : ℕ) (xs : List Bool) (b : Bool) → 0 < n → length xs ≡ min 67 (n - 1) → b ≡ vote (cells (n - 1)) (cells n)
     → ((k : ℕ) → k < length xs → get_or xs k false ≡ bit_from cells (n - 1 - length xs) k)
     → (k : ℕ) → k < length (keep_last 67 (xs ++ b ∷ [])) → get_or (keep_last 67 (xs ++ b ∷ [])) k false ≡ bit_from cells (n - length (keep_last 67 (xs ++ b ∷ []))) k
@@ -64,7 +64,7 @@ noted mode x y cells (suc n) s now first later h =
 pub no_votes : (mode : Mode) (t : TunerState) (cells : ℕ → List Cell) → t.symbols ≡ 0 → t.votes ≡ [] → Keeps mode t cells 0
 no_votes mode t cells s v = record { number = s; last = λ l. absurd (omega (arith, l)); long = ap length v; votes = λ k l. absurd (omega (arith, l, ap length v)) }
 
--- 67 votes are the bits of the frame that begins 68 symbols ago
+-- 67 votes are the bits of the frame that began 68 symbols ago
 pub whole_frame : (mode : Mode) (t : TunerState) (cells : ℕ → List Cell) (n : ℕ) → length t.votes ≡ 67 → Keeps mode t cells n → t.votes ≡ bits_from cells (n - 68)
 unfolding bits_from numbers
 whole_frame mode t cells n full h =
@@ -74,7 +74,7 @@ whole_frame mode t cells n full h =
     let place : 0 + i ≡ i = omega arith in
     h.votes i l ∙ ap (λ z. bit_from cells z i) base ∙ sym (get_or-map-range_with_len (bit_from cells (n - 68)) 0 67 i i false (omega (arith, l, full)) place))
 
--- only the cells of the frame's symbols count
+-- only the cells of the frame's symbols matter
 pub bits_agree : (f g : ℕ → List Cell) (n i : ℕ) → i + 68 ≤ n → ((m : ℕ) → m < n → f m ≡ g m) → bits_from f i ≡ bits_from g i
 unfolding bits_from numbers
 bits_agree f g n i held same =
@@ -94,7 +94,7 @@ keeps_agree mode t f g n same h = record {
   votes = λ k l. h.votes k l ∙ ap₂ vote (same (n - 1 - length t.votes + k) (omega (arith, l, h.long))) (same (n - 1 - length t.votes + k + 1) (omega (arith, l, h.long)));
 }
 
--- the number of votes kept goes on
+-- the number of votes kept after one more
 pub goes_on : (old new : List Bool) (b : Bool) (capacity symbols : ℕ) → (symbols ≡ 0 → new ≡ old) → (0 < symbols → new ≡ keep_last capacity (old ++ b ∷ [])) → symbols < 2 ^ 32 → IsTuning old capacity symbols → IsTuning new capacity (symbols + 1)
 goes_on old new b capacity zero first later few h = record { room = h.room; long = ap length (first refl) ∙ h.long; few = omega arith }
 goes_on old new b capacity (suc n) first later few h = record {

@@ -1,4 +1,5 @@
--- The settings of the reception that a found frame announces (EN 300 744, 4.6.2: a frame signals the parameters of the next super-frame).
+-- The settings of a reception, as announced by a found frame (EN 300 744, 4.6.2: a frame signals the parameters of the
+-- next super-frame).
 use Rattle.std.specs.Prelude.{◌≡◌, if◌then◌else◌, Some, None}
 use Rattle.mode_set.specs.Kept.{is_flat}
 use Rattle.mode_set.specs.Plans.{no_plan}
@@ -6,7 +7,8 @@ use Rattle.mode_set.specs.declared.modes.Start.TheVariants.{Any}
 use Rattle.mode_set.specs.declared.settings.Settings.{Settings}
 use Rattle.tps_word.specs.declared.word.TpsWord.{TpsWord}
 
--- mode, workers and limit are those of the settings, constellation, hierarchy, rates and guard interval those of the word; the register may be any
+-- mode, workers and limit are those of the settings; constellation, hierarchy, rates and guard interval are those of
+-- the word; the start register is free
 pub record IsAnnounced (word : TpsWord) (given announced : Settings) : Type 0 where
   pub mode_is : announced.mode ≡ given.mode
   pub shape_is : announced.shape ≡ word.shape

@@ -1,4 +1,5 @@
--- The least place among the symbols of a file, as a function: a search through the symbols and, at each, through all fields that can be sent (EN 300 744, 4.6.2).
+-- The least place in the symbols of a file, as a function: an exhaustive search through the symbols and all valid
+-- fields (EN 300 744, 4.6.2).
 use Rattle.std.specs.Prelude.{◌≡◌, ℕ, suc, ◌-◌, ◌==◌, min, nat_le, Bool, true, false, not, ◌&&◌, ◌||◌, List, [], ◌∷◌, Option, Some, None, if◌then◌else◌}
 use Rattle.std.specs.Option.{option_map, option_or}
 use Rattle.spec_words.specs.Words.{numbers}
@@ -22,7 +23,7 @@ use Rattle.reception.specs.Frames.{tps_cells}
 use Rattle.tune_in.specs.Places.{IsFound, NoPlace}
 use Rattle.tune_in.specs.declared.frame.Found.{Found}
 
--- the first answer that is given for an item of a list
+-- the first answer for an item of a list
 abbrev pub first_answer : {A B : Type 0} → List A → (A → Option B) → Option B
 first_answer [] answer = None
 first_answer (x ∷ xs) answer = option_or (answer x) (first_answer xs answer)
@@ -49,15 +50,15 @@ is_half R3of4 = false
 is_half R5of6 = false
 is_half R7of8 = false
 
--- fields of a frame from 1 to 4 and a byte below 256 that can be sent
+-- fields of a frame from 1 to 4 and a byte below 256 that are valid
 abbrev pub fit_together : TpsWord → Bool
 fit_together t = (not (is_qpsk t.shape) || is_flat t.hierarchy) && ((not (is_flat t.hierarchy) || is_half t.rate_lp) && (t.with_cell || (t.cell_byte == 0)))
 
--- the bits are within two errors of the word of these fields, which can be sent
+-- the bits are within two errors of the word of these valid fields
 unfoldable pub is_signalled : List Bool → TpsWord → Bool
 is_signalled bits t = fit_together t && nat_le (bit_distance bits (tps_word t)) 2
 
--- the fields of this mode that the bits signal, if they signal some
+-- the fields of this mode that the bits signal, if any
 unfoldable pub fields_of : Mode → List Bool → Option TpsWord
 fields_of mode bits =
     first_answer (numbers 4) (λ f. first_answer bools (λ with_cell. first_answer shapes (λ shape. first_answer hierarchies (λ hierarchy.
@@ -69,7 +70,7 @@ fields_of mode bits =
 abbrev pub held : Settings → List ℕ → ℕ
 held s bytes = min (symbols s bytes) s.max_symbols
 
--- the least place among them, if there is one: 67 symbols follow it
+-- the least place among them, if any; 67 symbols follow it
 unfoldable pub place_of : Settings → List ℕ → Option Found
 place_of s bytes = first_answer (numbers (held s bytes - 67)) (λ i. option_map (λ w. record { place = i; word = w }) (fields_of s.mode (bits_from (tps_cells s bytes) i)))
 
@@ -77,11 +78,11 @@ place_of s bytes = first_answer (numbers (held s bytes - 67)) (λ i. option_map 
 abbrev pub HoldsPlace : Settings → List ℕ → Found → Type 0
 HoldsPlace s bytes found = IsFound s.mode (tps_cells s bytes) (held s bytes) found
 
--- and no place
+-- the symbols within the limit hold no place
 abbrev pub HoldsNone : Settings → List ℕ → Type 0
 HoldsNone s bytes = NoPlace s.mode (tps_cells s bytes) (held s bytes)
 
--- The search finds the least place within the limit, and nothing exactly where there is none.
+-- The search finds the least place within the limit, and nothing exactly if there is none.
 pub record Searches (s : Settings) (bytes : List ℕ) : Type 0 where
   pub finds : (found : Found) → HoldsPlace s bytes found → place_of s bytes ≡ Some found
   pub found : (found : Found) → place_of s bytes ≡ Some found → HoldsPlace s bytes found

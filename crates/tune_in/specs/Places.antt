@@ -1,4 +1,5 @@
--- Frames among symbols that begin anywhere: where one begins, and what it signals (EN 300 744, 4.6; the vote and what counts as found are this project's own).
+-- Frames in symbols that begin anywhere: where a frame begins, and what it signals (EN 300 744, 4.6; the vote and the
+-- rule for places are this project's own).
 use Rattle.std.specs.Prelude.{◌≡◌, ℕ, ◌+◌, ◌-◌, ◌*◌, ◌≤◌, Bool, List}
 use Rattle.mode_set.specs.declared.modes.Mode.{Mode}
 use Rattle.qam_map.specs.declared.cell.Cell.{Cell}
@@ -7,26 +8,27 @@ use Rattle.tps_word.specs.Signals.{Signals}
 use Rattle.tps_word.specs.declared.word.TpsWord.{TpsWord}
 use Rattle.tune_in.specs.declared.frame.Found.{Found}
 
--- the bits are within two errors of the word of these fields, which can be sent and are of this mode
+-- the bits are within two errors of the word of these fields, which are valid and of this mode
 pub record Announces (mode : Mode) (bits : List Bool) (fields : TpsWord) : Type 0 where
   pub signals : Signals bits fields
   pub mode_is : fields.mode ≡ mode
 
--- symbol i of n symbols is a place: the symbols i to i + 67 are there, and the votes of a frame that begins with symbol i announce these fields
+-- symbol i of n symbols is a place: symbols i to i + 67 exist, and the votes of a frame that begins with symbol i
+-- announce these fields
 pub record IsPlace (mode : Mode) (cells : ℕ → List Cell) (n i : ℕ) (fields : TpsWord) : Type 0 where
   pub held : i + 68 ≤ n
   pub announces : Announces mode (bits_from cells i) fields
 
--- none of n symbols is a place
+-- none of the n symbols is a place
 abbrev pub NoPlace : Mode → (ℕ → List Cell) → ℕ → Type 0
 NoPlace mode cells n = (i : ℕ) (fields : TpsWord) → IsPlace mode cells n i fields → ⊥
 
--- the least place among n symbols, with the fields of the corrected word
+-- the least place in n symbols, with the fields of the corrected word
 pub record IsFound (mode : Mode) (cells : ℕ → List Cell) (n : ℕ) (found : Found) : Type 0 where
   pub place : IsPlace mode cells n found.place found.word
   pub least : (i : ℕ) (fields : TpsWord) → IsPlace mode cells n i fields → found.place ≤ i
 
--- the symbol with which the super-frame after the one found begins
+-- the first symbol of the super-frame after the found one
 abbrev pub begin : Found → ℕ
 begin found = found.place + 68 * (5 - found.word.frame)
 
@@ -34,6 +36,6 @@ begin found = found.place + 68 * (5 - found.word.frame)
 abbrev pub OneFound : Type 0
 OneFound = (mode : Mode) (cells : ℕ → List Cell) (n : ℕ) (found other : Found) → IsFound mode cells n found → IsFound mode cells n other → found ≡ other
 
--- what was found is found too when there are more symbols
+-- a place found stays found with more symbols
 abbrev pub FoundStays : Type 0
 FoundStays = (mode : Mode) (cells : ℕ → List Cell) (n m : ℕ) (found : Found) → n ≤ m → IsFound mode cells n found → IsFound mode cells m found

@@ -1,4 +1,4 @@
--- What a tuner stands for: the symbols that it has had.
+-- The symbols that a tuner has received.
 use Rattle.std.specs.Prelude.{◌≡◌, ℕ, ◌+◌, ◌-◌, ◌^◌, ◌<◌, ◌≤◌, min, Bool, false, List, [], length, take, get_or, Option, Some, None}
 use Rattle.mode_set.specs.declared.modes.Mode.{Mode}
 use Rattle.pilots.specs.Carriers.{tps_carriers}
@@ -11,32 +11,33 @@ use Rattle.tune_in.specs.declared.frame.Found.{Found}
 unfoldable pub tps_of : Mode → List (List Cell) → ℕ → List Cell
 tps_of mode symbols m = tps_cells_of mode (get_or symbols m [])
 
--- what is seen of a tuner: the number of the symbols it has had, whether it has found a place, the cells kept of the last symbol, and the last votes
+-- the visible state of a tuner: the number of symbols received, whether a place was found, the kept cells of the last
+-- symbol, and the last votes
 pub record TunerState : Type 0 where
   pub symbols : ℕ
   pub found : Bool
   pub before : List Cell
   pub votes : List Bool
 
--- there is a vote for each symbol but the first, of which the last 67 are kept
+-- every symbol after the first has a vote; the last 67 are kept
 pub record IsTuning (votes : List Bool) (capacity symbols : ℕ) : Type 0 where
   pub room : capacity ≡ 67
   pub long : length votes ≡ min 67 (symbols - 1)
   pub few : symbols ≤ 2 ^ 32
 
--- it has had n symbols, of which these are the TPS cells: it has those of the last one, and the last votes, at most 67
+-- the tuner has had n symbols with these TPS cells; it keeps those of the last one, and the last votes, at most 67
 pub record Keeps (mode : Mode) (t : TunerState) (cells : ℕ → List Cell) (n : ℕ) : Type 0 where
   pub number : t.symbols ≡ n
   pub last : 0 < n → take (length (tps_carriers mode)) t.before ≡ cells (n - 1)
   pub long : length t.votes ≡ min 67 (n - 1)
   pub votes : (k : ℕ) → k < length t.votes → get_or t.votes k false ≡ bit_from cells (n - 1 - length t.votes) k
 
--- it has had just these symbols, and none of them is a place
+-- it has had exactly these symbols, and none of them is a place
 pub record StandsFor (mode : Mode) (t : TunerState) (symbols : List (List Cell)) : Type 0 where
   pub keeps : Keeps mode t (tps_of mode symbols) (length symbols)
   pub none : NoPlace mode (tps_of mode symbols) (length symbols)
 
--- what is answered to the last of these symbols: the least place, where this symbol is the last of its frame
+-- the answer to the last of these symbols: the least place, if this symbol is the last of its frame
 abbrev pub Answers : Mode → List (List Cell) → Option Found → Type 0
 Answers mode symbols None = NoPlace mode (tps_of mode symbols) (length symbols)
 Answers mode symbols (Some found) = IsFound mode (tps_of mode symbols) (length symbols) found × (found.place + 68 ≡ length symbols)

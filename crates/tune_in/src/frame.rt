@@ -1,4 +1,4 @@
-// A frame that was found, and what its votes announce.
+// A found frame, and what its votes announce.
 ghost use Rattle.std.specs.Prelude.{◌≡◌, ◌^◌, ◌<◌, ◌≤◌, IfSome, None};
 ghost use Rattle.tps_word.specs.declared.word.TpsWord.{TpsWord as Word};
 ghost use Rattle.tune_in.specs.Places.{Announces, begin};
@@ -6,18 +6,17 @@ ghost use Rattle.tune_in.specs.Places.{Announces, begin};
 use mode_set::Mode;
 use tps_word::TpsWord;
 
-/// A frame that was found, and what it signals.
+/// A found frame and the fields that it signals.
 #[derive(Clone, Copy, Debug, PartialEq, Eq)]
 pub struct Found {
-    /// The number of the frame's first symbol, from 0 on.
+    /// The number of the frame's first symbol, from 0.
     pub place: u64,
-    /// What the frame's TPS word signals, after its errors were corrected.
+    /// The fields of the frame's TPS word, after error correction.
     pub word: TpsWord,
 }
 
-/// The number of the symbol with which the super-frame after that of the found frame begins: from it on
-/// holds what the word announces (EN 300 744, 4.6.2). The place is below 2^32, the frame 1 to 4, as of
-/// each frame that a `Tuner` finds.
+/// The number of the first symbol of the super-frame after the found frame's: from it on the announced parameters are
+/// valid (EN 300 744, 4.6.2). The place is below 2^32 and the frame 1 to 4, as for each frame that a `Tuner` finds.
 pub fn begin(found: &Found) -> u64
     requires place { found.now.place < 2 ^ 32 }
     requires first { 1 ≤ found.now.word.frame }
@@ -35,7 +34,7 @@ fn of_mode(word: TpsWord, mode: Mode) -> Option<TpsWord>
     if word.mode == mode { Some(word) } else { None }
 }
 
-/// The fields that the 67 votes of a frame announce, if they do.
+/// The fields announced by the 67 votes of a frame, if any.
 pub(crate) fn announced_by(mode: Mode, votes: &[bool; 67]) -> Option<TpsWord>
     ensures some { IfSome result (λ w. Announces mode votes.now w) }
     ensures none { result ≡ None → (w : Word) → Announces mode votes.now w → ⊥ }

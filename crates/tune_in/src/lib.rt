@@ -1,7 +1,7 @@
-//! Reception from any symbol on: finds a frame by the TPS words that the symbols show, and from it the
-//! settings of the transmission and the symbol with which the next super-frame begins.
+//! Reception from any symbol on: finds a frame by the TPS words of the symbols, and from it the settings of the
+//! transmission and the first symbol of the next super-frame.
 //!
-//! EN 300 744, 4.6; the votes, and what counts as found, are this project's own.
+//! EN 300 744, 4.6; the votes and the rule for places are this project's own.
 #![tactic(auto)]
 
 mod frame;

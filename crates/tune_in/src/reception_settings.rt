@@ -1,14 +1,13 @@
-// The settings that a TPS word announces.
+// The settings announced by a TPS word.
 ghost use Rattle.tps_word.specs.Tps.{IsValid};
 ghost use Rattle.tune_in.specs.Announced.{IsAnnounced};
 
 use mode_set::{Plan, Settings, Start};
 use tps_word::TpsWord;
 
-/// The settings of the reception that the word announces: its constellation, hierarchy, rates and guard
-/// interval, with the mode, the workers and the limit of the given settings. It begins with any
-/// register, and has no cell identifier and no plan. The word's fields can be sent, as those of each word that a
-/// `Tuner` finds.
+/// The settings of the reception that the word announces: its constellation, hierarchy, rates and guard interval, with
+/// the mode, the workers and the limit of the given settings. It starts with any register, and has no cell identifier
+/// and no plan. The word's fields are valid, as for each word that a `Tuner` finds.
 pub fn announced(word: &TpsWord, settings: &Settings) -> Settings
     requires valid { IsValid word.now }
     ensures { IsAnnounced word.now settings.now result }

@@ -20,7 +20,7 @@ use tps_word::{TpsWord, take_tps_cells, vote};
 // The votes of a frame's 68 symbols.
 const VOTES: usize = 67;
 
-// The 67 votes, the oldest first.
+// The 67 votes, oldest first.
 fn all_votes(votes: &HeapCircularBuffer<bool>) -> [bool; 67]
     requires { length votes.now.items ≡ 67 }
     ensures { result ≡ votes.now.items }
@@ -32,7 +32,7 @@ fn all_votes(votes: &HeapCircularBuffer<bool>) -> [bool; 67]
     all
 }
 
-// Keeps the vote of a symbol and the one before it, where there is one.
+// Keeps the vote of a symbol and the one before it, if there is one.
 fn keep_vote(
     votes: &mut HeapCircularBuffer<bool>,
     before: &[Cell; 68],
@@ -50,17 +50,16 @@ fn keep_vote(
     votes.push_back(vote(&before[..count], &now[..count]));
 }
 
-/// Looks for a frame of a transmission among symbols that begin anywhere: 68 symbols whose TPS cells show
-/// a TPS word of the mode (EN 300 744, 4.6).
+/// Searches for a frame of a transmission in symbols that begin anywhere: 68 symbols whose TPS cells hold a TPS word of
+/// the mode (EN 300 744, 4.6).
 ///
-/// It stands for the symbols that it has had. A symbol costs a vote, and from the 68th on a copy of all 67
-/// votes and a look at 16 of them, and more only where these are near to a sync word. No call but `new`
-/// takes memory.
+/// Its state matches the symbols received. A symbol costs a vote, and from the 68th on a copy of all 67 votes and a
+/// check of 16 of them; more only if these are close to a sync word. Only `new` allocates memory.
 #[derive(Drop)]
 pub struct Tuner<M: Carriers> {
     // The TPS cells of the last symbol.
     before: [Cell; 68],
-    // The votes of each symbol and the one before it, the last 67.
+    // The last 67 votes, each of a symbol and the one before it.
     votes: HeapCircularBuffer<bool>,
     symbols: u64,
     found: bool,
@@ -78,7 +77,7 @@ impl<M: Carriers> Model for Tuner<M> {
 }
 
 impl<M: Carriers> Tuner<M> {
-    /// A tuner that has had no symbol. It takes all its memory; the only error is want of it.
+    /// A tuner that has received no symbol. It allocates all its memory; the only error is lack of memory.
     pub fn new(alloc: Global) -> Result<Self, AllocError>
         ensures symbols { IfOk result (λ t. t.symbols ≡ 0) }
         ensures searching { IfOk result (λ t. t.found ≡ false) }
@@ -108,7 +107,7 @@ impl<M: Carriers> Tuner<M> {
         self.symbols += 1;
     }
 
-    // What the last 68 symbols announce, if they are a frame.
+    // The fields that the last 68 symbols announce, if they are a frame.
     fn announced(&self) -> Option<TpsWord>
         ensures some { IfSome result (λ w. (length self.now.votes ≡ 67) × Announces M.MODE self.now.votes w) }
         ensures none { result ≡ None → length self.now.votes ≡ 67 → (w : Word) → Announces M.MODE self.now.votes w → ⊥ }
@@ -119,11 +118,11 @@ impl<M: Carriers> Tuner<M> {
         announced_by(M::MODE, &all_votes(&self.votes))
     }
 
-    /// Takes the next symbol by the cells of all its carriers. It answers the least place of the symbols
-    /// that it has had, with the corrected TPS word, exactly where this symbol is the last of that frame.
+    /// Takes the next symbol as the cells of all its carriers. It returns the least place in the symbols received, with
+    /// the corrected TPS word, exactly if this symbol is the last of that frame.
     ///
-    /// Nothing was found before, as `found` tells, and it has had fewer than 2^32 symbols, as `symbols`
-    /// tells. The word that is answered is of the mode, and its fields can be sent.
+    /// Nothing was found before (see `found`), and fewer than 2^32 symbols were received (see `symbols`). The word
+    /// returned is of the mode, and its fields are valid.
     pub fn symbol(&mut self, cells: &[Cell]) -> Option<Found>
         requires cells { length cells.now ≡ M.K }
         requires searching { self.old.found ≡ false }
@@ -145,14 +144,14 @@ impl<M: Carriers> Tuner<M> {
         })
     }
 
-    /// The symbols it has had.
+    /// The number of symbols received.
     pub fn symbols(&self) -> u64
         ensures { result ≡ self.now.symbols }
     {
         self.symbols
     }
 
-    /// Was a place found?
+    /// Whether a place was found.
     pub fn found(&self) -> bool
         ensures { result ≡ self.now.found }
     {

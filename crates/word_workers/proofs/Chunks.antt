@@ -33,7 +33,7 @@ decodes_more i old new now was l is h = record {
         subst (λ j. Decoded (get_or old j e).word (get_or (set new i now) j e).word (get_or (set new i now) j e).outcome) here
         (subst (λ (z : WordSlot). Decoded (get_or old i e).word z.word z.outcome) (sym (get_or-set_same new i now e (omega (arith, l, h.long)))) (subst (λ (z : WordSlot). Decoded z.word now.word now.outcome) first is))
 
--- so many pieces have entered, from this number on
+-- n pieces have entered, from this number on
 abbrev pub AllEntered : (ℕ → Bool) → ℕ → ℕ → Type 0
 AllEntered entered start n = (i : ℕ) → i < n → IsTrue (entered (start + i))
 

@@ -1,4 +1,4 @@
-// What each piece of work passes before it begins.
+// The gate that each piece of work enters before it begins.
 ghost use Rattle.std.specs.Prelude.{ℕ, Bool, IsTrue, true};
 
 use std::marker::Sync;
@@ -12,16 +12,16 @@ pub enum Job {
     Inner,
 }
 
-/// What each piece of work enters before it begins. It changes nothing of the work.
+/// A gate that each piece of work enters before it begins. It does not affect the work.
 pub trait Gate: Sync {
     ghost use Rattle.word_workers.specs.declared.gate.Job.{Job};
 
-    /// Whether this piece of this work has entered. It says nothing of the gate itself: only `enter` tells it, so who
-    /// promises it for a piece has called `enter` with the number of that piece.
+    /// Whether this piece of this work has entered. It says nothing of the gate itself: only `enter` ensures it, so a
+    /// promise of it for a piece proves a call of `enter` with the number of that piece.
     ghost has_entered: { Self → Job → ℕ → Bool };
 
-    /// Called by the thread that does a piece, before it does it: of the outer words with the number of
-    /// the word, of the inner decoders with 0 for HP and 1 for LP.
+    /// Called by the thread that does a piece, before it does it: for outer words with the number of the word, for
+    /// inner decoders with 0 for HP and 1 for LP.
     fn enter(&self, job: Job, piece: u32)
         ensures entered { IsTrue (has_entered self.now job piece) };
 }

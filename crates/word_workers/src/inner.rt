@@ -1,4 +1,4 @@
-// The inner decoders of two streams side by side.
+// The inner decoders of two streams in parallel.
 ghost use Rattle.std.specs.Prelude.{IsTrue};
 ghost use Rattle.std.specs.Fork.{AcceptsAt, ChangesAt};
 ghost use Rattle.word_workers.specs.Symbols.{MayRun, HasRun, MayRunOver, HasRunOver};
@@ -11,10 +11,11 @@ use std::marker::Send;
 use std::thread::{Threads, join_mut};
 use survivor_ring::Survivors;
 
-/// The pairs of two streams from which a thread pays. A thread costs 22 microseconds, as many as some 3,000 steps.
+/// The number of pairs of two streams from which a thread pays off. A thread costs 22 microseconds, as much as some
+/// 3,000 steps.
 const PAYS: usize = 10_000;
 
-/// Enters the gate with the number of a decoder, and runs a symbol of it.
+/// Enters the gate with the number of a decoder, and runs a symbol on it.
 fn run_one<G: Gate, A: Acs, V: Survivors<2048>>(gate: &G, piece: u32, branch: &mut Branch<A, V>)
     requires may { MayRun branch.old }
     ensures has { HasRun branch.old branch.new }
@@ -24,7 +25,7 @@ fn run_one<G: Gate, A: Acs, V: Survivors<2048>>(gate: &G, piece: u32, branch: &m
     branch.run_symbol();
 }
 
-/// Enters the gate with the number of a decoder, and runs these pairs of it.
+/// Enters the gate with the number of a decoder, and runs these pairs on it.
 fn run_one_over<G: Gate, A: Acs, V: Survivors<2048>>(
     gate: &G,
     piece: u32,
@@ -39,7 +40,7 @@ fn run_one_over<G: Gate, A: Acs, V: Survivors<2048>>(
     branch.run_over(pairs);
 }
 
-/// Does the work on one of two things.
+/// Does the work on one of two items.
 fn on_one<T, F: Fn(u32, &mut T)>(work: &F, piece: u32, thing: &mut T)
     requires { AcceptsAt F.Fn work.now piece thing.old }
     ensures { ChangesAt F.Fn work.now piece thing.old thing.new }
@@ -47,7 +48,7 @@ fn on_one<T, F: Fn(u32, &mut T)>(work: &F, piece: u32, thing: &mut T)
     work(piece, thing);
 }
 
-/// Does a piece of work on each of two things, side by side: on the first as piece 0, on the second as piece 1.
+/// Does a piece of work on each of two items in parallel: piece 0 on the first, piece 1 on the second.
 fn on_both<R: Threads + Sync, T: Send, F: Fn(u32, &mut T) + Sync, H: Fn(u32, &mut T) + Sync>(
     rt: &R,
     on_first: &F,
@@ -71,11 +72,10 @@ fn on_both<R: Threads + Sync, T: Send, F: Fn(u32, &mut T) + Sync, H: Fn(u32, &mu
     join_mut(rt, &mut front, &mut back);
 }
 
-/// Runs a symbol of two decoders side by side, and each is afterwards what [`Branch::run_symbol`] makes
-/// of it, for every gate.
+/// Runs a symbol on two decoders in parallel, with the result of [`Branch::run_symbol`] for each, for every gate.
 ///
-/// Both meet the conditions of `run_symbol`. One of them runs in a thread of its own; where none can be
-/// made they run one after another. HP enters the gate with [`Job::Inner`] and 0, LP with 1.
+/// Both meet the conditions of `run_symbol`. One of them runs in a thread of its own; if none can be started, they run
+/// one after another. HP enters the gate with [`Job::Inner`] and 0, LP with 1.
 pub fn both<R: Threads + Sync, G: Gate, A: Acs + Send, V: Survivors<2048> + Send>(
     rt: &R,
     gate: &G,
@@ -97,12 +97,12 @@ pub fn both<R: Threads + Sync, G: Gate, A: Acs + Send, V: Survivors<2048> + Send
     on_both(rt, &work, &work, hp, lp);
 }
 
-/// Steps two decoders through the pairs of a symbol of their streams, in place, and each is afterwards what
-/// [`Branch::run_over`] makes of it with its pairs, for every gate.
+/// Steps two decoders through the pairs of a symbol of their streams, in place, with the result of [`Branch::run_over`]
+/// for each, for every gate.
 ///
-/// Both meet the conditions of `run_over`. If the two have 10,000 pairs or more, as every symbol of the 8K mode has, one of
-/// them runs in a thread of its own. With fewer pairs, or if no thread can be started, they run one after another. HP enters
-/// the gate with [`Job::Inner`] and 0, LP with 1.
+/// Both meet the conditions of `run_over`. If the two have 10,000 pairs or more, as every symbol of the 8K mode has,
+/// one of them runs in a thread of its own. With fewer pairs, or if no thread can be started, they run one after
+/// another. HP enters the gate with [`Job::Inner`] and 0, LP with 1.
 pub fn both_over<R: Threads + Sync, G: Gate, A: Acs + Send, V: Survivors<2048> + Send>(
     rt: &R,
     gate: &G,

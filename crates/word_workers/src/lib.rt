@@ -1,10 +1,10 @@
-//! What a receiver does at once: the outer words of a symbol in chunks, and the inner decoders of the
-//! two streams side by side.
+//! The parallel work of a receiver: the outer words of a symbol in chunks, and the inner decoders of two streams at the
+//! same time.
 //!
-//! [`decode_all`] decodes words by workers, each of which has a chunk of its own; [`both`] runs a symbol
-//! of two decoders, and [`both_over`] steps them through pairs where these lie. Each word and each decoder is afterwards what one thread makes of it. Nothing that
-//! changes is shared, nothing is locked, and where no thread can be made the pieces run one after
-//! another. Each piece enters a [`Gate`] first, by which a test sees that pieces run at once.
+//! [`decode_all`] decodes words with workers, each of which has a chunk of its own; [`both`] runs a symbol on two
+//! decoders, and [`both_over`] steps them through pairs in place. Every word and every decoder ends as with a single
+//! thread. No mutable data is shared, nothing is locked, and if no thread can be started the pieces run one after
+//! another. Each piece enters a [`Gate`] first, so a test can see that pieces run in parallel.
 #![tactic(auto)]
 
 mod gate;

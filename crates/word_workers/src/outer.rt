@@ -16,7 +16,7 @@ fn decode_one<G: Gate>(gate: &G, number: u32, slot: &mut WordSlot)
     slot.decode();
 }
 
-/// Decodes the words of a chunk in order, of which the first has number `start`.
+/// Decodes the words of a chunk in order; the first has number `start`.
 fn decode_chunk<G: Gate>(gate: &G, start: usize, chunk: &mut [WordSlot])
     requires few { start + length chunk.old ≤ 24 }
     ensures each { (i : ℕ) (d : WordSlot) → i < length chunk.old → Decoded (slice_index_or chunk.old i d).word (slice_index_or chunk.new i d).word (slice_index_or chunk.new i d).outcome }
@@ -27,7 +27,7 @@ fn decode_chunk<G: Gate>(gate: &G, start: usize, chunk: &mut [WordSlot])
     }
 }
 
-/// How many slots a chunk has, but for the last one, which may have fewer.
+/// The number of slots in a chunk; the last one may have fewer.
 fn chunk_len(slots: usize, workers: u8) -> usize
     requires some { 1 ≤ slots }
     requires some_worker { 1 ≤ workers }
@@ -37,13 +37,13 @@ fn chunk_len(slots: usize, workers: u8) -> usize
     slots.div_ceil(workers as usize)
 }
 
-/// Decodes each word, by at most so many workers, and each slot is afterwards what [`WordSlot::decode`]
-/// makes of it, for every number of workers and every gate.
+/// Decodes each word, with at most `workers` workers; each slot ends as [`WordSlot::decode`] leaves it, for every
+/// number of workers and every gate.
 ///
-/// There are 1 to 16 workers and at most 24 slots. They are cut into chunks of `ceil(len / workers)`
-/// slots, in order, for each of which a thread is started where there are two or more, but for one that
-/// the caller decodes itself, as it does with all for which no thread can be made. Before it decodes a
-/// slot a worker enters the gate with [`Job::Outer`] and the number of the slot.
+/// There are 1 to 16 workers and at most 24 slots. They are divided into chunks of `ceil(len / workers)` slots, in
+/// order. With two or more chunks a thread is started for each, except for one that the caller decodes itself, as it
+/// does with all for which no thread can be started. Before it decodes a slot a worker enters the gate with
+/// [`Job::Outer`] and the number of the slot.
 pub fn decode_all<R: Threads + Sync, G: Gate>(rt: &R, workers: u8, gate: &G, slots: &mut [WordSlot])
     requires some_worker { 1 ≤ workers }
     requires few_workers { workers ≤ 16 }

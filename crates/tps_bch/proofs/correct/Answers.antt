@@ -1,4 +1,4 @@
--- Each exit leaves a word of the code, or there is none near.
+-- Each exit leaves a word of the code, or there is none close.
 use Rattle.std.proofs.Common.{List, Bool, ap, sym, subst, ◌∙◌, arith, refl}
 use Rattle.tps_bch.specs.Bch.{IsCorrected, IsFar}
 use Rattle.tps_bch.proofs.Errors.{far, flipped}

@@ -1,4 +1,4 @@
--- The bits spell the syndrome of the information bits.
+-- The bits are the syndrome of the information bits.
 use Rattle.std.proofs.Common.{ℕ, ◌<◌, ◌≡◌, ◌≢◌, ◌∙◌, ◌++◌, ap, sym, subst, arith, below_more, List, Bool, get_or-set_same, get_or-set_other, length, length-set}
 use Rattle.std.specs.Prelude.{◌==◌}
 use Rattle.std.proofs.lemmas.Nat.{and_mask}

@@ -1,4 +1,4 @@
--- The bits so far are those that the syndrome spells.
+-- The bits so far are those of the syndrome.
 use Rattle.std.proofs.Common.{◌≡◌, ℕ, ◌<◌, ◌-◌, get_or, false, length, List, Bool}
 use Rattle.spec_words.specs.Bits.{is_set}
 use Rattle.tps_bch.proofs.parity.Given as goal

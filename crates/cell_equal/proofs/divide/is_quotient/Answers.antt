@@ -1,4 +1,4 @@
--- A quotient leaves a rest below the divisor.
+-- A quotient leaves a remainder below the divisor.
 use Rattle.std.proofs.Common.{ℕ, ◌≤◌, ◌<◌, ◌*◌, ◌-◌, arith, subst, inl, inr}
 use Rattle.std.proofs.lemmas.Bool.{ltb-true}
 use Rattle.cell_equal.proofs.Quotients.{is_share}

@@ -1,4 +1,4 @@
--- Each part is brought into the range of 16 bits, and each weight is 15 at most.
+-- Each part is limited to 16 bits, and each weight is at most 15.
 use Rattle.cell_equal.proofs.Cells.{corrected_are_cells}
 use Rattle.cell_equal.proofs.laws.corrected_are_cells.Goals as goal
 

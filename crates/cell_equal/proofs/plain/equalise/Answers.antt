@@ -1,4 +1,4 @@
--- Carrier after carrier is appended.
+-- The carriers are appended one by one.
 use Rattle.std.proofs.Common.{◌≡◌, ℕ, ◌+◌, ◌-◌, ◌<◌, List, ◌++◌, refl, ap, ◌∙◌, arith, subst}
 use Rattle.mode_set.specs.StreamTable.{carriers}
 use Rattle.cell_equal.specs.State.{IsAround}

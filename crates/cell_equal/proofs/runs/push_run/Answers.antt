@@ -1,4 +1,4 @@
--- Carrier after carrier is appended, and the pilot after them.
+-- The carriers are appended one by one, and the pilot after them.
 use Rattle.std.proofs.Common.{◌≡◌, ℕ, ◌+◌, ◌<◌, List, ◌++◌, refl, sym, ap, ◌∙◌, arith}
 use Rattle.mode_set.specs.StreamTable.{carriers}
 use Rattle.cell_equal.specs.State.{first_bytes}

@@ -2,7 +2,7 @@ use Rattle.std.proofs.Common.{◌≡◌, ◌≤◌, ◌-◌, true, length, take}
 use Rattle.station_core.specs.Meaning.{source_at, with_source, read_source}
 use Rattle.cmd_base.proofs.read.fill.Given as goal
 
--- so many bytes of what was left stand at the front of the buffer
+-- the first bytes of what was left are at the start of the buffer
 abbrev pub invariant-loop-filled : goal.invariant-loop-filled
 invariant-loop-filled g l = record {
   filled : l.filled ≤ length l.initial.bytes;
@@ -12,6 +12,6 @@ invariant-loop-filled g l = record {
   front : (g.S.Station.meaning l.initial.station).tells ≡ true → take l.filled l.bytes ≡ take l.filled (source_at l.port (g.S.Station.meaning l.initial.station)).left;
 }
 
--- what the buffer lacks
+-- the bytes that the buffer lacks
 abbrev pub decreases-loop-filled : goal.decreases-loop-filled
 decreases-loop-filled g l = length l.bytes - l.filled

@@ -4,7 +4,7 @@ use Rattle.cmd_cells.specs.Work.{AreOpen, Written}
 use Rattle.cmd_cells.specs.Cells.{IsWorking, KeepsOthers}
 use Rattle.cmd_cells.proofs.cells.take_all.Given as goal
 
--- as many symbols as the loop has gone through were taken behind what the work has begun with
+-- one symbol for each pass of the loop was taken, after the start of the work
 abbrev pub invariant-loop-number : goal.invariant-loop-number
 invariant-loop-number g l = record {
   attached : (g.S.Station.meaning l.station).cells.attached ≡ true;

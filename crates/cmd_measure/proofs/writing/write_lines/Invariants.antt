@@ -4,7 +4,7 @@ use Rattle.cmd_receive.specs.Writing.{IsPrinting, ReportOnly}
 use Rattle.cmd_measure.specs.Working.{texts}
 use Rattle.cmd_measure.proofs.writing.write_lines.Given as goal
 
--- as many lines as the loop has gone through were written
+-- one line for each pass of the loop was written
 abbrev pub invariant-loop-line : goal.invariant-loop-line
 invariant-loop-line g l = record {
   printing : IsPrinting (g.S.Station.meaning l.station);

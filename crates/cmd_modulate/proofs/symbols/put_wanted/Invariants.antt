@@ -20,7 +20,7 @@ invariant-loop-stream g l = record {
       → IsAtWork l.limit files (g.S.Station.meaning l.station) l.inputs (g.T.Transmitter.seen l.tx) (g.T.Transmitter.stands l.tx);
 }
 
--- the packets that the symbol still wants
+-- the packets that the symbol still needs
 abbrev pub decreases-loop-stream : goal.decreases-loop-stream
 decreases-loop-stream g l =
     let t = g.T.Transmitter.seen l.tx in

@@ -5,7 +5,7 @@ use Rattle.cmd_modulate.specs.ModulateCommand.{inputs_of}
 use Rattle.cmd_modulate.specs.Work.{AreOpen, AreWithin, IsWritten, KeepsOthers}
 use Rattle.cmd_modulate.proofs.symbols.send_all.Given as goal
 
--- so many symbols were sent, and the transmission has more
+-- one symbol for each pass was sent, and the transmission has more
 abbrev pub invariant-loop-symbol : goal.invariant-loop-symbol
 invariant-loop-symbol g l = record {
   others : KeepsOthers (g.S.Station.meaning l.initial.station) (g.S.Station.meaning l.station);

@@ -4,7 +4,7 @@ use Rattle.cmd_base.specs.Packets.{first_packets}
 use Rattle.cmd_packets.proofs.Progress.{Progress}
 use Rattle.cmd_packets.proofs.coding.code_packets.Given as goal
 
--- as many packets as the loop has gone through were taken, accepted and coded
+-- one packet for each pass of the loop was taken, accepted and coded
 abbrev pub invariant-loop-number : goal.invariant-loop-number
 invariant-loop-number g l = record {
   others : KeepsOthers (g.S.Station.meaning l.initial.station) (g.S.Station.meaning l.station);

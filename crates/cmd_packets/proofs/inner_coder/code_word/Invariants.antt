@@ -4,7 +4,7 @@ use Rattle.cmd_packets.specs.InnerBytes.{inner_bytes}
 use Rattle.cmd_packets.specs.Inner.{IsAfter}
 use Rattle.cmd_packets.proofs.inner_coder.code_word.Given as goal
 
--- the bytes of the word before this place were coded
+-- the bytes of the word before this index were coded
 abbrev pub invariant-loop-byte : goal.invariant-loop-byte
 invariant-loop-byte l = record {
   few : length l.piece.items ≤ 2 * l.byte-index;

@@ -3,7 +3,7 @@ use Rattle.cmd_receive.specs.Writing.{IsPrinting, ReportOnly, event_text}
 use Rattle.cmd_receive.proofs.Events.{Waits}
 use Rattle.cmd_receive.proofs.writing.write_events.Given as goal
 
--- the lines of as many events as the loop has gone through were written, but for those that wait
+-- the lines of one event for each pass were written, except the pending ones
 abbrev pub invariant-loop-event : goal.invariant-loop-event
 invariant-loop-event g l = record {
   printing : IsPrinting (g.S.Station.meaning l.station);

@@ -3,7 +3,7 @@ use Rattle.std.specs.List.{concat}
 use Rattle.cmd_receive.specs.Writing.{IsPrinting, ReportOnly}
 use Rattle.cmd_receive.proofs.writing.write_lines.Given as goal
 
--- as many lines as the loop has gone through were written
+-- one line for each pass of the loop was written
 abbrev pub invariant-loop-number : goal.invariant-loop-number
 invariant-loop-number g l = record {
   printing : IsPrinting (g.S.Station.meaning l.station);

@@ -21,6 +21,6 @@ invariant-loop-room g l = record {
       → Tracks l.tracker all × AreWritten l.initial.tracker.settings all l.initial.tracker.given l.tracker.given (g.S.Station.meaning l.initial.station).cells_out.written (g.S.Station.meaning l.station).cells_out.written;
 }
 
--- the symbols that are left
+-- the remaining symbols
 abbrev pub decreases-loop-room : goal.decreases-loop-room
 decreases-loop-room g l = l.tracker.window.count - l.tracker.given

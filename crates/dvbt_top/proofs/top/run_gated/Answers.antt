@@ -1,4 +1,4 @@
--- Each form of the words is run as the command that it is.
+-- Each form of the command line is run as its command.
 use Rattle.std.proofs.Common.{ℕ, refl, ◌∙◌, sym, ap, subst, Option, Some}
 use Rattle.station_core.specs.Meaning.{Meaning}
 use Rattle.cmd_base.specs.Run.{Run}

@@ -1,4 +1,4 @@
--- A file's cells are read from its bytes, and then the laws over symbols and over near cells serve.
+-- A file's cells are read from its bytes; then the laws over symbols and over close cells apply.
 use Rattle.law_link.proofs.FlatFiles.{restored, within, returned, clean}
 use Rattle.law_link.proofs.flat_gain.files_come_back.Goals as goal
 

@@ -1,4 +1,4 @@
--- A file's cells are read from its bytes, and then the laws over symbols and over near cells serve.
+-- A file's cells are read from its bytes; then the laws over symbols and over close cells apply.
 use Rattle.law_tracking.proofs.Files.{beginnings, files, within, returned, clean}
 use Rattle.law_tracking.proofs.Sent.{tolerated}
 use Rattle.law_tracking.proofs.laws.flat_gain_is_tracked.Goals as goal

@@ -1,4 +1,4 @@
--- What the map of a table finds at a text is the member that the table shows.
+-- The value that the map of a table finds for a text is that of the table's member.
 use Rattle.toml.proofs.Views.{table_get}
 use Rattle.mode_set.proofs.at_keys.member_at.Goals as goal
 

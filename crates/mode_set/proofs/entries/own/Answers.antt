@@ -1,4 +1,4 @@
--- The two differ in how it is shown what the type keeps, at most.
+-- The two differ at most in the proof of the invariant.
 use Rattle.std.proofs.Common.{ap}
 use Rattle.mode_set.specs.Kept.{IsKeptEntry}
 use Rattle.mode_set.specs.Entries.{top}

@@ -1,4 +1,4 @@
--- The place in the map is the place in the document.
+-- The index in the map is the index in the document.
 use Rattle.std.proofs.Common.{◌∙◌, IfSome, sym, ◌≤◌, subst}
 use Rattle.mode_set.proofs.Unknown.{place, few, ascending}
 use Rattle.mode_set.proofs.read.first_unknown_key.Goals as goal

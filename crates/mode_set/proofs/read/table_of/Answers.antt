@@ -1,4 +1,4 @@
--- A document is UTF-8 that TOML takes.
+-- A document is UTF-8 that TOML accepts.
 use Rattle.std.proofs.Common.{◌≡◌, ℕ, List, None, IsUtf8, ◌∙◌, refl, inl, inr, sym}
 use Rattle.std.proofs.lemmas.Bool.{cases_Bool, false≢true}
 use Rattle.std.proofs.lemmas.Str.{is_utf8-from_IsUtf8, IsUtf8-from_is_utf8}

@@ -1,4 +1,4 @@
--- Whatever the streams, there are paths that begin with the registers and the waiting bits.
+-- For any streams there are paths that begin with the registers and the pending bits.
 use Rattle.std.proofs.Common.{ap, length}
 use Rattle.mode_set.specs.Entries.{with_entry}
 use Rattle.mode_set.specs.declared.modes.Stream.TheVariants.{Hp, Lp}

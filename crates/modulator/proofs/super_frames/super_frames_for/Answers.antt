@@ -17,7 +17,7 @@ loop-i-init c =
     let none = c.words.ensures.none c.args.settings.now c.args.stream in
     (sym none, c.requires.some, before_all (entries_of c.args.settings.now.plan) c.args.settings.now.plan.kept.rising)
 
--- the words of a super-frame, by the calls that give them
+-- the words of a super-frame, from the calls that return them
 words_are : (s w : Settings) (e : Entry) (σ : Stream) (start words : ℕ) → e ≡ entry s start → w ≡ with_entry s e → words ≡ words_per_super_frame w σ → words ≡ words_per_super_frame (with_entry s (entry s start)) σ
 words_are s w e σ start words is made are = are ∙ ap (λ (z : Settings). words_per_super_frame z σ) made ∙ ap (λ (x : Entry). words_per_super_frame (with_entry s x) σ) is
 

@@ -1,4 +1,4 @@
--- The words up to the last change seen are too few, and the entries before it have begun there, the others have not.
+-- The words up to the last change seen are too few; the entries before it have begun there, the others have not.
 use Rattle.std.proofs.Common.{◌≡◌, ◌<◌}
 use Rattle.mode_set.specs.Plans.{entries_of}
 use Rattle.symbol_parameters.specs.Spans.{words_before}

@@ -1,4 +1,4 @@
--- Each exit names the kind that the tables give.
+-- Each exit returns the kind from the tables.
 use Rattle.std.proofs.Common.{sym, ap, ◌∙◌, ◌%◌, ◌≡◌, ◌+◌, ◌*◌, ◌/◌, ◌≤◌, ℕ, arith, List}
 use Rattle.mode_set.specs.StreamTable.{payload}
 use Rattle.mode_set.specs.declared.modes.Mode.{Mode}

@@ -1,4 +1,4 @@
--- The low bits of the word are those of the members below the place.
+-- The low bits of the word are those of the members below the carrier.
 use Rattle.std.proofs.Common.{◌-◌, ◌/◌, ◌%◌, ◌≡◌, ◌*◌, ◌^◌, ℕ, ap, ◌∙◌, arith, get_or}
 use Rattle.std.specs.Prelude.{bit_and, count_ones}
 use Rattle.std.proofs.lemmas.Nat.{one_shl}

@@ -1,4 +1,4 @@
--- The word's bit is the sequence's at the place in the period.
+-- The word's bit is the sequence's at the position in the period.
 use Rattle.std.proofs.Common.{ap, ◌∙◌, ◌%◌, ◌/◌, ◌^◌, List, ℕ, get_or}
 use Rattle.std.specs.Prelude.{◌==◌}
 use Rattle.std.proofs.lemmas.Nat.{and_mask}

@@ -1,7 +1,7 @@
 use Rattle.std.proofs.Common.{◌≡◌, ◌≤◌, true, false, vec_capacity}
 use Rattle.test_conversions.proofs.trackers.track_all.Given as goal
 
--- no more symbols were taken than the loop has gone through
+-- at most one symbol for each pass of the loop was taken
 abbrev pub invariant-loop-m : goal.invariant-loop-m
 invariant-loop-m g l = record {
   count : l.tracker.window.count ≤ l.m-counter;

@@ -1,4 +1,4 @@
--- The room for a symbol stays.
+-- The space for a symbol stays.
 use Rattle.std.proofs.Common.{◌≤◌}
 use Rattle.std.specs.Prelude.{vec_capacity}
 use Rattle.test_receiver.proofs.super_frames.check_both_ways.Given as goal

@@ -1,4 +1,4 @@
--- The second error has what is left of the syndrome.
+-- The second error has the rest of the syndrome.
 use Rattle.std.proofs.Common.{ℕ, ◌<◌, ◌≡◌, ◌∙◌, sym, ap, below_more, List, get_or}
 use Rattle.std.specs.Prelude.{bit_xor}
 use Rattle.tps_bch.specs.Syndromes.{syndrome_at}

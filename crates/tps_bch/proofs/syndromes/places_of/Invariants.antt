@@ -1,4 +1,4 @@
--- No error at the places so far and at any other has the syndrome.
+-- No errors at the positions so far and at any other one have the syndrome.
 use Rattle.std.proofs.Common.{ℕ, ◌<◌, ◌≡◌}
 use Rattle.std.specs.Prelude.{bit_xor}
 use Rattle.tps_bch.specs.Syndromes.{syndrome_at}

@@ -1,4 +1,4 @@
--- One bit more, and at the end nothing is left.
+-- One more bit, and at the end none are left.
 use Rattle.std.proofs.Common.{ℕ, ◌+◌, ◌≡◌, List, drop, sym, ap, ◌∙◌, subst, arith, get_or}
 use Rattle.std.specs.Prelude.{bit_xor}
 use Rattle.std.specs.Int.Bits.{xor_zero_r}

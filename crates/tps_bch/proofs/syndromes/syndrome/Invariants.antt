@@ -1,4 +1,4 @@
--- The sum so far, with the syndrome of the bits that are left, is the whole.
+-- The sum so far, with the syndrome of the remaining bits, is the whole.
 use Rattle.std.proofs.Common.{◌≡◌, drop}
 use Rattle.std.specs.Prelude.{bit_xor}
 use Rattle.tps_bch.specs.Syndromes.{syndromes, syndrome_by}

@@ -1,4 +1,4 @@
--- One bit more is read.
+-- One more bit is read.
 use Rattle.std.proofs.Common.{◌≡◌, ℕ, ◌+◌, ◌*◌, ◌<◌, ◌≤◌, ◌^◌, arith, ap, subst, sym, ◌∙◌, drop, get_or, true, false, cond, Bool, refl}
 use mir.Val.{bool_byte}
 use Rattle.std.proofs.Math.Pow.{pow_mono}

@@ -1,4 +1,4 @@
--- The number so far, with the bits that are left behind it, is the whole.
+-- The number so far, followed by the remaining bits, is the whole.
 use Rattle.std.proofs.Common.{◌≡◌, ◌<◌, ◌^◌, ℕ, drop, List, Bool}
 use Rattle.tps_word.specs.Number.{number_behind, number_of}
 use Rattle.tps_word.proofs.fields.number.Given as goal

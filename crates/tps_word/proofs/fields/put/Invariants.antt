@@ -1,4 +1,4 @@
--- The front has the digits so far.
+-- The prefix has the digits so far.
 use Rattle.std.proofs.Common.{◌≡◌, ◌+◌, ◌++◌, take}
 use Rattle.spec_words.specs.Bits.{digits}
 use Rattle.tps_word.proofs.fields.put.Given as goal

@@ -1,4 +1,4 @@
--- One digit more, and at the end all of them.
+-- One more digit, and at the end all of them.
 use Rattle.std.proofs.Common.{◌≡◌, ℕ, ◌+◌, ◌++◌, take, arith, ap, ◌∙◌, sym, List, Bool}
 use Rattle.std.specs.Prelude.{◌==◌}
 use Rattle.std.proofs.lemmas.Nat.{and_mask}

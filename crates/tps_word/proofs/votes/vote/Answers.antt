@@ -1,4 +1,4 @@
--- Product after product is summed up.
+-- The products are added one by one.
 use Rattle.std.proofs.Common.{◌≡◌, ◌+◌, ℤ, ◌+ℤ◌, pos, ap, sym, subst, ◌∙◌, arith, FitsSigned, w64, to_z, of_z, drop, length-drop}
 use Rattle.std.specs.Prelude.{int_lt}
 use Rattle.std.proofs.lemmas.Int.{ints, to_z-of_z}

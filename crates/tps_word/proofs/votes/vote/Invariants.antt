@@ -1,4 +1,4 @@
--- The sum so far, with that of the cells that are left, is the whole, and it is small.
+-- The sum so far, with that of the remaining cells, is the whole, and it is small.
 use Rattle.std.proofs.Common.{◌≡◌, ◌*◌, ◌≤ℤ◌, ◌+ℤ◌, ℤ, pos, neg_ℤ, ℕ, drop, List}
 use Rattle.qam_map.specs.declared.cell.Cell.{Cell}
 use Rattle.tps_word.specs.Vote.{agreement}

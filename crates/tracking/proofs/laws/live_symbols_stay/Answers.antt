@@ -1,4 +1,4 @@
--- A symbol depends on those up to seven after it alone.
+-- A symbol depends on no symbol beyond the next seven.
 use Rattle.tracking.proofs.Prefixes as prefixes
 use Rattle.tracking.proofs.laws.live_symbols_stay.Goals as goal
 

@@ -1,4 +1,4 @@
--- Both parts are read as they stand.
+-- Both parts are read from their bytes.
 use Rattle.std.proofs.Common.{◌≡◌, ℤ, ℕ, ◌+◌, ◌-◌, ◌*◌, List, take, drop, length, length-drop, ap, ◌∙◌, FitsSigned, w16, arith}
 use Rattle.std.specs.Int.{cast_signed}
 use Rattle.std.proofs.lemmas.List.{take_all}
@@ -15,7 +15,7 @@ same : {a b x y : ℤ} → a ≡ x → b ≡ y → ◌≡◌ {A = Cell} (record 
 unfolding made
 same {b = b} {x = x} e f = ap (λ (z : ℤ). made z b) e ∙ ap (made x) f
 
--- a slice to the end is what is left
+-- a slice to the end is the rest
 rest : (n : ℕ) (xs : List ℕ) → take (length xs - n) (drop n xs) ≡ drop n xs
 rest n xs = take_all (length xs - n) (drop n xs) (omega (arith, length-drop n xs))
 

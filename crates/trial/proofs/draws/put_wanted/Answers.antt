@@ -5,7 +5,7 @@ use Rattle.trial.specs.declared.draws.Draws.{Draws}
 use Rattle.trial.proofs.PacketSteps.{lacks_less}
 use Rattle.trial.proofs.draws.put_wanted.Goals as goal
 
--- a symbol of the trial, as it is seen later
+-- a symbol of the trial, in terms of a later state
 still_within : (s s' : Settings) (m m' n n' : ℕ) → s' ≡ s → m' ≡ m → n' ≡ n → m < trial_symbols s n → m' < trial_symbols s' n'
 still_within s s' m m' n n' es em en l =
     subst (λ (k : ℕ). k < trial_symbols s' n') (sym em) (subst (λ (z : Settings). m < trial_symbols z n') (sym es) (subst (λ (k : ℕ). m < trial_symbols s k) (sym en) l))

@@ -15,6 +15,6 @@ invariant-loop-stream g l = record {
   putting : IsPutting l.tx.settings l.tx.made l.draws l.tx;
 }
 
--- the packets that the symbol still wants
+-- the packets that the symbol still needs
 abbrev pub decreases-loop-stream : goal.decreases-loop-stream
 decreases-loop-stream g l = (packets_for l.tx.settings Hp (l.tx.made + 1) - l.tx.hp) + (packets_for l.tx.settings Lp (l.tx.made + 1) - l.tx.lp)

@@ -1,4 +1,4 @@
--- Nothing was put, and nothing waits.
+-- Nothing was put, and nothing is pending.
 use Rattle.std.proofs.Common.{◌≤◌, sym, ap, arith}
 use Rattle.std.specs.Prelude.{vec_capacity}
 use Rattle.mode_set.specs.StreamTable.{payload}

@@ -1,4 +1,4 @@
--- The packet goes to the stream that is wanted.
+-- The packet goes to the wanted stream.
 use Rattle.std.proofs.Common.{◌≡◌, ◌<◌, ◌≤◌, length, refl, sym, subst}
 use Rattle.std.specs.Prelude.{None, vec_capacity}
 use Rattle.mode_set.specs.StreamTable.{need}
@@ -51,7 +51,7 @@ returns-in-Lp-clause-stands g c = λ packets st.
     subst (λ (t : Transmitter). StandsFor new (with_packet packets (wanted t) c.args.packet.now)) c.self.view_is
     (stands_more c.other_streams.ensures _ new c.args.packet.now was packets (subst (λ (t : Transmitter). StandsFor t packets) (sym c.self.view_is) st))
 
--- where a symbol is wanted no packet is
+-- if a symbol is wanted, no packet is
 pub returns-in-Symbol-clause-stands : goal.returns-in-Symbol-clause-stands
 returns-in-Symbol-clause-stands g c =
     let i = c.self.inside in

@@ -1,4 +1,4 @@
--- The greater one of the numbers of the streams.
+-- The greater of the streams' numbers.
 use Rattle.std.proofs.Common.{sym, subst}
 use Rattle.std.specs.Prelude.{Some}
 use Rattle.transmission.specs.Transmission.{by_stream}

@@ -1,4 +1,4 @@
--- The next symbol is made of the first bits that wait.
+-- The next symbol is made from the first pending bits.
 use Rattle.std.proofs.Common.{◌≡◌, ◌+◌, ◌/◌, ◌^◌, ◌<◌, ◌≤◌, ◌++◌, List, ℕ, length, refl, sym, ap, ◌∙◌, subst, arith}
 use Rattle.std.specs.Prelude.{vec_capacity, None}
 use Rattle.mode_set.specs.Entries.{with_entry}
@@ -14,7 +14,7 @@ use Rattle.modulator.specs.State.{Transmitter, HasPut, StandsFor, wanted}
 use Rattle.modulator.proofs.Stepping.{bits_wait, kept_made, parts_of, symbol_made, bytes_made, stands_kept}
 use Rattle.modulator.proofs.modulator.Modulator.symbol.Goals as goal
 
--- the settings of the symbol, by those that a part keeps
+-- the settings of the symbol, from those kept by a part
 present : (s z : Settings) (made : ℕ) (now : Entry) → z ≡ s → with_entry s now ≡ settings_at s made → with_entry z now ≡ settings_at s made
 present s z made now same is = ap (λ (y : Settings). with_entry y now) same ∙ is
 

@@ -1,4 +1,4 @@
--- What is wanted goes by the bits that wait.
+-- What is wanted depends on the pending bits.
 use Rattle.std.proofs.Common.{ap, ◌∙◌}
 use Rattle.std.specs.Prelude.{vec_capacity}
 use Rattle.modulator.specs.State.{wanted}

@@ -1,4 +1,4 @@
--- A new station is fresh: each port is one at which nothing was asked.
+-- At a new station no name was requested at any port.
 use Rattle.std.proofs.Common.{ap, refl}
 use Rattle.station_core.specs.Memory.{memory_meaning}
 use Rattle.station_core.specs.Meaning.{Source, Sink}

@@ -1,4 +1,4 @@
--- Where a write fails, a front of the bytes is written: the front that the port's own write has told.
+-- If a write fails, a prefix of the bytes is written: the one given by the port's own write.
 use Rattle.std.proofs.Common.{ap, true}
 use Rattle.station_core.specs.Memory.{memory_meaning}
 use Rattle.station_core.specs.Meaning.{Sink}

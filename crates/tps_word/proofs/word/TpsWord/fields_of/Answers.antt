@@ -1,4 +1,4 @@
--- Each field is that of any valid word that the bits are.
+-- Each field is that of any valid word equal to the bits.
 use Rattle.std.proofs.Common.{◌≡◌, arith, List, Bool, ap, sym, subst, ◌∙◌, Some}
 use Rattle.tps_word.specs.declared.word.TpsWord.{TpsWord}
 use Rattle.tps_word.specs.Tps.{tps_word, IsValid}
@@ -6,7 +6,7 @@ use Rattle.tps_word.specs.Number.{shape_numbered, hierarchy_numbered, rate_numbe
 use Rattle.tps_word.proofs.Places.{HasFields, has_fields, same_fields, inside, apart}
 use Rattle.tps_word.proofs.word.TpsWord.fields_of.Goals as goal
 
--- what the bits hold, where they are the word of t
+-- the content of the bits, if they are the word of t
 held : (bits : List Bool) (t : TpsWord) → IsValid t → bits ≡ tps_word t → HasFields bits t
 held bits t valid e = subst (λ (w : List Bool). HasFields w t) (sym e) (has_fields t valid)
 

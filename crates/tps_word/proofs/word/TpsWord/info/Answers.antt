@@ -1,4 +1,4 @@
--- Field after field stands behind the ones before.
+-- Each field follows the ones before.
 use Rattle.std.proofs.Common.{◌≡◌, arith, List, Bool, ◌∙◌, ◌++◌, ◌-◌, take, refl}
 use Rattle.std.specs.Prelude.{codes}
 use Rattle.spec_words.specs.Bits.{spelled, digits}

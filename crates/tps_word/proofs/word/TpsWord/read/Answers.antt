@@ -1,4 +1,4 @@
--- The fields are those of the bits where they give them back.
+-- The fields are those of the bits if they give the bits again.
 use Rattle.std.proofs.Common.{◌≡◌, refl, sym, ap, ◌∙◌, true, false}
 use Rattle.tps_word.specs.Tps.{tps_word}
 use Rattle.tps_word.proofs.Places.{inside}

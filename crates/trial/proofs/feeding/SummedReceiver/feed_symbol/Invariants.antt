@@ -15,6 +15,6 @@ invariant-loop-fed g l = record {
       → HasGiven l.initial.self.receiver bytes l.initial.self.hp l.initial.self.lp → HasGiven l.self.receiver (bytes ++ take l.fed l.symbol) l.self.hp l.self.lp;
 }
 
--- the bytes that are not yet fed
+-- the bytes not yet fed
 abbrev pub decreases-loop-fed : goal.decreases-loop-fed
 decreases-loop-fed g l = length l.symbol - l.fed
