@@ -36,3 +36,5 @@ mod tps;
 mod tps_words;
 #[cfg(test)]
 mod tuning;
+#[cfg(test)]
+mod sums;
