@@ -11,7 +11,7 @@ use Rattle.outer_chain.specs.Words.{Tally, Tallies, count, has, is_clean, phase_
 use Rattle.reception.specs.Cells.{symbols}
 use Rattle.reception.specs.Frames.{CountsWords, frame_bits, tps_cells}
 use Rattle.reception.specs.Moments.{SomeFinal, SomeLive}
-use Rattle.symbol_sums.specs.Comparing.{bits_in, cells_in, error_in, muted_in, power_in, wrong_in}
+use Rattle.measure_sums.specs.Comparing.{bits_in, cells_in, error_in, muted_in, power_in, wrong_in}
 use Rattle.measure_report.specs.declared.sums.StreamSums.{StreamSums}
 use Rattle.measure_report.specs.declared.sums.SuperFrame.{SuperFrame}
 use Rattle.measurement.specs.Known.{IsKnown, first_symbols}

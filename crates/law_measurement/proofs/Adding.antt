@@ -6,7 +6,7 @@ use Rattle.std.proofs.lemmas.List.Sums.{sum_by-cons}
 use Rattle.std.proofs.lemmas.List.Elements.{All-head, All-tail}
 use Rattle.spec_words.specs.Words.{numbers}
 use Rattle.outer_chain.specs.Words.{count}
-use Rattle.symbol_sums.proofs.Counting.{no_numbers, sum_more}
+use Rattle.measure_sums.proofs.Counting.{no_numbers, sum_more}
 
 -- the sum of what each step adds is the final value
 pub added_up : (h v : ℕ → ℕ) (n : ℕ) → h 0 ≡ 0 → ((j : ℕ) → j < n → v j + h j ≡ h (suc j)) → sum_by v (numbers n) ≡ h n

@@ -31,8 +31,8 @@ use Rattle.reception.specs.Cells.{symbols, symbol_cells}
 use Rattle.measure_report.specs.declared.sums.StreamSums.{StreamSums}
 use Rattle.measure_report.specs.declared.sums.SuperFrame.{SuperFrame}
 use Rattle.hard_decision.specs.Hard.{hard_bit}
-use Rattle.symbol_sums.specs.Comparing.{Comparison, counts, carries, is_wrong, received, remade, carrier_at, label_places, squared_distance, cells_in, muted_in, error_in, wrong_in}
-use Rattle.symbol_sums.proofs.Counting.{count_none}
+use Rattle.measure_sums.specs.Comparing.{Comparison, counts, carries, is_wrong, received, remade, carrier_at, label_places, squared_distance, cells_in, muted_in, error_in, wrong_in}
+use Rattle.measure_sums.proofs.Counting.{count_none}
 use Rattle.measurement.specs.Known.{is_compared, remade_bit, comparison}
 use Rattle.measurement.specs.SuperFrames.{over_compared, known_with, told, told_before, words_of, bits_apart, repaired_in, AreStreamSums, AreSums}
 use Rattle.measurement.specs.Lines.{begun_by}

@@ -29,8 +29,8 @@ use Rattle.outer_chain.specs.Bits.{bit_of_stream}
 use Rattle.outer_chain.specs.Sent.{outer_byte}
 use Rattle.inner_chain.specs.Labels.{label_bit, number_at}
 use Rattle.transmission.specs.Transmission.{Inputs, paths_at, tx_label, tx_cell}
-use Rattle.symbol_sums.specs.Comparing.{Comparison, carrier_at, counts, received, remade, squared_distance, error_in}
-use Rattle.symbol_sums.proofs.Counting.{sum_same}
+use Rattle.measure_sums.specs.Comparing.{Comparison, carrier_at, counts, received, remade, squared_distance, error_in}
+use Rattle.measure_sums.proofs.Counting.{sum_same}
 use Rattle.measurement.specs.Known.{known_path, known_paths, is_present, is_zero, suffices, is_compared, remade_bit, comparison}
 use Rattle.measurement.proofs.Lists.{range_same}
 use Rattle.law_link.specs.Counted.{AreCounted}

@@ -9,7 +9,7 @@ use Rattle.outer_chain.specs.Bits.{bit_of_stream}
 use Rattle.outer_chain.specs.Sent.{outer_byte}
 use Rattle.transmission.specs.Transmission.{Inputs, tx_cell}
 use Rattle.measure_report.specs.declared.sums.SuperFrame.{SuperFrame}
-use Rattle.symbol_sums.specs.Comparing.{Comparison, carrier_at, received, remade, squared_distance, over_counted}
+use Rattle.measure_sums.specs.Comparing.{Comparison, carrier_at, received, remade, squared_distance, over_counted}
 use Rattle.measurement.specs.Known.{is_present, is_compared, comparison}
 use Rattle.measurement.specs.SuperFrames.{Knowns, symbols_of, AreSums}
 

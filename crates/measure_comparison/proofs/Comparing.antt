@@ -21,7 +21,7 @@ use Rattle.symbol_interleave.specs.Carried.{carried}
 use Rattle.puncture.specs.SentBits.{bits_from, sent_bit}
 use Rattle.inner_chain.specs.Labels.{Paths, TxState, IsBefore, AreLabels, AppendsLabels, from_step, register_of, input_bits, behind, coded_bits, label_bit, number_at}
 use Rattle.measurement.specs.Known.{known_path, is_zero, suffices, is_compared, remade_bit}
-use Rattle.symbol_sums.specs.Comparing.{AlikeAreSummedAlike, symbol_sums}
+use Rattle.measure_sums.specs.Comparing.{AlikeAreSummedAlike, symbol_sums}
 use Rattle.measure_report.specs.declared.sums.SymbolSums.{SymbolSums}
 use Rattle.measure_known_bits.specs.Seen.{KnownState}
 use Rattle.measure_comparison.specs.Seen.{SymbolState, ComparerState, known_of}

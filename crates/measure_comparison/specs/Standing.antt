@@ -6,7 +6,7 @@ use Rattle.mode_set.specs.declared.settings.Settings.{Settings}
 use Rattle.symbol_parameters.specs.Spans.{settings_at}
 use Rattle.inner_chain.specs.Labels.{TxState, register_of}
 use Rattle.measure_report.specs.declared.sums.SymbolSums.{SymbolSums}
-use Rattle.symbol_sums.specs.Comparing.{Comparison, symbol_sums}
+use Rattle.measure_sums.specs.Comparing.{Comparison, symbol_sums}
 use Rattle.measurement.specs.Known.{is_compared, remade_bit}
 use Rattle.measure_known_bits.specs.Seen.{KnownState}
 use Rattle.measure_comparison.specs.Seen.{SymbolState, ComparerState, known_of}

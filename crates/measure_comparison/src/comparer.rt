@@ -4,8 +4,8 @@ ghost use Rattle.mode_set.specs.StreamTable.{carriers, payload, label_bits};
 ghost use Rattle.mode_set.specs.declared.modes.Stream.{Stream as AnyStream};
 ghost use Rattle.conv_code.specs.Coded.{zeros};
 ghost use Rattle.spec_words.specs.Bits.{is_set};
-ghost use Rattle.symbol_sums.specs.Comparing.{symbol_sums};
-ghost use Rattle.symbol_sums.specs.Tables.{AreLittle};
+ghost use Rattle.measure_sums.specs.Comparing.{symbol_sums};
+ghost use Rattle.measure_sums.specs.Tables.{AreLittle};
 ghost use Rattle.measure_known_bits.specs.Seen.{KnownState};
 ghost use Rattle.measure_known_bits.specs.Passing.{IsSettled};
 ghost use Rattle.measure_comparison.specs.Seen.{SymbolState};
@@ -22,7 +22,7 @@ use qam_map::Cell;
 use std::alloc::{AllocError, Global};
 use std::marker::Model;
 use symbol_parameters::parameters_of_symbol;
-use symbol_sums::sum_symbol;
+use measure_sums::sum_symbol;
 
 /// The symbols that are kept.
 const KEPT: usize = 4;
@@ -101,7 +101,7 @@ fn compare_symbol<M: Carriers>(
 {
     symbol_parameters::laws::settings();
     symbol_parameters::laws::steps();
-    symbol_sums::laws::alike_are_summed_alike();
+    measure_sums::laws::alike_are_summed_alike();
     pass_both(coder, hp, lp);
     let entry = parameters_of_symbol(settings, m);
     let now = settings.with_entry(&entry);

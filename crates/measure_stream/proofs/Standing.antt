@@ -15,7 +15,7 @@ use Rattle.outer_chain.specs.Bits.{bytes_of, ByteOfBits}
 use Rattle.outer_chain.specs.Words.{word_count, word_at, IsNear}
 use Rattle.reception.specs.Costs.{costs}
 use Rattle.reception.specs.Streams.{Moment}
-use Rattle.symbol_sums.specs.Comparing.{bits_in, wrong_in}
+use Rattle.measure_sums.specs.Comparing.{bits_in, wrong_in}
 use Rattle.measurement.specs.SuperFrames.{Knowns, over_compared, known_with, told, told_before, words_of, AreStreamSums}
 use Rattle.measure_known_bits.specs.Seen.{KnownState}
 use Rattle.measure_words.specs.declared.counts.WordSums.{WordSums}

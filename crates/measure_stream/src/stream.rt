@@ -12,7 +12,7 @@ ghost use Rattle.mode_set.specs.declared.modes.Stream.{Stream as AnyStream};
 ghost use Rattle.mode_set.specs.declared.settings.Settings.{Settings as AnySettings};
 ghost use Rattle.reception.specs.Costs.{costs};
 ghost use Rattle.reception.specs.Streams.{Moment, so_far, at_end};
-ghost use Rattle.symbol_sums.specs.Comparing.{bits_in, wrong_in};
+ghost use Rattle.measure_sums.specs.Comparing.{bits_in, wrong_in};
 ghost use Rattle.measurement.specs.SuperFrames.{Knowns, over_compared, known_with, told_before, AreStreamSums};
 ghost use Rattle.measure_stream.specs.Reports.{AreCounted, AreFew, LieIn, no_reports};
 ghost use Rattle.measure_stream.specs.Standing.{Stands, MayGive, IsReady, HasRun, Gave, WentOn, AreTotals};

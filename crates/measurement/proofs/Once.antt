@@ -19,7 +19,7 @@ use Rattle.reception.specs.Cells.{symbols}
 use Rattle.reception.specs.Costs.{costs}
 use Rattle.reception.specs.Frames.{CountsWords, tps_cells, frame_bits}
 use Rattle.reception.specs.Streams.{memory, start_of}
-use Rattle.symbol_sums.specs.Comparing.{Comparison, cells_in, muted_in, power_in, error_in, bits_in, wrong_in}
+use Rattle.measure_sums.specs.Comparing.{Comparison, cells_in, muted_in, power_in, error_in, bits_in, wrong_in}
 use Rattle.measure_report.specs.declared.sums.StreamSums.{StreamSums}
 use Rattle.measure_report.specs.declared.sums.SuperFrame.{SuperFrame}
 use Rattle.measurement.specs.Known.{first_symbols, IsKnown, is_compared, comparison}

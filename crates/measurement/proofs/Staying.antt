@@ -27,7 +27,7 @@ use Rattle.reception.specs.Streams.{memory, start_of}
 use Rattle.reception.specs.Laws.{CellsStay, WeightsStay, TpsCellsStay, BitsOfCells, CostsGrow, CostsAreSteps, NewReportsAreLater}
 use Rattle.reception.proofs.Reported.{IsBetween}
 use Rattle.reception.proofs.Symbols.{more_count}
-use Rattle.symbol_sums.specs.Comparing.{Comparison, cells_in, muted_in, power_in, error_in, bits_in, wrong_in}
+use Rattle.measure_sums.specs.Comparing.{Comparison, cells_in, muted_in, power_in, error_in, bits_in, wrong_in}
 use Rattle.measure_report.specs.declared.sums.StreamSums.{StreamSums}
 use Rattle.measurement.specs.Known.{first_symbols, IsKnown, is_compared, remade_bit, comparison}
 use Rattle.measurement.specs.SuperFrames.{Knowns, over_compared, is_reported_in, AreStreamSums}

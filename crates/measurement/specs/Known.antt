@@ -11,7 +11,7 @@ use Rattle.mode_set.specs.declared.settings.Settings.{Settings}
 use Rattle.symbol_parameters.specs.Spans.{settings_at, steps_before}
 use Rattle.symbol_interleave.specs.Carried.{is_odd}
 use Rattle.inner_chain.specs.Labels.{Paths, from_step, label_bit, coded_bits}
-use Rattle.symbol_sums.specs.Comparing.{Comparison}
+use Rattle.measure_sums.specs.Comparing.{Comparison}
 use Rattle.reception.specs.Cells.{symbol_length, symbols, symbol_cells, symbol_weights}
 use Rattle.reception.specs.Costs.{costs}
 use Rattle.reception.specs.Streams.{memory, start_of}

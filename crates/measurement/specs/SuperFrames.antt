@@ -17,7 +17,7 @@ use Rattle.reception.specs.Frames.{tps_cells, frame_bits, CountsWords}
 use Rattle.reception.specs.Streams.{memory, start_of}
 use Rattle.measure_report.specs.declared.sums.StreamSums.{StreamSums}
 use Rattle.measure_report.specs.declared.sums.SuperFrame.{SuperFrame}
-use Rattle.symbol_sums.specs.Comparing.{Comparison, cells_in, muted_in, power_in, error_in, bits_in, wrong_in}
+use Rattle.measure_sums.specs.Comparing.{Comparison, cells_in, muted_in, power_in, error_in, bits_in, wrong_in}
 use Rattle.measurement.specs.Known.{IsKnown, is_compared, comparison}
 
 -- the bits of each stream known for each symbol

@@ -22,7 +22,7 @@ use Rattle.measure_stream.specs.Standing.{Stands}
 use Rattle.measure_stream.specs.declared.stream.StreamMeter.{StreamMeter}
 use Rattle.measure_comparison.specs.Seen.{SymbolState, ComparerState, known_of}
 use Rattle.measure_comparison.specs.Standing.{StandsBefore, IsSummed, kept_at}
-use Rattle.symbol_sums.specs.Tables.{AreLittle}
+use Rattle.measure_sums.specs.Tables.{AreLittle}
 use Rattle.measure_report.specs.declared.sums.SymbolSums.{SymbolSums}
 use Rattle.measurement.specs.Known.{IsKnown}
 use Rattle.measurer.specs.declared.current.Current.{Current}

@@ -13,7 +13,7 @@ use Rattle.rx_report.specs.declared.counts.Counts.{Counts}
 use Rattle.inner_receiver.specs.Framing.{FrameStands}
 use Rattle.inner_receiver.specs.declared.frames.FrameReader.{FrameReader}
 use Rattle.measure_comparison.specs.Seen.{ComparerState}
-use Rattle.symbol_sums.specs.Tables.{AreLittle}
+use Rattle.measure_sums.specs.Tables.{AreLittle}
 use Rattle.measurement.specs.Lines.{defined_by, begun_by, lines_of, MeasureFinal}
 use Rattle.measurer.specs.declared.current.Current.{Current}
 use Rattle.measurer.specs.Seen.{MeterState}

@@ -13,7 +13,7 @@ use Rattle.mode_set.specs.declared.settings.Settings.{Settings}
 use Rattle.reception.specs.Cells.{symbols}
 use Rattle.reception.specs.Laws.{NoCosts}
 use Rattle.reception.specs.Streams.{so_far}
-use Rattle.symbol_sums.specs.Tables.{AreLittle, no_sums}
+use Rattle.measure_sums.specs.Tables.{AreLittle, no_sums}
 use Rattle.measure_stream.specs.declared.reports.ReportCounts.{ReportCounts}
 use Rattle.measure_stream.specs.Reports.{AreFew, no_reports}
 use Rattle.measure_stream.specs.Standing.{Stands}

@@ -22,7 +22,7 @@ use Rattle.inner_receiver.specs.declared.frames.FrameReader.{FrameReader}
 use Rattle.measure_stream.specs.Standing.{Stands}
 use Rattle.measure_stream.specs.declared.stream.StreamMeter.{StreamMeter}
 use Rattle.measure_comparison.specs.Standing.{StandsBefore}
-use Rattle.symbol_sums.specs.Comparing.{bits_in, wrong_in}
+use Rattle.measure_sums.specs.Comparing.{bits_in, wrong_in}
 use Rattle.measure_report.specs.declared.sums.BitSums.{BitSums}
 use Rattle.measure_report.specs.declared.sums.StreamSums.{StreamSums}
 use Rattle.measurement.specs.Known.{IsKnown}

@@ -14,7 +14,7 @@ use Rattle.inner_receiver.specs.declared.frames.FrameReader.{FrameReader}
 use Rattle.measure_stream.specs.declared.reports.ReportCounts.{ReportCounts}
 use Rattle.measure_stream.specs.Reports.{AreFew}
 use Rattle.measure_comparison.specs.Seen.{ComparerState}
-use Rattle.symbol_sums.specs.Tables.{AreLittle}
+use Rattle.measure_sums.specs.Tables.{AreLittle}
 use Rattle.measurement.specs.Lines.{defined_by}
 use Rattle.measurer.specs.declared.current.Current.{Current}
 use Rattle.measurer.specs.Seen.{MeterState}

@@ -9,7 +9,7 @@ use Rattle.mode_set.specs.declared.settings.Settings.{Settings}
 use Rattle.qam_map.specs.declared.cell.Cell.{Cell}
 use Rattle.reception.specs.Cells.{symbols}
 use Rattle.reception.specs.Laws.{CellsStay, WeightsStay}
-use Rattle.symbol_sums.specs.Comparing.{Comparison, symbol_sums, cells_in, muted_in, power_in, error_in, bits_in, wrong_in}
+use Rattle.measure_sums.specs.Comparing.{Comparison, symbol_sums, cells_in, muted_in, power_in, error_in, bits_in, wrong_in}
 use Rattle.measure_report.specs.declared.sums.SymbolSums.{SymbolSums}
 use Rattle.measurement.specs.Known.{is_compared, comparison}
 use Rattle.measurement.specs.SuperFrames.{Knowns, over_compared, compared_in}

@@ -15,7 +15,7 @@ use Rattle.inner_receiver.specs.Seen.{CostsState}
 use Rattle.inner_receiver.specs.declared.frames.FrameReader.{FrameReader}
 use Rattle.measure_stream.specs.Reports.{AreFew}
 use Rattle.measure_comparison.specs.Standing.{StandsBefore}
-use Rattle.symbol_sums.specs.Tables.{AreLittle}
+use Rattle.measure_sums.specs.Tables.{AreLittle}
 use Rattle.measure_report.specs.declared.sums.SuperFrame.{SuperFrame}
 use Rattle.measurement.specs.Lines.{lines_of, defined_by, begun_by}
 use Rattle.measurement.specs.SuperFrames.{AreSums}

@@ -4,11 +4,11 @@ use Rattle.std.specs.List.{range_with_len}
 use Rattle.mode_set.specs.declared.modes.Stream.{Stream}
 use Rattle.mode_set.specs.declared.modes.Stream.TheVariants.{Hp, Lp}
 use Rattle.mode_set.specs.declared.settings.Settings.{Settings}
-use Rattle.symbol_sums.specs.Comparing.{Comparison, cells_in, muted_in, power_in, error_in, bits_in, wrong_in}
+use Rattle.measure_sums.specs.Comparing.{Comparison, cells_in, muted_in, power_in, error_in, bits_in, wrong_in}
 use Rattle.measurement.specs.Known.{IsKnown, is_compared, comparison}
 use Rattle.measurement.specs.SuperFrames.{Knowns}
 use Rattle.measure_report.specs.declared.sums.SymbolSums.{SymbolSums}
-use Rattle.symbol_sums.specs.Tables.{plus, no_sums}
+use Rattle.measure_sums.specs.Tables.{plus, no_sums}
 use Rattle.measurer.specs.declared.current.Current.{Current}
 
 -- super-frame j before its first symbol, with these counts of the frames before it

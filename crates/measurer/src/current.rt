@@ -1,6 +1,6 @@
 // The sums of a super-frame, symbol after symbol.
 ghost use Rattle.std.specs.Prelude.{◌≡◌, ◌+◌, ◌*◌, ◌<◌, ◌≤◌, ◌^◌, IfSome, Some};
-ghost use Rattle.symbol_sums.specs.Tables.{AreLittle, no_sums};
+ghost use Rattle.measure_sums.specs.Tables.{AreLittle, no_sums};
 ghost use Rattle.measurer.specs.Sums.{nothing_of, with_symbol};
 
 use measure_report::{BitSums, SymbolSums};

@@ -5,7 +5,7 @@ ghost use Rattle.measure_known_bits.specs.Passing.{IsSettled};
 ghost use Rattle.reception.specs.Cells.{symbols};
 ghost use Rattle.reception.specs.Laws.{unfinished};
 ghost use Rattle.reception.specs.Streams.{Moment, so_far, at_end};
-ghost use Rattle.symbol_sums.specs.Tables.{AreLittle};
+ghost use Rattle.measure_sums.specs.Tables.{AreLittle};
 ghost use Rattle.reception.specs.Frames.{tps_cells};
 ghost use Rattle.inner_receiver.specs.Framing.{FrameStands};
 ghost use Rattle.measurer.specs.Sums.{nothing_of};

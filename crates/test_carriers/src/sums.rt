@@ -7,7 +7,7 @@ use mode_set::{Hierarchy, Mode, Rate, Settings, Shape};
 use qam_map::{Cell, map};
 use std::process::Abort;
 use std::rt::HostRuntime;
-use symbol_sums::{plain, sum_symbol};
+use measure_sums::{plain, sum_symbol};
 use test_tools::{flat, hierarchical, next_number};
 
 const CASES: [(Shape, Hierarchy); 9] = [

@@ -2,7 +2,7 @@ use Rattle.std.proofs.Common.{ℕ, List, ap₂, ◌∙◌}
 use Rattle.std.specs.Prelude.{slice_index}
 use Rattle.spec_words.specs.Bits.{is_set}
 use Rattle.qam_map.specs.declared.cell.Cell.{Cell}
-use Rattle.symbol_sums.specs.Comparing.{symbol_sums}
+use Rattle.measure_sums.specs.Comparing.{symbol_sums}
 use Rattle.measure_comparison.proofs.comparer.sum_kept.Goals as goal
 
 pub returns : goal.returns

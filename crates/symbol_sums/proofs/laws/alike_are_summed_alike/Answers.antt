@@ -1,5 +1,0 @@
-use Rattle.symbol_sums.proofs.Summing.{alike}
-use Rattle.symbol_sums.proofs.laws.alike_are_summed_alike.Goals as goal
-
-pub returns : goal.returns
-returns c = alike

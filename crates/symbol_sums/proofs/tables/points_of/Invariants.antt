@@ -1,6 +1,0 @@
--- The labels so far have their points.
-use Rattle.symbol_sums.specs.Tables.{ArePoints}
-use Rattle.symbol_sums.proofs.tables.points_of.Given as goal
-
-abbrev pub invariant-loop-label : goal.invariant-loop-label
-invariant-loop-label l = ArePoints l.shape l.hierarchy l.label l.points

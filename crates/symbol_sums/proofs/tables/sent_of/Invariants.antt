@@ -1,6 +1,0 @@
--- The labels so far have their points.
-use Rattle.symbol_sums.specs.Quick.{AreSent}
-use Rattle.symbol_sums.proofs.tables.sent_of.Given as goal
-
-abbrev pub invariant-loop-label : goal.invariant-loop-label
-invariant-loop-label l = AreSent l.shape l.hierarchy l.label l.all
