@@ -5,10 +5,10 @@ use Rattle.std.proofs.lemmas.List.{append-nil}
 use Rattle.station_core.specs.Meaning.{Meaning, sink_at}
 use Rattle.station_core.specs.declared.ports.OutPort.{OutPort}
 use Rattle.station_core.specs.declared.ports.OutPort.TheVariants as outs
-use Rattle.cmd_base.specs.declared.work.Refusal.{Refusal}
-use Rattle.cmd_cells.specs.declared.stop.Stop.{Stop}
-use Rattle.cmd_cells.specs.declared.stop.Stop.TheVariants.{ReadFault, WriteFault, Limit}
-use Rattle.cmd_cells.specs.declared.stop.Stop.TheVariants as stops
+use Rattle.cmd_base.specs.declared.refusal.Refusal.{Refusal}
+use Rattle.cmd_cells.specs.declared.run_error.RunError.{RunError}
+use Rattle.cmd_cells.specs.declared.run_error.RunError.TheVariants.{ReadFault, WriteFault, Limit}
+use Rattle.cmd_cells.specs.declared.run_error.RunError.TheVariants as stops
 use Rattle.cmd_cells.specs.Outputs.{IsWriting}
 use Rattle.cmd_cells.specs.Work.{Does, Follows, Holds, HoldsFront, WritesOnly, Written}
 use Rattle.cmd_cells.specs.Writing.{WritesAt}
@@ -17,7 +17,7 @@ use Rattle.cmd_convert.specs.Working.{written_at}
 use Rattle.cmd_align.specs.Working.{Appends, ReportOnly}
 
 -- the same output stated differently
-pub does_as : (S S' I I' : Written → Type 0) (Its Its' : Refusal → Type 0) (before : Written) (m m' : Meaning) (result : Result (Unit {0}) Stop)
+pub does_as : (S S' I I' : Written → Type 0) (Its Its' : Refusal → Type 0) (before : Written) (m m' : Meaning) (result : Result (Unit {0}) RunError)
     → ((after : Written) → S after → I after → S' after) → ((after : Written) → I after → I' after) → ((r : Refusal) → Its r → Its' r)
     → Does S I Its before m m' result → Does S' I' Its' before m m' result
 does_as S S' I I' Its Its' before m m' (Ok u) stands gives its d = record { after = d.after; more = d.more; is = (stands d.after d.is.0 d.is.1, gives d.after d.is.1); follows = d.follows; written = d.written }
@@ -64,11 +64,11 @@ module _ (m m' : Meaning) (lines : List ℕ) (only : ReportOnly m m') where
   told_front k is outs.Bytes = none_of m.bytes_out.written [] m'.bytes_out.written (ap (λ (x : Meaning). x.bytes_out.written) only)
   told_front k is outs.Report = (k, is)
 
-pub told : (S I : Written → Type 0) (Its : Refusal → Type 0) (before after : Written) (m m' : Meaning) (lines : List ℕ) (result : Result (Unit {0}) Stop) → S after → I after → ReportOnly m m' → Follows before (written_at [] lines) after
+pub told : (S I : Written → Type 0) (Its : Refusal → Type 0) (before after : Written) (m m' : Meaning) (lines : List ℕ) (result : Result (Unit {0}) RunError) → S after → I after → ReportOnly m m' → Follows before (written_at [] lines) after
     → IsWriting result → (m.tells ≡ true → Appends lines m.report.written m'.report.written result) → Does S I Its before m m' result
 told S I Its before after m m' lines (Ok u) stands gives only follows kind is = record { after = after; more = written_at [] lines; is = (stands, gives); follows = follows; written = λ t. told_all m m' lines only (is t) }
 told S I Its before after m m' lines (Err r) stands gives only follows kind is =
-    subst (λ (stop : Stop). Does S I Its before m m' (Err stop)) (sym kind)
+    subst (λ (stop : RunError). Does S I Its before m m' (Err stop)) (sym kind)
     (record { after = after; more = written_at [] lines; is = gives; follows = follows; written = λ t. let a = is t in told_front m m' lines only a.1 a.2 })
 
 -- only Report was written
@@ -82,23 +82,23 @@ report_only m m' p = go m'.report.written m'.write_faults m'.report_faults p
 abbrev at_told : Bool → List ℕ → List ℕ → List ℕ
 at_told tells before bytes = if tells then before ++ bytes else before
 
-pub at_report_only : (m m' : Meaning) (bytes : List ℕ) (r : Result (Unit {0}) Stop) → WritesAt outs.Report bytes m m' r → ReportOnly m m'
+pub at_report_only : (m m' : Meaning) (bytes : List ℕ) (r : Result (Unit {0}) RunError) → WritesAt outs.Report bytes m m' r → ReportOnly m m'
 at_report_only m m' bytes (Ok u) w = subst (λ (x : Meaning). ReportOnly m x) (sym w) refl
 at_report_only m m' bytes (Err r) w = go (at_told m.tells m.report.written (take w.1 bytes)) m'.write_faults m'.report_faults w.2
   where
     go : (l : List ℕ) (n k : ℕ) → m' ≡ record m { report = record m.report { written = l }; write_faults = n; report_faults = k } → ReportOnly m m'
     go l n k p = subst (λ (x : Meaning). ReportOnly m x) (sym p) refl
 
-pub report_appends : (bytes : List ℕ) (m m' : Meaning) (r : Result (Unit {0}) Stop) → m.tells ≡ true → WritesAt outs.Report bytes m m' r → Appends bytes m.report.written m'.report.written r
+pub report_appends : (bytes : List ℕ) (m m' : Meaning) (r : Result (Unit {0}) RunError) → m.tells ≡ true → WritesAt outs.Report bytes m m' r → Appends bytes m.report.written m'.report.written r
 report_appends bytes m m' (Ok u) t w = ap (λ (x : Meaning). x.report.written) w ∙ ap (λ (b : Bool). at_told b m.report.written bytes) t
 report_appends bytes m m' (Err r) t w = (w.0, w.1, ap (λ (x : Meaning). x.report.written) w.2 ∙ ap (λ (b : Bool). at_told b m.report.written (take w.1 bytes)) t)
 
 -- a prefix of the first line is a prefix of both
-pub first_front : (a b before after : List ℕ) (stop : Stop) → Appends a before after (Err stop) → Appends (a ++ b) before after (Err stop)
+pub first_front : (a b before after : List ℕ) (stop : RunError) → Appends a before after (Err stop) → Appends (a ++ b) before after (Err stop)
 first_front a b before after stop w = let f = front_of a b w.1 in (w.0, f.0, w.2 ∙ ap (λ (l : List ℕ). before ++ l) f.1)
 
 -- and so is the first line with a prefix of the second
-pub both_lines : (a b before mid after : List ℕ) (result : Result (Unit {0}) Stop) → mid ≡ before ++ a → Appends b mid after result → Appends (a ++ b) before after result
+pub both_lines : (a b before mid after : List ℕ) (result : Result (Unit {0}) RunError) → mid ≡ before ++ a → Appends b mid after result → Appends (a ++ b) before after result
 both_lines a b before mid after (Ok u) is w = w ∙ ap (λ (l : List ℕ). l ++ b) is ∙ append_assoc before a b
 both_lines a b before mid after (Err r) is w = (
   w.0,

@@ -18,9 +18,9 @@ use Rattle.frame_build.specs.CellFile.{header}
 use Rattle.reception.specs.Cells.{symbol_length, symbols}
 use Rattle.reception.specs.Laws.{SameSymbols, TpsCellsStay}
 use Rattle.reception.specs.WholeSymbols.{AreReceivedAlike, WholeSymbolsAlike, whole_symbols}
-use Rattle.cmd_base.specs.declared.work.Refusal.{Refusal}
-use Rattle.cmd_base.specs.declared.work.Refusal.TheVariants.{Limit, Cells}
-use Rattle.cmd_base.specs.declared.work.CellsRefusal.TheVariants.{NoPlace}
+use Rattle.cmd_base.specs.declared.refusal.Refusal.{Refusal}
+use Rattle.cmd_base.specs.declared.refusal.Refusal.TheVariants.{Limit, Cells}
+use Rattle.cmd_base.specs.declared.refusal.CellsRefusal.TheVariants.{NoPlace}
 use Rattle.cmd_base.specs.Command.{Command, Files, IsOutput, Unread, is_among}
 use Rattle.cmd_base.specs.StatedSettings.{settings_of}
 use Rattle.cmd_base.specs.Text.{refusal_status}

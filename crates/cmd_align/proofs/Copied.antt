@@ -7,8 +7,8 @@ use Rattle.frame_build.specs.CellFile.{header}
 use Rattle.mode_set.specs.declared.settings.Settings.{Settings}
 use Rattle.reception.specs.Cells.{symbol_length, symbols, tail}
 use Rattle.reception.specs.Laws.{EndsSymbol, IsWithin, OneSymbolMore, SameSymbols}
-use Rattle.cmd_base.specs.declared.work.Refusal.{Refusal}
-use Rattle.cmd_cells.specs.declared.stop.Stop.{Stop}
+use Rattle.cmd_base.specs.declared.refusal.Refusal.{Refusal}
+use Rattle.cmd_cells.specs.declared.run_error.RunError.{RunError}
 use Rattle.cmd_cells.specs.Outputs.{IsWriting}
 use Rattle.cmd_cells.specs.Work.{Does, Written}
 use Rattle.cmd_cells.specs.Writing.{WritesAt}
@@ -74,7 +74,7 @@ module _ (s : Settings) (found : Found) (c c' : Copying) (bytes piece : List ℕ
       (same_gives s bytes (bytes ++ piece) (Some found) given (part_symbol s found same bytes piece within) gives)
 
   -- and a whole one is copied
-  pub handed : OneSymbolMore → (m m' : Meaning) (result : Result (Unit {0}) Stop) → length piece ≡ symbol_length s → c.skip ≡ 0 → c'.skip ≡ c.skip → c'.symbols ≡ c.symbols + 1 → c'.tail ≡ c.tail → WritesAt outs.Cells piece m m' result
+  pub handed : OneSymbolMore → (m m' : Meaning) (result : Result (Unit {0}) RunError) → length piece ≡ symbol_length s → c.skip ≡ 0 → c'.skip ≡ c.skip → c'.symbols ≡ c.symbols + 1 → c'.tail ≡ c.tail → WritesAt outs.Cells piece m m' result
       → Does Stands Is (λ r. ⊥) given m m' result
   handed more m m' result long no_skip kept symbols_are tail_is writes =
       let n = next_symbol s found more bytes piece none (reached no_skip) long in
@@ -85,7 +85,7 @@ module _ (s : Settings) (found : Found) (c c' : Copying) (bytes piece : List ℕ
       (follow (aligned_file s bytes (Some found)) piece (found_lines found) [] all (found_lines found) given gives longer (sym (append-nil (found_lines found)))) result writes
 
 -- at a place its lines are written
-pub placed : (Stands I : Written → Type 0) (Its : Refusal → Type 0) (s : Settings) (bytes longer : List ℕ) (found : Found) (given : Written) (m m' : Meaning) (result : Result (Unit {0}) Stop) → IsAtPlace s longer found → GivesAt s bytes None given
+pub placed : (Stands I : Written → Type 0) (Its : Refusal → Type 0) (s : Settings) (bytes longer : List ℕ) (found : Found) (given : Written) (m m' : Meaning) (result : Result (Unit {0}) RunError) → IsAtPlace s longer found → GivesAt s bytes None given
     → Stands (written_at (aligned_file s longer (Some found)) (found_lines found)) → I (written_at (aligned_file s longer (Some found)) (found_lines found)) → ReportOnly m m' → IsWriting result
     → (m.tells ≡ true → Appends (found_lines found) m.report.written m'.report.written result) → Does Stands I Its given m m' result
 placed Stands I Its s bytes longer found given m m' result at gives stands is only kind written =

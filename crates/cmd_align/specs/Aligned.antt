@@ -7,9 +7,9 @@ use Rattle.mode_set.specs.declared.settings.Settings.{Settings}
 use Rattle.frame_build.specs.CellFile.{header}
 use Rattle.reception.specs.Cells.{symbol_length, symbols, tail}
 use Rattle.reception.specs.WholeSymbols.{AreReceivedAlike, whole_symbols}
-use Rattle.cmd_base.specs.declared.work.Refusal.{Refusal}
-use Rattle.cmd_base.specs.declared.work.Refusal.TheVariants.{Cells, Limit}
-use Rattle.cmd_base.specs.declared.work.CellsRefusal.TheVariants.{NoPlace}
+use Rattle.cmd_base.specs.declared.refusal.Refusal.{Refusal}
+use Rattle.cmd_base.specs.declared.refusal.Refusal.TheVariants.{Cells, Limit}
+use Rattle.cmd_base.specs.declared.refusal.CellsRefusal.TheVariants.{NoPlace}
 use Rattle.cmd_convert.specs.Conversion.{counts_line}
 use Rattle.tune_in.specs.Announced.{IsAnnounced}
 use Rattle.tune_in.specs.LeastPlace.{HoldsPlace, Searches, place_of}

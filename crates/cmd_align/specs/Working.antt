@@ -2,17 +2,17 @@
 use Rattle.std.specs.Prelude.{◌≡◌, ◌⊎◌, ℕ, ◌+◌, ◌≤◌, List, [], ◌++◌, take, Option, Some, None, Result, Ok, Err}
 use Rattle.mode_set.specs.declared.settings.Settings.{Settings}
 use Rattle.reception.specs.Cells.{symbol_length, symbols, tail}
-use Rattle.cmd_base.specs.declared.work.Refusal.{Refusal}
-use Rattle.cmd_base.specs.declared.work.Refusal.TheVariants.{Cells, Memory}
-use Rattle.cmd_base.specs.declared.work.CellsRefusal.TheVariants.{NoPlace}
+use Rattle.cmd_base.specs.declared.refusal.Refusal.{Refusal}
+use Rattle.cmd_base.specs.declared.refusal.Refusal.TheVariants.{Cells, Memory}
+use Rattle.cmd_base.specs.declared.refusal.CellsRefusal.TheVariants.{NoPlace}
 use Rattle.cmd_base.specs.Ports.{cell_names}
 use Rattle.cmd_base.specs.Text.{refusal_text}
 use Rattle.cmd_base.specs.Report.{WritesText}
 use Rattle.frame_build.specs.CellFile.{header}
 use Rattle.station_core.specs.Meaning.{Meaning}
 use Rattle.station_core.specs.declared.ports.OutPort.{OutPort}
-use Rattle.cmd_cells.specs.declared.stop.Stop.{Stop}
-use Rattle.cmd_cells.specs.declared.stop.Stop.TheVariants.{WriteFault}
+use Rattle.cmd_cells.specs.declared.run_error.RunError.{RunError}
+use Rattle.cmd_cells.specs.declared.run_error.RunError.TheVariants.{WriteFault}
 use Rattle.cmd_cells.specs.Runs.{RunsCells}
 use Rattle.cmd_cells.specs.Work.{Work, Written}
 use Rattle.cmd_convert.specs.Working.{written_at}
@@ -66,7 +66,7 @@ AligningStands searching s None bytes given = searching s bytes × HasNoPlace s 
 AligningStands searching s (Some c) bytes given = (found : Found) × IsFoundIn s bytes found × IsCopying s found bytes c × GivesAt s bytes (Some found) given
 
 -- lines were appended to Report, or a prefix of them
-abbrev pub Appends : List ℕ → List ℕ → List ℕ → Result (Unit {0}) Stop → Type 0
+abbrev pub Appends : List ℕ → List ℕ → List ℕ → Result (Unit {0}) RunError → Type 0
 Appends lines before after (Ok u) = after ≡ before ++ lines
 Appends lines before after (Err r) = (r ≡ WriteFault) × (k : ℕ) × (after ≡ before ++ take k lines)
 

@@ -10,7 +10,7 @@ ghost use Rattle.cmd_align.specs.Working.{Appends, ReportOnly};
 use crate::announcement::announced_line;
 use crate::copying::Copying;
 use cmd_base::{CellsRefusal, Refusal};
-use cmd_cells::{Stop, SymbolWork, write_some};
+use cmd_cells::{RunError, SymbolWork, write_some};
 use frame_build::header;
 use mode_set::Settings;
 use station_core::{OutPort, Station};
@@ -18,7 +18,7 @@ use tune_in::{Found, begin};
 use tune_search::{PlaceSearch, place_line};
 
 // Writes the lines of a place, one write for each.
-fn write_found<'a, S: Station<'a>>(found: &Found, station: &mut S) -> Result<(), Stop>
+fn write_found<'a, S: Station<'a>>(found: &Found, station: &mut S) -> Result<(), RunError>
     requires created { (S.meaning station.old).report.created ≡ true }
     requires open { (S.meaning station.old).report.closed ≡ false }
     ensures kind { IsWriting result }
@@ -79,11 +79,11 @@ impl<'a, S: Station<'a>, T: PlaceSearch> SymbolWork<'a, S> for AligningWork<T> {
 
     ghost stands = { λ x bytes given. (x.settings.mode ≡ T.mode) × AligningStands (T.stands x.search) x.settings x.copying bytes given };
 
-    fn begin(&mut self, station: &mut S) -> Result<(), Stop> {
+    fn begin(&mut self, station: &mut S) -> Result<(), RunError> {
         write_some(OutPort::Cells, &header(self.settings.mode), station)
     }
 
-    fn take(&mut self, piece: &[u8], station: &mut S) -> Result<(), Stop> {
+    fn take(&mut self, piece: &[u8], station: &mut S) -> Result<(), RunError> {
         tune_in::more_bytes();
         let size = 5 * self.settings.mode.carriers() as usize;
         if let Some(copying) = &mut self.copying {
@@ -98,13 +98,13 @@ impl<'a, S: Station<'a>, T: PlaceSearch> SymbolWork<'a, S> for AligningWork<T> {
         }
     }
 
-    fn finish(&mut self, station: &mut S) -> Result<(), Stop> {
+    fn finish(&mut self, station: &mut S) -> Result<(), RunError> {
         match &self.copying {
             Some(copying) => {
                 let line = copying.line();
                 write_some(OutPort::Report, line.as_str().as_bytes(), station)
             }
-            None => Err(Stop::Work(Refusal::Cells(CellsRefusal::NoPlace))),
+            None => Err(RunError::Work(Refusal::Cells(CellsRefusal::NoPlace))),
         }
     }
 

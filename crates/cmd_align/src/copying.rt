@@ -10,7 +10,7 @@ ghost use Rattle.cmd_convert.specs.Working.{writes_at};
 ghost use Rattle.tune_in.specs.declared.frame.Found.{Found as AnyFound};
 ghost use Rattle.cmd_align.specs.Working.{GivesAt, IsCopying};
 
-use cmd_cells::{Stop, write_some};
+use cmd_cells::{RunError, write_some};
 use rx_report::{Line, push_count};
 use station_core::{OutPort, Station};
 
@@ -33,7 +33,7 @@ impl Copying {
         size: usize,
         piece: &[u8],
         station: &mut S,
-    ) -> Result<(), Stop>
+    ) -> Result<(), RunError>
         requires open { AreOpen writes_at (S.meaning station.old) }
         requires few { self.old.symbols < 2 ^ 32 }
         ensures kind { IsWriting result }

@@ -4,7 +4,7 @@ use Rattle.std.specs.Prelude.{◌&&◌, nat_lt, ◌==◌, if◌then◌else◌}
 use Rattle.std.proofs.lemmas.Bool.{lt-ltb, le-ltb, eq-eqb, eqb-true}
 use Rattle.spec_words.proofs.Counting.{first_is, first_from}
 use Rattle.mode_set.specs.declared.modes.Stream.TheVariants.{Hp}
-use Rattle.cmd_base.specs.declared.work.Refusal.TheVariants.{NotSync, Limit}
+use Rattle.cmd_base.specs.declared.refusal.Refusal.TheVariants.{NotSync, Limit}
 use Rattle.cmd_base.specs.Packets.{whole_packets, is_sync, is_accepted, accepted, AcceptsFirst, packet_refusal}
 
 -- all of the first n are accepted and the next is not, or there is none

@@ -10,9 +10,9 @@ use Rattle.station_core.specs.declared.ports.InPort.{InPort}
 use Rattle.station_core.specs.declared.ports.InPort.TheVariants as ins
 use Rattle.station_core.specs.declared.ports.OutPort.{OutPort}
 use Rattle.station_core.specs.declared.ports.OutPort.TheVariants as outs
-use Rattle.cmd_base.specs.declared.work.Refusal.{Refusal}
-use Rattle.cmd_base.specs.declared.work.SettingsRefusal.{SettingsRefusal}
-use Rattle.cmd_base.specs.declared.work.Refusal.TheVariants.{Usage, Settings, ReadFault, WriteFault, NotSync, Memory, Limit, Cells}
+use Rattle.cmd_base.specs.declared.refusal.Refusal.{Refusal}
+use Rattle.cmd_base.specs.declared.refusal.SettingsRefusal.{SettingsRefusal}
+use Rattle.cmd_base.specs.declared.refusal.Refusal.TheVariants.{Usage, Settings, ReadFault, WriteFault, NotSync, Memory, Limit, Cells}
 use Rattle.cmd_base.specs.Command.{Command, Files, IsOutput, is_among, refusal_of, input_file, named, Unread, unread}
 use Rattle.cmd_base.specs.Header.{header_refusal}
 use Rattle.cmd_base.specs.Run.{AsksSettingsAlone}

@@ -6,9 +6,9 @@ use Rattle.std.specs.Option.{option_copied, option_or}
 use denote.Ref.{Bor}
 use Rattle.mode_set.specs.Document.{IsStatedBy}
 use Rattle.mode_set.specs.declared.settings.Settings.{Settings as TheSettings}
-use Rattle.cmd_base.specs.declared.work.Refusal.{Refusal}
-use Rattle.cmd_base.specs.declared.work.Refusal.TheVariants.{Settings}
-use Rattle.cmd_base.specs.declared.work.SettingsRefusal.TheVariants.{Form}
+use Rattle.cmd_base.specs.declared.refusal.Refusal.{Refusal}
+use Rattle.cmd_base.specs.declared.refusal.Refusal.TheVariants.{Settings}
+use Rattle.cmd_base.specs.declared.refusal.SettingsRefusal.TheVariants.{Form}
 use Rattle.cmd_base.specs.StreamForm.{fits_form, form_refusal}
 use Rattle.cmd_base.specs.SettingsFile.{settings_refusal}
 use Rattle.cmd_base.specs.StatedSettings.{settings_of}

@@ -4,7 +4,7 @@ use Rattle.std.proofs.Math.Seq.{take-append-add}
 use Rattle.std.proofs.lemmas.Bool.{cases_lt}
 use Rattle.std.proofs.lemmas.List.{append-nil, take_all, take-append-le}
 use Rattle.station_core.specs.Meaning.{Meaning}
-use Rattle.cmd_base.specs.declared.work.Refusal.{Refusal}
+use Rattle.cmd_base.specs.declared.refusal.Refusal.{Refusal}
 use Rattle.cmd_base.specs.Lines.{IsFrontOf, WritesLines}
 
 -- a prefix of a text is a prefix of a longer one

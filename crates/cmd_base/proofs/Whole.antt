@@ -8,10 +8,10 @@ use Rattle.station_core.specs.declared.ports.InPort.{InPort}
 use Rattle.station_core.specs.declared.ports.InPort.TheVariants as ins
 use Rattle.station_core.specs.declared.ports.OutPort.{OutPort}
 use Rattle.station_core.specs.declared.ports.OutPort.TheVariants as outs
-use Rattle.cmd_base.specs.declared.work.Refusal.{Refusal}
-use Rattle.cmd_base.specs.declared.work.Refusal.TheVariants.{Usage, Settings, ReadFault, WriteFault, NotSync, Memory, Limit, Cells}
+use Rattle.cmd_base.specs.declared.refusal.Refusal.{Refusal}
+use Rattle.cmd_base.specs.declared.refusal.Refusal.TheVariants.{Usage, Settings, ReadFault, WriteFault, NotSync, Memory, Limit, Cells}
 use Rattle.cmd_base.specs.Command.{Command, Files, Unread, IsInput, IsOutput, is_among, refusal_of, input_file, unread}
-use Rattle.cmd_base.specs.declared.work.CellsRefusal.TheVariants.{Header, NoPlace, AnnouncedForm}
+use Rattle.cmd_base.specs.declared.refusal.CellsRefusal.TheVariants.{Header, NoPlace, AnnouncedForm}
 use Rattle.cmd_base.specs.Header.{header_size, IsHeaderTaken}
 use Rattle.cmd_base.specs.Run.{Run, header_at, Reports, AreMadeEmpty, AsksSettingsAlone, IsUntaken}
 use Rattle.cmd_base.specs.Text.{status_of, refusal_status, refusal_text, text_at, text_if_refused}

@@ -5,7 +5,7 @@ use Rattle.station_core.specs.Meaning.{Meaning, source_at}
 use Rattle.station_core.specs.declared.ports.InPort.{InPort}
 use Rattle.station_core.specs.declared.ports.InPort.TheVariants.{Cells}
 use Rattle.station_core.specs.declared.ports.OutPort.{OutPort}
-use Rattle.cmd_base.specs.declared.work.Refusal.{Refusal}
+use Rattle.cmd_base.specs.declared.refusal.Refusal.{Refusal}
 use Rattle.cmd_base.specs.Header.{header_refusal}
 
 -- the bytes of the file of each name

@@ -1,8 +1,8 @@
 -- The header required of a file of cells, if any.
 use Rattle.std.specs.Prelude.{◌≡◌, ℕ, ⊤, List, ◌++◌, length, take, drop, bytes_eq, Option, None, Some, if◌then◌else◌}
-use Rattle.cmd_base.specs.declared.work.Refusal.{Refusal}
-use Rattle.cmd_base.specs.declared.work.Refusal.TheVariants.{Cells}
-use Rattle.cmd_base.specs.declared.work.CellsRefusal.TheVariants.{Header}
+use Rattle.cmd_base.specs.declared.refusal.Refusal.{Refusal}
+use Rattle.cmd_base.specs.declared.refusal.Refusal.TheVariants.{Cells}
+use Rattle.cmd_base.specs.declared.refusal.CellsRefusal.TheVariants.{Header}
 
 -- its length
 abbrev pub header_size : Option (List ℕ) → ℕ

@@ -1,8 +1,8 @@
 -- Lines written to Report.
 use Rattle.std.specs.Prelude.{◌≡◌, ◌≤◌, ℕ, true, List, ◌++◌, take, Result, Ok, Err}
 use Rattle.station_core.specs.Meaning.{Meaning}
-use Rattle.cmd_base.specs.declared.work.Refusal.{Refusal}
-use Rattle.cmd_base.specs.declared.work.Refusal.TheVariants.{WriteFault}
+use Rattle.cmd_base.specs.declared.refusal.Refusal.{Refusal}
+use Rattle.cmd_base.specs.declared.refusal.Refusal.TheVariants.{WriteFault}
 
 -- a text is written whole, or a prefix of it if a write failed
 abbrev pub IsFrontOf : {T : Type 0} → List ℕ → List ℕ → List ℕ → Result T Refusal → Type 0

@@ -4,9 +4,9 @@ use Rattle.spec_words.specs.Words.{first_below}
 use Rattle.mode_set.specs.declared.modes.Stream.{Stream}
 use Rattle.mode_set.specs.declared.modes.Stream.TheVariants.{Hp}
 use Rattle.rx_report.specs.Streams.{stream_text}
-use Rattle.cmd_base.specs.declared.work.Counts.{Counts}
-use Rattle.cmd_base.specs.declared.work.Refusal.{Refusal}
-use Rattle.cmd_base.specs.declared.work.Refusal.TheVariants.{NotSync, Limit}
+use Rattle.cmd_base.specs.declared.counts.Counts.{Counts}
+use Rattle.cmd_base.specs.declared.refusal.Refusal.{Refusal}
+use Rattle.cmd_base.specs.declared.refusal.Refusal.TheVariants.{NotSync, Limit}
 
 -- packet i of a transport file
 abbrev pub file_packet : List ℕ → ℕ → List ℕ

@@ -3,9 +3,9 @@ use Rattle.std.specs.Prelude.{ℕ, List, length, nat_lt, if◌then◌else◌, Op
 use Rattle.mode_set.specs.declared.error.SettingsError.{SettingsError}
 use Rattle.mode_set.specs.declared.error.SettingsError.TheVariants as error
 use Rattle.mode_set.specs.Document.{refusal}
-use Rattle.cmd_base.specs.declared.work.SettingsRefusal.TheVariants.{TooLong, NotToml, Unknown, Missing, Value, Clash}
-use Rattle.cmd_base.specs.declared.work.Refusal.{Refusal}
-use Rattle.cmd_base.specs.declared.work.Refusal.TheVariants.{Settings, Memory}
+use Rattle.cmd_base.specs.declared.refusal.SettingsRefusal.TheVariants.{TooLong, NotToml, Unknown, Missing, Value, Clash}
+use Rattle.cmd_base.specs.declared.refusal.Refusal.{Refusal}
+use Rattle.cmd_base.specs.declared.refusal.Refusal.TheVariants.{Settings, Memory}
 
 -- the greatest length of a settings file
 abbrev pub most_settings : ℕ

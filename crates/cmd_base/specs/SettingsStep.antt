@@ -4,8 +4,8 @@ use Rattle.station_core.specs.Meaning.{Meaning}
 use Rattle.station_core.specs.Causes.{Rose}
 use Rattle.mode_set.specs.declared.settings.Settings.{Settings as TheSettings}
 use Rattle.mode_set.specs.Document.{IsStatedBy}
-use Rattle.cmd_base.specs.declared.work.Refusal.{Refusal}
-use Rattle.cmd_base.specs.declared.work.Refusal.TheVariants.{Settings, ReadFault, Memory}
+use Rattle.cmd_base.specs.declared.refusal.Refusal.{Refusal}
+use Rattle.cmd_base.specs.declared.refusal.Refusal.TheVariants.{Settings, ReadFault, Memory}
 use Rattle.cmd_base.specs.SettingsFile.{most_settings, settings_refusal}
 
 -- Only the port of the settings and the count of read faults have changed. This name was requested there, or none. The

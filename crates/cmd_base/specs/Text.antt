@@ -1,14 +1,14 @@
 -- The lines of the report, and the statuses.
 use Rattle.std.specs.Prelude.{ℕ, List, [], ◌++◌, ◌==◌, Option, None, Some, codes, decimal, if◌then◌else◌}
 use Rattle.rx_report.specs.Streams.{stream_text}
-use Rattle.cmd_base.specs.declared.work.Refusal.{Refusal}
+use Rattle.cmd_base.specs.declared.refusal.Refusal.{Refusal}
 use Rattle.mode_set.specs.Keys.{key_text}
 use Rattle.cmd_base.specs.Command.{Command, Files, refusal_of}
-use Rattle.cmd_base.specs.declared.work.SettingsRefusal.{SettingsRefusal}
-use Rattle.cmd_base.specs.declared.work.SettingsRefusal.TheVariants as settings
-use Rattle.cmd_base.specs.declared.work.Refusal.TheVariants.{Usage, Settings, ReadFault, WriteFault, NotSync, Memory, Limit, Cells}
-use Rattle.cmd_base.specs.declared.work.CellsRefusal.{CellsRefusal}
-use Rattle.cmd_base.specs.declared.work.CellsRefusal.TheVariants as cells
+use Rattle.cmd_base.specs.declared.refusal.SettingsRefusal.{SettingsRefusal}
+use Rattle.cmd_base.specs.declared.refusal.SettingsRefusal.TheVariants as settings
+use Rattle.cmd_base.specs.declared.refusal.Refusal.TheVariants.{Usage, Settings, ReadFault, WriteFault, NotSync, Memory, Limit, Cells}
+use Rattle.cmd_base.specs.declared.refusal.CellsRefusal.{CellsRefusal}
+use Rattle.cmd_base.specs.declared.refusal.CellsRefusal.TheVariants as cells
 
 -- the text for rejected settings
 abbrev pub settings_text : SettingsRefusal → List ℕ

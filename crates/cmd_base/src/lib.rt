@@ -8,19 +8,21 @@
 //! line of the report ([`write_line`]), and the end of a refused run ([`settle`], [`refuse`]).
 #![tactic(auto)]
 
+mod counts;
 mod fitting_step;
 mod lines;
 mod read;
+mod refusal;
 mod refusing;
 mod settings_step;
 mod text;
-mod work;
 
+pub use counts::{Counts, Limits};
 pub use fitting_step::read_fitting;
 pub use lines::write_line;
 pub use read::fill;
+pub use refusal::{CellsRefusal, Refusal, SettingsRefusal};
 pub use refusing::{refuse, settle};
 pub use rx_report::Line;
 pub use settings_step::read_settings;
 pub use text::{closing_line_of, packets_line_of, text_of};
-pub use work::{CellsRefusal, Counts, Limits, Refusal, SettingsRefusal};

@@ -13,10 +13,10 @@ use Rattle.station_core.specs.declared.ports.InPort.{InPort}
 use Rattle.station_core.specs.declared.ports.InPort.TheVariants as ins
 use Rattle.station_core.specs.declared.ports.OutPort.{OutPort}
 use Rattle.station_core.specs.declared.ports.OutPort.TheVariants as outs
-use Rattle.cmd_base.specs.declared.work.Refusal.{Refusal}
-use Rattle.cmd_base.specs.declared.work.Refusal.TheVariants as refusals
+use Rattle.cmd_base.specs.declared.refusal.Refusal.{Refusal}
+use Rattle.cmd_base.specs.declared.refusal.Refusal.TheVariants as refusals
 use Rattle.cmd_base.specs.Command.{Command, Files, Unread, IsInput, IsOutput, is_among, named, refusal_of, input_file, unread}
-use Rattle.cmd_base.specs.declared.work.CellsRefusal.TheVariants.{Header, NoPlace, AnnouncedForm}
+use Rattle.cmd_base.specs.declared.refusal.CellsRefusal.TheVariants.{Header, NoPlace, AnnouncedForm}
 use Rattle.cmd_base.specs.Header.{IsHeaderTaken, behind_header, header_refusal, header_size}
 use Rattle.cmd_base.specs.Run.{IsUntaken, Run}
 use Rattle.cmd_base.specs.Text.{refusal_status, refusal_text, status_of}
@@ -24,9 +24,9 @@ use Rattle.cmd_base.specs.Report.{WritesText}
 use Rattle.cmd_base.specs.Causes.{AreReadsKept, IsSettled}
 use Rattle.cmd_base.specs.Ended.{AreMade, Ended, Hold, HoldFronts, HoldSoFar, HoldUnheaded, IsCaused, IsExact, IsSettledAt, IsWriteFault, Leaves}
 use Rattle.cmd_base.proofs.Whole.{run_done, run_refused}
-use Rattle.cmd_cells.specs.declared.stop.Stop.{Stop}
-use Rattle.cmd_cells.specs.declared.stop.Stop.TheVariants.{ReadFault, WriteFault, Limit}
-use Rattle.cmd_cells.specs.declared.stop.Stop.TheVariants as stops
+use Rattle.cmd_cells.specs.declared.run_error.RunError.{RunError}
+use Rattle.cmd_cells.specs.declared.run_error.RunError.TheVariants.{ReadFault, WriteFault, Limit}
+use Rattle.cmd_cells.specs.declared.run_error.RunError.TheVariants as stops
 use Rattle.cmd_cells.specs.Stops.{HasEndCause, refusal_in, stop_refusal}
 use Rattle.cmd_cells.specs.Symbols.{symbols}
 use Rattle.cmd_cells.specs.Work.{HasReason, Holds, Work, Written}
@@ -364,13 +364,13 @@ module _ (c : Command) (limit : ℕ) (name cells : List ℕ) (header : Option (L
       closed = λ out is made. (none.shut out (is_output out is) made).0;
     }
 
-    all_made : (result : Result (Unit {0}) Stop) → IsWorked w most names (opened cells header old) mid result → AreMade c mid
+    all_made : (result : Result (Unit {0}) RunError) → IsWorked w most names (opened cells header old) mid result → AreMade c mid
     all_made result done out is = done.created out (is_output out is)
 
-    lp_order : (result : Result (Unit {0}) Stop) → IsWorked w most names (opened cells header old) mid result → (mid.lp_out.asked ≡ None) ⊎ (mid.hp_out.created ≡ true)
+    lp_order : (result : Result (Unit {0}) RunError) → IsWorked w most names (opened cells header old) mid result → (mid.lp_out.asked ≡ None) ⊎ (mid.hp_out.created ≡ true)
     lp_order result done = elim done.lp_behind [ inl same ↦ inl (same ∙ fresh.lp_out.asked) | inr is ↦ inr is ]
 
-    worked_order : (result : Result (Unit {0}) Stop) → IsWorked w most names (opened cells header old) mid result → InOrder
+    worked_order : (result : Result (Unit {0}) RunError) → IsWorked w most names (opened cells header old) mid result → InOrder
     worked_order result done = record {
       behind_inputs = λ out. inr (all_opened done.attached);
       unasked = λ out is absent. absurd (asked_for out is (done.asked out (is_output out is)) absent);
@@ -380,7 +380,7 @@ module _ (c : Command) (limit : ℕ) (name cells : List ℕ) (header : Option (L
       closed = λ out is made. done.closed out (is_output out is);
     }
 
-    order : (result : Result (Unit {0}) Stop) → RanBehind w most names (opened cells header old) mid result → InOrder
+    order : (result : Result (Unit {0}) RunError) → RanBehind w most names (opened cells header old) mid result → InOrder
     order result ran = elim ran [ inl p ↦ unmade_order p.1 | inr p ↦ worked_order result p ]
 
     -- the output of a prefix of the cells is a prefix of the command's output
@@ -414,7 +414,7 @@ module _ (c : Command) (limit : ℕ) (name cells : List ℕ) (header : Option (L
     continues t given (inr b) = refused_continues t (λ port. b.rest) given b.refusal ((command.comes t).refused (λ port. b.rest) b.taken given b.refusal b.are b.within b.its b.refuses)
 
     -- ---- the state after each outcome
-    module _ (result : Result (Unit {0}) Stop) (done : IsWorked w most names (opened cells header old) mid result) where
+    module _ (result : Result (Unit {0}) RunError) (done : IsWorked w most names (opened cells header old) mid result) where
       -- the outputs were empty before the work, and so was Report
       base : (out : OutPort) → IsOutput c out → (sink_at out done.start).written ≡ []
       base out is = let n = name_at names out (is_output out is) in ap (λ (x : Sink). x.written) (done.made out n.0 n.1)
@@ -524,17 +524,17 @@ module _ (c : Command) (limit : ℕ) (name cells : List ℕ) (header : Option (L
     fault_by (inr shut) = inr (shut.0, λ t. let e = shut.1 t in refusal_by None None (fits t) ((command.comes t).whole e.1.0 e.0 e.1.1).1 t)
 
     -- ---- by the outcome
-    abbrev tag : Result (Unit {0}) Stop → ℕ
+    abbrev tag : Result (Unit {0}) RunError → ℕ
     tag (Ok u) = 0
     tag (Err ReadFault) = 1
     tag (Err WriteFault) = 2
     tag (Err Limit) = 3
     tag (Err (stops.Work r)) = 4
 
-    worked_if : (result : Result (Unit {0}) Stop) → tag result ≢ 2 → RanBehind w most names (opened cells header old) mid result → IsWorked w most names (opened cells header old) mid result
+    worked_if : (result : Result (Unit {0}) RunError) → tag result ≢ 2 → RanBehind w most names (opened cells header old) mid result → IsWorked w most names (opened cells header old) mid result
     worked_if result not_written ran = elim ran [ inl p ↦ absurd (not_written (ap tag p.0)) | inr p ↦ p ]
 
-    pub ended_of : (o : Result (Unit {0}) Stop) → HasEndCause (start.tells ≡ true → EndsWithin w most file) old mid o → HasReason w o → RanBehind w most names (opened cells header old) mid o → Ended c limit start mid (refusal_in most o)
+    pub ended_of : (o : Result (Unit {0}) RunError) → HasEndCause (start.tells ≡ true → EndsWithin w most file) old mid o → HasReason w o → RanBehind w most names (opened cells header old) mid o → Ended c limit start mid (refusal_in most o)
     ended_of (Ok u) cause reason ran =
         let done = worked_if (Ok u) (λ e. omega (arith, e)) ran in
         ended_by None command.done cause tt (omega (arith, cause.0)) (omega (arith, cause.1))
@@ -601,7 +601,7 @@ module _ (c : Command) (limit : ℕ) (name cells : List ℕ) (header : Option (L
           (λ t is. few_taken m is none.taken t) (omega (arith, same)) r opens) tells
 
   -- opening the cells changes none of the counts
-  same_cause : (whole : Type 0) (m : Meaning) (o : Result (Unit {0}) Stop) → HasEndCause whole (opened cells header accepted) m o → HasEndCause whole accepted m o
+  same_cause : (whole : Type 0) (m : Meaning) (o : Result (Unit {0}) RunError) → HasEndCause whole (opened cells header accepted) m o → HasEndCause whole accepted m o
   same_cause whole m (Ok u) h = h
   same_cause whole m (Err ReadFault) h = (h.0, h.1, record { settled = h.2.settled; writes = h.2.writes })
   same_cause whole m (Err WriteFault) h = h
@@ -620,7 +620,7 @@ module _ (c : Command) (limit : ℕ) (name cells : List ℕ) (header : Option (L
       asked port (inl same) = inl (same ∙ ap (λ (x : Sink). x.asked) (opened_sink cells header accepted port))
       asked port (inr is) = inr is
 
-      closing : (m : Meaning) (o : Result (Unit {0}) Stop) → Ended c limit start m (refusal_in most o) → Tells most m new o → Run c limit start new (outcome_status most o)
+      closing : (m : Meaning) (o : Result (Unit {0}) RunError) → Ended c limit start m (refusal_in most o) → Tells most m new o → Run c limit start new (outcome_status most o)
       closing m (Ok u) e tells = run_done c limit start new (subst (λ (x : Meaning). Ended c limit start x None) (sym tells) e)
       closing m (Err stop) e tells = run_refused c limit start m new (stop_refusal most stop) e tells
 

@@ -3,9 +3,9 @@ use Rattle.std.proofs.Common.{◌≡◌, ℕ, ◌+◌, ◌*◌, ◌<◌, ◌≤�
 use Rattle.std.proofs.lemmas.List.{append-nil, drop-drop, drop_at}
 use Rattle.std.proofs.lemmas.Nat.{mul-le}
 use Rattle.station_core.specs.Meaning.{Meaning, sink_at}
-use Rattle.cmd_cells.specs.declared.stop.Stop.{Stop}
-use Rattle.cmd_cells.specs.declared.stop.Stop.TheVariants.{ReadFault, WriteFault, Limit}
-use Rattle.cmd_cells.specs.declared.stop.Stop.TheVariants as stops
+use Rattle.cmd_cells.specs.declared.run_error.RunError.{RunError}
+use Rattle.cmd_cells.specs.declared.run_error.RunError.TheVariants.{ReadFault, WriteFault, Limit}
+use Rattle.cmd_cells.specs.declared.run_error.RunError.TheVariants as stops
 use Rattle.cmd_cells.specs.Symbols.{symbols}
 use Rattle.cmd_cells.specs.Work.{Finishes, Gave, Holds, Takes, Work, WritesOnly, Written, none_written}
 use Rattle.cmd_cells.specs.Cells.{IsWhole, IsWorking, Stopped, TakesAtMost, Works}
@@ -20,7 +20,7 @@ module _ (w : Work) (most : ℕ) (standing' : List ℕ → Written → Type 0) (
   pub begun : (g : Gave (λ after. standing' [] after × w.Gives [] after) none_written m m') → IsWorking w standing' m.cells.left m m' [] g.after
   begun g = goes_on w most m.cells.left [] none_written standing' m m m m' 0 (λ t. refl) held refl [] (λ t. refl) writes g
 
-  pub not_begun : 0 < w.size → (stop : Stop) → Takes w standing' [] [] none_written m m' (Err stop) → m'.tells ≡ true → Stopped w most m.cells.left m m' stop
+  pub not_begun : 0 < w.size → (stop : RunError) → Takes w standing' [] [] none_written m m' (Err stop) → m'.tells ≡ true → Stopped w most m.cells.left m m' stop
   not_begun some stop takes =
       let none : symbols w.size [] ≡ 0 = symbols_are w.size some [] 0 (let e : 0 ≡ 0 * w.size = omega arith in e) in
       fails w most m.cells.left [] none_written standing' m m m m' 0 (λ t. refl) held refl [] (λ t. refl) writes stop (omega (arith, none)) takes
@@ -37,7 +37,7 @@ module _ (w : Work) (most : ℕ) (file bytes : List ℕ) (given : Written) (stan
   all : m'.tells ≡ true → file ≡ bytes
   all t = was.are (before t) ∙ ap (λ (l : List ℕ). bytes ++ l) (left (before t)) ∙ append-nil bytes
 
-  whole_by : (result : Result (Unit {0}) Stop) → Finishes w bytes given m m' result → Works w most bytes start m' result
+  whole_by : (result : Result (Unit {0}) RunError) → Finishes w bytes given m m' result → Works w most bytes start m' result
   whole_by (Ok u) f = λ t. (nothing_left t, few, record { given = f.after; ends = f.is.1; holds = holds_more start m m' given _ (was.holds (before t)) (before t) f })
   whole_by (Err ReadFault) f = λ t. absurd f
   whole_by (Err WriteFault) f = λ t. record {
@@ -55,7 +55,7 @@ module _ (w : Work) (most : ℕ) (file bytes : List ℕ) (given : Written) (stan
     holds = λ port. f.1 (before t) port ∙ was.holds (before t) port;
   }
 
-  pub ended : (result : Result (Unit {0}) Stop) → Finishes w bytes given m m' result → Works w most file start m' result
+  pub ended : (result : Result (Unit {0}) RunError) → Finishes w bytes given m m' result → Works w most file start m' result
   ended (Ok u) f = λ t. subst (λ (l : List ℕ). (m'.cells.left ≡ []) × (symbols w.size l ≤ most) × IsWhole w l start m') (sym (all t)) (whole_by (Ok u) f t)
   ended (Err stop) f = λ t. subst (λ (l : List ℕ). Stopped w most l start m' stop) (sym (all t)) (whole_by (Err stop) f t)
 

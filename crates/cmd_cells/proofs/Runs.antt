@@ -7,9 +7,9 @@ use Rattle.std.proofs.lemmas.List.{append-nil, take-append-drop}
 use Rattle.station_core.specs.Meaning.{Meaning, Sink, sink_at}
 use Rattle.station_core.specs.declared.ports.OutPort.{OutPort}
 use Rattle.station_core.specs.declared.ports.OutPort.TheVariants as outs
-use Rattle.cmd_cells.specs.declared.stop.Stop.{Stop}
-use Rattle.cmd_cells.specs.declared.stop.Stop.TheVariants.{ReadFault, WriteFault, Limit}
-use Rattle.cmd_cells.specs.declared.stop.Stop.TheVariants as stops
+use Rattle.cmd_cells.specs.declared.run_error.RunError.{RunError}
+use Rattle.cmd_cells.specs.declared.run_error.RunError.TheVariants.{ReadFault, WriteFault, Limit}
+use Rattle.cmd_cells.specs.declared.run_error.RunError.TheVariants as stops
 use Rattle.cmd_base.specs.Causes.{FlushesOnly}
 use Rattle.cmd_cells.specs.Stops.{Settles}
 use Rattle.cmd_cells.specs.Symbols.{within_limit}
@@ -55,7 +55,7 @@ module _ (w : Work) (most : ℕ) (file : List ℕ) (start m m' : Meaning) (tells
   tells_are : m'.tells ≡ true → m.tells ≡ true
   tells_are t = sym tells_same ∙ t
 
-  stop_kept : (stop : Stop) → Stopped w most file start m stop → Stopped w most file start m' stop
+  stop_kept : (stop : RunError) → Stopped w most file start m stop → Stopped w most file start m' stop
   stop_kept ReadFault s = record { taken = s.taken; given = s.given; are = s.are ∙ ap (λ (l : List ℕ). s.taken ++ l) (sym left_is); within = s.within; gives = s.gives; holds = λ port. written port ∙ s.holds port }
   stop_kept WriteFault s = record { given = s.given; up = s.up; holds = λ port. ((s.holds port).0, written port ∙ (s.holds port).1) }
   stop_kept Limit s = record { given = s.given; past = s.past; gives = s.gives; holds = λ port. written port ∙ s.holds port }
@@ -68,7 +68,7 @@ module _ (w : Work) (most : ℕ) (file : List ℕ) (start m m' : Meaning) (tells
     holds = λ port. written port ∙ s.holds port;
   }
 
-  pub works_kept : (result : Result (Unit {0}) Stop) → Works w most file start m result → Works w most file start m' result
+  pub works_kept : (result : Result (Unit {0}) RunError) → Works w most file start m result → Works w most file start m' result
   works_kept (Ok u) f = λ t. let d = f (tells_are t) in (left_is ∙ d.0, d.1, record { given = d.2.given; ends = d.2.ends; holds = λ port. written port ∙ d.2.holds port })
   works_kept (Err stop) f = λ t. stop_kept stop (f (tells_are t))
 
@@ -77,7 +77,7 @@ module _ (w : Work) (most : ℕ) (file : List ℕ) (start m m' : Meaning) (tells
   all_held given holds port = all_of (sink_at port start).written (given port) (sink_at port m').written (written port ∙ holds port)
 
   -- whatever the work stopped at, a failed write cuts it short
-  stop_cut : 0 < w.size → (stop : Stop) → HasReason {T = Unit {0}} w (Err stop) → Stopped w most file start m stop → IsCutShort w most file start m'
+  stop_cut : 0 < w.size → (stop : RunError) → HasReason {T = Unit {0}} w (Err stop) → Stopped w most file start m stop → IsCutShort w most file start m'
   stop_cut some ReadFault reason s = record {
     given = s.given;
     up = inl (record { taken = s.taken; rest = m.cells.left; are = s.are; within = s.within; gives = inl s.gives });
@@ -101,7 +101,7 @@ module _ (w : Work) (most : ℕ) (file : List ℕ) (start m m' : Meaning) (tells
     holds = all_held s.given s.holds;
   }
 
-  pub works_cut : 0 < w.size → (stop : Stop) → HasReason {T = Unit {0}} w (Err stop) → Works w most file start m (Err stop) → Works w most file start m' (Err WriteFault)
+  pub works_cut : 0 < w.size → (stop : RunError) → HasReason {T = Unit {0}} w (Err stop) → Works w most file start m (Err stop) → Works w most file start m' (Err WriteFault)
   works_cut some stop reason f = λ t. stop_cut some stop reason (f (tells_are t))
 
   -- the whole is a prefix of itself
@@ -112,22 +112,22 @@ module _ (w : Work) (most : ℕ) (file : List ℕ) (start m m' : Meaning) (tells
     holds = all_held d.2.given d.2.holds;
   }
 
-  works_unclosed : (result : Result (Unit {0}) Stop) → IsWriting result → Works w most file start m (Ok tt) → Works w most file start m' result
+  works_unclosed : (result : Result (Unit {0}) RunError) → IsWriting result → Works w most file start m (Ok tt) → Works w most file start m' result
   works_unclosed (Ok u) kind f = works_kept (Ok u) f
   works_unclosed (Err stop) kind f = λ t. subst (Stopped w most file start m') (sym kind) (whole_cut f t)
 
   -- the outputs were closed after the work, with any result
-  pub works_then : (worked closing : Result (Unit {0}) Stop) → IsWriting closing → Works w most file start m worked → Works w most file start m' (result_and worked closing)
+  pub works_then : (worked closing : Result (Unit {0}) RunError) → IsWriting closing → Works w most file start m worked → Works w most file start m' (result_and worked closing)
   works_then (Ok u) closing kind f = works_unclosed closing kind f
   works_then (Err stop) closing kind f = works_kept (Err stop) f
 
 -- after the closing
-pub works_then_closed : (w : Work) (most : ℕ) (file : List ℕ) (start m m' : Meaning) → ClosesOnly m m' → (worked closing : Result (Unit {0}) Stop) → IsWriting closing
+pub works_then_closed : (w : Work) (most : ℕ) (file : List ℕ) (start m m' : Meaning) → ClosesOnly m m' → (worked closing : Result (Unit {0}) RunError) → IsWriting closing
     → Works w most file start m worked → Works w most file start m' (result_and worked closing)
 works_then_closed w most file start m m' p = works_then w most file start m m' (ap (λ (x : Meaning). x.tells) p) (ap (λ (x : Meaning). x.cells.left) p) (closed_written m m' p)
 
 -- after the flush
-pub works_settled : (w : Work) (most : ℕ) (file : List ℕ) (start m m' : Meaning) → 0 < w.size → FlushesOnly m m' → (worked settled : Result (Unit {0}) Stop) → Settles worked m m' settled → HasReason w worked
+pub works_settled : (w : Work) (most : ℕ) (file : List ℕ) (start m m' : Meaning) → 0 < w.size → FlushesOnly m m' → (worked settled : Result (Unit {0}) RunError) → Settles worked m m' settled → HasReason w worked
     → Works w most file start m worked → Works w most file start m' settled
 works_settled w most file start m m' some p = go
   where
@@ -137,20 +137,20 @@ works_settled w most file start m m' some p = go
     left_is : m'.cells.left ≡ m.cells.left
     left_is = ap (λ (x : Meaning). x.cells.left) p
 
-    go : (worked settled : Result (Unit {0}) Stop) → Settles worked m m' settled → HasReason w worked → Works w most file start m worked → Works w most file start m' settled
+    go : (worked settled : Result (Unit {0}) RunError) → Settles worked m m' settled → HasReason w worked → Works w most file start m worked → Works w most file start m' settled
     go (Ok u) settled s reason f = subst (Works w most file start m') (sym s.0) (works_kept w most file start m m' tells_same left_is (flushed_written m m' p) (Ok u) f)
     go (Err stop) settled (inl same) reason f = subst (Works w most file start m') (sym same.0) (works_kept w most file start m m' tells_same left_is (flushed_written m m' p) (Err stop) f)
     go (Err stop) settled (inr lost) reason f = subst (Works w most file start m') (sym lost.0) (works_cut w most file start m m' tells_same left_is (flushed_written m m' p) some stop reason f)
 
 -- a reason of the work stays one
-pub settled_reason : (w : Work) (m m' : Meaning) (worked settled closing : Result (Unit {0}) Stop) → Settles worked m m' settled → HasReason w worked → IsWriting closing → HasReason w (result_and settled closing)
-settled_reason w m m' (Ok u) settled closing s reason kind = subst (λ (r : Result (Unit {0}) Stop). HasReason w (result_and r closing)) (sym s.0) (closed closing kind)
+pub settled_reason : (w : Work) (m m' : Meaning) (worked settled closing : Result (Unit {0}) RunError) → Settles worked m m' settled → HasReason w worked → IsWriting closing → HasReason w (result_and settled closing)
+settled_reason w m m' (Ok u) settled closing s reason kind = subst (λ (r : Result (Unit {0}) RunError). HasReason w (result_and r closing)) (sym s.0) (closed closing kind)
   where
-    closed : (closing : Result (Unit {0}) Stop) → IsWriting closing → HasReason w closing
+    closed : (closing : Result (Unit {0}) RunError) → IsWriting closing → HasReason w closing
     closed (Ok v) kind = tt
-    closed (Err stop) kind = subst (λ (x : Stop). HasReason {T = Unit {0}} w (Err x)) (sym kind) tt
-settled_reason w m m' (Err stop) settled closing (inl same) reason kind = subst (λ (r : Result (Unit {0}) Stop). HasReason w (result_and r closing)) (sym same.0) reason
-settled_reason w m m' (Err stop) settled closing (inr lost) reason kind = subst (λ (r : Result (Unit {0}) Stop). HasReason w (result_and r closing)) (sym lost.0) tt
+    closed (Err stop) kind = subst (λ (x : RunError). HasReason {T = Unit {0}} w (Err x)) (sym kind) tt
+settled_reason w m m' (Err stop) settled closing (inl same) reason kind = subst (λ (r : Result (Unit {0}) RunError). HasReason w (result_and r closing)) (sym same.0) reason
+settled_reason w m m' (Err stop) settled closing (inr lost) reason kind = subst (λ (r : Result (Unit {0}) RunError). HasReason w (result_and r closing)) (sym lost.0) tt
 
 -- flushing preserves what the work preserves
 pub keeps_flushed : (m1 m2 m3 : Meaning) → KeepsOthers m1 m2 → FlushesOnly m2 m3 → KeepsOthers m1 m3
@@ -196,7 +196,7 @@ module _ (names : Names) (old m1 : Meaning) (makes : AreMade names old m1) (begi
     left_same : m1.cells.left ≡ old.cells.left
     left_same = ap (λ (x : Meaning). x.cells.left) makes.others
 
-    pub worked : (result : Result (Unit {0}) Stop) → Works w most m1.cells.left m1 new result → RanBehind w most names old new result
+    pub worked : (result : Result (Unit {0}) RunError) → Works w most m1.cells.left m1 new result → RanBehind w most names old new result
     worked result works = inr (record {
       start = m1;
       tells = ap (λ (x : Meaning). x.tells) makes.others;
@@ -214,9 +214,9 @@ module _ (names : Names) (old m1 : Meaning) (makes : AreMade names old m1) (begi
     })
 
 -- an output was not created
-pub unmade : (w : Work) (most : ℕ) (names : Names) (old new : Meaning) (stop : Stop) → (stop ≡ WriteFault) × AreUnmade names old new → RanBehind w most names old new (Err stop)
+pub unmade : (w : Work) (most : ℕ) (names : Names) (old new : Meaning) (stop : RunError) → (stop ≡ WriteFault) × AreUnmade names old new → RanBehind w most names old new (Err stop)
 unmade w most names old new stop p = inl (
-  ap (λ (x : Stop). Err x) p.0,
+  ap (λ (x : RunError). Err x) p.0,
   record {
     cells = ap (λ (x : Meaning). x.cells) p.1.others;
     shut = p.1.shut;

@@ -3,9 +3,9 @@ use Rattle.std.proofs.Common.{◌≡◌, ℕ, ◌+◌, ◌*◌, ◌<◌, ◌≤�
 use Rattle.std.proofs.lemmas.List.{take-append-drop, drop_all, length-take-le}
 use Rattle.std.proofs.Math.Seq.{take-append_seam, take-append-add}
 use Rattle.station_core.specs.Meaning.{Meaning, Sink, sink_at}
-use Rattle.cmd_cells.specs.declared.stop.Stop.{Stop}
-use Rattle.cmd_cells.specs.declared.stop.Stop.TheVariants.{ReadFault, WriteFault, Limit}
-use Rattle.cmd_cells.specs.declared.stop.Stop.TheVariants as stops
+use Rattle.cmd_cells.specs.declared.run_error.RunError.{RunError}
+use Rattle.cmd_cells.specs.declared.run_error.RunError.TheVariants.{ReadFault, WriteFault, Limit}
+use Rattle.cmd_cells.specs.declared.run_error.RunError.TheVariants as stops
 use Rattle.cmd_cells.specs.Symbols.{symbols, tail, within_limit}
 use Rattle.cmd_cells.specs.Work.{Gave, GaveFront, Holds, HoldsFront, Takes, Work, WritesOnly, Written}
 use Rattle.cmd_cells.specs.Cells.{IsPast, IsStopped, IsWorking, Next, Stopped, TakesAll}
@@ -72,7 +72,7 @@ module _ (w : Work) (most : ℕ) (file bytes : List ℕ) (given : Written) (stan
     holds = λ t. holds_more start m' m'' given _ (held t) (tells' ∙ before t) g;
   }
 
-  pub fails : (stop : Stop) → symbols w.size (bytes ++ piece) ≤ most → Takes w standing' bytes piece given m' m'' (Err stop) → m''.tells ≡ true → Stopped w most file start m'' stop
+  pub fails : (stop : RunError) → symbols w.size (bytes ++ piece) ≤ most → Takes w standing' bytes piece given m' m'' (Err stop) → m''.tells ≡ true → Stopped w most file start m'' stop
   fails ReadFault within takes t = absurd takes
   fails WriteFault within takes t = record {
     given = takes.after;
@@ -90,7 +90,7 @@ module _ (w : Work) (most : ℕ) (file bytes : List ℕ) (given : Written) (stan
   }
 
   -- the rest of the cells was taken, or was not
-  pub rest_of : (result : Result (Unit {0}) Stop) → symbols w.size (bytes ++ piece) ≤ most → (m''.tells ≡ true → m''.cells.left ≡ []) → Takes w standing' bytes piece given m' m'' result
+  pub rest_of : (result : Result (Unit {0}) RunError) → symbols w.size (bytes ++ piece) ≤ most → (m''.tells ≡ true → m''.cells.left ≡ []) → Takes w standing' bytes piece given m' m'' result
       → TakesAll w standing' most file start m'' result
   rest_of (Ok u) few end takes = (bytes ++ piece, takes.after, goes_on takes, few, end)
   rest_of (Err stop) few end takes = fails stop few takes

@@ -2,10 +2,10 @@
 -- take, `start` is the state of the station before it.
 use Rattle.std.specs.Prelude.{◌≡◌, ◌⊎◌, ℕ, ◌+◌, ◌*◌, ◌<◌, ◌≤◌, Bool, true, false, List, [], ◌++◌, length, drop, Result, Ok, Err}
 use Rattle.station_core.specs.Meaning.{Meaning}
-use Rattle.cmd_base.specs.declared.work.Refusal.{Refusal}
-use Rattle.cmd_cells.specs.declared.stop.Stop.{Stop}
-use Rattle.cmd_cells.specs.declared.stop.Stop.TheVariants.{ReadFault, WriteFault, Limit}
-use Rattle.cmd_cells.specs.declared.stop.Stop.TheVariants as stops
+use Rattle.cmd_base.specs.declared.refusal.Refusal.{Refusal}
+use Rattle.cmd_cells.specs.declared.run_error.RunError.{RunError}
+use Rattle.cmd_cells.specs.declared.run_error.RunError.TheVariants.{ReadFault, WriteFault, Limit}
+use Rattle.cmd_cells.specs.declared.run_error.RunError.TheVariants as stops
 use Rattle.cmd_cells.specs.Symbols.{symbols, within_limit}
 use Rattle.cmd_cells.specs.Work.{Work, Written, Holds, HoldsFront}
 
@@ -95,14 +95,14 @@ abbrev pub EndsWithin : Work → ℕ → List ℕ → Type 0
 EndsWithin w most file = (symbols w.size file ≤ most) × ((given : Written) × w.Ends file given)
 
 -- what is left if the work stops
-abbrev pub Stopped : Work → ℕ → List ℕ → Meaning → Meaning → Stop → Type 0
+abbrev pub Stopped : Work → ℕ → List ℕ → Meaning → Meaning → RunError → Type 0
 Stopped w most file start m ReadFault = IsStopped w most file start m
 Stopped w most file start m WriteFault = IsCutShort w most file start m
 Stopped w most file start m Limit = IsPast w most file start m
 Stopped w most file start m (stops.Work r) = IsRefused w most file start m r
 
 -- After n symbols one more was taken, or the rest of the cells, or the work stopped.
-abbrev pub Next : Work → (List ℕ → Written → Type 0) → ℕ → List ℕ → ℕ → Meaning → Meaning → Result Bool Stop → Type 0
+abbrev pub Next : Work → (List ℕ → Written → Type 0) → ℕ → List ℕ → ℕ → Meaning → Meaning → Result Bool RunError → Type 0
 Next w standing most file n start m (Ok true) =
     (bytes : List ℕ) × (given : Written) × IsWorking w standing file start m bytes given × (length bytes ≡ (n + 1) * w.size)
 Next w standing most file n start m (Ok false) =
@@ -110,12 +110,12 @@ Next w standing most file n start m (Ok false) =
 Next w standing most file n start m (Err stop) = m.tells ≡ true → Stopped w most file start m stop
 
 -- All cells were taken, within the limit, or the work stopped.
-abbrev pub TakesAll : Work → (List ℕ → Written → Type 0) → ℕ → List ℕ → Meaning → Meaning → Result (Unit {0}) Stop → Type 0
+abbrev pub TakesAll : Work → (List ℕ → Written → Type 0) → ℕ → List ℕ → Meaning → Meaning → Result (Unit {0}) RunError → Type 0
 TakesAll w standing most file start m (Ok u) =
     (bytes : List ℕ) × (given : Written) × IsWorking w standing file start m bytes given × (symbols w.size bytes ≤ most) × (m.tells ≡ true → m.cells.left ≡ [])
 TakesAll w standing most file start m (Err stop) = m.tells ≡ true → Stopped w most file start m stop
 
 -- The whole work.
-abbrev pub Works : Work → ℕ → List ℕ → Meaning → Meaning → Result (Unit {0}) Stop → Type 0
+abbrev pub Works : Work → ℕ → List ℕ → Meaning → Meaning → Result (Unit {0}) RunError → Type 0
 Works w most file start m (Ok u) = m.tells ≡ true → (m.cells.left ≡ []) × (symbols w.size file ≤ most) × IsWhole w file start m
 Works w most file start m (Err stop) = m.tells ≡ true → Stopped w most file start m stop

@@ -5,10 +5,10 @@ use Rattle.station_core.specs.declared.ports.InPort.{InPort}
 use Rattle.station_core.specs.declared.ports.InPort.TheVariants as ins
 use Rattle.station_core.specs.declared.ports.OutPort.{OutPort}
 use Rattle.station_core.specs.declared.ports.OutPort.TheVariants as outs
-use Rattle.cmd_base.specs.declared.work.Refusal.{Refusal}
-use Rattle.cmd_base.specs.declared.work.Refusal.TheVariants as refusals
-use Rattle.cmd_base.specs.declared.work.Refusal.TheVariants.{Limit}
-use Rattle.cmd_base.specs.declared.work.CellsRefusal.TheVariants.{Header, NoPlace, AnnouncedForm}
+use Rattle.cmd_base.specs.declared.refusal.Refusal.{Refusal}
+use Rattle.cmd_base.specs.declared.refusal.Refusal.TheVariants as refusals
+use Rattle.cmd_base.specs.declared.refusal.Refusal.TheVariants.{Limit}
+use Rattle.cmd_base.specs.declared.refusal.CellsRefusal.TheVariants.{Header, NoPlace, AnnouncedForm}
 use Rattle.cmd_base.specs.Command.{Command, Files, IsOutput, Unread, is_among}
 use Rattle.cmd_base.specs.Header.{behind_header, header_size}
 use Rattle.cmd_base.specs.Text.{refusal_status}

@@ -2,9 +2,9 @@
 use Rattle.std.specs.Prelude.{◌≡◌, ◌⊎◌, ◌≤◌, ℕ, true, false, List, drop, Option, None, Some, is_some, Result, Ok, Err}
 use Rattle.station_core.specs.Meaning.{Meaning}
 use Rattle.station_core.specs.Causes.{Rose}
-use Rattle.cmd_base.specs.declared.work.Refusal.{Refusal}
-use Rattle.cmd_base.specs.declared.work.Refusal.TheVariants.{ReadFault, Cells}
-use Rattle.cmd_base.specs.declared.work.CellsRefusal.TheVariants.{Header}
+use Rattle.cmd_base.specs.declared.refusal.Refusal.{Refusal}
+use Rattle.cmd_base.specs.declared.refusal.Refusal.TheVariants.{ReadFault, Cells}
+use Rattle.cmd_base.specs.declared.refusal.CellsRefusal.TheVariants.{Header}
 use Rattle.cmd_base.specs.Header.{behind_header, header_refusal, header_size}
 
 -- only Cells and the count of read faults have changed

@@ -4,8 +4,8 @@ use Rattle.std.specs.Prelude.{◌≡◌, ◌⊎◌, ℕ, Bool, true, false, List
 use Rattle.station_core.specs.Meaning.{Meaning, Sink, sink_at, IsUntouched}
 use Rattle.station_core.specs.declared.ports.OutPort.{OutPort}
 pub use Rattle.cmd_base.specs.Ports.{cell_names, stream_names}
-use Rattle.cmd_cells.specs.declared.stop.Stop.{Stop}
-use Rattle.cmd_cells.specs.declared.stop.Stop.TheVariants.{WriteFault}
+use Rattle.cmd_cells.specs.declared.run_error.RunError.{RunError}
+use Rattle.cmd_cells.specs.declared.run_error.RunError.TheVariants.{WriteFault}
 
 -- the name of the file written at each port
 abbrev pub Names : Type 0
@@ -39,7 +39,7 @@ pub record AreUnmade (names : Names) (old new : Meaning) : Type 0 where
   pub lp_behind : (new.lp_out ≡ old.lp_out) ⊎ (new.hp_out.created ≡ true)
 
 -- the outputs were created, or one was not
-abbrev pub Makes : Names → Meaning → Meaning → Result (Unit {0}) Stop → Type 0
+abbrev pub Makes : Names → Meaning → Meaning → Result (Unit {0}) RunError → Type 0
 Makes names old new (Ok u) = AreMade names old new
 Makes names old new (Err stop) = (stop ≡ WriteFault) × AreUnmade names old new
 
@@ -59,7 +59,7 @@ pub record AreClosed (names : Names) (old new : Meaning) : Type 0 where
   pub closed : (port : OutPort) → is_some (names port) ≡ true → (sink_at port new).closed ≡ true
 
 -- success, or a write fault
-abbrev pub IsWriting : Result (Unit {0}) Stop → Type 0
+abbrev pub IsWriting : Result (Unit {0}) RunError → Type 0
 IsWriting (Ok u) = Unit {0}
 IsWriting (Err stop) = stop ≡ WriteFault
 

@@ -4,12 +4,12 @@ use Rattle.std.specs.Prelude.{◌≡◌, ◌⊎◌, ◌≤◌, ◌+◌, ◌*◌,
 use Rattle.station_core.specs.Meaning.{Meaning, IsUnasked, sink_at}
 use Rattle.station_core.specs.declared.ports.OutPort.{OutPort}
 use Rattle.station_core.specs.declared.ports.OutPort.TheVariants as outs
-use Rattle.cmd_base.specs.declared.work.Refusal.{Refusal}
+use Rattle.cmd_base.specs.declared.refusal.Refusal.{Refusal}
 use Rattle.cmd_base.specs.Header.{header_refusal}
 use Rattle.cmd_base.specs.Text.{refusal_text, refusal_status}
 use Rattle.cmd_base.specs.Report.{WritesText}
-use Rattle.cmd_cells.specs.declared.stop.Stop.{Stop}
-use Rattle.cmd_cells.specs.declared.stop.Stop.TheVariants.{WriteFault}
+use Rattle.cmd_cells.specs.declared.run_error.RunError.{RunError}
+use Rattle.cmd_cells.specs.declared.run_error.RunError.TheVariants.{WriteFault}
 use Rattle.cmd_cells.specs.Stops.{HasEndCause, stop_refusal}
 use Rattle.cmd_cells.specs.Work.{HasReason, Work}
 use Rattle.cmd_cells.specs.Outputs.{AreUntouched, Names, made}
@@ -57,7 +57,7 @@ pub record IsUnmade (names : Names) (old new : Meaning) : Type 0 where
   pub report : new.report ≡ old.report
 
 -- the outputs were created, the work was done as far as it went, and the outputs were closed
-pub record IsWorked (w : Work) (most : ℕ) (names : Names) (old new : Meaning) (result : Result (Unit {0}) Stop) : Type 0 where
+pub record IsWorked (w : Work) (most : ℕ) (names : Names) (old new : Meaning) (result : Result (Unit {0}) RunError) : Type 0 where
   -- before the work
   pub start : Meaning
   pub tells : start.tells ≡ old.tells
@@ -72,22 +72,22 @@ pub record IsWorked (w : Work) (most : ℕ) (names : Names) (old new : Meaning) 
   pub works : Works w most old.cells.left start new result
 
 -- an output was not created, or the work was done
-abbrev pub RanBehind : Work → ℕ → Names → Meaning → Meaning → Result (Unit {0}) Stop → Type 0
+abbrev pub RanBehind : Work → ℕ → Names → Meaning → Meaning → Result (Unit {0}) RunError → Type 0
 RanBehind w most names old new result = ((result ≡ Err WriteFault) × IsUnmade names old new) ⊎ IsWorked w most names old new result
 
 -- the status of the work: 0, or that of the reason why it stopped
-abbrev pub outcome_status : ℕ → Result (Unit {0}) Stop → ℕ
+abbrev pub outcome_status : ℕ → Result (Unit {0}) RunError → ℕ
 outcome_status most (Ok u) = 0
 outcome_status most (Err stop) = refusal_status (stop_refusal most stop)
 
 -- the state after the work is the end, or the text of a refusal is written after it
-abbrev pub Tells : ℕ → Meaning → Meaning → Result (Unit {0}) Stop → Type 0
+abbrev pub Tells : ℕ → Meaning → Meaning → Result (Unit {0}) RunError → Type 0
 Tells most mid new (Ok u) = new ≡ mid
 Tells most mid new (Err stop) = WritesText (refusal_text (stop_refusal most stop)) mid new
 
 -- after opening the cells a run has one outcome, which determines the status, the ports and the report
 pub record RunsBehind (w : Work) (most : ℕ) (names : Names) (old new : Meaning) (status : ℕ) : Type 0 where
-  pub outcome : Result (Unit {0}) Stop
+  pub outcome : Result (Unit {0}) RunError
   pub mid : Meaning
   pub status_is : status ≡ outcome_status most outcome
   pub others : PortsOnly old mid

@@ -2,10 +2,10 @@
 use Rattle.std.specs.Prelude.{⊤, ◌≡◌, ℕ, ◌^◌, ◌<◌, Bool, true, false, List, [], ◌++◌, take, Result, Ok, Err}
 use Rattle.station_core.specs.Meaning.{Meaning, sink_at}
 use Rattle.station_core.specs.declared.ports.OutPort.{OutPort}
-use Rattle.cmd_base.specs.declared.work.Refusal.{Refusal}
-use Rattle.cmd_cells.specs.declared.stop.Stop.{Stop}
-use Rattle.cmd_cells.specs.declared.stop.Stop.TheVariants.{ReadFault, WriteFault, Limit}
-use Rattle.cmd_cells.specs.declared.stop.Stop.TheVariants as stops
+use Rattle.cmd_base.specs.declared.refusal.Refusal.{Refusal}
+use Rattle.cmd_cells.specs.declared.run_error.RunError.{RunError}
+use Rattle.cmd_cells.specs.declared.run_error.RunError.TheVariants.{ReadFault, WriteFault, Limit}
+use Rattle.cmd_cells.specs.declared.run_error.RunError.TheVariants as stops
 use Rattle.cmd_cells.specs.Symbols.{symbols}
 
 -- the bytes written at each port; those at Report are the lines of the report
@@ -30,7 +30,7 @@ pub record Work : Type 1 where
   pub Reasons : Refusal → Type 0
 
 -- the work refuses only for its own reasons
-abbrev pub HasReason : {T : Type 0} → Work → Result T Stop → Type 0
+abbrev pub HasReason : {T : Type 0} → Work → Result T RunError → Type 0
 HasReason w (Ok value) = ⊤
 HasReason w (Err ReadFault) = ⊤
 HasReason w (Err WriteFault) = ⊤
@@ -67,7 +67,7 @@ pub record GaveFront (Is : Written → Type 0) (before : Written) (old new : Mea
 
 -- The effect of a call of the work: it gave output that satisfies `Is`, and the new state satisfies `Stands`; or a
 -- write failed; or the work refuses the cells for a reason in `Its`, and nothing was written.
-abbrev pub Does : (Written → Type 0) → (Written → Type 0) → (Refusal → Type 0) → Written → Meaning → Meaning → Result (Unit {0}) Stop → Type 0
+abbrev pub Does : (Written → Type 0) → (Written → Type 0) → (Refusal → Type 0) → Written → Meaning → Meaning → Result (Unit {0}) RunError → Type 0
 Does Stands Is Its before old new (Ok u) = Gave (λ after. Stands after × Is after) before old new
 Does Stands Is Its before old new (Err WriteFault) = GaveFront Is before old new
 Does Stands Is Its before old new (Err (stops.Work r)) = Its r × (old.tells ≡ true → (port : OutPort) → (sink_at port new).written ≡ (sink_at port old).written)
@@ -75,12 +75,12 @@ Does Stands Is Its before old new (Err ReadFault) = ⊥
 Does Stands Is Its before old new (Err Limit) = ⊥
 
 -- one more piece of the cells was taken; `standing` is the meaning of the state then
-abbrev pub Takes : Work → (List ℕ → Written → Type 0) → List ℕ → List ℕ → Written → Meaning → Meaning → Result (Unit {0}) Stop → Type 0
+abbrev pub Takes : Work → (List ℕ → Written → Type 0) → List ℕ → List ℕ → Written → Meaning → Meaning → Result (Unit {0}) RunError → Type 0
 Takes w standing bytes piece before =
     Does (standing (bytes ++ piece)) (w.Gives (bytes ++ piece)) (λ r. (left : List ℕ) → w.Refuses (bytes ++ piece) left before r) before
 
 -- all cells were taken
-abbrev pub Finishes : Work → List ℕ → Written → Meaning → Meaning → Result (Unit {0}) Stop → Type 0
+abbrev pub Finishes : Work → List ℕ → Written → Meaning → Meaning → Result (Unit {0}) RunError → Type 0
 Finishes w bytes before = Does (λ after. Unit {0}) (w.Ends bytes) (w.Refuses bytes [] before) before
 
 -- work that may take another piece: it has had fewer than 2^32 symbols

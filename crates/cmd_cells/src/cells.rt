@@ -6,7 +6,7 @@ ghost use Rattle.cmd_cells.specs.Work.{AreOpen, GoesOn, HasReason, Written};
 ghost use Rattle.station_core.specs.Meaning.{Meaning};
 ghost use Rattle.cmd_cells.specs.Cells.{IsWorking, KeepsOthers, Next, TakesAll, TakesAtMost, Works};
 
-use crate::stop::Stop;
+use crate::run_error::RunError;
 use crate::work::SymbolWork;
 use cmd_base::fill;
 use station_core::{Failed, InPort, Station};
@@ -18,7 +18,7 @@ fn take_next<'a, X: SymbolWork<'a, S>, S: Station<'a>>(
     work: &mut X,
     symbol: &mut [u8],
     station: &mut S,
-) -> Result<bool, Stop>
+) -> Result<bool, RunError>
     requires able { X.able }
     requires attached { (S.meaning station.old).cells.attached ≡ true }
     requires open { AreOpen (X.outputs (X.setup work.old)) (S.meaning station.old) }
@@ -39,7 +39,7 @@ fn take_next<'a, X: SymbolWork<'a, S>, S: Station<'a>>(
     work.law();
     let filled = match fill(station, InPort::Cells, symbol) {
         Ok(filled) => filled,
-        Err(_) => return Err(Stop::ReadFault),
+        Err(_) => return Err(RunError::ReadFault),
     };
     work.take(&symbol[..filled], station)?;
     Ok(filled == symbol.len())
@@ -51,7 +51,7 @@ fn take_rest<'a, X: SymbolWork<'a, S>, S: Station<'a>>(
     work: &mut X,
     symbol: &mut [u8],
     station: &mut S,
-) -> Result<(), Stop>
+) -> Result<(), RunError>
     requires able { X.able }
     requires attached { (S.meaning station.old).cells.attached ≡ true }
     requires open { AreOpen (X.outputs (X.setup work.old)) (S.meaning station.old) }
@@ -71,10 +71,10 @@ fn take_rest<'a, X: SymbolWork<'a, S>, S: Station<'a>>(
     work.law();
     let filled = match fill(station, InPort::Cells, symbol) {
         Ok(filled) => filled,
-        Err(Failed) => return Err(Stop::ReadFault),
+        Err(Failed) => return Err(RunError::ReadFault),
     };
     if filled == symbol.len() {
-        return Err(Stop::Limit);
+        return Err(RunError::Limit);
     }
     let rest = &symbol[..filled];
     work.take(rest, station)
@@ -86,7 +86,7 @@ fn take_all<'a, X: SymbolWork<'a, S>, S: Station<'a>>(
     work: &mut X,
     symbol: &mut [u8],
     station: &mut S,
-) -> Result<(), Stop>
+) -> Result<(), RunError>
     requires able { X.able }
     requires attached { (S.meaning station.old).cells.attached ≡ true }
     requires open { AreOpen (X.outputs (X.setup work.old)) (S.meaning station.old) }
@@ -112,7 +112,7 @@ fn take_all<'a, X: SymbolWork<'a, S>, S: Station<'a>>(
 }
 
 // Ends the work after the cells taken.
-fn end<'a, X: SymbolWork<'a, S>, S: Station<'a>>(work: &mut X, station: &mut S) -> Result<(), Stop>
+fn end<'a, X: SymbolWork<'a, S>, S: Station<'a>>(work: &mut X, station: &mut S) -> Result<(), RunError>
     requires able { X.able }
     requires open { AreOpen (X.outputs (X.setup work.old)) (S.meaning station.old) }
     requires going { GoesOn (X.work (X.setup work.old)) (X.stands work.old) }
@@ -137,7 +137,7 @@ pub(crate) fn work_on_cells<'a, X: SymbolWork<'a, S>, S: Station<'a>>(
     work: &mut X,
     symbol: &mut [u8],
     station: &mut S,
-) -> Result<(), Stop>
+) -> Result<(), RunError>
     requires able { X.able }
     requires attached { (S.meaning station.old).cells.attached ≡ true }
     requires open { AreOpen (X.outputs (X.setup work.old)) (S.meaning station.old) }

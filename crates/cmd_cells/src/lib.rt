@@ -9,12 +9,12 @@ mod cells;
 mod opening;
 mod outputs;
 mod run;
-mod stop;
+mod run_error;
 mod work;
 mod writing;
 
 pub use outputs::{CellFile, OutputFiles, StreamFiles};
 pub use run::run_cells;
-pub use stop::Stop;
+pub use run_error::RunError;
 pub use work::SymbolWork;
 pub use writing::write_some;

@@ -5,7 +5,7 @@ ghost use Rattle.cmd_cells.specs.Stops.{HasCause, HasCloseCause};
 ghost use Rattle.cmd_cells.specs.Work.{AreOpen};
 ghost use Rattle.cmd_cells.specs.Outputs.{AreClosed, AreUntouched, ClosesLp, IsWriting, Makes, Names, cell_names, stream_names};
 
-use crate::stop::Stop;
+use crate::run_error::RunError;
 use station_core::{OutPort as Port, Station};
 
 /// The files that a command writes in addition to its report.
@@ -14,13 +14,13 @@ pub trait OutputFiles<'a, S: Station<'a>> {
     ghost names: { Self → Names };
 
     /// Creates them all, HP before LP. If one cannot be created, the earlier ones are closed again.
-    fn create(&self, station: &mut S) -> Result<(), Stop>
+    fn create(&self, station: &mut S) -> Result<(), RunError>
         requires untouched { AreUntouched (names self.now) (S.meaning station.old) }
         ensures cause { HasCause (S.meaning station.old) (S.meaning station.new) result }
         ensures makes { Makes (names self.now) (S.meaning station.old) (S.meaning station.new) result };
 
     /// Closes them all, even if one could not be closed cleanly.
-    fn close(&self, station: &mut S) -> Result<(), Stop>
+    fn close(&self, station: &mut S) -> Result<(), RunError>
         requires open { AreOpen (λ port. is_some (names self.now port)) (S.meaning station.old) }
         ensures cause { HasCloseCause (S.meaning station.old) (S.meaning station.new) result }
         ensures kind { IsWriting result }
@@ -46,17 +46,17 @@ pub struct CellFile<'a> {
 impl<'a, S: Station<'a>> OutputFiles<'a, S> for CellFile<'a> {
     ghost names = { λ x. cell_names x.name.now };
 
-    fn create(&self, station: &mut S) -> Result<(), Stop> {
+    fn create(&self, station: &mut S) -> Result<(), RunError> {
         match station.create(Port::Cells, self.name) {
             Ok(()) => Ok(()),
-            Err(_) => Err(Stop::WriteFault),
+            Err(_) => Err(RunError::WriteFault),
         }
     }
 
-    fn close(&self, station: &mut S) -> Result<(), Stop> {
+    fn close(&self, station: &mut S) -> Result<(), RunError> {
         match station.close(Port::Cells) {
             Ok(()) => Ok(()),
-            Err(_) => Err(Stop::WriteFault),
+            Err(_) => Err(RunError::WriteFault),
         }
     }
 }
@@ -64,10 +64,10 @@ impl<'a, S: Station<'a>> OutputFiles<'a, S> for CellFile<'a> {
 impl<'a, S: Station<'a>> OutputFiles<'a, S> for StreamFiles<'a> {
     ghost names = { λ x. stream_names x.hp.now (option_copied x.lp) };
 
-    fn create(&self, station: &mut S) -> Result<(), Stop> {
+    fn create(&self, station: &mut S) -> Result<(), RunError> {
         match station.create(Port::Hp, self.hp) {
             Ok(()) => {}
-            Err(_) => return Err(Stop::WriteFault),
+            Err(_) => return Err(RunError::WriteFault),
         }
         let Some(lp) = self.lp else {
             return Ok(());
@@ -76,24 +76,24 @@ impl<'a, S: Station<'a>> OutputFiles<'a, S> for StreamFiles<'a> {
             Ok(()) => Ok(()),
             Err(_) => {
                 let _ = station.close(Port::Hp);
-                Err(Stop::WriteFault)
+                Err(RunError::WriteFault)
             }
         }
     }
 
-    fn close(&self, station: &mut S) -> Result<(), Stop> {
+    fn close(&self, station: &mut S) -> Result<(), RunError> {
         match station.close(Port::Hp) {
             Ok(()) => close_lp(self.lp, station),
             Err(_) => {
                 let _ = close_lp(self.lp, station);
-                Err(Stop::WriteFault)
+                Err(RunError::WriteFault)
             }
         }
     }
 }
 
 // Closes LP, if there are two streams.
-fn close_lp<'a, S: Station<'a>>(lp: Option<&'a str>, station: &mut S) -> Result<(), Stop>
+fn close_lp<'a, S: Station<'a>>(lp: Option<&'a str>, station: &mut S) -> Result<(), RunError>
     requires made { is_some (option_copied lp) ≡ true → (S.meaning station.old).lp_out.created ≡ true }
     requires open { is_some (option_copied lp) ≡ true → (S.meaning station.old).lp_out.closed ≡ false }
     ensures kind { IsWriting result }
@@ -105,6 +105,6 @@ fn close_lp<'a, S: Station<'a>>(lp: Option<&'a str>, station: &mut S) -> Result<
     }
     match station.close(Port::Lp) {
         Ok(()) => Ok(()),
-        Err(_) => Err(Stop::WriteFault),
+        Err(_) => Err(RunError::WriteFault),
     }
 }

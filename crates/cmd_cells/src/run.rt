@@ -10,13 +10,13 @@ ghost use Rattle.cmd_cells.specs.Runs.{AsksOutputs, CanBegin, IsReady, PortsOnly
 use crate::cells::work_on_cells;
 use crate::opening::open_cells;
 use crate::outputs::OutputFiles;
-use crate::stop::Stop;
+use crate::run_error::RunError;
 use crate::work::SymbolWork;
 use cmd_base::refuse;
 use station_core::Station;
 
 // Flushes the outputs if the work has stopped. If that fails it is a write fault, as that write was given first.
-fn settle<'a, S: Station<'a>>(worked: Result<(), Stop>, station: &mut S) -> Result<(), Stop>
+fn settle<'a, S: Station<'a>>(worked: Result<(), RunError>, station: &mut S) -> Result<(), RunError>
     ensures others { FlushesOnly (S.meaning station.old) (S.meaning station.new) }
     ensures settles { Settles worked (S.meaning station.old) (S.meaning station.new) result }
 {
@@ -24,7 +24,7 @@ fn settle<'a, S: Station<'a>>(worked: Result<(), Stop>, station: &mut S) -> Resu
         Ok(()) => Ok(()),
         Err(stop) => match station.flush() {
             Ok(()) => Err(stop),
-            Err(_) => Err(Stop::WriteFault),
+            Err(_) => Err(RunError::WriteFault),
         },
     }
 }
@@ -37,7 +37,7 @@ fn run_behind<'a, F: OutputFiles<'a, S>, X: SymbolWork<'a, S>, S: Station<'a>>(
     work: &mut X,
     symbol: &mut [u8],
     station: &mut S,
-) -> Result<(), Stop>
+) -> Result<(), RunError>
     requires able { X.able }
     requires attached { (S.meaning station.old).cells.attached ≡ true }
     requires begin { CanBegin (F.names files.now) (S.meaning station.old) }

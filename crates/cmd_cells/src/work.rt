@@ -5,7 +5,7 @@ ghost use Rattle.cmd_cells.specs.Stops.{HasCause};
 ghost use Rattle.cmd_cells.specs.Symbols.{tail};
 ghost use Rattle.cmd_cells.specs.Work.{AreOpen, Finishes, GoesOn, HasReason, Takes, Work, WritesOnly, Written, none_written};
 
-use crate::stop::Stop;
+use crate::run_error::RunError;
 use station_core::Station;
 
 /// The work of a command that reads cells, symbol by symbol.
@@ -29,7 +29,7 @@ pub trait SymbolWork<'a, S: Station<'a>> {
     ghost stands: { Self → List ℕ → Written → Type 0 };
 
     /// Begins the work: writes what precedes all symbols.
-    fn begin(&mut self, station: &mut S) -> Result<(), Stop>
+    fn begin(&mut self, station: &mut S) -> Result<(), RunError>
         requires able { able }
         requires open { AreOpen (outputs (setup self.old)) (S.meaning station.old) }
         requires new { is_new self.old }
@@ -42,7 +42,7 @@ pub trait SymbolWork<'a, S: Station<'a>> {
 
     /// Takes the next symbol or, if the cells end within it, the part there is of it, and writes the output for it. No
     /// symbol was unfinished before.
-    fn take(&mut self, piece: &[u8], station: &mut S) -> Result<(), Stop>
+    fn take(&mut self, piece: &[u8], station: &mut S) -> Result<(), RunError>
         requires able { able }
         requires open { AreOpen (outputs (setup self.old)) (S.meaning station.old) }
         requires going { GoesOn (work (setup self.old)) (stands self.old) }
@@ -56,7 +56,7 @@ pub trait SymbolWork<'a, S: Station<'a>> {
             → Takes (work (setup self.old)) (stands self.new) bytes piece.now before (S.meaning station.old) (S.meaning station.new) result };
 
     /// Ends the work at the end of the cells, and writes the remaining output and the closing lines.
-    fn finish(&mut self, station: &mut S) -> Result<(), Stop>
+    fn finish(&mut self, station: &mut S) -> Result<(), RunError>
         requires able { able }
         requires open { AreOpen (outputs (setup self.old)) (S.meaning station.old) }
         requires going { GoesOn (work (setup self.old)) (stands self.old) }

@@ -5,7 +5,7 @@ ghost use Rattle.cmd_cells.specs.Stops.{HasCause};
 ghost use Rattle.cmd_cells.specs.Outputs.{IsWriting};
 ghost use Rattle.cmd_cells.specs.Writing.{WritesAt};
 
-use crate::stop::Stop;
+use crate::run_error::RunError;
 use station_core::{OutPort, Station};
 
 /// Writes the bytes at the port in one write, if there are any. It stops only if that failed.
@@ -13,7 +13,7 @@ pub fn write_some<'a, S: Station<'a>>(
     port: OutPort,
     bytes: &[u8],
     station: &mut S,
-) -> Result<(), Stop>
+) -> Result<(), RunError>
     requires created { (sink_at port (S.meaning station.old)).created ≡ true }
     requires open { (sink_at port (S.meaning station.old)).closed ≡ false }
     ensures kind { IsWriting result }
@@ -26,6 +26,6 @@ pub fn write_some<'a, S: Station<'a>>(
     }
     match station.write(port, bytes) {
         Ok(()) => Ok(()),
-        Err(_) => Err(Stop::WriteFault),
+        Err(_) => Err(RunError::WriteFault),
     }
 }

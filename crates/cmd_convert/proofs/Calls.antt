@@ -4,8 +4,8 @@ use Rattle.std.proofs.lemmas.List.{append-nil}
 use Rattle.station_core.specs.Meaning.{Meaning, sink_at}
 use Rattle.station_core.specs.declared.ports.OutPort.{OutPort}
 use Rattle.station_core.specs.declared.ports.OutPort.TheVariants as outs
-use Rattle.cmd_base.specs.declared.work.Refusal.{Refusal}
-use Rattle.cmd_cells.specs.declared.stop.Stop.{Stop}
+use Rattle.cmd_base.specs.declared.refusal.Refusal.{Refusal}
+use Rattle.cmd_cells.specs.declared.run_error.RunError.{RunError}
 use Rattle.cmd_cells.specs.Work.{Does, Follows, Gave, Holds, HoldsFront, Written, none_written}
 use Rattle.cmd_cells.specs.Writing.{WritesAt}
 use Rattle.cmd_cells.proofs.Fronts.{none_of}
@@ -24,7 +24,7 @@ module _ (m m' : Meaning) (bytes : List ℕ) (t : m.tells ≡ true) where
   cells_held w outs.Bytes = ap (λ (x : Meaning). x.bytes_out.written) w ∙ sym (append-nil m.bytes_out.written)
   cells_held w outs.Report = ap (λ (x : Meaning). x.report.written) w ∙ sym (append-nil m.report.written)
 
-  cells_begun : (r : Stop) → WritesAt outs.Cells bytes m m' (Err r) → HoldsFront m m' (written_at bytes [])
+  cells_begun : (r : RunError) → WritesAt outs.Cells bytes m m' (Err r) → HoldsFront m m' (written_at bytes [])
   cells_begun r w outs.Cells = (w.1, ap (λ (x : Meaning). x.cells_out.written) w.2 ∙ ap (told m.cells_out.written (take w.1 bytes)) t)
   cells_begun r w outs.Hp = none_of m.hp_out.written [] m'.hp_out.written (ap (λ (x : Meaning). x.hp_out.written) w.2)
   cells_begun r w outs.Lp = none_of m.lp_out.written [] m'.lp_out.written (ap (λ (x : Meaning). x.lp_out.written) w.2)
@@ -38,7 +38,7 @@ module _ (m m' : Meaning) (bytes : List ℕ) (t : m.tells ≡ true) where
   line_held w outs.Bytes = ap (λ (x : Meaning). x.bytes_out.written) w ∙ sym (append-nil m.bytes_out.written)
   line_held w outs.Report = ap (λ (x : Meaning). x.report.written) w ∙ ap (told m.report.written bytes) t
 
-  line_begun : (r : Stop) → WritesAt outs.Report bytes m m' (Err r) → HoldsFront m m' (written_at [] bytes)
+  line_begun : (r : RunError) → WritesAt outs.Report bytes m m' (Err r) → HoldsFront m m' (written_at [] bytes)
   line_begun r w outs.Cells = none_of m.cells_out.written [] m'.cells_out.written (ap (λ (x : Meaning). x.cells_out.written) w.2)
   line_begun r w outs.Hp = none_of m.hp_out.written [] m'.hp_out.written (ap (λ (x : Meaning). x.hp_out.written) w.2)
   line_begun r w outs.Lp = none_of m.lp_out.written [] m'.lp_out.written (ap (λ (x : Meaning). x.lp_out.written) w.2)
@@ -47,14 +47,14 @@ module _ (m m' : Meaning) (bytes : List ℕ) (t : m.tells ≡ true) where
 
 -- so this is the effect of a call
 module _ (Stands Is : Written → Type 0) (Its : Refusal → Type 0) (before after : Written) (stands : Stands after) (is : Is after) (m m' : Meaning) (bytes : List ℕ) where
-  pub wrote_cells : Follows before (written_at bytes []) after → (result : Result (Unit {0}) Stop) → WritesAt outs.Cells bytes m m' result → Does Stands Is Its before m m' result
+  pub wrote_cells : Follows before (written_at bytes []) after → (result : Result (Unit {0}) RunError) → WritesAt outs.Cells bytes m m' result → Does Stands Is Its before m m' result
   wrote_cells follows (Ok u) w = record { after = after; more = written_at bytes []; is = (stands, is); follows = follows; written = λ t. cells_held m m' bytes t w }
-  wrote_cells follows (Err r) w = subst (λ (stop : Stop). Does Stands Is Its before m m' (Err stop)) (sym w.0)
+  wrote_cells follows (Err r) w = subst (λ (stop : RunError). Does Stands Is Its before m m' (Err stop)) (sym w.0)
       (record { after = after; more = written_at bytes []; is = is; follows = follows; written = λ t. cells_begun m m' bytes t r w })
 
-  pub wrote_line : Follows before (written_at [] bytes) after → (result : Result (Unit {0}) Stop) → WritesAt outs.Report bytes m m' result → Does Stands Is Its before m m' result
+  pub wrote_line : Follows before (written_at [] bytes) after → (result : Result (Unit {0}) RunError) → WritesAt outs.Report bytes m m' result → Does Stands Is Its before m m' result
   wrote_line follows (Ok u) w = record { after = after; more = written_at [] bytes; is = (stands, is); follows = follows; written = λ t. line_held m m' bytes t w }
-  wrote_line follows (Err r) w = subst (λ (stop : Stop). Does Stands Is Its before m m' (Err stop)) (sym w.0)
+  wrote_line follows (Err r) w = subst (λ (stop : RunError). Does Stands Is Its before m m' (Err stop)) (sym w.0)
       (record { after = after; more = written_at [] bytes; is = is; follows = follows; written = λ t. line_begun m m' bytes t r w })
 
 -- a call without output writes nothing

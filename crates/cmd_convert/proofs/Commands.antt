@@ -9,8 +9,8 @@ use Rattle.station_core.specs.declared.ports.OutPort.{OutPort}
 use Rattle.station_core.specs.declared.ports.OutPort.TheVariants as outs
 use Rattle.mode_set.specs.declared.modes.Mode.{Mode}
 use Rattle.mode_set.specs.declared.settings.Settings.{Settings as TheSettings}
-use Rattle.cmd_base.specs.declared.work.Refusal.{Refusal}
-use Rattle.cmd_base.specs.declared.work.Refusal.TheVariants.{Limit}
+use Rattle.cmd_base.specs.declared.refusal.Refusal.{Refusal}
+use Rattle.cmd_base.specs.declared.refusal.Refusal.TheVariants.{Limit}
 use Rattle.cmd_base.specs.Command.{Command, Files, IsOutput, is_among}
 use Rattle.cmd_base.specs.StatedSettings.{settings_of}
 use Rattle.cmd_cells.specs.Symbols.{symbols, within_limit}

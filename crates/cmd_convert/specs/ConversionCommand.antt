@@ -8,8 +8,8 @@ use Rattle.cmd_base.specs.Header.{header_size}
 use Rattle.cmd_base.specs.Ports.{by_input}
 use Rattle.cmd_base.specs.SettingsFile.{most_settings, settings_refusal}
 use Rattle.cmd_base.specs.StatedSettings.{settings_of}
-use Rattle.cmd_base.specs.declared.work.Refusal.{Refusal}
-use Rattle.cmd_base.specs.declared.work.Refusal.TheVariants.{Limit}
+use Rattle.cmd_base.specs.declared.refusal.Refusal.{Refusal}
+use Rattle.cmd_base.specs.declared.refusal.Refusal.TheVariants.{Limit}
 use Rattle.cmd_cells.specs.Outputs.{cell_names}
 use Rattle.cmd_cells.specs.Symbols.{symbols, within_limit}
 use Rattle.cmd_convert.specs.Conversion.{Conversion, closing_line, new_file, old_cells}

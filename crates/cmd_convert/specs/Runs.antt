@@ -1,7 +1,7 @@
 -- A run of a conversion after its settings.
 use Rattle.std.specs.Prelude.{◌≡◌, ◌⊎◌, ℕ, List}
 use Rattle.station_core.specs.Meaning.{Meaning}
-use Rattle.cmd_base.specs.declared.work.Refusal.TheVariants.{Memory}
+use Rattle.cmd_base.specs.declared.refusal.Refusal.TheVariants.{Memory}
 use Rattle.cmd_base.specs.Text.{refusal_text}
 use Rattle.cmd_base.specs.Report.{WritesText}
 use Rattle.cmd_cells.specs.Outputs.{cell_names}

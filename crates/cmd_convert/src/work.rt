@@ -5,7 +5,7 @@ ghost use Rattle.cmd_convert.specs.Conversion.{counts_line};
 use crate::converter::Converter;
 use rx_report::{Line, push_count};
 use station_core::{OutPort, Station};
-use cmd_cells::{Stop, SymbolWork, write_some};
+use cmd_cells::{RunError, SymbolWork, write_some};
 
 /// A converter, with the counts of the old cells.
 #[derive(Drop)]
@@ -48,11 +48,11 @@ impl<'a, S: Station<'a>, C: Converter> SymbolWork<'a, S> for ConversionWork<C> {
 
     ghost stands = { λ x bytes given. C.is_ready x.converter × Counts (C.conversion x.converter) x.symbols x.tail bytes given };
 
-    fn begin(&mut self, station: &mut S) -> Result<(), Stop> {
+    fn begin(&mut self, station: &mut S) -> Result<(), RunError> {
         write_some(OutPort::Cells, &self.converter.header(), station)
     }
 
-    fn take(&mut self, piece: &[u8], station: &mut S) -> Result<(), Stop> {
+    fn take(&mut self, piece: &[u8], station: &mut S) -> Result<(), RunError> {
         if piece.len() != self.converter.size() {
             self.tail = piece.len() as u64;
             return Ok(());
@@ -62,7 +62,7 @@ impl<'a, S: Station<'a>, C: Converter> SymbolWork<'a, S> for ConversionWork<C> {
         write_some(OutPort::Cells, self.converter.bytes(), station)
     }
 
-    fn finish(&mut self, station: &mut S) -> Result<(), Stop> {
+    fn finish(&mut self, station: &mut S) -> Result<(), RunError> {
         let line = line_of(self.symbols, self.tail);
         write_some(OutPort::Report, line.as_str().as_bytes(), station)
     }

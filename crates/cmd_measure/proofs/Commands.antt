@@ -17,8 +17,8 @@ use Rattle.measurement.specs.Lines.{MeasureFinal, MeasureLive}
 use Rattle.law_measurement.specs.Own.{FramesAreExact, FramesAreNear}
 use Rattle.law_measurement.specs.Remade.{ErrorIsFromSent, RemadeAreSent}
 use Rattle.law_measurement.specs.Totals.{ClosingIsReceived, LinesAddUp}
-use Rattle.cmd_base.specs.declared.work.Refusal.{Refusal}
-use Rattle.cmd_base.specs.declared.work.Refusal.TheVariants.{Limit}
+use Rattle.cmd_base.specs.declared.refusal.Refusal.{Refusal}
+use Rattle.cmd_base.specs.declared.refusal.Refusal.TheVariants.{Limit}
 use Rattle.cmd_base.specs.Command.{Command, Files, Unread}
 use Rattle.cmd_base.specs.StatedSettings.{settings_of}
 use Rattle.cmd_cells.specs.Work.{Written}

@@ -7,8 +7,8 @@ use Rattle.arrayvec.specs.ArrayString.{ArrayString}
 use Rattle.station_core.specs.Meaning.{Meaning}
 use Rattle.station_core.specs.declared.ports.OutPort.{OutPort}
 use Rattle.station_core.specs.declared.ports.OutPort.TheVariants as outs
-use Rattle.cmd_base.specs.declared.work.Refusal.{Refusal}
-use Rattle.cmd_cells.specs.declared.stop.Stop.{Stop}
+use Rattle.cmd_base.specs.declared.refusal.Refusal.{Refusal}
+use Rattle.cmd_cells.specs.declared.run_error.RunError.{RunError}
 use Rattle.cmd_cells.specs.Outputs.{IsWriting}
 use Rattle.cmd_cells.specs.Work.{Does, Follows, Holds, HoldsFront, WritesOnly, Written}
 use Rattle.cmd_cells.proofs.Fronts.{front_of, none_of}
@@ -50,11 +50,11 @@ follows given more before is port = go port ∙ ap (λ (l : List ℕ). l ++ prin
     go outs.Report = refl
 
 -- a call printed these lines
-pub prints : (S I : Written → Type 0) (Its : Refusal → Type 0) (given more : List ℕ) (before : Written) (m m' : Meaning) (result : Result (Unit {0}) Stop) → ((port : OutPort) → before port ≡ printed given port)
+pub prints : (S I : Written → Type 0) (Its : Refusal → Type 0) (given more : List ℕ) (before : Written) (m m' : Meaning) (result : Result (Unit {0}) RunError) → ((port : OutPort) → before port ≡ printed given port)
     → S (printed (given ++ more)) → I (printed (given ++ more)) → ReportOnly m m' → IsWriting result → (m.tells ≡ true → Appends more m.report.written m'.report.written result) → Does S I Its before m m' result
 prints S I Its given more before m m' (Ok u) was stands gives only kind is = record { after = printed (given ++ more); more = printed more; is = (stands, gives); follows = follows given more before was; written = λ t. told_all m m' more only (is t) }
 prints S I Its given more before m m' (Err r) was stands gives only kind is =
-    subst (λ (stop : Stop). Does S I Its before m m' (Err stop)) (sym kind)
+    subst (λ (stop : RunError). Does S I Its before m m' (Err stop)) (sym kind)
     (record { after = printed (given ++ more); more = printed more; is = gives; follows = follows given more before was; written = λ t. let a = is t in told_front m m' more only a.1 a.2 })
 
 -- ---- lines in order

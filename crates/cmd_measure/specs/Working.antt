@@ -9,7 +9,7 @@ use Rattle.mode_set.specs.declared.settings.Settings.{Settings}
 use Rattle.frame_build.specs.CellFile.{header}
 use Rattle.reception.specs.Cells.{symbol_length, symbols}
 use Rattle.measurement.specs.Lines.{MeasureLive, MeasureFinal}
-use Rattle.cmd_base.specs.declared.work.Refusal.TheVariants.{Memory}
+use Rattle.cmd_base.specs.declared.refusal.Refusal.TheVariants.{Memory}
 use Rattle.cmd_base.specs.Text.{refusal_text}
 use Rattle.cmd_base.specs.Report.{WritesText}
 use Rattle.cmd_cells.specs.Runs.{RunsCells}

@@ -3,7 +3,7 @@
 use crate::cell_measurer::CellMeasurer;
 use crate::writing::write_lines;
 use station_core::Station;
-use cmd_cells::{Stop, SymbolWork};
+use cmd_cells::{RunError, SymbolWork};
 
 /// A measurer whose lines are written.
 #[derive(Drop)]
@@ -32,16 +32,16 @@ impl<'a, S: Station<'a>, X: CellMeasurer> SymbolWork<'a, S> for MeasuringWork<X>
 
     ghost stands = { λ x bytes. Prints (X.stands x.measurer so_far bytes) };
 
-    fn begin(&mut self, _station: &mut S) -> Result<(), Stop> {
+    fn begin(&mut self, _station: &mut S) -> Result<(), RunError> {
         Ok(())
     }
 
-    fn take(&mut self, piece: &[u8], station: &mut S) -> Result<(), Stop> {
+    fn take(&mut self, piece: &[u8], station: &mut S) -> Result<(), RunError> {
         self.measurer.feed(piece);
         write_lines(self.measurer.lines(), station)
     }
 
-    fn finish(&mut self, station: &mut S) -> Result<(), Stop> {
+    fn finish(&mut self, station: &mut S) -> Result<(), RunError> {
         self.measurer.finish();
         write_lines(self.measurer.lines(), station)
     }

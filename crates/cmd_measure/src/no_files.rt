@@ -1,7 +1,7 @@
 // The outputs of a command that writes only its report.
 
 use station_core::Station;
-use cmd_cells::{OutputFiles, Stop};
+use cmd_cells::{OutputFiles, RunError};
 
 /// No file.
 #[derive(Clone, Copy)]
@@ -12,11 +12,11 @@ impl<'a, S: Station<'a>> OutputFiles<'a, S> for NoFiles {
 
     ghost names = { λ x. no_names };
 
-    fn create(&self, _station: &mut S) -> Result<(), Stop> {
+    fn create(&self, _station: &mut S) -> Result<(), RunError> {
         Ok(())
     }
 
-    fn close(&self, _station: &mut S) -> Result<(), Stop> {
+    fn close(&self, _station: &mut S) -> Result<(), RunError> {
         Ok(())
     }
 }

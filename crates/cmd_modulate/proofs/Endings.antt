@@ -19,8 +19,8 @@ use Rattle.transmission.specs.Agenda as agenda
 use Rattle.transmission.specs.Laws.{PartOfSymbols}
 use Rattle.transmission.specs.AgendaLaws.{IsAt, WorkBegins}
 use Rattle.cmd_modulate.specs.declared.counts.TransmissionCounts.{TransmissionCounts}
-use Rattle.cmd_base.specs.declared.work.Refusal.{Refusal}
-use Rattle.cmd_base.specs.declared.work.Refusal.TheVariants.{Usage, Settings, ReadFault, WriteFault, NotSync, Memory, Limit, Cells}
+use Rattle.cmd_base.specs.declared.refusal.Refusal.{Refusal}
+use Rattle.cmd_base.specs.declared.refusal.Refusal.TheVariants.{Usage, Settings, ReadFault, WriteFault, NotSync, Memory, Limit, Cells}
 use Rattle.cmd_base.specs.Command.{named}
 use Rattle.cmd_base.specs.StreamForm.{fits_form}
 use Rattle.cmd_modulate.proofs.Keeping.{keeps_again}

@@ -9,8 +9,8 @@ use Rattle.mode_set.specs.declared.modes.Stream.TheVariants.{Hp, Lp}
 use Rattle.transmission.specs.Transmission.{Inputs, by_stream}
 use Rattle.transmission.specs.Agenda.{packet_refusal}
 use Rattle.transmission.specs.Agenda as agenda
-use Rattle.cmd_base.specs.declared.work.Refusal.{Refusal}
-use Rattle.cmd_base.specs.declared.work.Refusal.TheVariants.{Usage, Settings, ReadFault, WriteFault, NotSync, Memory, Limit, Cells}
+use Rattle.cmd_base.specs.declared.refusal.Refusal.{Refusal}
+use Rattle.cmd_base.specs.declared.refusal.Refusal.TheVariants.{Usage, Settings, ReadFault, WriteFault, NotSync, Memory, Limit, Cells}
 use Rattle.cmd_base.specs.Packets.{accepted, is_accepted, is_sync, whole_packets}
 use Rattle.cmd_base.proofs.Accepting.{accepted_from}
 use Rattle.cmd_modulate.specs.declared.inputs.PacketInputs.{PacketInputs}

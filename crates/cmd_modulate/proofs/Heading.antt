@@ -10,7 +10,7 @@ use Rattle.transmission.specs.SuperFrames.{tx}
 use Rattle.transmission.specs.Agenda.{first_refusal, symbols_sent}
 use Rattle.transmission.specs.Agenda as agenda
 use Rattle.transmission.specs.Laws.{NoSymbol}
-use Rattle.cmd_base.specs.declared.work.Refusal.{Refusal}
+use Rattle.cmd_base.specs.declared.refusal.Refusal.{Refusal}
 use Rattle.cmd_modulate.specs.ModulateCommand.{cells_sent, file_of_symbols, inputs_of, sent_by}
 use Rattle.cmd_modulate.specs.declared.inputs.PacketInputs.{PacketInputs}
 use Rattle.cmd_modulate.specs.Seen.{Seen}

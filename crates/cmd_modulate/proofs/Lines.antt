@@ -4,7 +4,7 @@ use Rattle.std.proofs.lemmas.List.{append-nil, take_all}
 use Rattle.station_core.specs.Meaning.{Meaning, with_sink, closed_sink, with_close_faults}
 use Rattle.station_core.specs.declared.ports.OutPort.TheVariants.{Cells}
 use Rattle.cmd_modulate.specs.declared.counts.TransmissionCounts.{TransmissionCounts}
-use Rattle.cmd_base.specs.declared.work.Refusal.TheVariants.{WriteFault}
+use Rattle.cmd_base.specs.declared.refusal.Refusal.TheVariants.{WriteFault}
 use Rattle.cmd_modulate.specs.ModulateCommand.{transmission_lines}
 use Rattle.cmd_base.specs.Lines.{WritesLines}
 use Rattle.cmd_modulate.specs.Reporting.{Finishes}

@@ -11,8 +11,8 @@ use Rattle.transmission.specs.Agenda.{first_refusal, symbols_sent}
 use Rattle.transmission.specs.Agenda as agenda
 use Rattle.transmission.specs.AgendaLaws.{IsAt, SendsSymbol, SentSoFar}
 use Rattle.transmission.specs.Laws.{OneSymbolMore, PartOfSymbols}
-use Rattle.cmd_base.specs.declared.work.Refusal.{Refusal}
-use Rattle.cmd_base.specs.declared.work.Refusal.TheVariants.{Usage, Settings, ReadFault, WriteFault, NotSync, Memory, Limit, Cells}
+use Rattle.cmd_base.specs.declared.refusal.Refusal.{Refusal}
+use Rattle.cmd_base.specs.declared.refusal.Refusal.TheVariants.{Usage, Settings, ReadFault, WriteFault, NotSync, Memory, Limit, Cells}
 use Rattle.cmd_modulate.specs.ModulateCommand.{HoldsSymbolsSoFar, cells_sent, inputs_of, sent_by, file_of_symbols}
 use Rattle.cmd_modulate.specs.declared.inputs.PacketInputs.{PacketInputs}
 use Rattle.cmd_modulate.specs.Seen.{Seen, wanted}

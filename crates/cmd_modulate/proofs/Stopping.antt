@@ -13,8 +13,8 @@ use Rattle.transmission.specs.SuperFrames.{packets_for, symbols_of}
 use Rattle.transmission.specs.Agenda.{next_stream, packet_refusal}
 use Rattle.transmission.specs.Agenda as agenda
 use Rattle.transmission.specs.AgendaLaws.{IsAt, StopsAt, TakesOfHp, TakesOfLp, StopsAtPacket, SentSoFar, SentAtFault}
-use Rattle.cmd_base.specs.declared.work.Refusal.{Refusal}
-use Rattle.cmd_base.specs.declared.work.Refusal.TheVariants.{Usage, Settings, ReadFault, WriteFault, NotSync, Memory, Limit, Cells}
+use Rattle.cmd_base.specs.declared.refusal.Refusal.{Refusal}
+use Rattle.cmd_base.specs.declared.refusal.Refusal.TheVariants.{Usage, Settings, ReadFault, WriteFault, NotSync, Memory, Limit, Cells}
 use Rattle.cmd_modulate.specs.ModulateCommand.{HoldsSymbolsSoFar, cells_sent, inputs_of, modulation_refusal, refused_by, sent_by, taken_of, file_of_symbols}
 use Rattle.cmd_modulate.specs.Inputs.{left_of}
 use Rattle.cmd_modulate.specs.declared.inputs.PacketInputs.{PacketInputs}

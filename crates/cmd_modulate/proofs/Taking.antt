@@ -10,7 +10,7 @@ use Rattle.mode_set.specs.declared.modes.Stream.{Stream}
 use Rattle.mode_set.specs.declared.modes.Stream.TheVariants.{Hp, Lp}
 use Rattle.outer_chain.specs.Sent.{packet_at}
 use Rattle.ts_packet.specs.Packet.{null_packet}
-use Rattle.cmd_base.specs.declared.work.Refusal.TheVariants.{NotSync, Limit, ReadFault}
+use Rattle.cmd_base.specs.declared.refusal.Refusal.TheVariants.{NotSync, Limit, ReadFault}
 use Rattle.cmd_base.specs.Packets.{packets_of, whole_packets, file_packet}
 use Rattle.cmd_modulate.specs.ModulateCommand.{refused_by}
 use Rattle.cmd_base.specs.Reading.{ReadsFront}

@@ -15,7 +15,7 @@ use Rattle.transmission.specs.Agenda as agenda
 use Rattle.transmission.specs.AgendaLaws.{EndsUnrefused, StopsAtLimit}
 use Rattle.transmission.specs.Laws.{PacketsOfSuperFrames, TheNumberIsFound}
 use Rattle.cmd_modulate.specs.declared.counts.TransmissionCounts.{TransmissionCounts}
-use Rattle.cmd_base.specs.declared.work.Refusal.TheVariants.{Limit}
+use Rattle.cmd_base.specs.declared.refusal.Refusal.TheVariants.{Limit}
 use Rattle.cmd_base.specs.Packets.{packets_of, tail_of, whole_packets}
 use Rattle.cmd_modulate.specs.ModulateCommand.{inputs_of, refused_by, sent_by, transmission_counts, file_of_symbols}
 use Rattle.cmd_modulate.specs.Inputs.{left_of}

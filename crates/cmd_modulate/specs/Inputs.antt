@@ -9,8 +9,8 @@ use Rattle.mode_set.specs.declared.modes.Stream.TheVariants.{Hp, Lp}
 use Rattle.outer_chain.specs.Sent.{packet_at}
 use Rattle.transmission.specs.Agenda.{packet_refusal}
 use Rattle.transmission.specs.Transmission.{by_stream}
-use Rattle.cmd_base.specs.declared.work.Refusal.{Refusal}
-use Rattle.cmd_base.specs.declared.work.Refusal.TheVariants.{ReadFault, NotSync, Limit}
+use Rattle.cmd_base.specs.declared.refusal.Refusal.{Refusal}
+use Rattle.cmd_base.specs.declared.refusal.Refusal.TheVariants.{ReadFault, NotSync, Limit}
 use Rattle.cmd_base.specs.Packets.{whole_packets, tail_of}
 use Rattle.cmd_modulate.specs.ModulateCommand.{inputs_of, refused_by}
 use Rattle.cmd_modulate.specs.declared.input.PacketInput.{PacketInput}

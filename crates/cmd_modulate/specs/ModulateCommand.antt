@@ -11,8 +11,8 @@ use Rattle.transmission.specs.Transmission.{Inputs, by_stream, first_symbols}
 use Rattle.transmission.specs.SuperFrames.{super_frames, symbols_of, tx}
 use Rattle.transmission.specs.Agenda.{IsEnoughFor, first_refusal, symbols_sent, packet_refusal}
 use Rattle.transmission.specs.Agenda as agenda
-use Rattle.cmd_base.specs.declared.work.Refusal.{Refusal}
-use Rattle.cmd_base.specs.declared.work.Refusal.TheVariants.{NotSync, Limit}
+use Rattle.cmd_base.specs.declared.refusal.Refusal.{Refusal}
+use Rattle.cmd_base.specs.declared.refusal.Refusal.TheVariants.{NotSync, Limit}
 use Rattle.cmd_base.specs.Command.{Command, Files, Unread, named}
 use Rattle.cmd_base.specs.Ports.{by_input, cell_names}
 use Rattle.cmd_base.specs.Packets.{packets_of, counts_of, packets_line, most_packets_taken}

@@ -1,8 +1,8 @@
 -- The lines written to Report at the end of a modulation.
 use Rattle.std.specs.Prelude.{◌≡◌, ◌≤◌, Bool, true, Result, Ok, Err}
 use Rattle.station_core.specs.Meaning.{Meaning}
-use Rattle.cmd_base.specs.declared.work.Refusal.{Refusal}
-use Rattle.cmd_base.specs.declared.work.Refusal.TheVariants.{WriteFault}
+use Rattle.cmd_base.specs.declared.refusal.Refusal.{Refusal}
+use Rattle.cmd_base.specs.declared.refusal.Refusal.TheVariants.{WriteFault}
 use Rattle.cmd_base.specs.Lines.{IsFrontOf}
 use Rattle.cmd_modulate.specs.declared.counts.TransmissionCounts.{TransmissionCounts}
 use Rattle.cmd_modulate.specs.ModulateCommand.{transmission_lines}

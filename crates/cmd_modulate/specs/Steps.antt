@@ -5,8 +5,8 @@ use Rattle.station_core.specs.Meaning.{Meaning, Source, asked_source, asked_sink
 use Rattle.station_core.specs.declared.station.Failed.{Failed}
 use Rattle.mode_set.specs.declared.modes.Stream.{Stream}
 use Rattle.mode_set.specs.declared.settings.Settings.{Settings as TheSettings}
-use Rattle.cmd_base.specs.declared.work.Refusal.{Refusal}
-use Rattle.cmd_base.specs.declared.work.Refusal.TheVariants.{ReadFault, WriteFault, Memory}
+use Rattle.cmd_base.specs.declared.refusal.Refusal.{Refusal}
+use Rattle.cmd_base.specs.declared.refusal.Refusal.TheVariants.{ReadFault, WriteFault, Memory}
 use Rattle.cmd_base.specs.Text.{refusal_text, refusal_status}
 use Rattle.cmd_base.specs.Causes.{FlushesOnly, HasEndCause, Settles}
 use Rattle.cmd_base.specs.Report.{WritesText}

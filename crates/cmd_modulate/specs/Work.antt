@@ -10,8 +10,8 @@ use Rattle.transmission.specs.SuperFrames.{super_frames, symbols_of}
 use Rattle.outer_chain.specs.Sent.{packet_at}
 use Rattle.transmission.specs.Agenda.{packet_refusal}
 use Rattle.transmission.specs.AgendaLaws.{IsAt}
-use Rattle.cmd_base.specs.declared.work.Refusal.{Refusal}
-use Rattle.cmd_base.specs.declared.work.Refusal.TheVariants.{ReadFault, WriteFault}
+use Rattle.cmd_base.specs.declared.refusal.Refusal.{Refusal}
+use Rattle.cmd_base.specs.declared.refusal.Refusal.TheVariants.{ReadFault, WriteFault}
 use Rattle.cmd_base.specs.Packets.{most_packets_taken}
 use Rattle.cmd_modulate.specs.ModulateCommand.{HoldsSymbolsSoFar, cells_sent, inputs_of, modulation_refusal, refused_by, transmission_counts, file_of_symbols}
 use Rattle.cmd_modulate.specs.declared.counts.TransmissionCounts.{TransmissionCounts}

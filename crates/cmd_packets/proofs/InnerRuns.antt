@@ -9,8 +9,8 @@ use Rattle.outer_chain.specs.Sent.{outer_bytes, sent_bytes}
 use Rattle.outer_chain.specs.SendingLaws.{MorePacketsSent}
 use Rattle.puncture.specs.Laws.{StepsSendInOrder, StepsAreNumbered, SentBitsAreRuns}
 use Rattle.puncture.specs.SentBits.{path_of}
-use Rattle.cmd_base.specs.declared.work.Refusal.{Refusal}
-use Rattle.cmd_base.specs.declared.work.Refusal.TheVariants.{Usage, Settings, ReadFault, WriteFault, NotSync, Memory, Limit, Cells}
+use Rattle.cmd_base.specs.declared.refusal.Refusal.{Refusal}
+use Rattle.cmd_base.specs.declared.refusal.Refusal.TheVariants.{Usage, Settings, ReadFault, WriteFault, NotSync, Memory, Limit, Cells}
 use Rattle.cmd_base.specs.Command.{Command, is_among}
 use Rattle.cmd_base.specs.Run.{Run}
 use Rattle.cmd_base.specs.Text.{status_of, refusal_status, refusal_text}

@@ -3,8 +3,8 @@ use Rattle.std.proofs.Common.{◌≡◌, ◌≤◌, Bool, true, refl, subst, inl
 use Rattle.std.proofs.lemmas.List.{take_all}
 use Rattle.station_core.specs.Meaning.{Meaning, Source, Sink, with_sink, written_sink, closed_sink, with_close_faults}
 use Rattle.station_core.specs.declared.ports.OutPort.TheVariants.{Report, Bytes}
-use Rattle.cmd_base.specs.declared.work.Counts.{Counts}
-use Rattle.cmd_base.specs.declared.work.Refusal.{Refusal}
+use Rattle.cmd_base.specs.declared.counts.Counts.{Counts}
+use Rattle.cmd_base.specs.declared.refusal.Refusal.{Refusal}
 use Rattle.cmd_base.specs.Packets.{closing_line}
 use Rattle.cmd_packets.specs.Coding.{KeepsOthers}
 use Rattle.cmd_base.specs.Causes.{FlushesOnly}

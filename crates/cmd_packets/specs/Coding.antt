@@ -3,9 +3,9 @@
 use Rattle.std.specs.Prelude.{◌⊎◌, length, ◌/◌, ◌≡◌, ◌<◌, ◌≤◌, ◌+◌, ◌-◌, ◌*◌, ◌++◌, ℕ, List, [], take, drop, Result, Ok, Err, Option, None, Some, true, false, ⊤}
 use Rattle.station_core.specs.Meaning.{Meaning}
 use Rattle.mode_set.specs.declared.modes.Stream.TheVariants.{Hp}
-use Rattle.cmd_base.specs.declared.work.Counts.{Counts}
-use Rattle.cmd_base.specs.declared.work.Refusal.{Refusal}
-use Rattle.cmd_base.specs.declared.work.Refusal.TheVariants.{Usage, Settings, ReadFault, WriteFault, NotSync, Memory, Limit, Cells}
+use Rattle.cmd_base.specs.declared.counts.Counts.{Counts}
+use Rattle.cmd_base.specs.declared.refusal.Refusal.{Refusal}
+use Rattle.cmd_base.specs.declared.refusal.Refusal.TheVariants.{Usage, Settings, ReadFault, WriteFault, NotSync, Memory, Limit, Cells}
 use Rattle.cmd_base.specs.Packets.{first_packets, whole_packets, is_sync, AcceptsFirst, counts_of}
 
 -- only the bytes left of HP, the bytes written and pending at Bytes, and the counts have changed

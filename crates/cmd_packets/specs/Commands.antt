@@ -3,7 +3,7 @@ use Rattle.std.specs.Prelude.{◌≡◌, ◌≢◌, ◌≤◌, ◌⊎◌, ◌+�
 use Rattle.station_core.specs.declared.ports.InPort.TheVariants as ins
 use Rattle.mode_set.specs.declared.settings.Settings.{Settings}
 use Rattle.outer_chain.specs.Sent.{sent_bytes}
-use Rattle.cmd_base.specs.declared.work.Refusal.{Refusal}
+use Rattle.cmd_base.specs.declared.refusal.Refusal.{Refusal}
 use Rattle.cmd_base.specs.Command.{Command, Files}
 use Rattle.cmd_base.specs.Ports.{by_input, byte_names}
 use Rattle.cmd_base.specs.Packets.{whole_packets, accepted, AreAccepted, first_packets, packets_of, counts_of, packet_refusal, most_packets_taken, closing_line}

@@ -2,9 +2,9 @@
 -- They imply the promise of the run.
 use Rattle.std.specs.Prelude.{◌≡◌, ◌⊎◌, ◌≤◌, ◌++◌, ℕ, true, false, List, [], take, Result, Ok, Err, Some, None, if◌then◌else◌}
 use Rattle.station_core.specs.Meaning.{Meaning}
-use Rattle.cmd_base.specs.declared.work.Counts.{Counts}
-use Rattle.cmd_base.specs.declared.work.Refusal.{Refusal}
-use Rattle.cmd_base.specs.declared.work.Refusal.TheVariants.{Usage, Settings, ReadFault, WriteFault, NotSync, Memory, Limit, Cells}
+use Rattle.cmd_base.specs.declared.counts.Counts.{Counts}
+use Rattle.cmd_base.specs.declared.refusal.Refusal.{Refusal}
+use Rattle.cmd_base.specs.declared.refusal.Refusal.TheVariants.{Usage, Settings, ReadFault, WriteFault, NotSync, Memory, Limit, Cells}
 use Rattle.cmd_base.specs.Causes.{FlushesOnly, HasEndCause, Settles}
 use Rattle.cmd_packets.specs.Coding.{CodesWhole}
 use Rattle.cmd_base.specs.Packets.{AcceptsFirst, closing_line, counts_of, whole_packets}

@@ -17,8 +17,8 @@ use Rattle.reception.specs.Cells.{symbol_length, symbols}
 use Rattle.frame_build.specs.CellFile.{header}
 use Rattle.reception.specs.Lines.{events}
 use Rattle.reception.specs.Laws.{NoEvents}
-use Rattle.cmd_base.specs.declared.work.Refusal.{Refusal}
-use Rattle.cmd_base.specs.declared.work.Refusal.TheVariants.{Limit}
+use Rattle.cmd_base.specs.declared.refusal.Refusal.{Refusal}
+use Rattle.cmd_base.specs.declared.refusal.Refusal.TheVariants.{Limit}
 use Rattle.cmd_base.specs.Command.{Command, Files, IsOutput}
 use Rattle.cmd_base.specs.StatedSettings.{settings_of}
 use Rattle.cmd_cells.specs.Work.{Written}

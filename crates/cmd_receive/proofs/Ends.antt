@@ -14,8 +14,8 @@ use Rattle.rx_report.specs.declared.counts.Event.{Event}
 use Rattle.reception.specs.Cells.{symbols}
 use Rattle.reception.specs.Lines.{events}
 use Rattle.reception.specs.Feeds.{Output, packets_of}
-use Rattle.cmd_cells.specs.declared.stop.Stop.{Stop}
-use Rattle.cmd_cells.specs.declared.stop.Stop.TheVariants.{WriteFault}
+use Rattle.cmd_cells.specs.declared.run_error.RunError.{RunError}
+use Rattle.cmd_cells.specs.declared.run_error.RunError.TheVariants.{WriteFault}
 use Rattle.cmd_cells.specs.Outputs.{IsWriting}
 use Rattle.cmd_cells.specs.Work.{Finishes, Follows, Holds, HoldsFront, Written}
 use Rattle.cmd_cells.specs.Work.{Takes as TakesPiece}
@@ -68,8 +68,8 @@ take_none : (k : ℕ) → take {A = ℕ} k [] ≡ []
 take_none k = take_all k [] (omega arith)
 
 -- a failed write is the stop of a write
-stopped_by : (P : Result (Unit {0}) Stop → Type 0) (stop : Stop) → stop ≡ WriteFault → P (Err WriteFault) → P (Err stop)
-stopped_by P stop is p = subst (λ (x : Stop). P (Err x)) (sym is) p
+stopped_by : (P : Result (Unit {0}) RunError → Type 0) (stop : RunError) → stop ≡ WriteFault → P (Err WriteFault) → P (Err stop)
+stopped_by P stop is p = subst (λ (x : RunError). P (Err x)) (sym is) p
 
 -- the lines of events, followed by those of more events
 more_lines : (a b c : List Event) → c ≡ a ++ b → flat_map event_line c ≡ flat_map event_line a ++ flat_map event_line b
@@ -83,7 +83,7 @@ module _ (k : Kind) (s : Settings) (two : Bool) (standing' : List ℕ → Writte
       (more_lines (events s (symbols s bytes) (k.reports r)) out.events (events s (symbols s (bytes ++ piece)) (k.reports takes.after)) takes.events_are)
 
   -- the packets and the lines of a piece were written, or prefixes of them
-  pub took_piece : (result : Result (Unit {0}) Stop) → (m.tells ≡ true → WritesOut two out m m' result) → IsWriting result → TakesPiece (work_of k s two) standing' bytes piece given m m' result
+  pub took_piece : (result : Result (Unit {0}) RunError) → (m.tells ≡ true → WritesOut two out m m' result) → IsWriting result → TakesPiece (work_of k s two) standing' bytes piece given m m' result
   took_piece (Ok u) written kind = record {
     after = live_of k s two (bytes ++ piece) takes.after;
     more = given_at two out (event_text out.events);
@@ -117,7 +117,7 @@ module _ (k : Kind) (s : Settings) (two : Bool) (bytes : List ℕ) (r : k.Receiv
       (ap (λ (l : List ℕ). l ++ k.closing s bytes after) lines_are)
 
   -- the rest of the packets was not written
-  pub rest_failed : (stop : Stop) → stop ≡ WriteFault → (m.tells ≡ true → WritesOut two out m m' (Err stop)) → Finishes (work_of k s two) bytes given m m' (Err stop)
+  pub rest_failed : (stop : RunError) → stop ≡ WriteFault → (m.tells ≡ true → WritesOut two out m m' (Err stop)) → Finishes (work_of k s two) bytes given m m' (Err stop)
   rest_failed stop kind written = stopped_by (Finishes (work_of k s two) bytes given m m') stop kind (record {
     after = final_of k s two bytes after;
     more = more;
@@ -155,7 +155,7 @@ module _ (k : Kind) (s : Settings) (two : Bool) (bytes : List ℕ) (r : k.Receiv
     bytes_is : m''.bytes_out.written ≡ m.bytes_out.written
     bytes_is = ap (λ (x : Meaning). x.bytes_out.written) report_only ∙ ap (λ (x : Meaning). x.bytes_out.written) only
 
-    pub ended : (result : Result (Unit {0}) Stop) → (m'.tells ≡ true → Appends (k.closing s bytes after) m'.report.written m''.report.written result) → IsWriting result
+    pub ended : (result : Result (Unit {0}) RunError) → (m'.tells ≡ true → Appends (k.closing s bytes after) m'.report.written m''.report.written result) → IsWriting result
         → Finishes (work_of k s two) bytes given m m'' result
     ended (Ok u) a kind = record {
       after = final_of k s two bytes after;

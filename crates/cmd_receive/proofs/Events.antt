@@ -8,7 +8,7 @@ use Rattle.station_core.specs.Meaning.{Meaning}
 use Rattle.station_core.specs.declared.ports.OutPort.TheVariants as outs
 use Rattle.rx_report.specs.Text.{event_line}
 use Rattle.rx_report.specs.declared.counts.Event.{Event}
-use Rattle.cmd_cells.specs.declared.stop.Stop.{Stop}
+use Rattle.cmd_cells.specs.declared.run_error.RunError.{RunError}
 use Rattle.cmd_cells.specs.Writing.{WritesAt}
 use Rattle.cmd_receive.specs.Writing.{Appends, event_text}
 use Rattle.cmd_cells.proofs.Fronts.{front_of}
@@ -53,7 +53,7 @@ pub events_split : (events : List Event) (i : ℕ) → event_text events ≡ eve
 events_split events i = ap event_text (sym (take-append-drop i events)) ∙ flat_map-append event_line (take i events) (drop i events)
 
 -- the pending part of all was written, or a prefix of it
-pub events_written : (events : List Event) (i : ℕ) (waiting before : List ℕ) (m m' : Meaning) (r : Result (Unit {0}) Stop) → length events ≤ i → m.tells ≡ true
+pub events_written : (events : List Event) (i : ℕ) (waiting before : List ℕ) (m m' : Meaning) (r : Result (Unit {0}) RunError) → length events ≤ i → m.tells ≡ true
     → Waits before m.report.written waiting (event_text (take i events)) → WritesAt outs.Report waiting m m' r → Appends (event_text events) before m'.report.written r
 events_written events i waiting before m m' (Ok u) le t w v =
     report_appends waiting m m' (Ok tt) t v ∙ ap (λ (z : List ℕ). z ++ waiting) w.1 ∙ append_assoc before w.0 waiting

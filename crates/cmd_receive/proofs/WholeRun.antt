@@ -5,12 +5,12 @@ use Rattle.station_core.specs.declared.ports.InPort.{InPort}
 use Rattle.station_core.specs.declared.ports.InPort.TheVariants as ins
 use Rattle.frame_build.specs.CellFile.{header}
 use Rattle.mode_set.specs.declared.settings.Settings.{Settings as TheSettings}
-use Rattle.cmd_base.specs.declared.work.Refusal.{Refusal}
-use Rattle.cmd_base.specs.declared.work.Refusal.TheVariants.{Usage, Settings, ReadFault, WriteFault, NotSync, Memory, Limit, Cells}
+use Rattle.cmd_base.specs.declared.refusal.Refusal.{Refusal}
+use Rattle.cmd_base.specs.declared.refusal.Refusal.TheVariants.{Usage, Settings, ReadFault, WriteFault, NotSync, Memory, Limit, Cells}
 use Rattle.std.specs.Prelude.{is_some, if◌then◌else◌}
 use Rattle.std.specs.Option.{option_or}
 use Rattle.cmd_base.specs.StreamForm.{form_refusal}
-use Rattle.cmd_base.specs.declared.work.SettingsRefusal.TheVariants.{Form}
+use Rattle.cmd_base.specs.declared.refusal.SettingsRefusal.TheVariants.{Form}
 use Rattle.cmd_base.specs.Command.{Command, Unread, input_file, is_among}
 use Rattle.cmd_base.specs.Run.{Run}
 use Rattle.cmd_base.specs.StatedSettings.{settings_of}

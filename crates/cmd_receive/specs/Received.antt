@@ -9,8 +9,8 @@ use Rattle.mode_set.specs.declared.settings.Settings.{Settings}
 use Rattle.reception.specs.Cells.{symbol_length, symbols}
 use Rattle.reception.specs.Streams.{Reception, Live, Final}
 use Rattle.reception.specs.Lines.{event_lines, closing_lines}
-use Rattle.cmd_base.specs.declared.work.Refusal.{Refusal}
-use Rattle.cmd_base.specs.declared.work.Refusal.TheVariants.{Limit}
+use Rattle.cmd_base.specs.declared.refusal.Refusal.{Refusal}
+use Rattle.cmd_base.specs.declared.refusal.Refusal.TheVariants.{Limit}
 
 -- the bytes of a cell file after its header of eight bytes
 abbrev pub cells_in : List ℕ → List ℕ

@@ -3,7 +3,7 @@ use Rattle.std.specs.Prelude.{◌≡◌, ◌⊎◌, ℕ, Bool, List, Option, Som
 use Rattle.station_core.specs.Meaning.{Meaning}
 use Rattle.mode_set.specs.declared.settings.Settings.{Settings}
 use Rattle.frame_build.specs.CellFile.{header}
-use Rattle.cmd_base.specs.declared.work.Refusal.TheVariants.{Memory}
+use Rattle.cmd_base.specs.declared.refusal.Refusal.TheVariants.{Memory}
 use Rattle.cmd_base.specs.Text.{refusal_text}
 use Rattle.cmd_base.specs.Report.{WritesText}
 use Rattle.cmd_cells.specs.Outputs.{stream_names}

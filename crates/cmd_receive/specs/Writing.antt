@@ -5,24 +5,24 @@ use Rattle.station_core.specs.declared.ports.OutPort.TheVariants as outs
 use Rattle.rx_report.specs.Text.{event_line}
 use Rattle.rx_report.specs.declared.counts.Event.{Event}
 use Rattle.reception.specs.Feeds.{Output}
-use Rattle.cmd_cells.specs.declared.stop.Stop.{Stop}
-use Rattle.cmd_cells.specs.declared.stop.Stop.TheVariants.{WriteFault}
+use Rattle.cmd_cells.specs.declared.run_error.RunError.{RunError}
+use Rattle.cmd_cells.specs.declared.run_error.RunError.TheVariants.{WriteFault}
 use Rattle.cmd_cells.specs.Writing.{WritesAt}
 
 -- bytes were written at Lp, if there are two streams, or a prefix of them
-abbrev pub WritesLp : Bool → List ℕ → Meaning → Meaning → Result (Unit {0}) Stop → Type 0
+abbrev pub WritesLp : Bool → List ℕ → Meaning → Meaning → Result (Unit {0}) RunError → Type 0
 WritesLp true bytes old new result = WritesAt outs.Lp bytes old new result
 WritesLp false bytes old new (Ok u) = new ≡ old
 WritesLp false bytes old new (Err r) = ⊥
 
 -- bytes were appended, or a prefix of them
-abbrev pub Appends : List ℕ → List ℕ → List ℕ → Result (Unit {0}) Stop → Type 0
+abbrev pub Appends : List ℕ → List ℕ → List ℕ → Result (Unit {0}) RunError → Type 0
 Appends bytes before after (Ok u) = after ≡ before ++ bytes
 Appends bytes before after (Err r) = (r ≡ WriteFault) × (k : ℕ) × (after ≡ before ++ take k bytes)
 
 -- a line was appended to a pending text, which was written first if there was no space for both; or only a prefix of it
 -- was
-abbrev pub Pushes : List ℕ → List ℕ → List ℕ → List ℕ → List ℕ → Result (Unit {0}) Stop → Type 0
+abbrev pub Pushes : List ℕ → List ℕ → List ℕ → List ℕ → List ℕ → Result (Unit {0}) RunError → Type 0
 Pushes line text text' before after (Ok u) = ((after ≡ before) × (text' ≡ text ++ line)) ⊎ ((after ≡ before ++ text) × (text' ≡ line))
 Pushes line text text' before after (Err r) = (r ≡ WriteFault) × (k : ℕ) × (after ≡ before ++ take k text)
 
@@ -75,6 +75,6 @@ pub record IsPartlyWritten (two : Bool) (out : Output) (old new : Meaning) : Typ
   pub report : (k : ℕ) × (new.report.written ≡ old.report.written ++ take k (event_text out.events))
 
 -- a write to the outputs: complete, or stopped by a write fault
-abbrev pub WritesOut : Bool → Output → Meaning → Meaning → Result (Unit {0}) Stop → Type 0
+abbrev pub WritesOut : Bool → Output → Meaning → Meaning → Result (Unit {0}) RunError → Type 0
 WritesOut two out old new (Ok u) = IsWritten two out old new
 WritesOut two out old new (Err r) = (r ≡ WriteFault) × IsPartlyWritten two out old new

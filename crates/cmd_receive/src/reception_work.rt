@@ -3,7 +3,7 @@
 use crate::cell_receiver::CellReceiver;
 use crate::writing::{write_lines, write_out};
 use station_core::Station;
-use cmd_cells::{Stop, SymbolWork};
+use cmd_cells::{RunError, SymbolWork};
 
 /// A receiver whose packets and lines are written, with a flag for two streams.
 #[derive(Drop)]
@@ -35,18 +35,18 @@ impl<'a, S: Station<'a>, X: CellReceiver> SymbolWork<'a, S> for ReceptionWork<X>
 
     ghost stands = { λ x. ReceiverStands (X.stands x.receiver so_far) (X.settings x.receiver) x.two };
 
-    fn begin(&mut self, _station: &mut S) -> Result<(), Stop> {
+    fn begin(&mut self, _station: &mut S) -> Result<(), RunError> {
         reception::laws::nothing();
         reception::laws::events();
         Ok(())
     }
 
-    fn take(&mut self, piece: &[u8], station: &mut S) -> Result<(), Stop> {
+    fn take(&mut self, piece: &[u8], station: &mut S) -> Result<(), RunError> {
         self.receiver.feed(piece);
         write_out(self.two, self.receiver.out(), station)
     }
 
-    fn finish(&mut self, station: &mut S) -> Result<(), Stop> {
+    fn finish(&mut self, station: &mut S) -> Result<(), RunError> {
         reception::laws::receptions();
         self.receiver.finish();
         write_out(self.two, self.receiver.out(), station)?;

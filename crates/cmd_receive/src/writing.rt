@@ -11,13 +11,13 @@ use arrayvec::ArrayString;
 use receiver::RxOut;
 use rx_report::{Counts, Event, Line};
 use station_core::{OutPort, Station};
-use cmd_cells::{Stop, write_some};
+use cmd_cells::{RunError, write_some};
 
 // Space for the lines of all events of a symbol.
 type EventText = ArrayString<2048>;
 
 // Writes the packets of LP, if there are two streams.
-fn write_lp<'a, S: Station<'a>>(two: bool, bytes: &[u8], station: &mut S) -> Result<(), Stop>
+fn write_lp<'a, S: Station<'a>>(two: bool, bytes: &[u8], station: &mut S) -> Result<(), RunError>
     requires open { AreOpen two (S.meaning station.old) }
     ensures kind { IsWriting result }
     ensures cause { HasCause (S.meaning station.old) (S.meaning station.new) result }
@@ -36,7 +36,7 @@ fn push_line<'a, S: Station<'a>>(
     line: &Line,
     text: &mut EventText,
     station: &mut S,
-) -> Result<(), Stop>
+) -> Result<(), RunError>
     requires printing { IsPrinting (S.meaning station.old) }
     ensures kind { IsWriting result }
     ensures cause { HasCause (S.meaning station.old) (S.meaning station.new) result }
@@ -56,7 +56,7 @@ fn push_line<'a, S: Station<'a>>(
 }
 
 // Writes the lines of the events of a symbol, in one write.
-fn write_events<'a, S: Station<'a>>(events: &[Event], station: &mut S) -> Result<(), Stop>
+fn write_events<'a, S: Station<'a>>(events: &[Event], station: &mut S) -> Result<(), RunError>
     requires printing { IsPrinting (S.meaning station.old) }
     ensures kind { IsWriting result }
     ensures cause { HasCause (S.meaning station.old) (S.meaning station.new) result }
@@ -77,7 +77,7 @@ fn write_events<'a, S: Station<'a>>(events: &[Event], station: &mut S) -> Result
 
 /// Writes the output of a receiver: the packets of HP, those of LP if there are two streams, and the lines of its
 /// events, with at most one write for each port.
-pub fn write_out<'a, S: Station<'a>>(two: bool, out: &RxOut, station: &mut S) -> Result<(), Stop>
+pub fn write_out<'a, S: Station<'a>>(two: bool, out: &RxOut, station: &mut S) -> Result<(), RunError>
     requires open { AreOpen two (S.meaning station.old) }
     ensures kind { IsWriting result }
     ensures cause { HasCause (S.meaning station.old) (S.meaning station.new) result }
@@ -116,7 +116,7 @@ impl ClosingLines for Counts {
 pub fn write_lines<'a, C: ClosingLines, S: Station<'a>>(
     counts: &C,
     station: &mut S,
-) -> Result<(), Stop>
+) -> Result<(), RunError>
     requires printing { IsPrinting (S.meaning station.old) }
     ensures kind { IsWriting result }
     ensures cause { HasCause (S.meaning station.old) (S.meaning station.new) result }

@@ -17,7 +17,7 @@ use crate::mode_rescue::ModeRescue;
 use crate::work::RescueWork;
 use mode_set::{Carriers, Mode, Mode2k, Mode8k, Settings};
 use cmd_receive::ReceptionFiles;
-use rescue::{Rescue, RescueOut};
+use rescue::{Rescue, RxOut};
 use cmd_base::{Limits, Refusal};
 use cmd_base::{read_fitting, refuse};
 use station_core::Station;
@@ -28,7 +28,7 @@ use std::thread::Threads;
 fn rescue_by<'a, R: Threads + Sync, T: ModeRescue + Drop, S: Station<'a>>(
     rt: &R,
     receiver: T,
-    out: RescueOut,
+    out: RxOut,
     settings: &Settings,
     symbol: &mut [u8],
     files: ReceptionFiles<'a>,
@@ -62,7 +62,7 @@ fn rescue_in<'a, M: Carriers, R: Threads + Sync, S: Station<'a>>(
     requires ready { IsReady (stream_names files.hp.now (option_copied files.lp)) (S.meaning station.old) }
     ensures { RunsOrLacks rescue_work settings.now files.entry.cells.now files.entry.hp.now (option_copied files.entry.lp) (S.meaning station.old) (S.meaning station.new) result }
 {
-    let Ok(out) = RescueOut::new(alloc) else {
+    let Ok(out) = RxOut::new(alloc) else {
         return refuse(&Refusal::Memory, station);
     };
     let Ok(mut symbol) = vec![in alloc; 0u8; 5 * M::K as usize] else {

@@ -9,7 +9,7 @@ ghost use Rattle.rescue.specs.Seen.{RescueState};
 ghost use Rattle.rescue.specs.Standing.{StandsFor};
 
 use mode_set::Carriers;
-use rescue::{Rescue, RescueOut};
+use rescue::{Rescue, RxOut};
 use rescue::Counts;
 use std::thread::Threads;
 
@@ -19,7 +19,7 @@ pub(crate) trait ModeRescue {
 
     /// Takes bytes from the start of the piece, all of them or as many as the current symbol needs, and returns their
     /// number.
-    fn feed<R: Threads + Sync>(&mut self, rt: &R, piece: &[u8], out: &mut RescueOut) -> usize
+    fn feed<R: Threads + Sync>(&mut self, rt: &R, piece: &[u8], out: &mut RxOut) -> usize
         requires threads { IsSync R.row }
         requires going { (state self.old).ended ≡ false }
         requires few { (state self.old).taken < 2 ^ 32 }
@@ -28,7 +28,7 @@ pub(crate) trait ModeRescue {
             → Feeds (StandsFor so_far (state self.new)) (state self.old).settings bytes piece.now r result out.new };
 
     /// Ends the reception.
-    fn finish(&mut self, out: &mut RescueOut)
+    fn finish(&mut self, out: &mut RxOut)
         requires going { (state self.old).ended ≡ false }
         ensures settings { (state self.new).settings ≡ (state self.old).settings }
         ensures finished { (bytes : List ℕ) (r : Rescued) → StandsFor so_far (state self.old) bytes r
@@ -43,11 +43,11 @@ pub(crate) trait ModeRescue {
 impl<M: Carriers> ModeRescue for Rescue<M> {
     ghost state = { λ x. x };
 
-    fn feed<R: Threads + Sync>(&mut self, rt: &R, piece: &[u8], out: &mut RescueOut) -> usize {
+    fn feed<R: Threads + Sync>(&mut self, rt: &R, piece: &[u8], out: &mut RxOut) -> usize {
         Rescue::<M>::feed(self, rt, piece, out)
     }
 
-    fn finish(&mut self, out: &mut RescueOut) {
+    fn finish(&mut self, out: &mut RxOut) {
         Rescue::<M>::finish(self, out);
     }
 

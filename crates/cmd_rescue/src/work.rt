@@ -5,11 +5,11 @@ ghost use Rattle.cmd_rescue.specs.Closing.{few_lines};
 use crate::mode_rescue::ModeRescue;
 use cmd_receive::{ClosingLines, write_lines, write_out};
 use rx_report::Line;
-use rescue::RescueOut;
+use rescue::RxOut;
 use rescue::Counts;
 use station_core::Station;
 use std::thread::Threads;
-use cmd_cells::{Stop, SymbolWork};
+use cmd_cells::{RunError, SymbolWork};
 
 /// The counts at the end of a reception.
 #[derive(Drop)]
@@ -37,7 +37,7 @@ pub(crate) struct RescueWork<'r, R, T> {
     /// The receiver.
     pub receiver: T,
     /// The output of its last call.
-    pub out: RescueOut,
+    pub out: RxOut,
     /// Whether LP is written too.
     pub two: bool,
 }
@@ -67,18 +67,18 @@ impl<'a, 'r, S: Station<'a>, R: Threads + Sync, T: ModeRescue> SymbolWork<'a, S>
 
     ghost stands = { λ x. RescueStands (StandsFor so_far (T.state x.receiver)) (T.state x.receiver).settings x.two };
 
-    fn begin(&mut self, _station: &mut S) -> Result<(), Stop> {
+    fn begin(&mut self, _station: &mut S) -> Result<(), RunError> {
         rescue::laws::nothing();
         reception::laws::events();
         Ok(())
     }
 
-    fn take(&mut self, piece: &[u8], station: &mut S) -> Result<(), Stop> {
+    fn take(&mut self, piece: &[u8], station: &mut S) -> Result<(), RunError> {
         self.receiver.feed(self.rt, piece, &mut self.out);
         write_out(self.two, &self.out, station)
     }
 
-    fn finish(&mut self, station: &mut S) -> Result<(), Stop> {
+    fn finish(&mut self, station: &mut S) -> Result<(), RunError> {
         rescue::laws::receptions();
         self.receiver.finish(&mut self.out);
         write_out(self.two, &self.out, station)?;

@@ -4,9 +4,9 @@ use Rattle.std.proofs.lemmas.List.{append-nil}
 use Rattle.station_core.specs.Meaning.{Meaning}
 use Rattle.station_core.specs.declared.ports.OutPort.{OutPort}
 use Rattle.station_core.specs.declared.ports.OutPort.TheVariants as outs
-use Rattle.cmd_base.specs.declared.work.Refusal.{Refusal}
-use Rattle.cmd_cells.specs.declared.stop.Stop.{Stop}
-use Rattle.cmd_cells.specs.declared.stop.Stop.TheVariants.{WriteFault}
+use Rattle.cmd_base.specs.declared.refusal.Refusal.{Refusal}
+use Rattle.cmd_cells.specs.declared.run_error.RunError.{RunError}
+use Rattle.cmd_cells.specs.declared.run_error.RunError.TheVariants.{WriteFault}
 use Rattle.cmd_cells.specs.Work.{Does, Follows, Holds, HoldsFront, Written}
 use Rattle.cmd_cells.specs.Writing.{WritesAt}
 use Rattle.cmd_cells.proofs.Fronts.{all_of, none_of}
@@ -34,11 +34,11 @@ told tells before bytes = if tells then before ++ bytes else before
 cells_by : (old new : Meaning) (w : List ℕ) (n : ℕ) (b : Bool) → new ≡ record old { cells_out = record old.cells_out { written = w }; write_faults = n; pending = b } → CellsOnly old new
 cells_by old new w n b p = subst (λ (x : Meaning). CellsOnly old x) (sym p) refl
 
-pub at_cells_only : (bytes : List ℕ) (old new : Meaning) (r : Result (Unit {0}) Stop) → WritesAt outs.Cells bytes old new r → CellsOnly old new
+pub at_cells_only : (bytes : List ℕ) (old new : Meaning) (r : Result (Unit {0}) RunError) → WritesAt outs.Cells bytes old new r → CellsOnly old new
 at_cells_only bytes old new (Ok u) w = cells_by old new (told old.tells old.cells_out.written bytes) old.write_faults new.pending w
 at_cells_only bytes old new (Err r) w = cells_by old new (told old.tells old.cells_out.written (take w.1 bytes)) new.write_faults new.pending w.2
 
-pub cells_append : (bytes : List ℕ) (old new : Meaning) (r : Result (Unit {0}) Stop) → old.tells ≡ true → WritesAt outs.Cells bytes old new r → Appends bytes old.cells_out.written new.cells_out.written r
+pub cells_append : (bytes : List ℕ) (old new : Meaning) (r : Result (Unit {0}) RunError) → old.tells ≡ true → WritesAt outs.Cells bytes old new r → Appends bytes old.cells_out.written new.cells_out.written r
 cells_append bytes old new (Ok u) t w = ap (λ (x : Meaning). x.cells_out.written) w ∙ ap (λ (b : Bool). told b old.cells_out.written bytes) t
 cells_append bytes old new (Err r) t w = (w.0, w.1, ap (λ (x : Meaning). x.cells_out.written) w.2 ∙ ap (λ (b : Bool). told b old.cells_out.written (take w.1 bytes)) t)
 
@@ -70,7 +70,7 @@ module _ (m m' : Meaning) (cells line : List ℕ) (only : CellsOnly m m') where
     all_held w outs.Bytes = ap (λ (x : Meaning). x.bytes_out.written) w ∙ ap (λ (x : Meaning). x.bytes_out.written) only ∙ sym (append-nil m.bytes_out.written)
     all_held w outs.Report = ap (λ (x : Meaning). x.report.written) w ∙ ap (λ (b : Bool). told b m'.report.written line) tells ∙ ap (λ (l : List ℕ). l ++ line) same_report
 
-    line_front : (r : Stop) → WritesAt outs.Report line m' m'' (Err r) → HoldsFront m m'' (written_at cells line)
+    line_front : (r : RunError) → WritesAt outs.Report line m' m'' (Err r) → HoldsFront m m'' (written_at cells line)
     line_front r w outs.Cells = all_of m.cells_out.written cells m''.cells_out.written (ap (λ (x : Meaning). x.cells_out.written) w.2 ∙ is)
     line_front r w outs.Hp = none_of m.hp_out.written [] m''.hp_out.written (ap (λ (x : Meaning). x.hp_out.written) w.2 ∙ ap (λ (x : Meaning). x.hp_out.written) only)
     line_front r w outs.Lp = none_of m.lp_out.written [] m''.lp_out.written (ap (λ (x : Meaning). x.lp_out.written) w.2 ∙ ap (λ (x : Meaning). x.lp_out.written) only)
@@ -79,12 +79,12 @@ module _ (m m' : Meaning) (cells line : List ℕ) (only : CellsOnly m m') where
 
 module _ (Stands Is : Written → Type 0) (Its : Refusal → Type 0) (before after : Written) (is : Is after) (cells line : List ℕ) (follows : Follows before (written_at cells line) after) where
   -- a symbol could not be written
-  pub stopped : (m m' : Meaning) (stop : Stop) → CellsOnly m m' → stop ≡ WriteFault → (m.tells ≡ true → Appends cells m.cells_out.written m'.cells_out.written (Err stop)) → Does Stands Is Its before m m' (Err stop)
-  stopped m m' stop only kind written = subst (λ (r : Stop). Does Stands Is Its before m m' (Err r)) (sym kind)
+  pub stopped : (m m' : Meaning) (stop : RunError) → CellsOnly m m' → stop ≡ WriteFault → (m.tells ≡ true → Appends cells m.cells_out.written m'.cells_out.written (Err stop)) → Does Stands Is Its before m m' (Err stop)
+  stopped m m' stop only kind written = subst (λ (r : RunError). Does Stands Is Its before m m' (Err r)) (sym kind)
       (record { after = after; more = written_at cells line; is = is; follows = follows; written = λ t. let w = written t in front_held m m' cells line only w.1 w.2 })
 
   -- the line was written, or could not be
-  pub ended : (stands : Stands after) (m m' m'' : Meaning) → CellsOnly m m' → (m.tells ≡ true → m'.cells_out.written ≡ m.cells_out.written ++ cells) → (result : Result (Unit {0}) Stop) → WritesAt outs.Report line m' m'' result → Does Stands Is Its before m m'' result
+  pub ended : (stands : Stands after) (m m' m'' : Meaning) → CellsOnly m m' → (m.tells ≡ true → m'.cells_out.written ≡ m.cells_out.written ++ cells) → (result : Result (Unit {0}) RunError) → WritesAt outs.Report line m' m'' result → Does Stands Is Its before m m'' result
   ended stands m m' m'' only written (Ok u) w = record { after = after; more = written_at cells line; is = (stands, is); follows = follows; written = λ t. all_held m m' cells line only m'' (written t) t w }
-  ended stands m m' m'' only written (Err r) w = subst (λ (stop : Stop). Does Stands Is Its before m m'' (Err stop)) (sym w.0)
+  ended stands m m' m'' only written (Err r) w = subst (λ (stop : RunError). Does Stands Is Its before m m'' (Err stop)) (sym w.0)
       (record { after = after; more = written_at cells line; is = is; follows = follows; written = λ t. line_front m m' cells line only m'' (written t) t r w })

@@ -13,8 +13,8 @@ use Rattle.tracking.specs.Laws.{GreaterPowersWeighMore, LiveSymbolsStay}
 use Rattle.law_tracking.specs.Steady.{SteadyGainsAreExact}
 use Rattle.reception.specs.Cells.{symbols}
 use Rattle.law_tracking.specs.Tracked.{BeginningsAreTracked, FilesAreTracked, TrackedAreClean, TrackedAreReturned, TrackedAreWithin}
-use Rattle.cmd_base.specs.declared.work.Refusal.{Refusal}
-use Rattle.cmd_base.specs.declared.work.Refusal.TheVariants.{Limit}
+use Rattle.cmd_base.specs.declared.refusal.Refusal.{Refusal}
+use Rattle.cmd_base.specs.declared.refusal.Refusal.TheVariants.{Limit}
 use Rattle.cmd_base.specs.Command.{Command, Files, IsOutput}
 use Rattle.cmd_base.specs.StatedSettings.{settings_of}
 use Rattle.cmd_base.specs.Ports.{cell_names}

@@ -4,7 +4,7 @@ use Rattle.std.proofs.Math.Seq.{take-append-add}
 use Rattle.std.proofs.lemmas.List.{append-nil, length-map}
 use Rattle.mode_set.specs.declared.settings.Settings.{Settings}
 use Rattle.tracking.specs.Tracking.{Symbol, tracked_bytes}
-use Rattle.cmd_cells.specs.declared.stop.Stop.{Stop}
+use Rattle.cmd_cells.specs.declared.run_error.RunError.{RunError}
 use Rattle.cmd_cells.proofs.Fronts.{front_of}
 use Rattle.tracker.specs.Tracks.{TrackerState, Tracks}
 use Rattle.cmd_track.specs.Working.{Appends, symbols_from}
@@ -37,7 +37,7 @@ module _ (s : Settings) (all : List Symbol) (first given : ℕ) (before now : Li
   all_written none = w.is ∙ ap (λ (l : List ℕ). before ++ l) (sym (append-nil w.past) ∙ ap (λ (l : List ℕ). w.past ++ l) (sym (from_end s all given none)) ∙ sym w.are)
 
   -- a prefix of one
-  pub some_written : (later : List ℕ) (stop : Stop) → given < length all → Appends (tracked_bytes s all given) now later (Err stop) → Appends (symbols_from s all first) before later (Err stop)
+  pub some_written : (later : List ℕ) (stop : RunError) → given < length all → Appends (tracked_bytes s all given) now later (Err stop) → Appends (symbols_from s all first) before later (Err stop)
   some_written later stop few a =
       let x : List ℕ = tracked_bytes s all given in
       let f = front_of x (symbols_from s all (given + 1)) a.1 in

@@ -8,8 +8,8 @@ use Rattle.frame_build.specs.CellFile.{header}
 use Rattle.tracking.specs.Tracking.{tracked_bytes}
 use Rattle.reception.specs.Cells.{symbol_length, symbols, tail}
 use Rattle.law_tracking.specs.Tracked.{received, tracked_file}
-use Rattle.cmd_base.specs.declared.work.Refusal.{Refusal}
-use Rattle.cmd_base.specs.declared.work.Refusal.TheVariants.{Limit}
+use Rattle.cmd_base.specs.declared.refusal.Refusal.{Refusal}
+use Rattle.cmd_base.specs.declared.refusal.Refusal.TheVariants.{Limit}
 use Rattle.cmd_convert.specs.Conversion.{counts_line}
 
 -- the bytes of a cell file after its header of eight bytes

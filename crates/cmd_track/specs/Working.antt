@@ -11,12 +11,12 @@ use Rattle.law_tracking.specs.Tracked.{received}
 use Rattle.tracker.specs.Tracks.{TrackerState, Tracks}
 use Rattle.station_core.specs.Meaning.{Meaning}
 use Rattle.station_core.specs.declared.ports.OutPort.{OutPort}
-use Rattle.cmd_base.specs.declared.work.Refusal.TheVariants.{Memory}
+use Rattle.cmd_base.specs.declared.refusal.Refusal.TheVariants.{Memory}
 use Rattle.cmd_base.specs.Ports.{cell_names}
 use Rattle.cmd_base.specs.Text.{refusal_text}
 use Rattle.cmd_base.specs.Report.{WritesText}
-use Rattle.cmd_cells.specs.declared.stop.Stop.{Stop}
-use Rattle.cmd_cells.specs.declared.stop.Stop.TheVariants.{WriteFault}
+use Rattle.cmd_cells.specs.declared.run_error.RunError.{RunError}
+use Rattle.cmd_cells.specs.declared.run_error.RunError.TheVariants.{WriteFault}
 use Rattle.cmd_cells.specs.Runs.{RunsCells}
 use Rattle.cmd_cells.specs.Work.{Work, Written}
 use Rattle.cmd_convert.specs.Working.{written_at}
@@ -75,7 +75,7 @@ pub record IsNew (m : Mode) (t : TrackerState) (part : List ℕ) (capacity count
   pub after : rest ≡ 0
 
 -- bytes were appended, or a prefix of them
-abbrev pub Appends : List ℕ → List ℕ → List ℕ → Result (Unit {0}) Stop → Type 0
+abbrev pub Appends : List ℕ → List ℕ → List ℕ → Result (Unit {0}) RunError → Type 0
 Appends bytes before after (Ok u) = after ≡ before ++ bytes
 Appends bytes before after (Err r) = (r ≡ WriteFault) × (k : ℕ) × (after ≡ before ++ take k bytes)
 

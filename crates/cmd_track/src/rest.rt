@@ -8,7 +8,7 @@ ghost use Rattle.cmd_track.specs.Working.{Appends, CellsOnly, symbols_from};
 
 use mode_set::Carriers;
 use station_core::{OutPort, Station};
-use cmd_cells::{Stop, write_some};
+use cmd_cells::{RunError, write_some};
 use tracker::Tracker;
 
 /// Writes the symbols not given yet, one write for each. The file has ended, and `room` holds a symbol.
@@ -16,7 +16,7 @@ pub(crate) fn write_rest<'a, M: Carriers, S: Station<'a>>(
     tracker: &mut Tracker<M>,
     room: &mut Vec<u8>,
     station: &mut S,
-) -> Result<(), Stop>
+) -> Result<(), RunError>
     requires ended { tracker.old.ended ≡ true }
     requires room { 5 * M.K ≤ vec_capacity room.old }
     requires created { (S.meaning station.old).cells_out.created ≡ true }

@@ -10,7 +10,7 @@ use frame_build::{SymbolIn, header};
 use mode_set::Carriers;
 use rx_report::{Line, push_count};
 use station_core::{OutPort, Station};
-use cmd_cells::{Stop, SymbolWork, write_some};
+use cmd_cells::{RunError, SymbolWork, write_some};
 use tracker::Tracker;
 
 // The closing line.
@@ -84,11 +84,11 @@ impl<'a, S: Station<'a>, M: Carriers> SymbolWork<'a, S> for TrackingWork<M> {
 
     ghost stands = { λ x bytes given. Stands M.MODE x.tracker x.symbol (vec_capacity x.room) x.symbols x.tail bytes given };
 
-    fn begin(&mut self, station: &mut S) -> Result<(), Stop> {
+    fn begin(&mut self, station: &mut S) -> Result<(), RunError> {
         write_some(OutPort::Cells, &header(M::MODE), station)
     }
 
-    fn take(&mut self, piece: &[u8], station: &mut S) -> Result<(), Stop> {
+    fn take(&mut self, piece: &[u8], station: &mut S) -> Result<(), RunError> {
         reception::laws::symbols();
         tracking::laws::live_symbols_stay();
         if piece.len() != 5 * M::K as usize {
@@ -100,7 +100,7 @@ impl<'a, S: Station<'a>, M: Carriers> SymbolWork<'a, S> for TrackingWork<M> {
         write_some(OutPort::Cells, &self.room, station)
     }
 
-    fn finish(&mut self, station: &mut S) -> Result<(), Stop> {
+    fn finish(&mut self, station: &mut S) -> Result<(), RunError> {
         self.tracker.end();
         write_rest(&mut self.tracker, &mut self.room, station)?;
         let line = closing_line(self.symbols, self.tail);

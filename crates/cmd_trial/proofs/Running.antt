@@ -5,8 +5,8 @@ use Rattle.mode_set.specs.declared.settings.Settings.{Settings}
 use Rattle.reception.specs.Streams.{Reception}
 use Rattle.trial.specs.declared.counts.TrialCounts.{TrialCounts}
 use Rattle.trial.specs.Outcome.{TrialGives, trial_counts}
-use Rattle.cmd_base.specs.declared.work.Refusal.{Refusal}
-use Rattle.cmd_base.specs.declared.work.Refusal.TheVariants.{WriteFault}
+use Rattle.cmd_base.specs.declared.refusal.Refusal.{Refusal}
+use Rattle.cmd_base.specs.declared.refusal.Refusal.TheVariants.{WriteFault}
 use Rattle.cmd_trial.specs.TrialCommand.{trial_lines, trial_refusal}
 use Rattle.cmd_base.specs.Lines.{IsWriting, WritesLines}
 use Rattle.cmd_trial.specs.Steps.{Prints, Ran}

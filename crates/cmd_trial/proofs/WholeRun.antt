@@ -12,8 +12,8 @@ use Rattle.mode_set.specs.declared.settings.Settings.{Settings as TheSettings}
 use Rattle.symbol_parameters.specs.Spans.{exists_in, settings_in, words_before}
 use Rattle.transmission.specs.SuperFrames.{super_frames}
 use Rattle.trial.specs.Outcome.{at_zero, trial_counts}
-use Rattle.cmd_base.specs.declared.work.Refusal.{Refusal}
-use Rattle.cmd_base.specs.declared.work.Refusal.TheVariants.{Usage, Settings, ReadFault, WriteFault, NotSync, Memory, Limit, Cells}
+use Rattle.cmd_base.specs.declared.refusal.Refusal.{Refusal}
+use Rattle.cmd_base.specs.declared.refusal.Refusal.TheVariants.{Usage, Settings, ReadFault, WriteFault, NotSync, Memory, Limit, Cells}
 use Rattle.cmd_base.specs.Command.{Command, IsInput, is_among, refusal_of, input_file}
 use Rattle.cmd_base.specs.Run.{Run, AsksSettingsAlone}
 use Rattle.cmd_base.specs.StatedSettings.{settings_of}

@@ -5,8 +5,8 @@ use Rattle.station_core.specs.Meaning.{Meaning}
 use Rattle.mode_set.specs.declared.settings.Settings.{Settings}
 use Rattle.reception.specs.Streams.{Reception}
 use Rattle.trial.specs.Outcome.{TrialGives, trial_counts}
-use Rattle.cmd_base.specs.declared.work.Refusal.{Refusal}
-use Rattle.cmd_base.specs.declared.work.Refusal.TheVariants.{WriteFault, Memory, Limit}
+use Rattle.cmd_base.specs.declared.refusal.Refusal.{Refusal}
+use Rattle.cmd_base.specs.declared.refusal.Refusal.TheVariants.{WriteFault, Memory, Limit}
 use Rattle.cmd_base.specs.Text.{refusal_status, refusal_text}
 use Rattle.cmd_trial.specs.TrialCommand.{trial_lines, trial_refusal}
 use Rattle.cmd_base.specs.Causes.{HasCause}

@@ -14,8 +14,8 @@ use Rattle.cmd_base.specs.Command.{Command}
 use Rattle.cmd_base.specs.Ports.{by_input}
 use Rattle.cmd_base.specs.SettingsFile.{most_settings, settings_refusal}
 use Rattle.cmd_base.specs.StatedSettings.{settings_of}
-use Rattle.cmd_base.specs.declared.work.Refusal.{Refusal}
-use Rattle.cmd_base.specs.declared.work.Refusal.TheVariants.{Limit}
+use Rattle.cmd_base.specs.declared.refusal.Refusal.{Refusal}
+use Rattle.cmd_base.specs.declared.refusal.Refusal.TheVariants.{Limit}
 
 -- the limit of a trial: no number of super-frames carries its packets, or they have more symbols than the settings
 -- allow

@@ -1,6 +1,6 @@
 // A whole run after its settings.
 ghost use Rattle.std.specs.Prelude.{◌≡◌, ◌*◌, ◌≤◌, Some, None, IfSome, IfNone, IsTrue, is_some};
-ghost use Rattle.cmd_base.specs.declared.work.Refusal.TheVariants as AnyRefusal;
+ghost use Rattle.cmd_base.specs.declared.refusal.Refusal.TheVariants as AnyRefusal;
 ghost use Rattle.cmd_base.specs.Causes.{HasCause};
 ghost use Rattle.cmd_trial.specs.TrialCommand.{limit_of};
 ghost use Rattle.cmd_trial.specs.Steps.{IsReady, Ran, ReportOnly, RunsTrial};

@@ -4,8 +4,8 @@ use Rattle.station_core.specs.Meaning.{Meaning}
 use Rattle.mode_set.specs.declared.settings.Settings.{Settings}
 use Rattle.reception.specs.Cells.{symbol_length, symbols, tail}
 use Rattle.reception.specs.Laws.{EndsSymbol, IsWithin, OneSymbolMore, SameSymbols}
-use Rattle.cmd_base.specs.declared.work.Refusal.{Refusal}
-use Rattle.cmd_cells.specs.declared.stop.Stop.{Stop}
+use Rattle.cmd_base.specs.declared.refusal.Refusal.{Refusal}
+use Rattle.cmd_cells.specs.declared.run_error.RunError.{RunError}
 use Rattle.cmd_cells.specs.Work.{Does, Written}
 use Rattle.cmd_receive.specs.Working.{LiveGives, reception_work}
 use Rattle.cmd_cells.specs.Work as works
@@ -31,7 +31,7 @@ module _ (standing : List ℕ → Written → Type 0) (a s : Settings) (two : Bo
   }
 
   -- a symbol is received
-  pub received : SameSymbols → OneSymbolMore → (standing' : List ℕ → Written → Type 0) (a' : Settings) (two' : Bool) → a' ≡ a → two' ≡ two → (bytes piece : List ℕ) (given : Written) (m m' : Meaning) (result : Result (Unit {0}) Stop)
+  pub received : SameSymbols → OneSymbolMore → (standing' : List ℕ → Written → Type 0) (a' : Settings) (two' : Bool) → a' ≡ a → two' ≡ two → (bytes piece : List ℕ) (given : Written) (m m' : Meaning) (result : Result (Unit {0}) RunError)
       → begin found ≤ symbols s bytes → symbols s bytes ≤ symbols s (bytes ++ piece)
       → works.Takes (reception_work a two) standing' (rest s bytes found) piece given m m' result
       → Does (IsBehind standing' a' s two' 0 found (bytes ++ piece)) (LiveGives a two (rest s (bytes ++ piece) found)) (λ r. ⊥) given m m' result

@@ -24,9 +24,9 @@ use Rattle.reception.specs.Cells.{symbol_length, symbols}
 use Rattle.reception.specs.Lines.{events, event_lines, closing_lines}
 use Rattle.reception.specs.Streams.{Reception, Live, Final}
 use Rattle.reception.specs.Laws.{TpsCellsStay}
-use Rattle.cmd_base.specs.declared.work.Refusal.{Refusal}
-use Rattle.cmd_base.specs.declared.work.Refusal.TheVariants.{Cells, Limit}
-use Rattle.cmd_base.specs.declared.work.CellsRefusal.TheVariants.{NoPlace, AnnouncedForm}
+use Rattle.cmd_base.specs.declared.refusal.Refusal.{Refusal}
+use Rattle.cmd_base.specs.declared.refusal.Refusal.TheVariants.{Cells, Limit}
+use Rattle.cmd_base.specs.declared.refusal.CellsRefusal.TheVariants.{NoPlace, AnnouncedForm}
 use Rattle.cmd_cells.specs.Work.{Written}
 use Rattle.reception.specs.Alike.{SameFinal, SameLines, SameLive}
 use Rattle.cmd_receive.specs.Received.{reception_refusal, within_limit}

@@ -9,10 +9,10 @@ use Rattle.station_core.specs.declared.ports.OutPort.TheVariants as outs
 use Rattle.mode_set.specs.declared.settings.Settings.{Settings as TheSettings}
 use Rattle.frame_build.specs.CellFile.{header}
 use Rattle.reception.specs.Cells.{symbol_length, symbols}
-use Rattle.cmd_base.specs.declared.work.Refusal.{Refusal}
-use Rattle.cmd_base.specs.declared.work.Refusal.TheVariants.{Limit, Cells, Memory}
-use Rattle.cmd_base.specs.declared.work.Refusal.TheVariants as refusals
-use Rattle.cmd_base.specs.declared.work.CellsRefusal.TheVariants.{Header, NoPlace, AnnouncedForm}
+use Rattle.cmd_base.specs.declared.refusal.Refusal.{Refusal}
+use Rattle.cmd_base.specs.declared.refusal.Refusal.TheVariants.{Limit, Cells, Memory}
+use Rattle.cmd_base.specs.declared.refusal.Refusal.TheVariants as refusals
+use Rattle.cmd_base.specs.declared.refusal.CellsRefusal.TheVariants.{Header, NoPlace, AnnouncedForm}
 use Rattle.cmd_base.specs.Command.{Command, Files, Unread, is_among}
 use Rattle.cmd_base.specs.StatedSettings.{settings_of}
 use Rattle.cmd_base.specs.Text.{refusal_status}

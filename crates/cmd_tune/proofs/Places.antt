@@ -4,7 +4,7 @@ use Rattle.std.proofs.lemmas.List.{append-nil}
 use Rattle.station_core.specs.Meaning.{Meaning}
 use Rattle.station_core.specs.declared.ports.OutPort.TheVariants as outs
 use Rattle.mode_set.specs.declared.settings.Settings.{Settings}
-use Rattle.cmd_cells.specs.declared.stop.Stop.{Stop}
+use Rattle.cmd_cells.specs.declared.run_error.RunError.{RunError}
 use Rattle.cmd_cells.specs.Work.{Holds, HoldsFront, Written}
 use Rattle.cmd_cells.specs.Writing.{WritesAt}
 use Rattle.cmd_cells.proofs.Fronts.{none_of}
@@ -25,18 +25,18 @@ module _ (m m' : Meaning) (found : Found) (text : List ℕ) (is : text ≡ place
   line_held w outs.Bytes = ap (λ (x : Meaning). x.bytes_out.written) w ∙ sym (append-nil m.bytes_out.written)
   line_held w outs.Report = ap (λ (x : Meaning). x.report.written) w ∙ ap (told text) t ∙ ap (λ (l : List ℕ). m.report.written ++ l) is
 
-  line_begun : (r : Stop) → WritesAt outs.Report text m m' (Err r) → HoldsFront m m' (at_place found)
+  line_begun : (r : RunError) → WritesAt outs.Report text m m' (Err r) → HoldsFront m m' (at_place found)
   line_begun r w outs.Cells = none_of m.cells_out.written [] m'.cells_out.written (ap (λ (x : Meaning). x.cells_out.written) w.2)
   line_begun r w outs.Hp = none_of m.hp_out.written [] m'.hp_out.written (ap (λ (x : Meaning). x.hp_out.written) w.2)
   line_begun r w outs.Lp = none_of m.lp_out.written [] m'.lp_out.written (ap (λ (x : Meaning). x.lp_out.written) w.2)
   line_begun r w outs.Bytes = none_of m.bytes_out.written [] m'.bytes_out.written (ap (λ (x : Meaning). x.bytes_out.written) w.2)
   line_begun r w outs.Report = (w.1, ap (λ (x : Meaning). x.report.written) w.2 ∙ ap (told (take w.1 text)) t ∙ ap (λ (l : List ℕ). m.report.written ++ take w.1 l) is)
 
-pub line_tunes : (found : Found) (two : Bool) (Begun : Type 0) (m m' : Meaning) (text : List ℕ) (result : Result (Unit {0}) Stop) → fits two found ≡ true → Begun → text ≡ place_line found → WritesAt outs.Report text m m' result
+pub line_tunes : (found : Found) (two : Bool) (Begun : Type 0) (m m' : Meaning) (text : List ℕ) (result : Result (Unit {0}) RunError) → fits two found ≡ true → Begun → text ≡ place_line found → WritesAt outs.Report text m m' result
     → Tunes found two Begun m m' result
 line_tunes found two Begun m m' text (Ok u) fit begun is w = (fit, begun, λ t. line_held m m' found text is t w)
 line_tunes found two Begun m m' text (Err r) fit begun is w =
-    subst (λ (stop : Stop). Tunes found two Begun m m' (Err stop)) (sym w.0) (fit, begun, λ t. line_begun m m' found text is t r w)
+    subst (λ (stop : RunError). Tunes found two Begun m m' (Err stop)) (sym w.0) (fit, begun, λ t. line_begun m m' found text is t r w)
 
 -- ---- what the work stands for
 

@@ -11,10 +11,10 @@ use Rattle.reception.specs.Cells.{symbols}
 use Rattle.reception.specs.Lines.{events}
 use Rattle.reception.specs.Streams.{Reception}
 use Rattle.reception.specs.Laws.{BitsOfCells, IsWithin, NoEvents, NothingLive, SameCosts, SameSymbols, TpsCellsStay, nothing}
-use Rattle.cmd_base.specs.declared.work.Refusal.TheVariants as refusals
-use Rattle.cmd_base.specs.declared.work.CellsRefusal.TheVariants.{Header, NoPlace, AnnouncedForm}
-use Rattle.cmd_cells.specs.declared.stop.Stop.{Stop}
-use Rattle.cmd_cells.specs.declared.stop.Stop.TheVariants as stops
+use Rattle.cmd_base.specs.declared.refusal.Refusal.TheVariants as refusals
+use Rattle.cmd_base.specs.declared.refusal.CellsRefusal.TheVariants.{Header, NoPlace, AnnouncedForm}
+use Rattle.cmd_cells.specs.declared.run_error.RunError.{RunError}
+use Rattle.cmd_cells.specs.declared.run_error.RunError.TheVariants as stops
 use Rattle.cmd_cells.specs.Work.{Does, Written}
 use Rattle.cmd_receive.specs.Working.{FinalGives, LiveGives, ReceiverStands, live_at, written_at}
 use Rattle.cmd_receive.proofs.Commands.{nothing_written}
@@ -121,7 +121,7 @@ module _ (no_events : NoEvents) (nothing_live : NothingLive) (s : Settings) (two
       )
 
   -- what is done at the place, as a call of the work
-  pub tuned : {B : Type 0} (announced_by : B → Settings) (standing : B → List ℕ → Reception → Type 0) (skip_of : B → ℕ) (two_of : B → Bool) (behind : Option B) (Stands : Written → Type 0) (given : Written) (m m' : Meaning) (result : Result (Unit {0}) Stop)
+  pub tuned : {B : Type 0} (announced_by : B → Settings) (standing : B → List ℕ → Reception → Type 0) (skip_of : B → ℕ) (two_of : B → Bool) (behind : Option B) (Stands : Written → Type 0) (given : Written) (m m' : Meaning) (result : Result (Unit {0}) RunError)
       → IsNothing given
       → ((b : B) → behind ≡ Some b → fits two found ≡ true → IsBehindPlace (announced_by b) (two_of b) (skip_of b) (ReceiverStands (standing b) (announced_by b) (two_of b)) s two found bytes none → Stands (at_place found))
       → Tunes found two (HasSome (λ b. BeginsBehind (announced_by b) (standing b [] nothing) s (skip_of b) (two_of b) two found) behind) m m' result
@@ -138,7 +138,7 @@ module _ (no_events : NoEvents) (nothing_live : NothingLive) (s : Settings) (two
       same : m' ≡ m → m.tells ≡ true → (port : OutPort) → (sink_at port m').written ≡ (sink_at port m).written
       same e t port = ap (λ (x : Meaning). (sink_at port x).written) e
 
-      go : (result : Result (Unit {0}) Stop) → Tunes found two (HasSome (λ b. BeginsBehind (announced_by b) (standing b [] nothing) s (skip_of b) (two_of b) two found) behind) m m' result
+      go : (result : Result (Unit {0}) RunError) → Tunes found two (HasSome (λ b. BeginsBehind (announced_by b) (standing b [] nothing) s (skip_of b) (two_of b) two found) behind) m m' result
           → Does Stands (GivesLive s two bytes) (λ r. (left : List ℕ) → RefusesTuning s two bytes left given r) given m m' result
       go (Ok u) t = record { after = at_place found; more = at_place found; is = begun behind refl t.1 t.0; follows = follows; written = t.2 }
       go (Err stops.WriteFault) t = record { after = at_place found; more = at_place found; is = (begun behind refl t.1 t.0).1; follows = follows; written = t.2 }

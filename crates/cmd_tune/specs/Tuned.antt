@@ -7,9 +7,9 @@ use Rattle.station_core.specs.declared.ports.OutPort.TheVariants as outs
 use Rattle.mode_set.specs.Kept.{is_flat}
 use Rattle.mode_set.specs.declared.settings.Settings.{Settings}
 use Rattle.reception.specs.Cells.{symbols}
-use Rattle.cmd_base.specs.declared.work.Refusal.{Refusal}
-use Rattle.cmd_base.specs.declared.work.Refusal.TheVariants.{Cells}
-use Rattle.cmd_base.specs.declared.work.CellsRefusal.TheVariants.{NoPlace, AnnouncedForm}
+use Rattle.cmd_base.specs.declared.refusal.Refusal.{Refusal}
+use Rattle.cmd_base.specs.declared.refusal.Refusal.TheVariants.{Cells}
+use Rattle.cmd_base.specs.declared.refusal.CellsRefusal.TheVariants.{NoPlace, AnnouncedForm}
 use Rattle.cmd_cells.specs.Work.{Written}
 use Rattle.cmd_receive.specs.Received.{reception_refusal, within_limit}
 use Rattle.cmd_receive.specs.Working.{LiveGives, FinalGives}

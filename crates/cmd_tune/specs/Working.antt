@@ -2,14 +2,14 @@
 use Rattle.std.specs.Prelude.{◌≡◌, ◌⊎◌, ℕ, ◌+◌, ◌≤◌, Bool, true, false, List, [], ◌++◌, Option, Some, None, Result, Ok, Err}
 use Rattle.mode_set.specs.declared.settings.Settings.{Settings}
 use Rattle.reception.specs.Cells.{symbol_length, symbols}
-use Rattle.cmd_base.specs.declared.work.Refusal.{Refusal}
-use Rattle.cmd_base.specs.declared.work.Refusal.TheVariants.{Usage, ReadFault, WriteFault, NotSync, Memory, Limit, Cells}
-use Rattle.cmd_base.specs.declared.work.Refusal.TheVariants as refusals
-use Rattle.cmd_base.specs.declared.work.CellsRefusal.TheVariants.{Header, NoPlace, AnnouncedForm}
+use Rattle.cmd_base.specs.declared.refusal.Refusal.{Refusal}
+use Rattle.cmd_base.specs.declared.refusal.Refusal.TheVariants.{Usage, ReadFault, WriteFault, NotSync, Memory, Limit, Cells}
+use Rattle.cmd_base.specs.declared.refusal.Refusal.TheVariants as refusals
+use Rattle.cmd_base.specs.declared.refusal.CellsRefusal.TheVariants.{Header, NoPlace, AnnouncedForm}
 use Rattle.station_core.specs.Meaning.{Meaning}
 use Rattle.station_core.specs.declared.ports.OutPort.{OutPort}
-use Rattle.cmd_cells.specs.declared.stop.Stop.{Stop}
-use Rattle.cmd_cells.specs.declared.stop.Stop.TheVariants as stops
+use Rattle.cmd_cells.specs.declared.run_error.RunError.{RunError}
+use Rattle.cmd_cells.specs.declared.run_error.RunError.TheVariants as stops
 use Rattle.cmd_cells.specs.Work.{Holds, HoldsFront, Work, Written}
 use Rattle.cmd_receive.specs.Working.{LiveGives}
 use Rattle.tune_in.specs.Announced.{IsAnnounced}
@@ -74,7 +74,7 @@ HasSome Is None = ⊥
 HasSome Is (Some b) = Is b
 
 -- what is done at a place: its line is written and the reception begun, or a prefix of the line was written, or the place does not fit, or there was no memory
-abbrev pub Tunes : Found → Bool → Type 0 → Meaning → Meaning → Result (Unit {0}) Stop → Type 0
+abbrev pub Tunes : Found → Bool → Type 0 → Meaning → Meaning → Result (Unit {0}) RunError → Type 0
 Tunes found two Begun old new (Ok u) = (fits two found ≡ true) × Begun × (old.tells ≡ true → Holds old new (at_place found))
 Tunes found two Begun old new (Err stops.WriteFault) = (fits two found ≡ true) × Begun × (old.tells ≡ true → HoldsFront old new (at_place found))
 Tunes found two Begun old new (Err (stops.Work (Cells AnnouncedForm))) = (fits two found ≡ false) × (new ≡ old)

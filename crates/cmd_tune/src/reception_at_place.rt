@@ -13,7 +13,7 @@ ghost use Rattle.tune_in.specs.declared.frame.Found.{Found as AnyFound};
 ghost use Rattle.tune_in.specs.OfBytes.{rest};
 ghost use Rattle.cmd_tune.specs.Working.{IsBehind};
 
-use cmd_cells::{Stop, SymbolWork};
+use cmd_cells::{RunError, SymbolWork};
 use cmd_receive::{CellReceiver, ModeReceiver, ReceiverWithOutput, ReceptionWork};
 use mode_set::{Carriers, Settings};
 use receiver::{Receiver, RxOut};
@@ -114,7 +114,7 @@ impl<X: CellReceiver> Behind<X> {
         size: usize,
         piece: &[u8],
         station: &mut S,
-    ) -> Result<(), Stop>
+    ) -> Result<(), RunError>
         requires threads { X.has_threads }
         requires open { AreOpen (writes_at self.old.work.two) (S.meaning station.old) }
         requires going { (s : AnySettings) × (found : AnyFound) × (bytes : List ℕ) × (given : Written) × (symbols s bytes < 2 ^ 32) × ((X.settings self.old.work.receiver).mode ≡ s.mode)

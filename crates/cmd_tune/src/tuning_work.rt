@@ -9,7 +9,7 @@ ghost use Rattle.cmd_tune.specs.Working.{BeginsBehind, HasSome, Tunes, tuning_wo
 
 use crate::reception_at_place::{Behind, ReceiverMaker};
 use cmd_base::{CellsRefusal, Refusal};
-use cmd_cells::{Stop, SymbolWork, write_some};
+use cmd_cells::{RunError, SymbolWork, write_some};
 use cmd_receive::{CellReceiver, ReceptionWork};
 use mode_set::Settings;
 use station_core::{OutPort, Station};
@@ -33,7 +33,7 @@ pub(crate) struct TuningWork<T, P, X> {
 
 impl<T: PlaceSearch, X: CellReceiver + Drop, P: ReceiverMaker<X>> TuningWork<T, P, X> {
     // At a place: checks its form, makes the receiver and writes the line.
-    fn tune<'a, S: Station<'a>>(&mut self, found: &Found, station: &mut S) -> Result<(), Stop>
+    fn tune<'a, S: Station<'a>>(&mut self, found: &Found, station: &mut S) -> Result<(), RunError>
         requires able { P.able self.old.maker }
         requires mode { self.old.settings.mode ≡ P.mode }
         requires place { found.now.place < 2 ^ 32 }
@@ -52,10 +52,10 @@ impl<T: PlaceSearch, X: CellReceiver + Drop, P: ReceiverMaker<X>> TuningWork<T, 
     {
         let settings = announced(&found.word, &self.settings);
         if settings.hierarchy.is_flat() == self.two {
-            return Err(Stop::Work(Refusal::Cells(CellsRefusal::AnnouncedForm)));
+            return Err(RunError::Work(Refusal::Cells(CellsRefusal::AnnouncedForm)));
         }
         let Some(receiver) = self.maker.make(&settings) else {
-            return Err(Stop::Work(Refusal::Memory));
+            return Err(RunError::Work(Refusal::Memory));
         };
         self.behind = Some(Behind {
             skip: begin(found) - (found.place + 68),
@@ -95,11 +95,11 @@ impl<'a, S: Station<'a>, T: PlaceSearch, X: CellReceiver + Drop, P: ReceiverMake
         × TuningStands (T.stands x.search) (λ b s two found bytes behind. IsBehindPlace (X.settings b.work.receiver) b.work.two b.skip (ReceiverStands (X.stands b.work.receiver so_far) (X.settings b.work.receiver) b.work.two) s two found bytes behind)
         x.settings x.two x.behind bytes given };
 
-    fn begin(&mut self, _station: &mut S) -> Result<(), Stop> {
+    fn begin(&mut self, _station: &mut S) -> Result<(), RunError> {
         Ok(())
     }
 
-    fn take(&mut self, piece: &[u8], station: &mut S) -> Result<(), Stop> {
+    fn take(&mut self, piece: &[u8], station: &mut S) -> Result<(), RunError> {
         reception::laws::nothing();
         reception::laws::events();
         tune_in::more_bytes();
@@ -113,10 +113,10 @@ impl<'a, S: Station<'a>, T: PlaceSearch, X: CellReceiver + Drop, P: ReceiverMake
         }
     }
 
-    fn finish(&mut self, station: &mut S) -> Result<(), Stop> {
+    fn finish(&mut self, station: &mut S) -> Result<(), RunError> {
         match &mut self.behind {
             Some(behind) => behind.work.finish(station),
-            None => Err(Stop::Work(Refusal::Cells(CellsRefusal::NoPlace))),
+            None => Err(RunError::Work(Refusal::Cells(CellsRefusal::NoPlace))),
         }
     }
 

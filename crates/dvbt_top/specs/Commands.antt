@@ -1,7 +1,7 @@
 -- The command of a list of arguments. Each command is defined in the crate that runs it.
 use Rattle.std.specs.Prelude.{◌≡◌, ℕ, ⊤, List, [], ◌∷◌, Option, None, Some, false}
 use Rattle.cmd_base.specs.Command.{Command}
-use Rattle.cmd_base.specs.declared.work.Refusal.TheVariants.{Usage}
+use Rattle.cmd_base.specs.declared.refusal.Refusal.TheVariants.{Usage}
 use Rattle.cmd_packets.specs.Commands.{disperse_command, outer_command, inner_command}
 use Rattle.cmd_modulate.specs.ModulateCommand.{modulate_command}
 use Rattle.cmd_receive.specs.ReceiveCommand.{receive_command}

@@ -19,7 +19,7 @@ fn full_line(alloc: Global, length: usize) -> Result<HeapCircularBuffer<u8>, All
 }
 
 // The branch of the byte after.
-fn after(branch: usize) -> usize
+fn next_branch(branch: usize) -> usize
     requires { branch < 12 }
     ensures { result ≡ (branch + 1) % 12 }
 {
@@ -66,7 +66,7 @@ impl Lines {
         ensures stands { (delay : ℕ → ℕ) (bytes : List ℕ) → StandsFor delay (delays self.old.lines.items self.old.next) bytes → StandsFor delay (delays self.new.lines.items self.new.next) (bytes ++ byte ∷ []) }
     {
         let out = self.lines[self.next].push_back(byte).unwrap_or(byte);
-        self.next = after(self.next);
+        self.next = next_branch(self.next);
         out
     }
 }

@@ -28,8 +28,8 @@ use Rattle.tps_word.specs.Tps.{tps_word, signalled}
 use Rattle.frame_build.specs.Symbol.{real, tps_sign, frame_of, cell_of_kind, cell_at, sent_bytes, symbol_bytes, bits_of, Agree}
 use Rattle.frame_build.specs.Announcing.{settings_for, announcing_cell, announcing_bytes}
 use Rattle.frame_build.specs.State.{is_turned, IsLabelTable, IsCellTable, AreSources, AreAllSources, bytes_sent, labels_before, labels_of, other_cells, place_of, source_of}
-use Rattle.frame_build.specs.declared.source.Source.{Source}
-use Rattle.frame_build.specs.declared.source.Source.TheVariants.{Label, Pilot, OppositePilot, Signalling, OppositeSignalling}
+use Rattle.frame_build.specs.declared.carrier_content.CarrierContent.{CarrierContent}
+use Rattle.frame_build.specs.declared.carrier_content.CarrierContent.TheVariants.{Label, Pilot, OppositePilot, Signalling, OppositeSignalling}
 
 turn : (t r b : Bool) → xor (xor t r) b ≡ xor (xor t b) r
 turn true true true = refl
@@ -98,7 +98,7 @@ number_by false false true q true e = absurd (omega (arith, e))
 number_by false false true q false e = absurd (omega (arith, e))
 number_by false false false q r e = refl
 
-pub is_next_label : (m : Mode) (l k : ℕ) (source : Source) → source ≡ source_of (kind m l k) (reference k) → source ≡ Label → kind m l k ≡ Payload (labels_before m l k)
+pub is_next_label : (m : Mode) (l k : ℕ) (source : CarrierContent) → source ≡ source_of (kind m l k) (reference k) → source ≡ Label → kind m l k ≡ Payload (labels_before m l k)
 is_next_label m l k source e is =
     let one : labels_of (source_of (kind_by (is_continual m k) (is_scattered l k) (is_tps m k) (labels_before m l k)) (reference k)) ≡ 1 =
     ap (λ (z : CarrierKind). labels_of (source_of z (reference k))) (sym (kind_is m l k)) ∙ ap labels_of (sym e) ∙ ap labels_of is in
@@ -123,7 +123,7 @@ payload_is : (m : Mode) (l k : ℕ) → is_payload m l k ≡ not (is_continual m
 unfolding is_payload
 payload_is m l k = refl
 
-pub labels_more : (m : Mode) (l k : ℕ) (source : Source) → source ≡ source_of (kind m l k) (reference k) → labels_before m l (k + 1) ≡ labels_before m l k + labels_of source
+pub labels_more : (m : Mode) (l k : ℕ) (source : CarrierContent) → source ≡ source_of (kind m l k) (reference k) → labels_before m l (k + 1) ≡ labels_before m l k + labels_of source
 unfolding labels_before
 labels_more m l k source e =
     let here : labels_of source ≡ (if is_payload m l k then 1 else 0) =
@@ -162,31 +162,31 @@ unfolding number_in
 payload_same p q e = ap number_in e
 
 -- a carrier's bytes are those of its cell
-pub carrier_sent : (mo : Mode) (now next : Settings) (m l : ℕ) (turned : Bool) (labels : List ℕ) (k q : ℕ) (source : Source) (label : List ℕ) → now.mode ≡ mo → m % 68 ≡ l → turned ≡ is_turned (tps_word (signalled next (frame_of m))) (m % 68)
+pub carrier_sent : (mo : Mode) (now next : Settings) (m l : ℕ) (turned : Bool) (labels : List ℕ) (k q : ℕ) (source : CarrierContent) (label : List ℕ) → now.mode ≡ mo → m % 68 ≡ l → turned ≡ is_turned (tps_word (signalled next (frame_of m))) (m % 68)
     → source ≡ source_of (kind mo l k) (reference k) → q ≡ labels_before mo l k → label ≡ sent_bytes (map_cell now.shape now.hierarchy (bits_of labels q))
     → bytes_sent source turned label ≡ sent_bytes (announcing_cell now next m (bits_of labels) k)
 unfolding announcing_cell
 carrier_sent mo now next m l turned labels k q source label em el et e eq is =
     let same : kind mo l k ≡ kind now.mode (m % 68) k = ap (λ (z : Mode). kind z l k) (sym em) ∙ ap (λ (z : ℕ). kind now.mode z k) (sym el) in
-    ap (λ (z : Source). bytes_sent z turned label) e
+    ap (λ (z : CarrierContent). bytes_sent z turned label) e
     ∙ kind_sent now next m turned labels k q (kind mo l k) label et (λ p. is)
     (λ p ep. let label_source : source ≡ Label = e ∙ ap (λ (z : CarrierKind). source_of z (reference k)) ep in
     payload_same p q (sym ep ∙ is_next_label mo l k source e label_source ∙ ap Payload (sym eq)))
     ∙ ap (λ (z : CarrierKind). sent_bytes (cell_of_kind (settings_for now next z) m (bits_of labels) k z)) same
 
 -- a label that is sent is one of the symbol's
-pub label_below : (m n : Mode) (l k next : ℕ) (source : Source) → AreNumbered n l → n ≡ m → k < carriers m → source ≡ source_of (kind m l k) (reference k) → next ≡ labels_before m l k → source ≡ Label → next < payload m
+pub label_below : (m n : Mode) (l k next : ℕ) (source : CarrierContent) → AreNumbered n l → n ≡ m → k < carriers m → source ≡ source_of (kind m l k) (reference k) → next ≡ labels_before m l k → source ≡ Label → next < payload m
 label_below m n l k next source numbered same few e en is =
     let here : kind m l k ≡ Payload next = is_next_label m l k source e is ∙ ap Payload (sym en) in
     let all : AreNumbered m l = subst (λ (z : Mode). AreNumbered z l) same numbered in
     ((all k next few).0 here).0
 
 -- the carriers of a symbol send what those of the symbol at its place among four do
-pub source_at : (m : Mode) (l : ℕ) (lists : List (List Source)) (k : ℕ) (d : List Source) (e : Source) → AreAllSources m lists → k < carriers m → kind m l k ≡ kind m (l % 4) k
+pub source_at : (m : Mode) (l : ℕ) (lists : List (List CarrierContent)) (k : ℕ) (d : List CarrierContent) (e : CarrierContent) → AreAllSources m lists → k < carriers m → kind m l k ≡ kind m (l % 4) k
     → get_or (get_or lists (l % 4) d) k e ≡ source_of (kind m l k) (reference k)
 source_at m l lists k d e send few repeats = send (l % 4) d (omega arith) k e few ∙ ap (λ (z : CarrierKind). source_of z (reference k)) (sym repeats)
 
-pub sources_more : (m : Mode) (l : ℕ) (list : List Source) (n : ℕ) (source : Source) → AreSources m l list n → n < length list → source ≡ source_of (kind m l n) (reference n) → AreSources m l (set list n source) (n + 1)
+pub sources_more : (m : Mode) (l : ℕ) (list : List CarrierContent) (n : ℕ) (source : CarrierContent) → AreSources m l list n → n < length list → source ≡ source_of (kind m l n) (reference n) → AreSources m l (set list n source) (n + 1)
 sources_more m l list n source a within is k d less = go (cases_lt k n)
   where
     go : (k < n) ⊎ (n ≤ k) → get_or (set list n source) k d ≡ source_of (kind m l k) (reference k)
@@ -222,7 +222,7 @@ behind front i place d long is =
     ap (λ (z : ℕ). get_or (front ++ other_cells) z d) (sym at) ∙ get_or-append-add front other_cells i d
 
 -- behind 64 cells
-other_sent : (front : List (List ℕ)) (source : Source) (turned : Bool) (label d : List ℕ) → length front ≡ 64 → source ≢ Label → get_or (front ++ other_cells) (place_of source turned) d ≡ bytes_sent source turned label
+other_sent : (front : List (List ℕ)) (source : CarrierContent) (turned : Bool) (label d : List ℕ) → length front ≡ 64 → source ≢ Label → get_or (front ++ other_cells) (place_of source turned) d ≡ bytes_sent source turned label
 other_sent front Label turned label d long other = absurd (other refl)
 other_sent front Pilot false label d long other = behind front 0 64 d long refl
 other_sent front Pilot true label d long other = behind front 4 68 d long refl
@@ -275,7 +275,7 @@ unfolding carrier_bytes announcing_bytes
 whole_symbol s t m labels n e = ap (λ (z : ℕ). flat_map (λ k. sent_bytes (announcing_cell s t m labels k)) (numbers z)) e
 
 -- the symbols 0 to 3
-pub all_sources : (m : Mode) (a b c d : List Source) → AreSources m 0 a (carriers m) → AreSources m 1 b (carriers m) → AreSources m 2 c (carriers m) → AreSources m 3 d (carriers m) → AreAllSources m (a ∷ b ∷ c ∷ d ∷ [])
+pub all_sources : (m : Mode) (a b c d : List CarrierContent) → AreSources m 0 a (carriers m) → AreSources m 1 b (carriers m) → AreSources m 2 c (carriers m) → AreSources m 3 d (carriers m) → AreAllSources m (a ∷ b ∷ c ∷ d ∷ [])
 all_sources m a b c d sa sb sc sd zero e l = sa
 all_sources m a b c d sa sb sc sd (suc zero) e l = sb
 all_sources m a b c d sa sb sc sd (suc (suc zero)) e l = sc

@@ -14,8 +14,8 @@ use Rattle.pilots.specs.Reference.{reference}
 use Rattle.qam_map.specs.declared.cell.Cell.{Cell}
 use Rattle.qam_map.specs.Points.{map_cell}
 use Rattle.frame_build.specs.Symbol.{real, sent_bytes, cells_from, weights_from}
-use Rattle.frame_build.specs.declared.source.Source.{Source}
-use Rattle.frame_build.specs.declared.source.Source.TheVariants.{Label, Pilot, OppositePilot, Signalling, OppositeSignalling}
+use Rattle.frame_build.specs.declared.carrier_content.CarrierContent.{CarrierContent}
+use Rattle.frame_build.specs.declared.carrier_content.CarrierContent.TheVariants.{Label, Pilot, OppositePilot, Signalling, OppositeSignalling}
 
 -- the visible state: the settings, and the number of the next symbol in its super-frame of 272
 pub record NextSymbol : Type 0 where
@@ -32,14 +32,14 @@ abbrev pub IsLabelTable : Shape → Hierarchy → List (List ℕ) → ℕ → Ty
 IsLabelTable s h cells n = (label : ℕ) (d : List ℕ) → label < n → get_or cells label d ≡ sent_bytes (map_cell s h (is_set label))
 
 -- the content of a carrier, from its kind and its bit of the reference sequence
-abbrev pub source_of : CarrierKind → Bool → Source
+abbrev pub source_of : CarrierKind → Bool → CarrierContent
 source_of Continual opposite = if opposite then OppositePilot else Pilot
 source_of Scattered opposite = if opposite then OppositePilot else Pilot
 source_of Tps opposite = if opposite then OppositeSignalling else Signalling
 source_of (Payload q) opposite = Label
 
 -- the labels that a carrier needs, one or none
-abbrev pub labels_of : Source → ℕ
+abbrev pub labels_of : CarrierContent → ℕ
 labels_of Label = 1
 labels_of Pilot = 0
 labels_of OppositePilot = 0
@@ -51,14 +51,14 @@ unfoldable pub labels_before : Mode → ℕ → ℕ → ℕ
 labels_before m l k = count_by (is_payload m l) (numbers k)
 
 -- the contents of the first n carriers of symbol l
-abbrev pub AreSources : Mode → ℕ → List Source → ℕ → Type 0
-AreSources m l list n = (k : ℕ) (d : Source) → k < n → get_or list k d ≡ source_of (kind m l k) (reference k)
+abbrev pub AreSources : Mode → ℕ → List CarrierContent → ℕ → Type 0
+AreSources m l list n = (k : ℕ) (d : CarrierContent) → k < n → get_or list k d ≡ source_of (kind m l k) (reference k)
 
-abbrev pub AreAllSources : Mode → List (List Source) → Type 0
-AreAllSources m lists = (i : ℕ) (d : List Source) → i < 4 → AreSources m i (get_or lists i d) (carriers m)
+abbrev pub AreAllSources : Mode → List (List CarrierContent) → Type 0
+AreAllSources m lists = (i : ℕ) (d : List CarrierContent) → i < 4 → AreSources m i (get_or lists i d) (carriers m)
 
 -- the bytes for the content of a carrier, given the inversion of the TPS cells and the bytes of a label
-abbrev pub bytes_sent : Source → Bool → List ℕ → List ℕ
+abbrev pub bytes_sent : CarrierContent → Bool → List ℕ → List ℕ
 bytes_sent Label turned label = label
 bytes_sent Pilot turned label = sent_bytes (real 21845 false)
 bytes_sent OppositePilot turned label = sent_bytes (real 21845 true)
@@ -66,7 +66,7 @@ bytes_sent Signalling turned label = sent_bytes (real 16384 turned)
 bytes_sent OppositeSignalling turned label = sent_bytes (real 16384 (not turned))
 
 -- the place of a carrier's content in the table after the cells of 64 labels
-abbrev pub place_of : Source → Bool → ℕ
+abbrev pub place_of : CarrierContent → Bool → ℕ
 place_of Label turned = 63
 place_of Pilot turned = 64 + (if turned then 4 else 0)
 place_of OppositePilot turned = 65 + (if turned then 4 else 0)
@@ -82,10 +82,10 @@ other_cells =
 -- the bytes of the cells of all labels, and those of other carriers
 pub record IsCellTable (s : Shape) (h : Hierarchy) (cells : List (List ℕ)) : Type 0 where
   pub labels : IsLabelTable s h cells (2 ^ label_bits s)
-  pub others : (source : Source) (turned : Bool) (label d : List ℕ) → source ≢ Label → get_or cells (place_of source turned) d ≡ bytes_sent source turned label
+  pub others : (source : CarrierContent) (turned : Bool) (label d : List ℕ) → source ≢ Label → get_or cells (place_of source turned) d ≡ bytes_sent source turned label
 
 -- the next symbol of a super-frame, and the contents of the carriers in symbols 0 to 3
-pub record IsReady (m : Mode) (s : Settings) (number : ℕ) (lists : List (List Source)) : Type 0 where
+pub record IsReady (m : Mode) (s : Settings) (number : ℕ) (lists : List (List CarrierContent)) : Type 0 where
   pub mode : s.mode ≡ m
   pub within : number < 272
   pub send : AreAllSources m lists

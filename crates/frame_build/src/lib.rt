@@ -8,9 +8,9 @@
 
 mod cell_file;
 mod five_bytes;
-mod label_cells;
+mod cell_table;
 mod laws;
-mod source;
+mod carrier_content;
 mod symbol_in;
 mod symbol_out;
 

@@ -10,15 +10,15 @@ ghost use Rattle.frame_build.specs.Announcing.{announcing_bytes};
 ghost use Rattle.frame_build.specs.State.{AreAllSources, AreSources, is_turned, source_of};
 
 use crate::five_bytes::{push_five, put_five};
-use crate::label_cells::LabelCells;
-use crate::source::{Source, sources};
+use crate::cell_table::CellTable;
+use crate::carrier_content::{CarrierContent, sources};
 use mode_set::{Carriers, Entry, Settings};
 use pilots::{kinds_repeat, payload_carriers_are_numbered};
 use std::marker::{Model, PhantomData};
 use tps_word::TpsWord;
 
 // What carrier `k` of symbol `l` sends, which is what it sends in the symbol at its place among four.
-fn source<M: Carriers>(sources: &[[Source; 6817]; 4], l: u8, k: u32) -> Source
+fn source<M: Carriers>(sources: &[[CarrierContent; 6817]; 4], l: u8, k: u32) -> CarrierContent
     requires symbol { l < 68 }
     requires carrier { k < M.K }
     requires send { AreAllSources M.MODE sources.now }
@@ -47,8 +47,8 @@ fn push_symbol<M: Carriers>(
     settings: &Settings,
     next: &Settings,
     number: u16,
-    label_cells: &LabelCells,
-    sources: &[[Source; 6817]; 4],
+    label_cells: &CellTable,
+    sources: &[[CarrierContent; 6817]; 4],
     labels: &[u8],
     to: &mut Vec<u8>,
 )
@@ -76,7 +76,7 @@ fn push_symbol<M: Carriers>(
 }
 
 // What the carriers of symbol `l` send, which is what those of the symbol at its place among four do.
-fn sources_of<M: Carriers>(sources: &[[Source; 6817]; 4], l: u8) -> &[Source; 6817]
+fn sources_of<M: Carriers>(sources: &[[CarrierContent; 6817]; 4], l: u8) -> &[CarrierContent; 6817]
     requires symbol { l < 68 }
     requires send { AreAllSources M.MODE sources.now }
     ensures { AreSources M.MODE l result.now (carriers M.MODE) }
@@ -90,8 +90,8 @@ fn put_symbol<M: Carriers>(
     settings: &Settings,
     next: &Settings,
     number: u16,
-    label_cells: &LabelCells,
-    sources: &[Source; 6817],
+    label_cells: &CellTable,
+    sources: &[CarrierContent; 6817],
     labels: &[u8],
     to: &mut [u8],
 )
@@ -124,9 +124,9 @@ fn put_symbol<M: Carriers>(
 pub struct SymbolOut<M: Carriers> {
     settings: Settings,
     number: u16,
-    label_cells: LabelCells,
+    label_cells: CellTable,
     // What the carriers of the symbols 0 to 3 send, which the others repeat.
-    sources: [[Source; 6817]; 4],
+    sources: [[CarrierContent; 6817]; 4],
     of: PhantomData<M>,
 }
 
@@ -150,7 +150,7 @@ impl<M: Carriers> SymbolOut<M> {
         SymbolOut {
             settings: *settings,
             number: 0,
-            label_cells: LabelCells::new(settings.shape, settings.hierarchy),
+            label_cells: CellTable::new(settings.shape, settings.hierarchy),
             sources: [
                 sources::<M>(0),
                 sources::<M>(1),

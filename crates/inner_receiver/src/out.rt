@@ -18,7 +18,7 @@ const EVENTS: usize = 32;
 ///
 /// It has room for 24 packets of each stream and for 32 reports, which one symbol never exceeds.
 #[derive(Drop)]
-pub struct ReceiverOut {
+pub struct RxOut {
     /// The bytes of the packets of HP.
     pub hp: Vec<u8>,
     /// The bytes of the packets of LP.
@@ -27,7 +27,7 @@ pub struct ReceiverOut {
     pub events: Vec<Event>,
 }
 
-impl Model for ReceiverOut {
+impl Model for RxOut {
     ghost use Rattle.std.specs.Prelude.{◌≤◌, vec_capacity};
     ghost use Rattle.reception.specs.Feeds.{Output};
 
@@ -38,12 +38,12 @@ impl Model for ReceiverOut {
     ghost invariant = { λ o. (4512 ≤ vec_capacity o.hp) × (4512 ≤ vec_capacity o.lp) × (32 ≤ vec_capacity o.events) };
 }
 
-impl ReceiverOut {
+impl RxOut {
     /// It is empty. The only error is lack of memory.
-    pub fn new(alloc: Global) -> Result<ReceiverOut, AllocError>
+    pub fn new(alloc: Global) -> Result<RxOut, AllocError>
         ensures { IfOk result (λ out. out ≡ record { hp = []; lp = []; events = [] }) }
     {
-        Ok(ReceiverOut {
+        Ok(RxOut {
             hp: Vec::with_capacity(alloc, PACKET * PACKETS)?,
             lp: Vec::with_capacity(alloc, PACKET * PACKETS)?,
             events: Vec::with_capacity(alloc, EVENTS)?,

@@ -132,7 +132,7 @@ impl StreamMeter {
     /// words that are then whole, and counts the reports.
     ///
     /// The decoder has run the symbol. With its bits at most 127,008 wait.
-    pub fn give_on<R: Threads + Sync, G: Gate>(
+    pub fn deliver<R: Threads + Sync, G: Gate>(
         &mut self,
         rt: &R,
         gate: &G,

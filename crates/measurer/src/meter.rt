@@ -120,8 +120,8 @@ impl<M: Carriers> FrameMeter<M> {
             &mut self.lp.branch,
             &mut self.events,
         );
-        self.hp.give_on(rt, gate, settings.workers, within);
-        self.lp.give_on(rt, gate, settings.workers, within);
+        self.hp.deliver(rt, gate, settings.workers, within);
+        self.lp.deliver(rt, gate, settings.workers, within);
         self.comparer
             .keep(taken - 1, cells.cells(), cells.weights());
     }

@@ -131,8 +131,8 @@ impl<M: Carriers> Receiver<M> {
             &mut self.lp.branch,
             &mut out.events,
         );
-        self.hp.give_on(rt, gate, settings.workers, &mut out.hp);
-        self.lp.give_on(rt, gate, settings.workers, &mut out.lp);
+        self.hp.deliver(rt, gate, settings.workers, &mut out.hp);
+        self.lp.deliver(rt, gate, settings.workers, &mut out.lp);
         count
     }
 

@@ -11,4 +11,4 @@ mod stream;
 mod words;
 
 pub use feed::Receiver;
-pub use inner_receiver::ReceiverOut as RxOut;
+pub use inner_receiver::RxOut;

@@ -100,7 +100,7 @@ impl StreamRx {
 
     /// Processes the decoder's output for a symbol: decodes the words then complete and appends their packets, and
     /// counts the reports.
-    pub(crate) fn give_on<R: Threads + Sync, G: Gate>(
+    pub(crate) fn deliver<R: Threads + Sync, G: Gate>(
         &mut self,
         rt: &R,
         gate: &G,

@@ -8,7 +8,7 @@ ghost use Rattle.rescue.specs.Lines.{counts_of};
 ghost use Rattle.rescue.specs.ReportText.{closing_lines};
 ghost use Rattle.rescue.specs.Standing.{StandsFor};
 
-use crate::RescueOut;
+use crate::RxOut;
 use crate::stream::StreamRx;
 use mode_set::{Carriers, Settings, Stream};
 use rx_report::Line;
@@ -74,7 +74,7 @@ impl<M: Carriers> Rescue<M> {
     /// number. `out` then has exactly the output that they make definite.
     ///
     /// Fewer than 2^32 symbols were received so far, and the receiver has not ended.
-    pub fn feed<R: Threads + Sync>(&mut self, rt: &R, piece: &[u8], out: &mut RescueOut) -> usize
+    pub fn feed<R: Threads + Sync>(&mut self, rt: &R, piece: &[u8], out: &mut RxOut) -> usize
         requires going { self.old.ended ≡ false }
         requires few { self.old.taken < 2 ^ 32 }
         ensures settings { self.new.settings ≡ self.old.settings }
@@ -104,15 +104,15 @@ impl<M: Carriers> Rescue<M> {
             &mut self.lp.branch,
             &mut out.events,
         );
-        self.hp.give_on(hp_pairs, &mut out.hp);
-        self.lp.give_on(lp_pairs, &mut out.lp);
+        self.hp.deliver(hp_pairs, &mut out.hp);
+        self.lp.deliver(lp_pairs, &mut out.lp);
         count
     }
 
     /// Ends the reception: `out` then has the rest of the packets.
     ///
     /// The receiver has not ended.
-    pub fn finish(&mut self, out: &mut RescueOut)
+    pub fn finish(&mut self, out: &mut RxOut)
         requires going { self.old.ended ≡ false }
         ensures settings { self.new.settings ≡ self.old.settings }
         ensures ended { self.new.ended ≡ true }

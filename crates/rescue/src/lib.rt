@@ -18,4 +18,4 @@ mod text;
 
 pub use counts::{Counts, StreamCounts};
 pub use feed::Rescue;
-pub use inner_receiver::ReceiverOut as RescueOut;
+pub use inner_receiver::RxOut;

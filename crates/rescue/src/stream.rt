@@ -63,7 +63,7 @@ impl StreamRx {
 
     /// Processes the decoder's output for a symbol, given the symbol's pairs: computes the margins then known, finishes
     /// the words with all bits and margins, appends their packets, and counts the reports.
-    pub(crate) fn give_on(&mut self, pairs: &[CostPair], to: &mut Vec<u8>)
+    pub(crate) fn deliver(&mut self, pairs: &[CostPair], to: &mut Vec<u8>)
         requires going { self.old.margins.ended ≡ false }
         requires room_kept { HasRoom self.old }
         requires counts { AreFew (seen self.old) (2 ^ 60) }

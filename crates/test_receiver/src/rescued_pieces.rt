@@ -1,7 +1,7 @@
 // A receiver that rescues words and is fed pieces. What comes back is what was sent: null packets.
 use crate::sending::{SYMBOL, null_symbols, settings};
 use mode_set::{Mode2k, Start};
-use rescue::{Rescue, RescueOut};
+use rescue::{Rescue, RxOut};
 use std::alloc::{AllocError, Global};
 use std::process::Abort;
 use std::test::Fail;
@@ -9,7 +9,7 @@ use std::thread::Threads;
 use ts_packet::Packet;
 
 // Appends the bytes of the packets that a call gave. No packet of LP and no report may stand beside them.
-fn note(rt: &impl Abort, out: &RescueOut, given: &mut Vec<u8>) -> Result<(), AllocError> {
+fn note(rt: &impl Abort, out: &RxOut, given: &mut Vec<u8>) -> Result<(), AllocError> {
     assert!(rt; out.lp().is_empty() && out.events().is_empty());
     given.extend_from_slice(out.hp())?;
     Ok(())
@@ -19,7 +19,7 @@ fn note(rt: &impl Abort, out: &RescueOut, given: &mut Vec<u8>) -> Result<(), All
 fn feed_all<R: Abort + Threads + Sync>(
     rt: &R,
     rescue: &mut Rescue<Mode2k>,
-    out: &mut RescueOut,
+    out: &mut RxOut,
     bytes: &[u8],
     size: usize,
     given: &mut Vec<u8>,
@@ -49,7 +49,7 @@ fn rescued<R: Abort + Threads + Sync>(
     size: usize,
 ) -> Result<Vec<u8>, AllocError> {
     assert!(rt; 0 < size);
-    let mut out = RescueOut::new(alloc)?;
+    let mut out = RxOut::new(alloc)?;
     let mut given = Vec::new(alloc);
     // Constructed last: early returns would have to drop it, which is slow to prove.
     let mut rescue = Rescue::<Mode2k>::new(alloc, &settings(Start::Zero))?;

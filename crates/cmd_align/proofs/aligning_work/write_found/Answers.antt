@@ -2,7 +2,7 @@ use Rattle.std.proofs.Common.{◌≡◌, ℕ, List, Ok, Err, ◌∙◌, ap, subs
 use Rattle.station_core.specs.Meaning.{Meaning}
 use Rattle.station_core.specs.declared.ports.OutPort.TheVariants as outs
 use Rattle.cmd_cells.specs.Writing.{WritesAt}
-use Rattle.cmd_cells.specs.declared.stop.Stop.{Stop}
+use Rattle.cmd_cells.specs.declared.run_error.RunError.{RunError}
 use Rattle.cmd_base.proofs.HandedOn.{handed_on}
 use Rattle.tune_search.specs.Searching.{place_line}
 use Rattle.cmd_align.specs.Announcement.{announced_line, found_lines}
@@ -14,7 +14,7 @@ pub returns-in_err-write_some-clause-written : goal.returns-in_err-write_some-cl
 returns-in_err-write_some-clause-written g c = λ t.
     let m : Meaning = g.S.Station.meaning c.args.station.now in
     let m' : Meaning = g.S.Station.meaning c.write_some.new.station in
-    let stop : Stop = c.in_err-write_some.field-0.0 in
+    let stop : RunError = c.in_err-write_some.field-0.0 in
     let first : List ℕ = place_line c.args.found.now in
     let text : c.as_bytes.result.now ≡ first = c.as_bytes.ensures.value ∙ c.as_str.ensures.value ∙ c.place_line-place.ensures in
     let w : WritesAt outs.Report first m m' (Err stop) = subst (λ (b : List ℕ). WritesAt outs.Report b m m' (Err stop)) text c.in_err-write_some.ensures.writes in

@@ -1,6 +1,6 @@
 use Rattle.std.proofs.Common.{◌≡◌, ◌*◌, ◌<◌, ◌^◌, ℕ, Bool, true, false, [], length, refl, sym, ◌∙◌, ap, subst, arith, Ok}
 use Rattle.station_core.specs.Meaning.{Meaning}
-use Rattle.cmd_cells.specs.declared.stop.Stop.{Stop}
+use Rattle.cmd_cells.specs.declared.run_error.RunError.{RunError}
 use Rattle.cmd_cells.specs.Work.{AreOpen, Work, Written}
 use Rattle.cmd_cells.specs.Cells.{IsWorking, Next, Stopped, TakesAll, TakesAtMost}
 use Rattle.cmd_base.proofs.HandedOn.{handed_on}
@@ -16,7 +16,7 @@ returns-in_err-begin-clause-all g c =
     let m' : Meaning = g.S.Station.meaning c.begin.new.station in
     let w : Work = g.X.SymbolWork.work (g.X.SymbolWork.setup c.args.work.now) in
     let stand = g.X.SymbolWork.stands c.begin.new.self in
-    let stop : Stop = c.in_err-begin.field-0.0 in
+    let stop : RunError = c.in_err-begin.field-0.0 in
     handed_on c.from_residual.result stop (TakesAll w stand c.args.max_symbols m.cells.left m m') c.from_residual.ensures.1
     (not_begun w c.args.max_symbols stand m m' c.in_err-begin.ensures.others (omega (arith, c.requires.some, c.requires.size)) stop c.in_err-begin.ensures.begins)
 
@@ -178,7 +178,7 @@ returns-in_err-goes_on-clause-all g c =
     let size : length is.0 ≡ n * (g.X.SymbolWork.work s2).size = moved s2 s1 (λ x. length is.0 ≡ n * (g.X.SymbolWork.work x).size) (sym inv.setup) is.3 in
     let m3 : Meaning = g.S.Station.meaning c.take_next.new.station in
     let stand3 = g.X.SymbolWork.stands c.take_next.new.work in
-    let stop : Stop = c.in_err-goes_on.field-0.0 in
+    let stop : RunError = c.in_err-goes_on.field-0.0 in
     handed_on c.from_residual-in_err-goes_on.result stop (TakesAll (g.X.SymbolWork.work s0) stand3 c.args.max_symbols m.cells.left m m3) c.from_residual-in_err-goes_on.ensures.1
     (moved s0 s2 (λ x. m3.tells ≡ true → Stopped (g.X.SymbolWork.work x) c.args.max_symbols m.cells.left m m3 stop) same
     (c.in_err-goes_on.ensures.next c.args.max_symbols m.cells.left is.0 is.1 m c.loop-number-test.true size was))

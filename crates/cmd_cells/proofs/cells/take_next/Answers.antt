@@ -2,7 +2,7 @@ use Rattle.std.proofs.Common.{◌≡◌, ◌+◌, ◌<◌, ◌≤◌, ℕ, List,
 use Rattle.std.specs.Prelude.{◌==◌}
 use Rattle.station_core.specs.Meaning.{Meaning}
 use Rattle.cmd_cells.specs.Symbols.{symbols, tail}
-use Rattle.cmd_cells.specs.declared.stop.Stop.{Stop}
+use Rattle.cmd_cells.specs.declared.run_error.RunError.{RunError}
 use Rattle.cmd_cells.specs.Cells.{Next}
 use Rattle.cmd_cells.specs.Work.{Work}
 use Rattle.cmd_base.proofs.HandedOn.{handed_on}
@@ -38,7 +38,7 @@ returns-in_err-take-clause-next g c = λ most file bytes given start within size
     let takes = c.in_err-take.ensures.takes bytes given was.stands was.gives none (omega (arith, count, bound, whole)) in
     let front = c.in-Ok.ensures.bytes in
     let more : symbols w.size (bytes ++ piece) ≤ c.args.number + 1 = little_longer w.size some bytes piece c.args.number size (omega (arith, count, bound, whole)) in
-    let stop : Stop = c.in_err-take.field-0.0 in
+    let stop : RunError = c.in_err-take.field-0.0 in
     handed_on c.from_residual.result stop (Next w (g.X.SymbolWork.stands c.take.new.self) most file c.args.number start m'') c.from_residual.ensures.1
     (fails w most file bytes given (g.X.SymbolWork.stands c.take.new.self) start m m' m'' k was.are was.holds c.in-Ok.ensures.ok piece (λ t. (front t).front) c.in_err-take.ensures.others
     stop (omega (arith, more, within)) takes)

@@ -1,7 +1,7 @@
 use Rattle.std.proofs.Common.{◌≡◌, ◌+◌, ◌∙◌, ℕ, Some, None, Ok, refl, ap, sym, subst, arith}
 use Rattle.station_core.specs.Meaning.{Meaning}
 use Rattle.mode_set.specs.declared.settings.Settings.{Settings}
-use Rattle.cmd_base.specs.declared.work.Refusal.TheVariants.{Limit}
+use Rattle.cmd_base.specs.declared.refusal.Refusal.TheVariants.{Limit}
 use Rattle.cmd_modulate.specs.ModulateCommand.{inputs_of}
 use Rattle.cmd_modulate.specs.Seen.{Seen}
 use Rattle.cmd_modulate.specs.Work.{CountsAt, Ends, Modulates}

@@ -3,7 +3,7 @@ use Rattle.forney.specs.Values.{values}
 use Rattle.outer_chain.specs.Sent.{outer_bytes, sent_bytes}
 use Rattle.outer_chain.specs.Sending.{Sender, Sends}
 use Rattle.station_core.specs.Meaning.{Meaning}
-use Rattle.cmd_base.specs.declared.work.Refusal.TheVariants.{Memory}
+use Rattle.cmd_base.specs.declared.refusal.Refusal.TheVariants.{Memory}
 use Rattle.cmd_base.specs.Command.{Command}
 use Rattle.cmd_base.specs.Run.{Run}
 use Rattle.cmd_base.proofs.Early.{unstarted_ended}

@@ -1,6 +1,6 @@
 use Rattle.std.proofs.Common.{◌≡◌, ◌∙◌, ℕ, List, true, refl, ap, subst}
 use Rattle.station_core.specs.Meaning.{Meaning}
-use Rattle.cmd_base.specs.declared.work.Counts.{Counts}
+use Rattle.cmd_base.specs.declared.counts.Counts.{Counts}
 use Rattle.cmd_base.specs.Causes.{HasEndCause}
 use Rattle.cmd_base.proofs.EndCauses.{finished_cause, refused_cause, settled_cause}
 use Rattle.cmd_base.proofs.HandedOn.{handed_on}

@@ -4,7 +4,7 @@ use Rattle.station_core.specs.declared.ports.OutPort.TheVariants as outs
 use Rattle.rx_report.specs.declared.counts.Event.{Event}
 use Rattle.reception.specs.Feeds.{Output}
 use Rattle.cmd_cells.specs.Writing.{WritesAt}
-use Rattle.cmd_cells.specs.declared.stop.Stop.{Stop}
+use Rattle.cmd_cells.specs.declared.run_error.RunError.{RunError}
 use Rattle.cmd_base.proofs.HandedOn.{handed_on}
 use Rattle.cmd_receive.specs.Writing.{Appends, WritesLp, WritesOnly, WritesOut, event_text}
 use Rattle.cmd_receive.proofs.Keeping.{hp_frame, lp_frame, writes_again}
@@ -16,7 +16,7 @@ returns-in_err-write_some-clause-written g c = λ t.
     let m : Meaning = g.S.Station.meaning c.args.station.now in
     let m' : Meaning = g.S.Station.meaning c.write_some.new.station in
     let out : Output = c.args.out.now in
-    let stop : Stop = c.in_err-write_some.field-0.0 in
+    let stop : RunError = c.in_err-write_some.field-0.0 in
     handed_on c.from_residual.result stop (WritesOut c.args.two out m m') c.from_residual.ensures.1
     (failed_hp c.args.two out m m' stop t (subst (λ (b : List ℕ). WritesAt outs.Hp b m m' (Err stop)) c.hp.ensures c.in_err-write_some.ensures.writes))
 
@@ -26,7 +26,7 @@ returns-in_err-write_lp-clause-written g c = λ t.
     let m' : Meaning = g.S.Station.meaning c.write_some.new.station in
     let m'' : Meaning = g.S.Station.meaning c.write_lp.new.station in
     let out : Output = c.args.out.now in
-    let stop : Stop = c.in_err-write_lp.field-0.0 in
+    let stop : RunError = c.in_err-write_lp.field-0.0 in
     handed_on c.from_residual-in_err-write_lp.result stop (WritesOut c.args.two out m m'') c.from_residual-in_err-write_lp.ensures.1
     (failed_lp c.args.two out m m' m'' t (subst (λ (b : List ℕ). WritesAt outs.Hp b m m' (Ok tt)) c.hp.ensures c.in_ok-write_some.ensures.writes) stop
     (subst (λ (b : List ℕ). WritesLp c.args.two b m' m'' (Err stop)) c.lp.ensures c.in_err-write_lp.ensures.writes))

@@ -2,7 +2,7 @@ use Rattle.std.proofs.Common.{◌≡◌, ◌<◌, ◌≤◌, ◌++◌, ℕ, List
 use Rattle.std.proofs.lemmas.Bool.{cases_lt, true≢false}
 use Rattle.mode_set.specs.declared.settings.Settings.{Settings}
 use Rattle.station_core.specs.Meaning.{Meaning}
-use Rattle.cmd_cells.specs.declared.stop.Stop.{Stop}
+use Rattle.cmd_cells.specs.declared.run_error.RunError.{RunError}
 use Rattle.cmd_base.proofs.HandedOn.{handed_on}
 use Rattle.tracking.specs.Tracking.{tracked_bytes}
 use Rattle.cmd_track.specs.Working.{Appends, symbols_from}
@@ -23,7 +23,7 @@ returns-in_err-write_some-clause-written g c = λ t all h.
     let some = c.rest.ensures.answer.0 c.loop-room-test.true in
     let count = count_of c.loop-room.tracker all w.0 in
     let few : given < length all = omega (arith, some, count) in
-    let stop : Stop = c.in_err-write_some.field-0.0 in
+    let stop : RunError = c.in_err-write_some.field-0.0 in
     let bytes : c.deref.result.now ≡ tracked_bytes s all given = c.deref.ensures.value ∙ c.loop-room-test.ensures.gives all w.0 ∙ ap (λ (l : List ℕ). l ++ tracked_bytes c.loop-room.tracker.settings all given) inv.empty ∙ ap (λ (z : Settings). tracked_bytes z all given) inv.settings in
     let a = cells_append c.deref.result.now m' m'' (Err stop) (ap (λ (x : Meaning). x.tells) inv.others ∙ t) c.in_err-write_some.ensures.writes in
     handed_on c.from_residual.result stop (Appends (symbols_from s all first) m.cells_out.written m''.cells_out.written) c.from_residual.ensures.1

@@ -2,7 +2,7 @@
 use Rattle.std.proofs.Common.{ℕ, refl, ◌∙◌, sym, ap, subst, Option, Some}
 use Rattle.station_core.specs.Meaning.{Meaning}
 use Rattle.cmd_base.specs.Run.{Run}
-use Rattle.cmd_base.specs.declared.work.Refusal.TheVariants.{Usage}
+use Rattle.cmd_base.specs.declared.refusal.Refusal.TheVariants.{Usage}
 use Rattle.cmd_base.proofs.Early.{unstarted_ended}
 use Rattle.cmd_base.proofs.Whole.{run_refused}
 use Rattle.dvbt_top.specs.declared.form.Form.{Form}

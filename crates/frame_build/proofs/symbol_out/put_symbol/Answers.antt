@@ -7,8 +7,8 @@ use Rattle.mode_set.specs.declared.modes.Hierarchy.{Hierarchy}
 use Rattle.qam_map.specs.Points.{map_cell}
 use Rattle.frame_build.specs.Symbol.{bits_of, sent_bytes}
 use Rattle.frame_build.specs.State.{bytes_sent, labels_of, source_of}
-use Rattle.frame_build.specs.declared.source.Source.{Source}
-use Rattle.frame_build.specs.declared.source.Source.TheVariants.{Label}
+use Rattle.frame_build.specs.declared.carrier_content.CarrierContent.{CarrierContent}
+use Rattle.frame_build.specs.declared.carrier_content.CarrierContent.TheVariants.{Label}
 use Rattle.pilots.specs.Carriers.{kind}
 use Rattle.pilots.specs.Reference.{reference}
 use Rattle.frame_build.proofs.Cells.{carrier_bytes, carrier_sent, no_carriers, one_carrier, whole_symbol, no_labels, labels_more, label_below, few_labels, few_carriers}
@@ -34,7 +34,7 @@ loop-k-preserved g c =
     let labels = c.args.labels.now in
     let k = c.loop-k.k in
     let inv = c.loop-k.invariant in
-    let source : Source = get_or c.args.sources.now k Label in
+    let source : CarrierContent = get_or c.args.sources.now k Label in
     let few : k < carriers g.M.Carriers.MODE = omega (arith, g.M.Carriers.k_of, c.K-k-end.ensures) in
     let sends : source ≡ source_of (kind g.M.Carriers.MODE (m % 68) k) (reference k) = c.requires.send k Label few in
     let label : List ℕ = sent_bytes (map_cell s.shape s.hierarchy (bits_of labels c.loop-k.sent)) in

@@ -2,7 +2,7 @@ use Rattle.std.proofs.Common.{◌≡◌, ℕ, List, [], ◌++◌, Some, refl, �
 use Rattle.std.proofs.lemmas.List.{append-nil}
 use Rattle.station_core.specs.Meaning.{Meaning}
 use Rattle.mode_set.specs.declared.settings.Settings.{Settings}
-use Rattle.cmd_base.specs.declared.work.Refusal.{Refusal}
+use Rattle.cmd_base.specs.declared.refusal.Refusal.{Refusal}
 use Rattle.cmd_cells.specs.Work.{Written}
 use Rattle.cmd_convert.specs.Conversion.{counts_line}
 use Rattle.cmd_convert.specs.Working.{written_at}

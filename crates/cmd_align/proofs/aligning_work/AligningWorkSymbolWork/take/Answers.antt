@@ -1,7 +1,7 @@
 use Rattle.std.proofs.Common.{ℕ, ◌*◌, List, ◌++◌, Some, None, refl, ap, arith}
 use Rattle.station_core.specs.Meaning.{Meaning}
 use Rattle.mode_set.specs.declared.settings.Settings.{Settings}
-use Rattle.cmd_base.specs.declared.work.Refusal.{Refusal}
+use Rattle.cmd_base.specs.declared.refusal.Refusal.{Refusal}
 use Rattle.tune_in.specs.declared.frame.Found.{Found}
 use Rattle.tune_search.specs.Searching.{IsAtPlace}
 use Rattle.tune_search.proofs.Bytes.{rest_fewer}

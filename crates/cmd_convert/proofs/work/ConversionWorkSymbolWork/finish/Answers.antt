@@ -1,6 +1,6 @@
 use Rattle.std.proofs.Common.{◌≡◌, ℕ, List, ◌∙◌, ap, ap₂}
 use Rattle.station_core.specs.Meaning.{Meaning}
-use Rattle.cmd_base.specs.declared.work.Refusal.{Refusal}
+use Rattle.cmd_base.specs.declared.refusal.Refusal.{Refusal}
 use Rattle.cmd_cells.specs.Work.{Written}
 use Rattle.cmd_convert.specs.Conversion.{Conversion, closing_line, counts_line, new_file}
 use Rattle.cmd_convert.specs.Working.{AllGive, written_at}

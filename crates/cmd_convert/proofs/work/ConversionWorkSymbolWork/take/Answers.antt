@@ -1,7 +1,7 @@
 use Rattle.std.proofs.Common.{◌≡◌, ◌+◌, ◌++◌, ℕ, List, [], length, refl, ◌∙◌, sym, ap, subst, arith}
 use Rattle.station_core.specs.Meaning.{Meaning}
 use Rattle.station_core.specs.declared.ports.OutPort.TheVariants as outs
-use Rattle.cmd_base.specs.declared.work.Refusal.{Refusal}
+use Rattle.cmd_base.specs.declared.refusal.Refusal.{Refusal}
 use Rattle.cmd_cells.specs.Symbols.{symbols}
 use Rattle.cmd_convert.specs.Conversion.{Conversion, new_file}
 use Rattle.cmd_convert.specs.Working.{Counts, FirstGive, written_at}

@@ -4,7 +4,7 @@ use Rattle.station_core.specs.Meaning.{Meaning}
 use Rattle.cmd_cells.specs.Work.{Written}
 use Rattle.mode_set.specs.declared.settings.Settings.{Settings}
 use Rattle.cmd_receive.specs.Writing.{Appends}
-use Rattle.cmd_base.specs.declared.work.Refusal.{Refusal}
+use Rattle.cmd_base.specs.declared.refusal.Refusal.{Refusal}
 use Rattle.measurement.specs.Lines.{MeasureFinal}
 use Rattle.cmd_measure.specs.Working.{Prints}
 use Rattle.cmd_measure.proofs.Printing.{prints, report_only}

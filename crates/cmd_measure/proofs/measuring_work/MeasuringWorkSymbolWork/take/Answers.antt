@@ -4,7 +4,7 @@ use Rattle.station_core.specs.Meaning.{Meaning}
 use Rattle.mode_set.specs.declared.settings.Settings.{Settings}
 use Rattle.reception.specs.Streams.{so_far}
 use Rattle.cmd_receive.specs.Writing.{Appends}
-use Rattle.cmd_base.specs.declared.work.Refusal.{Refusal}
+use Rattle.cmd_base.specs.declared.refusal.Refusal.{Refusal}
 use Rattle.measurement.specs.Lines.{MeasureLive}
 use Rattle.cmd_measure.specs.Working.{Prints}
 use Rattle.cmd_measure.proofs.Printing.{prints, report_only}

@@ -1,5 +1,5 @@
 use Rattle.station_core.specs.Meaning.{Meaning}
-use Rattle.cmd_base.specs.declared.work.Refusal.{Refusal}
+use Rattle.cmd_base.specs.declared.refusal.Refusal.{Refusal}
 use Rattle.cmd_base.proofs.HandedOn.{handed_on}
 use Rattle.cmd_modulate.specs.ModulateCommand.{inputs_of}
 use Rattle.cmd_modulate.specs.Seen.{Seen}

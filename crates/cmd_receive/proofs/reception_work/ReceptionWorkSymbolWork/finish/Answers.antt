@@ -2,7 +2,7 @@ use Rattle.std.proofs.Common.{◌≡◌, Bool, refl, ◌∙◌, ap, subst, Ok, E
 use Rattle.std.specs.List.{concat}
 use Rattle.station_core.specs.Meaning.{Meaning}
 use Rattle.station_core.specs.declared.ports.OutPort.TheVariants as outs
-use Rattle.cmd_cells.specs.declared.stop.Stop.{Stop}
+use Rattle.cmd_cells.specs.declared.run_error.RunError.{RunError}
 use Rattle.cmd_cells.specs.Work.{Finishes}
 use Rattle.cmd_base.proofs.HandedOn.{handed_on}
 use Rattle.mode_set.specs.declared.settings.Settings.{Settings}
@@ -54,6 +54,6 @@ returns-in_err-write_out-clause-finishes g c = λ bytes before stood gives.
     let out : Output = g.X.CellReceiver.gave c.finish.new.self in
     let f = c.finish.ensures.finishes bytes stood.0 stood.1 in
     let ends = c.receptions.ensures.ends s bytes stood.0 f.after stood.2 f.final in
-    let stop : Stop = c.in_err-write_out.field-0.0 in
+    let stop : RunError = c.in_err-write_out.field-0.0 in
     handed_on c.from_residual.result stop (Finishes (work_of plain s two) bytes before m m') c.from_residual.ensures.1
     (rest_failed plain s two bytes stood.0 before stood.3 out f.after ends.reports f.final f.packets f.no_event m m' c.in_err-write_out.ensures.others stop c.in_err-write_out.ensures.kind (λ t. subst (λ (o : Output). WritesOut two o m m' (Err stop)) c.out.ensures (c.in_err-write_out.ensures.written t)))

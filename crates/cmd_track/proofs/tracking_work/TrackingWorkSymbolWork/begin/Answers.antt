@@ -3,7 +3,7 @@ use Rattle.mode_set.specs.declared.settings.Settings.{Settings}
 use Rattle.frame_build.specs.CellFile.{header}
 use Rattle.station_core.specs.Meaning.{Meaning}
 use Rattle.station_core.specs.declared.ports.OutPort.TheVariants as outs
-use Rattle.cmd_base.specs.declared.work.Refusal.{Refusal}
+use Rattle.cmd_base.specs.declared.refusal.Refusal.{Refusal}
 use Rattle.cmd_cells.specs.Work.{none_written}
 use Rattle.cmd_convert.specs.Working.{written_at}
 use Rattle.cmd_convert.proofs.Calls.{header_follows, wrote_cells}

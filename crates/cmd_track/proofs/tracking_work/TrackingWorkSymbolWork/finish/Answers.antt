@@ -3,10 +3,10 @@ use Rattle.mode_set.specs.declared.settings.Settings.{Settings}
 use Rattle.reception.specs.Cells.{symbols}
 use Rattle.station_core.specs.Meaning.{Meaning}
 use Rattle.station_core.specs.declared.ports.OutPort.TheVariants as outs
-use Rattle.cmd_base.specs.declared.work.Refusal.{Refusal}
+use Rattle.cmd_base.specs.declared.refusal.Refusal.{Refusal}
 use Rattle.cmd_base.proofs.HandedOn.{handed_on}
 use Rattle.cmd_cells.specs.Work.{Does}
-use Rattle.cmd_cells.specs.declared.stop.Stop.{Stop}
+use Rattle.cmd_cells.specs.declared.run_error.RunError.{RunError}
 use Rattle.cmd_convert.specs.Conversion.{counts_line}
 use Rattle.cmd_convert.specs.Working.{written_at}
 use Rattle.tracking.specs.Tracking.{Symbol}
@@ -34,7 +34,7 @@ returns-in_err-write_rest-clause-finishes g c = λ bytes before stood gives.
     let all : List Symbol = received s bytes in
     let cells : List ℕ = symbols_from s all (symbols s bytes - 7) in
     let line : List ℕ = closing_line s bytes in
-    let stop : Stop = c.in_err-write_rest.field-0.0 in
+    let stop : RunError = c.in_err-write_rest.field-0.0 in
     let left = left_are g.M.Carriers.MODE x.tracker x.symbol (vec_capacity x.room) x.symbols x.tail bytes before stood c.end.new.self c.end.ensures.settings c.end.ensures.given in
     let e = c.in_err-write_rest.ensures in
     handed_on c.from_residual.result stop (Does (λ after. Unit {0}) (AllGive s bytes) (λ (r : Refusal). ⊥) before m m') c.from_residual.ensures.1

@@ -4,7 +4,7 @@ use Rattle.mode_set.specs.declared.settings.Settings.{Settings}
 use Rattle.reception.specs.Cells.{symbol_length}
 use Rattle.station_core.specs.Meaning.{Meaning}
 use Rattle.station_core.specs.declared.ports.OutPort.TheVariants as outs
-use Rattle.cmd_base.specs.declared.work.Refusal.{Refusal}
+use Rattle.cmd_base.specs.declared.refusal.Refusal.{Refusal}
 use Rattle.cmd_convert.specs.Working.{written_at}
 use Rattle.cmd_convert.proofs.Calls.{nothing_wrote, wrote_cells}
 use Rattle.cmd_track.specs.Tracked.{live_file}

@@ -1,7 +1,7 @@
 use Rattle.std.proofs.Common.{[], Bool, refl, sym, subst, arith}
 use Rattle.station_core.specs.Meaning.{Meaning}
 use Rattle.mode_set.specs.declared.settings.Settings.{Settings}
-use Rattle.cmd_base.specs.declared.work.Refusal.{Refusal}
+use Rattle.cmd_base.specs.declared.refusal.Refusal.{Refusal}
 use Rattle.cmd_cells.specs.Work.{AreOpen, Written}
 use Rattle.cmd_receive.specs.Working.{FinalGives, writes_at}
 use Rattle.tune_in.specs.OfBytes.{rest}

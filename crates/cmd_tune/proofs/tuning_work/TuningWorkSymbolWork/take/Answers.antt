@@ -3,7 +3,7 @@ use Rattle.std.proofs.lemmas.List.{append-nil}
 use Rattle.station_core.specs.Meaning.{Meaning}
 use Rattle.mode_set.specs.declared.settings.Settings.{Settings}
 use Rattle.reception.specs.Streams.{so_far}
-use Rattle.cmd_base.specs.declared.work.Refusal.{Refusal}
+use Rattle.cmd_base.specs.declared.refusal.Refusal.{Refusal}
 use Rattle.cmd_cells.specs.Work.{AreOpen, Written, none_written}
 use Rattle.cmd_receive.specs.Working.{LiveGives, ReceiverStands, writes_at}
 use Rattle.tune_in.specs.Announced.{IsAnnounced}

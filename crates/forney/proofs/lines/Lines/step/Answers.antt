@@ -12,4 +12,4 @@ returns-clause-stands c = λ delay stream h.
     stands_step delay c.args.self.now.lines.items c.args.self.now.next stream c.args.byte c.push_back.new.self _ h
     (c.push_back.ensures.items ∙ ap (λ (l : Buffer ℕ). buffer (keep_last l.capacity (l.items ++ c.args.byte ∷ [])) l.capacity)
     (line_read delay c.args.self.now.lines.items c.args.self.now.next stream c.index_mut.result.now h c.index_mut.ensures.value))
-    c.after-self.ensures
+    c.next_branch-self.ensures

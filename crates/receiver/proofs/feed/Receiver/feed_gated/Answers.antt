@@ -33,24 +33,24 @@ returns-clause-fed g c = λ b r.
     let x = c.self.inside in
     let n = c.feed-count.result in
     let new = c.feed-count.new.self in
-    let hp = seen c.give_on.new.self in
-    let lp = seen c.give_on-2.new.self in
-    let out : Output = record { hp = c.give_on.new.to.items; lp = c.give_on-2.new.to.items; events = c.take_symbol.new.events.items } in
+    let hp = seen c.deliver.new.self in
+    let lp = seen c.deliver-2.new.self in
+    let out : Output = record { hp = c.deliver.new.to.items; lp = c.deliver-2.new.to.items; events = c.take_symbol.new.events.items } in
     let empty = c.out.view_is ∙ c.clear.ensures in
-    let hp_steps : List ℕ = ats c.give_on.new.self.branch.events in
-    let lp_steps : List ℕ = ats c.give_on-2.new.self.branch.events in
-    let hp_same = ap (λ (z : BranchState). z.events) c.give_on.ensures.rest in
-    let lp_same = ap (λ (z : BranchState). z.events) c.give_on-2.ensures.rest in
+    let hp_steps : List ℕ = ats c.deliver.new.self.branch.events in
+    let lp_steps : List ℕ = ats c.deliver-2.new.self.branch.events in
+    let hp_same = ap (λ (z : BranchState). z.events) c.deliver.ensures.rest in
+    let lp_same = ap (λ (z : BranchState). z.events) c.deliver-2.ensures.rest in
     subst (λ (z : ReceiverState). StandsFor so_far z b r → Feeds (StandsFor so_far (state new hp lp c.take.new.self x.ended)) z.settings b c.args.piece.now r n out) c.self.view_is
     (λ h. feeds_whole
     (record { next = c.symbols.ensures.next; stay = c.symbols.ensures.tps; bits = c.symbols.ensures.bits; events_next = c.events.ensures.next; one = c.bits.ensures.byte; all = c.receiving.ensures.all })
     x.cells new (seen x.hp) (seen x.lp) hp lp x.frames c.take.new.self x.ended b c.args.piece.now n r out hp_steps lp_steps
     (ap (λ (z : ReceiverState). z.ended) c.self.view_is ∙ c.requires.going) c.feed-count.ensures.settings c.feed-count.ensures.fed (sym c.if-not-whole.ensures.whole)
     (record {
-      hp_gave = λ a s d t q m. subst (λ (z : List ℕ). StreamGave so_far hp a (s ++ new.hp) d (q ++ hp_steps) z c.give_on.new.to.items) (ap (λ (o : Output). o.hp) empty)
-          (c.give_on.ensures.fed x.hp.branch new.hp (subst (λ (z : List CostPair). HasTaken z x.hp.branch c.take_symbol.new.hp) c.pairs.ensures.pairs c.take_symbol.ensures.hp) a s d t q m);
-      lp_gave = λ a s d t q m. subst (λ (z : List ℕ). StreamGave so_far lp a (s ++ new.lp) d (q ++ lp_steps) z c.give_on-2.new.to.items) (ap (λ (o : Output). o.lp) empty)
-          (c.give_on-2.ensures.fed x.lp.branch new.lp (subst (λ (z : List CostPair). HasTaken z x.lp.branch c.take_symbol.new.lp) c.pairs-2.ensures.pairs c.take_symbol.ensures.lp) a s d t q m);
+      hp_gave = λ a s d t q m. subst (λ (z : List ℕ). StreamGave so_far hp a (s ++ new.hp) d (q ++ hp_steps) z c.deliver.new.to.items) (ap (λ (o : Output). o.hp) empty)
+          (c.deliver.ensures.fed x.hp.branch new.hp (subst (λ (z : List CostPair). HasTaken z x.hp.branch c.take_symbol.new.hp) c.pairs.ensures.pairs c.take_symbol.ensures.hp) a s d t q m);
+      lp_gave = λ a s d t q m. subst (λ (z : List ℕ). StreamGave so_far lp a (s ++ new.lp) d (q ++ lp_steps) z c.deliver-2.new.to.items) (ap (λ (o : Output). o.lp) empty)
+          (c.deliver-2.ensures.fed x.lp.branch new.lp (subst (λ (z : List CostPair). HasTaken z x.lp.branch c.take_symbol.new.lp) c.pairs-2.ensures.pairs c.take_symbol.ensures.lp) a s d t q m);
       events_are = c.take_symbol.ensures.events ∙ ap (λ (z : List Event). z ++ map (event_at Hp) (ats c.take_symbol.new.hp.events) ++ map (event_at Lp) (ats c.take_symbol.new.lp.events)) (ap (λ (o : Output). o.events) empty)
           ∙ ap (λ z. map (event_at Hp) (ats z) ++ map (event_at Lp) (ats c.take_symbol.new.lp.events)) (sym hp_same) ∙ ap (λ z. map (event_at Hp) hp_steps ++ map (event_at Lp) (ats z)) (sym lp_same);
       framed = subst (λ (z : Settings). (shown : ℕ → List Cell) (m : ℕ) → shown m ≡ map (cell_of new.cells) (tps_carriers z.mode) → FrameStands z.mode x.frames shown m → FrameStands z.mode c.take.new.self shown (m + 1)) c.settings-settings.ensures.settings
@@ -69,13 +69,13 @@ take_symbol-requires-clause-lp g c κs within =
     let few = ap (λ (z : ReceiverState). z.taken) c.self.view_is in
     may_take c.self.inside.lp _ c.self.inside.cells.taken (c.self.invariant.lp_kept e) (omega (arith, few, c.requires.few)) c.pairs-2.ensures.largest
 
-pub give_on-requires-clause-may : goal.give_on-requires-clause-may
-give_on-requires-clause-may g c κs within =
+pub deliver-requires-clause-may : goal.deliver-requires-clause-may
+deliver-requires-clause-may g c κs within =
     let e = ap (λ (z : ReceiverState). z.ended) c.self.view_is ∙ c.requires.going in
     may_give c.self.inside.hp c.take_symbol.new.hp _ (c.self.invariant.hp_kept e).ready c.take_symbol.ensures.hp
 
-pub give_on-requires-2-clause-may : goal.give_on-requires-2-clause-may
-give_on-requires-2-clause-may g c κs within =
+pub deliver-requires-2-clause-may : goal.deliver-requires-2-clause-may
+deliver-requires-2-clause-may g c κs within =
     let e = ap (λ (z : ReceiverState). z.ended) c.self.view_is ∙ c.requires.going in
     may_give c.self.inside.lp c.take_symbol.new.lp _ (c.self.invariant.lp_kept e).ready c.take_symbol.ensures.lp
 
@@ -85,12 +85,12 @@ invariant_of-self-2 g c =
     let x = c.self.inside in
     let more = c.feed-count.ensures.ended (sym c.if-not-whole.ensures.whole) in
     record {
-      hp_kept = λ _. subst (λ k. IsKeptStream c.give_on.new.self k) (sym more)
-          (keeps x.hp c.give_on.new.self c.take_symbol.new.hp _ x.cells.taken (c.self.invariant.hp_kept e) c.pairs.ensures.largest
-          c.take_symbol.ensures.hp c.give_on.ensures.rest c.give_on.ensures.ready c.give_on.ensures.counts);
-      lp_kept = λ _. subst (λ k. IsKeptStream c.give_on-2.new.self k) (sym more)
-          (keeps x.lp c.give_on-2.new.self c.take_symbol.new.lp _ x.cells.taken (c.self.invariant.lp_kept e) c.pairs-2.ensures.largest
-          c.take_symbol.ensures.lp c.give_on-2.ensures.rest c.give_on-2.ensures.ready c.give_on-2.ensures.counts);
+      hp_kept = λ _. subst (λ k. IsKeptStream c.deliver.new.self k) (sym more)
+          (keeps x.hp c.deliver.new.self c.take_symbol.new.hp _ x.cells.taken (c.self.invariant.hp_kept e) c.pairs.ensures.largest
+          c.take_symbol.ensures.hp c.deliver.ensures.rest c.deliver.ensures.ready c.deliver.ensures.counts);
+      lp_kept = λ _. subst (λ k. IsKeptStream c.deliver-2.new.self k) (sym more)
+          (keeps x.lp c.deliver-2.new.self c.take_symbol.new.lp _ x.cells.taken (c.self.invariant.lp_kept e) c.pairs-2.ensures.largest
+          c.take_symbol.ensures.lp c.deliver-2.ensures.rest c.deliver-2.ensures.ready c.deliver-2.ensures.counts);
       few_taken = omega (arith, more, c.requires.few, ap (λ (z : ReceiverState). z.taken) c.self.view_is);
       symbol = c.take.ensures.symbol;
       few_frames = omega (arith, more, c.take.ensures.few, c.self.invariant.few_frames);

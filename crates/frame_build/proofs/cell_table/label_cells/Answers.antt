@@ -3,7 +3,7 @@ use Rattle.std.proofs.Common.{◌<◌, ◌∙◌, ap, arith, length}
 use Rattle.std.proofs.lemmas.List.{length-set}
 use Rattle.frame_build.specs.Symbol.{sent_bytes}
 use Rattle.frame_build.proofs.Cells.{labels_table_more}
-use Rattle.frame_build.proofs.label_cells.label_cells.Goals as goal
+use Rattle.frame_build.proofs.cell_table.label_cells.Goals as goal
 
 pub loop-label-preserved : goal.loop-label-preserved
 loop-label-preserved c =

@@ -2,10 +2,10 @@
 use Rattle.std.proofs.Common.{◌≡◌, ℕ, length, List}
 use Rattle.mode_set.specs.declared.modes.Mode.{Mode}
 use Rattle.frame_build.specs.State.{AreSources}
-use Rattle.frame_build.specs.declared.source.Source.{Source}
-use Rattle.frame_build.proofs.source.sources.Given as goal
+use Rattle.frame_build.specs.declared.carrier_content.CarrierContent.{CarrierContent}
+use Rattle.frame_build.proofs.carrier_content.sources.Given as goal
 
-pub record Filled (m : Mode) (l : ℕ) (list : List Source) (n : ℕ) : Type 0 where
+pub record Filled (m : Mode) (l : ℕ) (list : List CarrierContent) (n : ℕ) : Type 0 where
   pub long : length list ≡ 6817
   pub send : AreSources m l list n
 

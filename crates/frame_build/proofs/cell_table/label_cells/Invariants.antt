@@ -3,7 +3,7 @@ use Rattle.std.proofs.Common.{◌≡◌, ℕ, length, List}
 use Rattle.mode_set.specs.declared.modes.Shape.{Shape}
 use Rattle.mode_set.specs.declared.modes.Hierarchy.{Hierarchy}
 use Rattle.frame_build.specs.State.{IsLabelTable}
-use Rattle.frame_build.proofs.label_cells.label_cells.Given as goal
+use Rattle.frame_build.proofs.cell_table.label_cells.Given as goal
 
 pub record Filled (s : Shape) (h : Hierarchy) (cells : List (List ℕ)) (n : ℕ) : Type 0 where
   pub long : length cells ≡ 72

@@ -8,7 +8,7 @@ use Rattle.measure_stream.specs.declared.reports.ReportCounts.{ReportCounts}
 use Rattle.measure_stream.specs.Reports.{AreCounted, AreFew}
 use Rattle.measure_stream.specs.Standing.{WentOn, IsReady}
 use Rattle.measure_stream.proofs.Meters.{gave_on, new_reports, ready_on}
-use Rattle.measure_stream.proofs.stream.StreamMeter.give_on.Goals as goal
+use Rattle.measure_stream.proofs.stream.StreamMeter.deliver.Goals as goal
 
 pub returns-clause-ready : goal.returns-clause-ready
 returns-clause-ready g c =

@@ -10,7 +10,7 @@ use pilots::{CarrierKind, kind, reference};
 
 // What a carrier sends: the cell of the next label, or a pilot or a TPS cell, as it is or opposite.
 #[derive(Clone, Copy, Debug, PartialEq, Eq)]
-pub(crate) enum Source {
+pub(crate) enum CarrierContent {
     Label,
     Pilot,
     OppositePilot,
@@ -18,24 +18,24 @@ pub(crate) enum Source {
     OppositeSignalling,
 }
 
-impl Source {
+impl CarrierContent {
     // The labels that were sent behind this carrier, of which `next` were before it.
     pub(crate) fn after(self, next: usize) -> usize
         requires { next < 65536 }
         ensures { result ≡ next + labels_of self }
     {
         match self {
-            Source::Label => next + 1,
-            Source::Pilot
-            | Source::OppositePilot
-            | Source::Signalling
-            | Source::OppositeSignalling => next,
+            CarrierContent::Label => next + 1,
+            CarrierContent::Pilot
+            | CarrierContent::OppositePilot
+            | CarrierContent::Signalling
+            | CarrierContent::OppositeSignalling => next,
         }
     }
 
     // Where its cell stands among those of all carriers, behind the cells of 64 labels.
     pub(crate) fn place(self, turned: bool) -> usize
-        requires { self ≢ Source.Label }
+        requires { self ≢ CarrierContent.Label }
         ensures { result ≡ place_of self turned }
     {
         63 + self as usize + if turned { 4 } else { 0 }
@@ -43,7 +43,7 @@ impl Source {
 }
 
 // What carrier `k` of symbol `l` sends.
-fn source_at<M: Carriers>(l: u8, k: u32) -> Source
+fn source_at<M: Carriers>(l: u8, k: u32) -> CarrierContent
     requires symbol { l < 68 }
     requires carrier { k < M.K }
     ensures { result ≡ source_of (kind M.MODE l k) (reference k) }
@@ -52,28 +52,28 @@ fn source_at<M: Carriers>(l: u8, k: u32) -> Source
     match kind(M::MODE, l, k) {
         CarrierKind::Continual | CarrierKind::Scattered => {
             if opposite {
-                Source::OppositePilot
+                CarrierContent::OppositePilot
             } else {
-                Source::Pilot
+                CarrierContent::Pilot
             }
         }
         CarrierKind::Tps => {
             if opposite {
-                Source::OppositeSignalling
+                CarrierContent::OppositeSignalling
             } else {
-                Source::Signalling
+                CarrierContent::Signalling
             }
         }
-        CarrierKind::Payload(_) => Source::Label,
+        CarrierKind::Payload(_) => CarrierContent::Label,
     }
 }
 
 // What the carriers of symbol `l` send.
-pub(crate) fn sources<M: Carriers>(l: u8) -> [Source; 6817]
+pub(crate) fn sources<M: Carriers>(l: u8) -> [CarrierContent; 6817]
     requires { l < 68 }
     ensures { AreSources M.MODE l result (carriers M.MODE) }
 {
-    let mut sources = [Source::Label; 6817];
+    let mut sources = [CarrierContent::Label; 6817];
     for k in 0..M::K {
         sources[k as usize] = source_at::<M>(l, k);
     }

@@ -2,7 +2,7 @@
 use Rattle.std.proofs.Common.{◌∙◌, refl, ap}
 use Rattle.frame_build.specs.Symbol.{sent_bytes}
 use Rattle.frame_build.proofs.Cells.{others_are}
-use Rattle.frame_build.proofs.label_cells.other_cells.Goals as goal
+use Rattle.frame_build.proofs.cell_table.other_cells.Goals as goal
 
 pub returns : goal.returns
 returns c =

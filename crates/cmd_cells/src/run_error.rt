@@ -6,7 +6,7 @@ use cmd_base::Refusal;
 
 /// Why the work on cells has stopped before its end.
 #[derive(Clone, Copy, Debug, PartialEq, Eq)]
-pub enum Stop {
+pub enum RunError {
     /// The cells could not be opened or read.
     ReadFault,
     /// An output could not be created, written or closed, or a write to the report failed.
@@ -17,16 +17,16 @@ pub enum Stop {
     Work(Refusal),
 }
 
-impl Stop {
+impl RunError {
     /// The refusal of a run that stopped like this, for this limit of symbols.
     pub fn refusal(self, max_symbols: u32) -> Refusal
         ensures { result ≡ stop_refusal max_symbols self }
     {
         match self {
-            Stop::ReadFault => Refusal::ReadFault,
-            Stop::WriteFault => Refusal::WriteFault,
-            Stop::Limit => Refusal::Limit(u64::from(max_symbols)),
-            Stop::Work(refusal) => refusal,
+            RunError::ReadFault => Refusal::ReadFault,
+            RunError::WriteFault => Refusal::WriteFault,
+            RunError::Limit => Refusal::Limit(u64::from(max_symbols)),
+            RunError::Work(refusal) => refusal,
         }
     }
 }

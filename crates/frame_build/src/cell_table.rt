@@ -6,7 +6,7 @@ ghost use Rattle.frame_build.specs.Symbol.{bits_of, real, sent_bytes};
 ghost use Rattle.frame_build.specs.State.{IsCellTable, IsLabelTable, bytes_sent, other_cells};
 
 use crate::five_bytes::cell_bytes;
-use crate::source::Source;
+use crate::carrier_content::CarrierContent;
 use mode_set::{Hierarchy, Shape};
 use qam_map::{Cell, map};
 
@@ -82,19 +82,19 @@ fn all_cells(shape: Shape, hierarchy: Hierarchy) -> [[u8; 5]; 72]
 // The bytes of all cells that a carrier may send, for the constellation of the symbol that was sent last. A
 // carrier's cell is found by an index, with no jump by what the carrier sends.
 #[derive(Drop)]
-pub(crate) struct LabelCells {
+pub(crate) struct CellTable {
     pub shape: Shape,
     pub hierarchy: Hierarchy,
     cells: [[u8; 5]; 72],
     ghost table: { IsCellTable shape hierarchy cells },
 }
 
-impl LabelCells {
+impl CellTable {
     pub(crate) fn new(shape: Shape, hierarchy: Hierarchy) -> Self
         ensures shape { result.shape ≡ shape }
         ensures hierarchy { result.hierarchy ≡ hierarchy }
     {
-        LabelCells {
+        CellTable {
             shape,
             hierarchy,
             cells: all_cells(shape, hierarchy),
@@ -109,21 +109,21 @@ impl LabelCells {
         if self.shape == shape && self.hierarchy == hierarchy {
             return;
         }
-        *self = LabelCells::new(shape, hierarchy);
+        *self = CellTable::new(shape, hierarchy);
     }
 
     // The bytes of a carrier that sends this, behind those that sent the first `next` labels.
-    pub(crate) fn bytes(&self, source: Source, turned: bool, labels: &[u8], next: usize) -> [u8; 5]
-        requires next { source ≡ Source.Label → next < length labels.now }
-        requires small { source ≡ Source.Label → get_or labels.now next 0 < 2 ^ label_bits self.now.shape }
+    pub(crate) fn bytes(&self, source: CarrierContent, turned: bool, labels: &[u8], next: usize) -> [u8; 5]
+        requires next { source ≡ CarrierContent.Label → next < length labels.now }
+        requires small { source ≡ CarrierContent.Label → get_or labels.now next 0 < 2 ^ label_bits self.now.shape }
         ensures { result ≡ bytes_sent source turned (sent_bytes (map_cell self.now.shape self.now.hierarchy (bits_of labels.now next))) }
     {
         let place = match source {
-            Source::Label => labels[next] as usize,
-            Source::Pilot
-            | Source::OppositePilot
-            | Source::Signalling
-            | Source::OppositeSignalling => source.place(turned),
+            CarrierContent::Label => labels[next] as usize,
+            CarrierContent::Pilot
+            | CarrierContent::OppositePilot
+            | CarrierContent::Signalling
+            | CarrierContent::OppositeSignalling => source.place(turned),
         };
         self.cells[place]
     }

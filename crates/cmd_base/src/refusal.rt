@@ -1,24 +1,8 @@
-// The counts of a run, and why it stops.
+// Why a run stops.
 ghost use Rattle.std.specs.Prelude.{◌≡◌};
 ghost use Rattle.cmd_base.specs.SettingsFile.{refused_as};
 
 use mode_set::{Key, SettingsError, Stream};
-
-/// The limits of a run that are not settings.
-#[derive(Clone, Copy, Debug, PartialEq, Eq)]
-pub struct Limits {
-    /// The most packets taken from a transport input, 1 to 100,000,000.
-    pub packets: u64,
-}
-
-/// The counts of a transport input.
-#[derive(Clone, Copy, Debug, PartialEq, Eq)]
-pub struct Counts {
-    /// The whole packets.
-    pub packets: u64,
-    /// The bytes after them, fewer than 188.
-    pub tail: u64,
-}
 
 /// Why a settings file is rejected. All reasons have status 3.
 #[derive(Clone, Copy, Debug, PartialEq, Eq)]
@@ -69,17 +53,6 @@ pub enum Refusal {
     Limit(u64),
     /// The cells are rejected.
     Cells(CellsRefusal),
-}
-
-impl Limits {
-    /// The limits of the program: 100,000,000 packets.
-    pub fn shipped() -> Limits
-        ensures shipped { result.packets ≡ 100000000 }
-    {
-        Limits {
-            packets: 100_000_000,
-        }
-    }
 }
 
 impl From<SettingsError> for Refusal {

@@ -2,7 +2,7 @@
 use Rattle.std.proofs.Common.{◌<◌, ◌∙◌, arith, length}
 use Rattle.std.proofs.lemmas.List.{length-set}
 use Rattle.frame_build.proofs.Cells.{few_carriers, sources_more}
-use Rattle.frame_build.proofs.source.sources.Goals as goal
+use Rattle.frame_build.proofs.carrier_content.sources.Goals as goal
 
 pub loop-k-preserved : goal.loop-k-preserved
 loop-k-preserved g c =

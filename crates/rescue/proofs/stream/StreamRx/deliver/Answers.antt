@@ -7,7 +7,7 @@ use Rattle.rescue.specs.Seen.{StreamState}
 use Rattle.rescue.specs.Standing.{StreamGave}
 use Rattle.rescue.proofs.Rooms.{little}
 use Rattle.rescue.proofs.Giving.{symbol_gave, ran_wait, length_ats}
-use Rattle.rescue.proofs.stream.StreamRx.give_on.Goals as goal
+use Rattle.rescue.proofs.stream.StreamRx.deliver.Goals as goal
 
 pub push_pairs-requires-clause-waits : goal.push_pairs-requires-clause-waits
 push_pairs-requires-clause-waits c = (little _ _ _ _ _ _ c.requires.ran.some.stands).waits

@@ -7,7 +7,7 @@ use Rattle.receiver.specs.Standing.{StreamGave}
 use Rattle.receiver.specs.declared.stream.StreamRx.{StreamRx}
 use Rattle.receiver.proofs.Pending.{few_more}
 use Rattle.receiver.proofs.Stepping.{symbol_gave, length_ats}
-use Rattle.receiver.proofs.stream.StreamRx.give_on.Goals as goal
+use Rattle.receiver.proofs.stream.StreamRx.deliver.Goals as goal
 
 pub report-requires : goal.report-requires
 report-requires g c = record { few = few_more _ (2 ^ 60 + 24) (2 ^ 62) (omega arith) (c.give.ensures.few (2 ^ 60) c.requires.counts) }
